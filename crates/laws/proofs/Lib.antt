@@ -1,0 +1,5 @@
+pub mod Tests
+pub mod Range
+pub mod SumLaws
+pub mod Counting
+pub mod Replaced
