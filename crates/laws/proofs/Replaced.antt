@@ -14,22 +14,24 @@ use Rattle.laws.specs.Sums.{sumBelow, allBelow}
 use Rattle.laws.proofs.SumLaws.{sum-same, all-at, all-from}
 
 module _ {A : Type 0} (l : List A) (d : A) (i : ℕ) (a : A) where
-  -- a sum up to the replaced place stays
-  pub sum-set-above : (f : A → ℕ) (k : ℕ) → k ≤ i → sumBelow (λ j. f (getD (set l i a) j d)) k ≡ sumBelow (λ j. f (getD l j d)) k
-  sum-set-above f k h = sum-same (λ j. f (getD (set l i a) j d)) (λ j. f (getD l j d)) k (λ j lj. ap f (getD-set-other l i j a d (λ (q : j ≡ i). omega arith)))
-
-  -- a sum past the replaced place changes by what is put there and what was there
-  pub sum-set : (f : A → ℕ) (k : ℕ) → i < k → i < length l → sumBelow (λ j. f (getD (set l i a) j d)) k + f (getD l i d) ≡ sumBelow (λ j. f (getD l j d)) k + f a
+  -- a sum past the replaced place changes by what is put there and what was there; the terms may go by the number too
+  pub sum-set-by : (f : ℕ → A → ℕ) (k : ℕ) → i < k → i < length l → sumBelow (λ j. f j (getD (set l i a) j d)) k + f i (getD l i d) ≡ sumBelow (λ j. f j (getD l j d)) k + f i a
   unfolding sumBelow
-  sum-set f zero h within = absurd (not-suc-le-zero h)
-  sum-set f (suc k) h within = go (λ q. sum-set f k q within) (eq-or-lt-of-le (le-of-suc-le-suc h))
+  sum-set-by f zero h within = absurd (not-suc-le-zero h)
+  sum-set-by f (suc k) h within = go (λ q. sum-set-by f k q within) (eq-or-lt-of-le (le-of-suc-le-suc h))
     where
-      go : (i < k → sumBelow (λ j. f (getD (set l i a) j d)) k + f (getD l i d) ≡ sumBelow (λ j. f (getD l j d)) k + f a) → (i ≡ k) ⊎ (i < k)
-          → sumBelow (λ j. f (getD (set l i a) j d)) k + f (getD (set l i a) k d) + f (getD l i d) ≡ sumBelow (λ j. f (getD l j d)) k + f (getD l k d) + f a
+      below : (k : ℕ) → k ≤ i → sumBelow (λ j. f j (getD (set l i a) j d)) k ≡ sumBelow (λ j. f j (getD l j d)) k
+      below k h = sum-same (λ j. f j (getD (set l i a) j d)) (λ j. f j (getD l j d)) k (λ j lj. ap (f j) (getD-set-other l i j a d (λ (q : j ≡ i). omega arith)))
+
+      go : (i < k → sumBelow (λ j. f j (getD (set l i a) j d)) k + f i (getD l i d) ≡ sumBelow (λ j. f j (getD l j d)) k + f i a) → (i ≡ k) ⊎ (i < k)
+          → sumBelow (λ j. f j (getD (set l i a) j d)) k + f k (getD (set l i a) k d) + f i (getD l i d) ≡ sumBelow (λ j. f j (getD l j d)) k + f k (getD l k d) + f i a
       go rest (inl q) =
           let e : getD (set l i a) k d ≡ a = subst (λ (j : ℕ). getD (set l i a) j d ≡ a) q (getD-set-same l i a d within) in
-          omega (arith, sum-set-above f k (omega arith), ap f e, ap (λ (j : ℕ). f (getD l j d)) q)
-      go rest (inr q) = omega (arith, rest q, ap f (getD-set-other l i k a d (λ (z : k ≡ i). omega arith)))
+          omega (arith, below k (omega arith), ap (f k) e, ap (λ (j : ℕ). f j (getD l j d)) q, ap (λ (j : ℕ). f j a) q)
+      go rest (inr q) = omega (arith, rest q, ap (f k) (getD-set-other l i k a d (λ (z : k ≡ i). omega arith)))
+
+  pub sum-set : (f : A → ℕ) (k : ℕ) → i < k → i < length l → sumBelow (λ j. f (getD (set l i a) j d)) k + f (getD l i d) ≡ sumBelow (λ j. f (getD l j d)) k + f a
+  sum-set f = sum-set-by (λ j. f)
 
   -- a test of each element, by its number, still passes where the new element passes
   pub all-set : (p : ℕ → A → Bool) (k : ℕ) → i < length l → T (p i a) → T (allBelow (λ j. p j (getD l j d)) k) → T (allBelow (λ j. p j (getD (set l i a) j d)) k)
