@@ -1,0 +1,6 @@
+pub mod ClassTest
+pub mod FirstLaws
+pub mod TableLaws
+pub mod ClassLaws
+pub mod AddressLaws
+pub mod Cases
