@@ -32,6 +32,13 @@ module _ (l : List ℕ) (n : ℕ) where
       go k below (yes p) = either-left (ltb k n) (not (mark l k)) (T-true (ltb k n) (lt-ltb k n p))
       go k below (no f) = either-right (ltb k n) (not (mark l k)) (T-true (not (mark l k)) (ap not (of-clear l k (z k (omega arith) below))))
 
+  pub none-below : T (noneFrom l n) → (j : ℕ) → j < 256 → markBit l j ≡ 1 → j < n
+  none-below t j below marked = go (decLt j n)
+    where
+      go : Dec (j < n) → j < n
+      go (yes h) = h
+      go (no f) = absurd (let z = none-at t j (omega arith) below in let e : ⊥ = omega arith in e)
+
   -- with no mark at n or above, the count is that of the marks below n, so at most n
   module _ (small : n ≤ 256) (none : T (noneFrom l n)) where
     pub count-below : liveCount l ≡ sumBelow (markBit l) n

@@ -1,0 +1,5 @@
+pub mod OccLaws
+pub mod SeenLaws
+pub mod CheckLaws
+pub mod FilledLaws
+pub mod FrameLaws
