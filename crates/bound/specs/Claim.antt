@@ -1,0 +1,53 @@
+-- "The list in demand 3"
+use mathlib.Core.Path.{_≡_}
+use mathlib.Core.List.{List, [], _∷_}
+use Prim.Native.Nat.{ℕ, _+_, _-_, _*_, _≤_, _<_, max}
+use Rattle.classes.specs.Classes.{blocksOf}
+use Rattle.heap.specs.declared.Setup.{Setup}
+use Rattle.heap.specs.declared.State.{State}
+use Rattle.heap.specs.Counts.{ownedOf, ownersChanged}
+use Rattle.calls.specs.declared.Call.{Call}
+use Rattle.calls.specs.declared.Call.the-variants.{Take, Free}
+use Rattle.calls.specs.declared.Outcome.{Outcome}
+use Rattle.calls.specs.declared.Outcome.the-variants.{Ready, Address, Moves, Refused}
+use Rattle.calls.specs.Answers.{After}
+use Rattle.calls.specs.Calls.{callOf}
+use Rattle.bound.specs.Ledger.{Entry, booked, entriesOf}
+
+-- a call of the list, with what it returned and left
+pub record Step : Type 0 where
+  pub call : Call
+  pub after : After
+
+-- "Each gets the state that the one before it returned and the storage as that one left it; nothing else writes either meanwhile."
+-- What a call leaves is what the contracts of the engine's take and free promise.
+unfoldable pub Linked : After → List Step → Type 0
+Linked before [] = Unit {0}
+Linked before (step ∷ steps) =
+    (step .after ≡ callOf (before .answer .state) (before .order) (step .call)) × Linked (step .after) steps
+
+-- "(q - p) × n × A is at most q × M + (q - p) × P × K × n", for each of the 27 classes
+unfoldable pub Bounded : Setup → State → (ℕ → ℕ) → Type 0
+Bounded u s most =
+    (c : ℕ) → c < 27
+    → (u .q - u .p) * blocksOf c * ownedOf c s ≤ u .q * most c + (u .q - u .p) * u .processors * u .spare * blocksOf c
+
+-- "no free changes the owner of more than q superblocks, an accepted one changes exactly as many owners as it reports moves, and a
+-- refused call changes none", of a call with so many owners changed
+unfoldable pub OwnersKept : ℕ → ℕ → Call → Outcome → Type 0
+OwnersKept q changed (Take processor size) outcome = (r : ℕ) → outcome ≡ Refused r → changed ≡ 0
+OwnersKept q changed (Free processor address) outcome =
+    (changed ≤ q) × ((m : ℕ) → outcome ≡ Moves m → changed ≡ m) × ((r : ℕ) → outcome ≡ Refused r → changed ≡ 0)
+
+-- "M is the most live blocks of the class after the setup (none) or any call up to and including this one."
+abbrev pub raised : (ℕ → ℕ) → List Entry → ℕ → ℕ
+raised most ledger c = max (most c) (entriesOf c ledger)
+
+-- The claim of a list, from a point at which the ledger and each class's M are known: the bound holds there, and after each call,
+-- and each call keeps owners as it should.
+unfoldable pub Claims : Setup → After → List Entry → (ℕ → ℕ) → List Step → Type 0
+Claims u before ledger most [] = Bounded u (before .answer .state) most
+Claims u before ledger most (step ∷ steps) =
+    Bounded u (before .answer .state) most
+    × OwnersKept (u .q) (ownersChanged (before .answer .state) (step .after .answer .state)) (step .call) (step .after .answer .outcome)
+    × Claims u (step .after) (booked ledger (step .call) (step .after .answer .outcome)) (raised most (booked ledger (step .call) (step .after .answer .outcome))) steps

@@ -1,0 +1,11 @@
+pub mod Effects
+pub mod Checked
+pub mod SetupLaws
+pub mod SuperblockLaws
+pub mod TakeSteps
+pub mod TakeGiven
+pub mod TakeLaws
+pub mod MovedLaws
+pub mod CleanLaws
+pub mod SettledLaws
+pub mod FreeLaws

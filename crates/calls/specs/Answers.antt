@@ -1,0 +1,49 @@
+-- What a call leaves, and the refusals that take and free share.
+use Prim.Native.Nat.{ℕ, _*_}
+use mathlib.Core.Bool.{Bool, true, false}
+use mathlib.Core.List.{List, [], _∷_}
+use lib.ListN.{length}
+use lib.Dec.{leb}
+use Rattle.laws.specs.Sums.{pick}
+use Rattle.heap.specs.declared.State.{State}
+use Rattle.heap.specs.Check.{within, lawful, restGood}
+use Rattle.calls.specs.declared.Answer.{Answer}
+use Rattle.calls.specs.declared.Outcome.{Outcome}
+use Rattle.calls.specs.declared.Outcome.the-variants.{Ready, Address, Moves, Refused}
+
+-- the answer, with the next state, and all order places
+pub record After : Type 0 where
+  pub answer : Answer
+  pub order : List ℕ
+
+-- document 01's number for each outcome: 0 where the call is accepted, else the refusal's number
+unfoldable pub numberOf : Outcome → ℕ
+numberOf Ready = 0
+numberOf (Address a) = 0
+numberOf (Moves m) = 0
+numberOf (Refused r) = r
+
+-- the values that each outcome carries beside its number: "A refusal carries its number alone, with no address and no moves"
+unfoldable pub valuesOf : Outcome → List ℕ
+valuesOf Ready = []
+valuesOf (Address a) = a ∷ []
+valuesOf (Moves m) = m ∷ []
+valuesOf (Refused r) = []
+
+-- "changes neither state nor storage"
+abbrev pub refused : ℕ → State → List ℕ → After
+refused r s order = record { answer = record { outcome = Refused r; state = s }; order = order }
+
+-- "Take or free: 13 for setup numbers, 12, the rest of 13", then what follows
+unfoldable pub checked : State → List ℕ → After → After
+checked s order next =
+    pick (lawful (s .setup))
+    (pick (leb (s .setup .superblocks * 256) (length order))
+    (pick (restGood s order) next
+    (refused 13 s order))
+    (refused 12 s order))
+    (refused 13 s order)
+
+-- refusal 2, processor: "0 or above P"
+unfoldable pub isProcessor : State → ℕ → Bool
+isProcessor s i = within 1 (s .setup .processors) i

@@ -1,0 +1,5 @@
+pub mod Answers
+pub mod Setup
+pub mod Take
+pub mod Free
+pub mod Calls

@@ -1,0 +1,73 @@
+-- "Take (processor i, size)"
+use Prim.Native.Nat.{ℕ, _+_, _-_, _*_}
+use mathlib.Core.Bool.{Bool, not}
+use mathlib.Core.List.{List}
+use lib.Dec.{eqb}
+use Rattle.laws.specs.Sums.{pick}
+use Rattle.classes.specs.Classes.{sizeOf, blocksOf, classOf}
+use Rattle.marks.specs.Marks.{noMarks}
+use Rattle.order.specs.Order.{lastFilled, renewed}
+use Rattle.heap.specs.declared.Superblock.{Superblock}
+use Rattle.heap.specs.declared.State.{State}
+use Rattle.heap.specs.declared.Found.{Found}
+use Rattle.heap.specs.declared.Found.the-variants.{At, Nothing}
+use Rattle.heap.specs.Table.{superblockAt, withSuperblock, liveIn, ownedBy, marked}
+use Rattle.heap.specs.Choice.{fullest, lowestEmpty, lowestUnused, orElse}
+use Rattle.heap.specs.Check.{within}
+use Rattle.calls.specs.Answers.{After, refused, checked, isProcessor}
+use Rattle.calls.specs.declared.Outcome.the-variants.{Address}
+
+-- places 2 to 4, after place 1: "2. heap 0: the same choice; 3. heap 0: the lowest-numbered superblock with nothing live, of any
+-- class; 4. the lowest-numbered unused one of superblocks 0 to N - 1"
+unfoldable pub otherPlaces : ℕ → State → Found
+otherPlaces c s = orElse (fullest 0 c s) (orElse (lowestEmpty s) (lowestUnused s))
+
+-- "To renew a superblock for class c: set its class, clear its marks", here as heap i's
+abbrev pub fresh : ℕ → ℕ → Superblock
+fresh i c = record { owner = i; class = c; live = noMarks }
+
+-- "From places 2 to 4 it becomes owned by heap i. A superblock with nothing live is renewed for c"
+unfoldable pub adopted : ℕ → ℕ → Superblock → Superblock
+adopted i c b = pick (eqb (liveIn b) 0) (fresh i c) (ownedBy i b)
+
+-- "and put n - 1 - j in place j for j below n"
+unfoldable pub adoptedOrder : ℕ → ℕ → Superblock → List ℕ → List ℕ
+adoptedOrder c k b order = pick (eqb (liveIn b) 0) (renewed order k (blocksOf c)) order
+
+-- the block in the last filled place of superblock k's order
+unfoldable pub nextBlock : State → List ℕ → ℕ → ℕ
+nextBlock s order k = lastFilled order k (blocksOf (superblockAt s k .class) - liveIn (superblockAt s k))
+
+-- "Block j of it starts at s × 4096 + j × block size."
+unfoldable pub addressOf : ℕ → ℕ → ℕ → ℕ
+addressOf k c j = k * 4096 + j * sizeOf c
+
+-- "The block in the last filled place of its order is taken and marked live; that place keeps its number."
+unfoldable pub takenFrom : ℕ → State → List ℕ → After
+takenFrom k s order =
+    record {
+      answer = record {
+        outcome = Address (addressOf k (superblockAt s k .class) (nextBlock s order k));
+        state = withSuperblock s k (marked (superblockAt s k) (nextBlock s order k));
+      };
+      order = order;
+    }
+
+-- superblock k comes to heap i from place 2, 3 or 4, and gives the block
+unfoldable pub takenFromOther : ℕ → ℕ → ℕ → State → List ℕ → After
+takenFromOther i c k s order =
+    takenFrom k (withSuperblock s k (adopted i c (superblockAt s k))) (adoptedOrder c k (superblockAt s k) order)
+
+-- "The superblock is the first that one of these four places offers"; refusal 4: "none of the four places offers a superblock"
+unfoldable pub takenAt : ℕ → ℕ → State → List ℕ → Found → Found → After
+takenAt i c s order (At k) other = takenFrom k s order
+takenAt i c s order Nothing (At k) = takenFromOther i c k s order
+takenAt i c s order Nothing Nothing = refused 4 s order
+
+-- "then take 2, 3, 4"; refusal 3: size "0 or above 2048"
+unfoldable pub takeOf : State → List ℕ → ℕ → ℕ → After
+takeOf s order i size =
+    checked s order
+    (pick (not (isProcessor s i)) (refused 2 s order)
+    (pick (not (within 1 2048 size)) (refused 3 s order)
+    (takenAt i (classOf size) s order (fullest i (classOf size) s) (otherPlaces (classOf size) s))))

@@ -1,0 +1,35 @@
+// The state of the allocator: five setup numbers and a table of 64 superblocks. The rules on it are in specs/.
+
+// Owner (0 the global heap, 1 to 8 a processor's heap, 255 none), size class, and live marks: block j is bit j mod 64 of
+// number j / 64.
+pub struct Superblock {
+    pub owner: u8,
+    pub class: u8,
+    pub live: [u64; 4],
+}
+
+// Document 01's P, N, K, p and q.
+pub struct Setup {
+    pub processors: u8,
+    pub superblocks: u8,
+    pub spare: u8,
+    pub p: u8,
+    pub q: u8,
+}
+
+pub struct State {
+    pub setup: Setup,
+    pub table: [Superblock; 64],
+}
+
+// The number of a chosen superblock, or none.
+pub enum Found {
+    At(usize),
+    Nothing,
+}
+
+// How many superblocks the move rule passed to heap 0, and the state they left.
+pub struct Moved {
+    pub moves: u8,
+    pub state: State,
+}
