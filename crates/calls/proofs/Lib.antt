@@ -9,3 +9,5 @@ pub mod MovedLaws
 pub mod CleanLaws
 pub mod SettledLaws
 pub mod FreeLaws
+pub mod Cases
+pub mod Refusals

@@ -62,6 +62,45 @@ at-some : (k : ℕ) → At k ≡ Nothing → ⊥
 at-some k e = let z : _≡_ {A = ℕ} 0 1 = cc in omega arith
 
 module _ (wanted : Superblock → Bool) (better : Superblock → Superblock → Bool) (table : List Superblock) where
+  -- superblock n beside the best of those below it
+  module _ (r : Ranks better) (n : ℕ) where
+    -- it is not wanted, or not better
+    best-kept : (k : ℕ) → (T (wanted (getD table n blank)) → T (better (getD table n blank) (getD table k blank)) → ⊥) → Best wanted better table n k → Best wanted better table (suc n) k
+    best-kept k h b = record { below = omega (arith, b .below); is-wanted = b .is-wanted; none-better = λ m l t. none m (eq-or-lt-of-le (le-of-suc-le-suc l)) t; first = b .first }
+      where
+        none : (m : ℕ) → (m ≡ n) ⊎ (m < n) → T (wanted (getD table m blank)) → T (better (getD table m blank) (getD table k blank)) → ⊥
+        none m (inl q) t u = h (subst (λ (i : ℕ). T (wanted (getD table i blank))) q t) (subst (λ (i : ℕ). T (better (getD table i blank) (getD table k blank))) q u)
+        none m (inr q) t u = b .none-better m q t u
+
+    -- it is wanted, and better than each that is wanted below it
+    best-new : T (wanted (getD table n blank)) → ((m : ℕ) → m < n → T (wanted (getD table m blank)) → T (better (getD table m blank) (getD table n blank)) → ⊥)
+        → ((m : ℕ) → m < n → T (wanted (getD table m blank)) → T (better (getD table n blank) (getD table m blank))) → Best wanted better table (suc n) n
+    best-new w h first = record { below = lt-suc-self n; is-wanted = w; none-better = λ m l t. none m (eq-or-lt-of-le (le-of-suc-le-suc l)) t; first = first }
+      where
+        none : (m : ℕ) → (m ≡ n) ⊎ (m < n) → T (wanted (getD table m blank)) → T (better (getD table m blank) (getD table n blank)) → ⊥
+        none m (inl q) t u = r .never-itself (getD table n blank) (subst (λ (i : ℕ). T (better (getD table i blank) (getD table n blank))) q u)
+        none m (inr q) t u = h m q t u
+
+    best-passes : (k : ℕ) → T (wanted (getD table n blank)) → T (better (getD table n blank) (getD table k blank)) → Best wanted better table n k → Best wanted better table (suc n) n
+    best-passes k w more b =
+        best-new w (λ m l t u. b .none-better m l t (r .follows (getD table m blank) (getD table n blank) (getD table k blank) u more))
+        (λ m l t. r .splits (getD table n blank) (getD table m blank) (getD table k blank) more (b .none-better m l t))
+
+    best-step : (k : ℕ) (w : Bool) → wanted (getD table n blank) ≡ w → (f : Found) → ((m : ℕ) → f ≡ At m → Best wanted better table n m)
+        → (f ≡ Nothing → (m : ℕ) → m < n → T (wanted (getD table m blank)) → ⊥) → pick w (prefer better table f n) f ≡ At k → Best wanted better table (suc n) k
+    unfolding prefer
+    best-step k false w f some none e = best-kept k (λ t u. T-false (wanted (getD table n blank)) w t) (some k e)
+    best-step k true w Nothing some none e =
+        subst (Best wanted better table (suc n)) (at-same n k e)
+        (best-new (T-true (wanted (getD table n blank)) w) (λ m l t u. none refl m l t) (λ m l t. absurd (none refl m l t)))
+    best-step k true w (At m) some none e = go (better (getD table n blank) (getD table m blank)) refl e
+      where
+        go : (x : Bool) → better (getD table n blank) (getD table m blank) ≡ x → pick x (At n) (At m) ≡ At k → Best wanted better table (suc n) k
+        go true q found =
+            subst (Best wanted better table (suc n)) (at-same n k found)
+            (best-passes m (T-true (wanted (getD table n blank)) w) (T-true (better (getD table n blank) (getD table m blank)) q) (some m refl))
+        go false q found = subst (Best wanted better table (suc n)) (at-same m k found) (best-kept m (λ t u. T-false (better (getD table n blank) (getD table m blank)) q u) (some m refl))
+
   prefer-some : (f : Found) (k : ℕ) → prefer better table f k ≡ Nothing → ⊥
   unfolding prefer
   prefer-some Nothing k e = at-some k e
@@ -89,56 +128,6 @@ module _ (wanted : Superblock → Bool) (better : Superblock → Superblock → 
   chosen-nothing (suc n) h =
       pick-false (wanted (getD table n blank)) (prefer better table (chosenBelow wanted better table n) n) (chosenBelow wanted better table n) (false-T (wanted (getD table n blank)) (h n (lt-suc-self n)))
       ∙ chosen-nothing n (λ m l. h m (omega arith))
-
-  -- superblock n beside the best of those below it
-  module _ (r : Ranks better) (n : ℕ) where
-    -- it is not wanted
-    best-kept : (k : ℕ) → wanted (getD table n blank) ≡ false → Best wanted better table n k → Best wanted better table (suc n) k
-    best-kept k w b = record { below = omega (arith, b .below); is-wanted = b .is-wanted; none-better = λ m l t. none m (eq-or-lt-of-le (le-of-suc-le-suc l)) t; first = b .first }
-      where
-        none : (m : ℕ) → (m ≡ n) ⊎ (m < n) → T (wanted (getD table m blank)) → T (better (getD table m blank) (getD table k blank)) → ⊥
-        none m (inl q) t u = T-false (wanted (getD table m blank)) (ap (λ (i : ℕ). wanted (getD table i blank)) q ∙ w) t
-        none m (inr q) t u = b .none-better m q t u
-
-    -- it is wanted and not better
-    best-stays : (k : ℕ) → better (getD table n blank) (getD table k blank) ≡ false → Best wanted better table n k → Best wanted better table (suc n) k
-    best-stays k w b = record { below = omega (arith, b .below); is-wanted = b .is-wanted; none-better = λ m l t. none m (eq-or-lt-of-le (le-of-suc-le-suc l)) t; first = b .first }
-      where
-        none : (m : ℕ) → (m ≡ n) ⊎ (m < n) → T (wanted (getD table m blank)) → T (better (getD table m blank) (getD table k blank)) → ⊥
-        none m (inl q) t u = T-false (better (getD table m blank) (getD table k blank)) (ap (λ (i : ℕ). better (getD table i blank) (getD table k blank)) q ∙ w) u
-        none m (inr q) t u = b .none-better m q t u
-
-    -- it is the first that is wanted
-    best-only : T (wanted (getD table n blank)) → ((m : ℕ) → m < n → T (wanted (getD table m blank)) → ⊥) → Best wanted better table (suc n) n
-    best-only w h = record { below = lt-suc-self n; is-wanted = w; none-better = λ m l t. none m (eq-or-lt-of-le (le-of-suc-le-suc l)) t; first = λ m l t. absurd (h m l t) }
-      where
-        none : (m : ℕ) → (m ≡ n) ⊎ (m < n) → T (wanted (getD table m blank)) → T (better (getD table m blank) (getD table n blank)) → ⊥
-        none m (inl q) t u = r .never-itself (getD table n blank) (subst (λ (i : ℕ). T (better (getD table i blank) (getD table n blank))) q u)
-        none m (inr q) t u = h m q t
-
-    -- it is wanted and better
-    best-passes : (k : ℕ) → T (wanted (getD table n blank)) → T (better (getD table n blank) (getD table k blank)) → Best wanted better table n k → Best wanted better table (suc n) n
-    best-passes k w more b = record {
-      below = lt-suc-self n;
-      is-wanted = w;
-      none-better = λ m l t. none m (eq-or-lt-of-le (le-of-suc-le-suc l)) t;
-      first = λ m l t. r .splits (getD table n blank) (getD table m blank) (getD table k blank) more (b .none-better m l t);
-    }
-      where
-        none : (m : ℕ) → (m ≡ n) ⊎ (m < n) → T (wanted (getD table m blank)) → T (better (getD table m blank) (getD table n blank)) → ⊥
-        none m (inl q) t u = r .never-itself (getD table n blank) (subst (λ (i : ℕ). T (better (getD table i blank) (getD table n blank))) q u)
-        none m (inr q) t u = b .none-better m q t (r .follows (getD table m blank) (getD table n blank) (getD table k blank) u more)
-
-    best-step : (k : ℕ) (w : Bool) → wanted (getD table n blank) ≡ w → (f : Found) → ((m : ℕ) → f ≡ At m → Best wanted better table n m)
-        → (f ≡ Nothing → (m : ℕ) → m < n → T (wanted (getD table m blank)) → ⊥) → pick w (prefer better table f n) f ≡ At k → Best wanted better table (suc n) k
-    unfolding prefer
-    best-step k false w f some none e = best-kept k w (some k e)
-    best-step k true w Nothing some none e = subst (Best wanted better table (suc n)) (at-same n k e) (best-only (T-true (wanted (getD table n blank)) w) (none refl))
-    best-step k true w (At m) some none e = go (better (getD table n blank) (getD table m blank)) refl e
-      where
-        go : (x : Bool) → better (getD table n blank) (getD table m blank) ≡ x → pick x (At n) (At m) ≡ At k → Best wanted better table (suc n) k
-        go true q found = subst (Best wanted better table (suc n)) (at-same n k found) (best-passes m (T-true (wanted (getD table n blank)) w) (T-true (better (getD table n blank) (getD table m blank)) q) (some m refl))
-        go false q found = subst (Best wanted better table (suc n)) (at-same m k found) (best-stays m q (some m refl))
 
   pub chosen-best : Ranks better → (n k : ℕ) → chosenBelow wanted better table n ≡ At k → Best wanted better table n k
   unfolding chosenBelow

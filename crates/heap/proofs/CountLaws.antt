@@ -241,11 +241,11 @@ new-total f u e = sum-none (λ k. f (superblockAt (newState u) k)) 64 (λ k l. a
 
 pub new-superblocks : (u : Setup) (h c : ℕ) → h < 255 → superblocksOf h c (newState u) ≡ 0
 unfolding superblocksOf
-new-superblocks u h c l = new-total (oneOf h c) u (one-owner h c unused (λ (q : 255 ≡ h). omega arith))
+new-superblocks u h c l = new-total (oneOf h c) u (one-owner h c unused (λ (q : unused .owner ≡ h). omega arith))
 
 pub new-live : (u : Setup) (h c : ℕ) → h < 255 → liveOf h c (newState u) ≡ 0
 unfolding liveOf
-new-live u h c l = new-total (liveIfOf h c) u (live-owner h c unused (λ (q : 255 ≡ h). omega arith))
+new-live u h c l = new-total (liveIfOf h c) u (live-owner h c unused (λ (q : unused .owner ≡ h). omega arith))
 
 pub new-owned : (u : Setup) (c : ℕ) → ownedOf c (newState u) ≡ 0
 unfolding ownedOf ownedOfClass
