@@ -1,0 +1,3 @@
+pub mod PastLaws
+pub mod TakeLaws
+pub mod FreeLaws

@@ -1,0 +1,30 @@
+-- `blocks::address_of` meets its contract: a block size is at most 2048, so the sum fits. Assumes nothing.
+use native.Mathlib.Omega.{arith}
+use borrow.Author.Needs.{needs}
+use Rattle.calls.specs.Take.{addressOf}
+use Rattle.blocks.proofs.TakeLaws.{offset-le}
+use Rattle.blocks.proofs.address_of.Statement.{statement}
+use Rattle.blocks.proofs.address_of.Tie as tie
+
+block-size-requires : tie.Need-block-size-requires
+block-size-requires c κs = search needs
+
+cast-size : tie.Need-cast-size
+cast-size c = search needs
+
+mul-result : tie.Need-mul-result
+mul-result c = search needs
+
+mul-result-2 : tie.Need-mul-result-2
+mul-result-2 c = let h = offset-le (c .before .args .class) (c .before .args .j) (c .block-size .result) (c .block-size .ensures) (omega arith) in omega arith
+
+add-result : tie.Need-add-result
+add-result c = let h = offset-le (c .before .args .class) (c .before .args .j) (c .block-size .result) (c .block-size .ensures) (omega arith) in omega arith
+
+returns : tie.Need-returns
+unfolding addressOf
+returns c = rw (c .block-size .ensures)
+
+pub address-of-spec : {M : Type 1} → statement M
+address-of-spec =
+    tie.close (tie.spec block-size-requires cast-size mul-result mul-result-2 add-result returns)

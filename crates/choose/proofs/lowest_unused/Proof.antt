@@ -1,0 +1,28 @@
+-- `choose::lowest_unused` meets its contract: past the table's end nothing is unused, so a bound above 64 gives what 64 gives. Assumes nothing.
+use Rattle.laws.proofs.Replaced.{length-mapped}
+use Rattle.heap.specs.Choice.{lowestUnused}
+use Rattle.choose.specs.Wants.{wantedBy, betterBy}
+use Rattle.choose.proofs.ScanLaws.{unused-past}
+use borrow.Author.Needs.{needs}
+use Rattle.choose.proofs.lowest_unused.Statement.{statement}
+use Rattle.choose.proofs.lowest_unused.Tie as tie
+
+cast-n : tie.Need-cast-n
+cast-n c = search needs
+
+scan-requires : tie.Need-scan-requires
+scan-requires c κs = search needs
+
+returns : tie.Need-returns
+unfolding lowestUnused wantedBy betterBy
+returns c = unused-past (c .before .before .before .args .s .table) (search length-mapped) (c .before .before .before .args .s .setup .superblocks) (c .scan .result) (c .before .if1 .taken) (c .scan .ensures)
+
+scan-requires-2 : tie.Need-scan-requires-2
+scan-requires-2 c κs = search needs
+
+returns-2 : tie.Need-returns-2
+unfolding lowestUnused wantedBy betterBy
+returns-2 c = c .scan2 .ensures
+
+pub lowest-unused-spec : {M : Type 1} → statement M
+lowest-unused-spec = tie.close (tie.spec cast-n scan-requires returns scan-requires-2 returns-2)

@@ -1,0 +1,3 @@
+pub mod FirstLaws
+pub mod PlaceLaws
+pub mod EntryLaws

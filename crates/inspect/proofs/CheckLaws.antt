@@ -1,0 +1,139 @@
+-- What is asked of each superblock alone: the answer at each way out, and the rest of the check as two parts. Assumes nothing.
+use mathlib.Core.Path.{_≡_, refl, sym, ap, _∙_}
+use mathlib.Core.Bool.{Bool, true, false, not}
+use mathlib.Core.List.{List}
+use Prim.Native.Nat.{ℕ, zero, suc, _+_, _≤_, _<_}
+use native.Mathlib.Omega.{arith}
+use borrow.Author.Count.{below-more}
+use borrow.Author.Tests.{not-true, not-false, eqb-true, eq-eqb, ne-eqb, le-leb, lt-leb, lt-ltb, le-ltb}
+use lib.Dec.{T, eqb}
+use Rattle.laws.specs.Sums.{both, either, allBelow}
+use Rattle.laws.proofs.Tests.{T-true}
+use Rattle.laws.proofs.SumLaws.{all-false, all-true}
+use Rattle.classes.specs.Classes.{blocksOf}
+use Rattle.marks.specs.Marks.{liveCount}
+use Rattle.filled.specs.Filled.{placesGood}
+use Rattle.heap.specs.declared.Superblock.{Superblock}
+use Rattle.heap.specs.declared.Setup.{Setup}
+use Rattle.heap.specs.declared.State.{State}
+use Rattle.heap.specs.Table.{superblockAt, isUnused}
+use Rattle.heap.specs.Check.{superblockGood, unusedFrom, sparseIfZero, heapsHeld, restGood}
+use Rattle.inspect.specs.Parts.{sparse, aloneGood, eachGood}
+
+pub both-no : (a : Bool) → both a false ≡ false
+both-no true = refl
+both-no false = refl
+
+pub both-yes : (a : Bool) → both a true ≡ a
+both-yes true = refl
+both-yes false = refl
+
+-- a test that a call answered, and that was passed
+pub passed : (a b : Bool) → a ≡ b → not a ≡ false → T b
+passed a b e f = T-true b (sym e ∙ not-false a f)
+
+-- two tests of each number are one
+pub all-both : (p r : ℕ → Bool) (n : ℕ) → allBelow (λ k. both (p k) (r k)) n ≡ both (allBelow p n) (allBelow r n)
+unfolding allBelow
+all-both p r zero = refl
+all-both p r (suc n) = ap (λ (t : Bool). both t (both (p n) (r n))) (all-both p r n) ∙ cross (allBelow p n) (allBelow r n) (p n) (r n)
+  where
+    cross : (a b x y : Bool) → both (both a b) (both x y) ≡ both (both a x) (both b y)
+    cross true true x y = refl
+    cross true false true y = refl
+    cross true false false y = refl
+    cross false b x y = refl
+
+module _ (u : Setup) (order : List ℕ) (k : ℕ) (b : Superblock) (live : ℕ) (r : Bool) (count : live ≡ liveCount (b .live))
+    (unused : r ≡ both (eqb (b .owner) 255) (both (eqb (b .class) 0) (eqb live 0))) where
+  is-unused : r ≡ isUnused b
+  unfolding isUnused
+  is-unused = unused ∙ ap (λ (n : ℕ). both (eqb (b .owner) 255) (both (eqb (b .class) 0) (eqb n 0))) count
+
+  pub alone-unused : r ≡ true → true ≡ aloneGood u order k b
+  unfolding aloneGood superblockGood unusedFrom sparseIfZero
+  alone-unused e =
+      let o : b .owner ≡ 255 = eqb-true (b .owner) 255 (owner (eqb (b .owner) 255) (both (eqb (b .class) 0) (eqb live 0)) (sym unused ∙ e)) in
+      sym (simp (sym is-unused ∙ e, either-yes, ne-eqb (b .owner) 0 (λ (z : b .owner ≡ 0). omega arith)))
+    where
+      owner : (x y : Bool) → both x y ≡ true → x ≡ true
+      owner true y q = refl
+      owner false y q = q
+
+      either-yes : (x : Bool) → either x true ≡ true
+      either-yes true = refl
+      either-yes false = refl
+
+  module _ (some : r ≡ false) where
+    not-unused : isUnused b ≡ false
+    not-unused = sym is-unused ∙ some
+
+    pub alone-past : u .superblocks ≤ k → false ≡ aloneGood u order k b
+    unfolding aloneGood superblockGood unusedFrom sparseIfZero
+    alone-past h = sym (simp (not-unused, le-ltb k (u .superblocks) h, both-no))
+
+    pub alone-owner : u .processors < b .owner → false ≡ aloneGood u order k b
+    unfolding aloneGood superblockGood unusedFrom sparseIfZero
+    alone-owner h = sym (simp (not-unused, lt-leb (b .owner) (u .processors) h))
+
+    pub alone-class : b .owner ≤ u .processors → 27 ≤ b .class → false ≡ aloneGood u order k b
+    unfolding aloneGood superblockGood unusedFrom sparseIfZero
+    alone-class o h = sym (simp (not-unused, le-ltb (b .class) 27 h, both-no))
+
+    pub alone-dense : (t : Bool) → t ≡ either (not (eqb (b .owner) 0)) (sparse u live (blocksOf (b .class))) → not t ≡ true → false ≡ aloneGood u order k b
+    unfolding aloneGood sparseIfZero sparse
+    alone-dense t e f = sym (simp (← count, sym e ∙ not-true t f, both-no))
+
+    pub alone-places : (t g : Bool) → k < u .superblocks → b .owner ≤ u .processors → b .class < 27 → t ≡ either (not (eqb (b .owner) 0)) (sparse u live (blocksOf (b .class))) → not t ≡ false
+        → g ≡ placesGood order (b .live) k (blocksOf (b .class)) → g ≡ aloneGood u order k b
+    unfolding aloneGood superblockGood unusedFrom sparseIfZero sparse
+    alone-places t g below owner class e f p = p ∙ sym (simp (not-unused, lt-ltb k (u .superblocks) below, le-leb (b .owner) (u .processors) owner, lt-ltb (b .class) 27 class, ← count, sym e ∙ not-false t f, both-yes))
+
+-- heap 0's superblocks are sparse
+pub sparse-other : (u : Setup) (owner live class : ℕ) → (owner ≡ 0 → ⊥) → true ≡ either (not (eqb owner 0)) (sparse u live (blocksOf class))
+sparse-other u owner live class f = sym (simp (ne-eqb owner 0 f))
+
+pub sparse-zero : (u : Setup) (owner live class n : ℕ) (r : Bool) → owner ≡ 0 → n ≡ blocksOf class → r ≡ sparse u live n → r ≡ either (not (eqb owner 0)) (sparse u live (blocksOf class))
+sparse-zero u owner live class n r z e t = t ∙ sym (simp (eq-eqb owner 0 z, ← e))
+
+-- the loop over the table
+pub each-false : (s : State) (order : List ℕ) (k : ℕ) (r : Bool) → k < 64 → r ≡ aloneGood (s .setup) order k (superblockAt s k) → not r ≡ true → false ≡ eachGood s order
+unfolding eachGood
+each-false s order k r l e f = all-false (λ i. aloneGood (s .setup) order i (superblockAt s i)) 64 k l (sym e ∙ not-true r f)
+
+pub each-next : (s : State) (order : List ℕ) (k : ℕ) (r : Bool) → r ≡ aloneGood (s .setup) order k (superblockAt s k) → not r ≡ false
+    → ((i : ℕ) → i < k → T (aloneGood (s .setup) order i (superblockAt s i))) → (i : ℕ) → i < k + 1 → T (aloneGood (s .setup) order i (superblockAt s i))
+each-next s order k r e f h = below-more (λ i. T (aloneGood (s .setup) order i (superblockAt s i))) k h (passed r _ e f)
+
+pub each-true : (s : State) (order : List ℕ) (k : ℕ) → 64 ≤ k → ((i : ℕ) → i < k → T (aloneGood (s .setup) order i (superblockAt s i))) → true ≡ eachGood s order
+unfolding eachGood
+each-true s order k l h = all-true (λ i. aloneGood (s .setup) order i (superblockAt s i)) 64 (λ i li. h i (omega arith))
+
+-- the rest of the check: each superblock alone, and the heaps
+pub rest-is : (s : State) (order : List ℕ) → restGood s order ≡ both (eachGood s order) (heapsHeld s)
+unfolding restGood eachGood aloneGood
+rest-is s order =
+    sym
+    (ap (λ (t : Bool). both t (heapsHeld s)) (all-both good (λ k. both (past k) (thin k)) 64 ∙ ap (both (allBelow good 64)) (all-both past thin 64))
+    ∙ last (allBelow good 64) (allBelow past 64) (heapsHeld s) (allBelow thin 64))
+  where
+    good : ℕ → Bool
+    good k = superblockGood (s .setup) order k (superblockAt s k)
+
+    past : ℕ → Bool
+    past k = unusedFrom (s .setup .superblocks) k (superblockAt s k)
+
+    thin : ℕ → Bool
+    thin k = sparseIfZero (s .setup) (superblockAt s k)
+
+    last : (a b h d : Bool) → both (both a (both b d)) h ≡ both a (both b (both h d))
+    last false b h d = refl
+    last true false h d = refl
+    last true true true d = both-yes d
+    last true true false d = both-no d
+
+pub rest-false : (s : State) (order : List ℕ) (t : Bool) → t ≡ eachGood s order → not t ≡ true → false ≡ restGood s order
+rest-false s order t e f = sym (rest-is s order ∙ ap (λ (x : Bool). both x (heapsHeld s)) (sym e ∙ not-true t f))
+
+pub rest-heaps : (s : State) (order : List ℕ) (t r : Bool) → t ≡ eachGood s order → not t ≡ false → r ≡ heapsHeld s → r ≡ restGood s order
+rest-heaps s order t r e f g = g ∙ sym (rest-is s order ∙ ap (λ (x : Bool). both x (heapsHeld s)) (sym e ∙ not-false t f))

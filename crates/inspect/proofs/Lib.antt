@@ -1,0 +1,4 @@
+pub mod CheckLaws
+pub mod SetupLaws
+pub mod TallyLaws
+pub mod HeldLaws

@@ -1,0 +1,126 @@
+// The move rule: while a processor heap has too few live blocks of a class, its emptiest superblock of the class passes to
+// heap 0.
+ghost use mathlib.Core.Path.{_≡_};
+ghost use Prim.Native.Nat.{_+_, _-_, _≤_, _<_};
+ghost use Rattle.heap.specs.Counts.{oneOf, liveIfOf, superblocksOf, liveOf};
+ghost use Rattle.heap.specs.Moves.{bothConditions, mustMove, passed, passedFound, moved, settled};
+use heap::Found;
+use heap::Moved;
+use heap::Setup;
+use heap::State;
+use heap::Superblock;
+
+// The superblocks of a heap and class, and their live blocks.
+pub struct Counts {
+    pub superblocks: u32,
+    pub live: u32,
+}
+
+// The counts with superblock b added, where it is of the heap and class.
+fn counted(n: Counts, b: Superblock, heap: u8, class: u8) -> Counts
+    requires { ⌜ (n .superblocks < 64) × (n .live ≤ 16128) ⌝ }
+    ensures { λ r. ⌜ (r .superblocks ≡ n .superblocks + oneOf heap class b) × (r .live ≡ n .live + liveIfOf heap class b) × (r .superblocks ≤ n .superblocks + 1) × (r .live ≤ n .live + 256) ⌝ }
+{
+    if b.owner == heap {
+        if b.class == class {
+            return Counts {
+                superblocks: n.superblocks + 1,
+                live: n.live + choose::live_in(b),
+            };
+        }
+    }
+    n
+}
+
+// The superblocks of the heap and class, and their live blocks.
+pub fn count_of(s: State, heap: u8, class: u8) -> Counts
+    ensures { λ r. ⌜ (r .superblocks ≡ superblocksOf heap class s) × (r .live ≡ liveOf heap class s) × (r .superblocks ≤ 64) × (r .live ≤ 16384) ⌝ }
+{
+    let mut n = Counts {
+        superblocks: 0,
+        live: 0,
+    };
+    let mut k: usize = 0;
+    while k < 64 {
+        let b = s.table[k];
+        n = counted(n, b, heap, class);
+        k += 1;
+    }
+    n
+}
+
+// q - p; 0 where p is above q.
+fn difference(q: u32, p: u32) -> u32
+    ensures { λ r. ⌜ r ≡ q - p ⌝ }
+{
+    if p < q { q - p } else { 0 }
+}
+
+// Both conditions of the move rule, for n blocks in a superblock, a blocks in all and u of them live. They are multiplied
+// out, so that nothing is rounded.
+fn both_conditions(t: Setup, n: u32, a: u32, u: u32) -> bool
+    requires { ⌜ (n ≤ 256) × (a ≤ 16384) × (u ≤ 16384) ⌝ }
+    ensures { λ r. ⌜ r ≡ bothConditions (t .spare) (t .p) (t .q) n a u ⌝ }
+{
+    let q = t.q as u32;
+    let d = difference(q, t.p as u32);
+    u + t.spare as u32 * n < a && q * u < d * a
+}
+
+// The heap and class meet both conditions of the move rule.
+pub fn must_move(s: State, heap: u8, class: u8) -> bool
+    ensures { λ r. ⌜ r ≡ mustMove heap class s ⌝ }
+{
+    let n = classes::block_count(class) as u32;
+    let k = count_of(s, heap, class);
+    let a = k.superblocks * n;
+    let t = s.setup;
+    both_conditions(t, n, a, k.live)
+}
+
+// Superblock k passes to heap 0; past the table's end there is none.
+fn give(s: State, k: usize) -> State
+    ensures { λ r. ⌜ r ≡ passed k s ⌝ }
+{
+    if 64 <= k {
+        return s;
+    }
+    let mut t = s;
+    t.table[k].owner = 0;
+    t
+}
+
+// The superblock that was found passes to heap 0.
+fn give_found(s: State, found: Found) -> State
+    ensures { λ r. ⌜ r ≡ passedFound found s ⌝ }
+{
+    match found {
+        Found::At(k) => give(s, k),
+        Found::Nothing => s,
+    }
+}
+
+// The moves of a processor heap and class: as many as the rule asks, not one.
+fn drain(s: State, heap: u8, class: u8) -> Moved
+    requires { ⌜ 0 < heap ⌝ }
+    ensures { λ r. ⌜ r ≡ moved heap class s ⌝ }
+{
+    let mut t = s;
+    let mut moves: u8 = 0;
+    while must_move(t, heap, class) {
+        let found = choose::emptiest(t, heap, class);
+        t = give_found(t, found);
+        moves += 1;
+    }
+    Moved { moves, state: t }
+}
+
+// The moves after a free in the heap and class; none where the heap is heap 0.
+pub fn settle(s: State, heap: u8, class: u8) -> Moved
+    ensures { λ r. ⌜ r ≡ settled heap class s ⌝ }
+{
+    if heap == 0 {
+        return Moved { moves: 0, state: s };
+    }
+    drain(s, heap, class)
+}
