@@ -6,6 +6,8 @@ use Prim.Native.Nat.{ℕ, zero, suc, _+_, _-_, _*_, _≤_, _<_}
 use native.Mathlib.Nat.{le-refl, le-antisymm}
 use native.Mathlib.Decide.{ℕ-discrete}
 use native.Mathlib.Omega.{arith}
+use mir.Syntax.{w32}
+use mir.Val.{Fits}
 use borrow.Author.Tests.{lt-ltb, le-leb}
 use lib.ListN.{length, getD, set, replicate, length-set, length-replicate}
 use lib.Seq.{getD-set-same, getD-set-other}
@@ -149,6 +151,13 @@ module _ (table : List Superblock) (first k x : ℕ) (superblocks live : List �
         superblocks-are = λ j c lj lc. omega (arith, t .superblocks-are j c lj lc, sum-step (λ i. oneOf (first + j) c (getD table i blank)) k, others-one b (first + j) c (away j c lj lc));
         live-are = λ j c lj lc. omega (arith, t .live-are j c lj lc, sum-step (λ i. liveIfOf (first + j) c (getD table i blank)) k, others-live b (first + j) c (away j c lj lc));
       })
+
+-- the numbers stay small
+pub superblocks-fit : (table : List Superblock) (first k x : ℕ) (superblocks live : List ℕ) → Tallied table first k superblocks live → k < 64 → Fits w32 (getD superblocks x 0 + 1)
+superblocks-fit table first k x superblocks live t l = omega (arith, t .superblocks-few x)
+
+pub live-fit : (table : List Superblock) (first k x v : ℕ) (superblocks live : List ℕ) → Tallied table first k superblocks live → k < 64 → v ≤ 256 → Fits w32 (getD live x 0 + v)
+live-fit table first k x v superblocks live t l h = omega (arith, t .live-few x)
 
 pub tally-end : (table : List Superblock) (first k n : ℕ) (superblocks live : List ℕ) → Tallied table first k superblocks live → k ≤ n → n ≤ k → Tallied table first n superblocks live
 tally-end table first k n superblocks live t p q = subst (λ (m : ℕ). Tallied table first m superblocks live) (le-antisymm p q) t

@@ -1,5 +1,5 @@
 -- `inspect::heap_held` meets its contract. The loop's invariant: the classes passed hold. The measure is the classes left. Assumes nothing.
-use Prim.Native.Nat.{ℕ, _-_, _≤_, _<_, zero-le}
+use Prim.Native.Nat.{ℕ, _-_, _≤_, _<_}
 use native.Mathlib.Omega.{arith}
 use borrow.Author.Count.{below-none}
 use lib.Dec.{T}
@@ -30,7 +30,7 @@ mul-base : tie.Need-mul-base Inv-loop μ-loop
 mul-base c = omega arith
 
 loop-holds : tie.Need-loop-holds Inv-loop μ-loop
-loop-holds c = (zero-le, below-none _)
+loop-holds c = (omega arith, below-none _)
 
 cast-at : tie.Need-cast-at Inv-loop μ-loop
 cast-at c = omega arith

@@ -1,5 +1,5 @@
 -- `inspect::nine_held` meets its contract. The loop's invariant: the heaps passed hold. The measure is the heaps left. Assumes nothing.
-use Prim.Native.Nat.{ℕ, _-_, _≤_, _<_, zero-le}
+use Prim.Native.Nat.{ℕ, _-_, _≤_, _<_}
 use native.Mathlib.Omega.{arith}
 use borrow.Author.Count.{below-none}
 use lib.Dec.{T}
@@ -15,7 +15,7 @@ abbrev μ-loop : tie.MeasureT-loop
 μ-loop setup first superblocks live j₀ j = 9 - j
 
 loop-holds : tie.Need-loop-holds Inv-loop μ-loop
-loop-holds c = (zero-le, below-none _)
+loop-holds c = (omega arith, below-none _)
 
 heap-held-requires : tie.Need-heap-held-requires Inv-loop μ-loop
 heap-held-requires c κs =

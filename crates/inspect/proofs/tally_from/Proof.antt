@@ -1,11 +1,11 @@
 -- `inspect::tally_from` meets its contract. The loop's invariant: the superblocks passed are tallied. The measure is what is left of the table. Assumes nothing.
 use mathlib.Core.Path.{refl}
 use mathlib.Core.Logic.{⊎-elim}
-use Prim.Native.Nat.{_-_, _≤_, zero-le}
+use Prim.Native.Nat.{_-_, _≤_}
 use native.Mathlib.Omega.{arith}
 use borrow.Author.Needs.{needs}
 use Rattle.inspect.specs.Parts.{Tallied}
-use Rattle.inspect.proofs.TallyLaws.{tally-none, tally-in, tally-out, tally-end}
+use Rattle.inspect.proofs.TallyLaws.{tally-none, tally-in, tally-out, superblocks-fit, live-fit, tally-end}
 use Rattle.inspect.proofs.tally_from.Statement.{statement}
 use Rattle.inspect.proofs.tally_from.Tie as tie
 
@@ -16,7 +16,7 @@ abbrev μ-loop : tie.MeasureT-loop
 μ-loop first s superblocks₀ live₀ k₀ superblocks live k = 64 - k
 
 loop-holds : tie.Need-loop-holds Inv-loop μ-loop
-loop-holds c = (zero-le, tally-none (c .args .t1 .table) (c .args .first) _ _ refl refl)
+loop-holds c = (omega arith, tally-none (c .args .t1 .table) (c .args .first) _ _ refl refl)
 
 mul-b : tie.Need-mul-b Inv-loop μ-loop
 mul-b c = omega arith
@@ -34,9 +34,7 @@ array-read-superblocks : tie.Need-array-read-superblocks Inv-loop μ-loop
 array-read-superblocks c = omega arith
 
 add-superblocks : tie.Need-add-superblocks Inv-loop μ-loop
-add-superblocks c =
-    let l = c .before .before .before .before .before .loop in
-    omega (arith, l .inv .1 .superblocks-few (c .before .before .slot .result))
+add-superblocks c = search superblocks-fit
 
 array-write-superblocks : tie.Need-array-write-superblocks Inv-loop μ-loop
 array-write-superblocks c = omega arith
@@ -51,9 +49,7 @@ array-read-live : tie.Need-array-read-live Inv-loop μ-loop
 array-read-live c = omega arith
 
 add-live : tie.Need-add-live Inv-loop μ-loop
-add-live c =
-    let l = c .before .before .before .before .before .before .loop in
-    omega (arith, l .inv .1 .live-few (c .before .before .before .slot .result), c .live-count .ensures .1)
+add-live c = search live-fit
 
 array-write-live : tie.Need-array-write-live Inv-loop μ-loop
 array-write-live c = omega arith
