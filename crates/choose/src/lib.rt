@@ -64,18 +64,21 @@ fn is_empty(b: Superblock) -> bool
     b.owner == 0 && live_in(b) == 0
 }
 
+// b has more live blocks than d.
 fn more_live(b: Superblock, d: Superblock) -> bool
     ensures { λ r. ⌜ r ≡ moreLive b d ⌝ }
 {
     live_in(d) < live_in(b)
 }
 
+// b has fewer live blocks than d.
 fn fewer_live(b: Superblock, d: Superblock) -> bool
     ensures { λ r. ⌜ r ≡ fewerLive b d ⌝ }
 {
     live_in(b) < live_in(d)
 }
 
+// The choice may fall on b.
 fn wanted(w: Want, b: Superblock) -> bool
     ensures { λ r. ⌜ r ≡ wantedBy w b ⌝ }
 {
@@ -87,6 +90,7 @@ fn wanted(w: Want, b: Superblock) -> bool
     }
 }
 
+// The choice prefers b to d. Where it goes by the number alone it prefers none, so that the lower number stays.
 fn better(w: Want, b: Superblock, d: Superblock) -> bool
     ensures { λ r. ⌜ r ≡ betterBy w b d ⌝ }
 {

@@ -4,6 +4,8 @@ use mathlib.Core.Bool.{Bool, true, false}
 use mathlib.Core.List.{List}
 use Prim.Native.Nat.{ℕ, suc, _+_, _-_, _*_, _≤_, _<_}
 use native.Mathlib.Omega.{arith}
+use mir.Syntax.{w8}
+use mir.Val.{Fits}
 use lib.ListN.{length, length-set}
 use lib.Seq.{set-out}
 use Rattle.laws.proofs.Tests.{T-true}
@@ -46,8 +48,9 @@ pub draining-start : (h c : ℕ) (s : State) → length (s .table) ≡ 64 → Dr
 unfolding moved
 draining-start h c s long = record { rest = refl; left = omega arith; long = long }
 
-pub draining-few : (h c : ℕ) (s t : State) (m : ℕ) → Draining h c s t m → m ≤ 64
-draining-few h c s t m d = omega (arith, superblocks-le h c s)
+-- no more moves than superblocks, so the count fits
+pub draining-fits : (h c : ℕ) (s t : State) (m : ℕ) → Draining h c s t m → Fits w8 (m + 1)
+draining-fits h c s t m d = omega (arith, superblocks-le h c s)
 
 pub draining-end : (h c : ℕ) (s t : State) (m : ℕ) (must : Bool) → Draining h c s t m → must ≡ mustMove h c t → must ≡ false → _≡_ {A = Moved} (record { moves = m; state = t }) (moved h c s)
 draining-end h c s t m must d e f = sym (moves-stop (64 - m) h c m t (sym e ∙ f)) ∙ d .rest

@@ -1,4 +1,5 @@
 -- `choose::lowest_unused` meets its contract: past the table's end nothing is unused, so a bound above 64 gives what 64 gives. Assumes nothing.
+use native.Mathlib.Omega.{arith}
 use Rattle.laws.proofs.Replaced.{length-mapped}
 use Rattle.heap.specs.Choice.{lowestUnused}
 use Rattle.choose.specs.Wants.{wantedBy, betterBy}
@@ -15,7 +16,7 @@ scan-requires c κs = search needs
 
 returns : tie.Need-returns
 unfolding lowestUnused wantedBy betterBy
-returns c = unused-past (c .before .before .before .args .s .table) (search length-mapped) (c .before .before .before .args .s .setup .superblocks) (c .scan .result) (c .before .if1 .taken) (c .scan .ensures)
+returns c = unused-past (c .before .before .before .args .s .table) (search length-mapped) (c .before .before .before .args .s .setup .superblocks) (c .scan .result) (omega arith) (c .scan .ensures)
 
 scan-requires-2 : tie.Need-scan-requires-2
 scan-requires-2 c κs = search needs

@@ -1,10 +1,8 @@
 -- `moves::drain` meets its contract. The loop's invariant: the moves still to be made are those from the state so far. The measure is the number of the heap's superblocks. Assumes nothing.
 use borrow.Author.Needs.{needs}
-use Prim.Native.Nat.{_≤_}
-use native.Mathlib.Omega.{arith}
 use Rattle.laws.proofs.Replaced.{length-mapped}
 use Rattle.heap.specs.Counts.{superblocksOf}
-use Rattle.moves.proofs.DrainLaws.{Draining, draining-start, draining-few, draining-end, draining-less, draining-again}
+use Rattle.moves.proofs.DrainLaws.{Draining, draining-start, draining-fits, draining-end, draining-less, draining-again}
 use Rattle.moves.proofs.drain.Statement.{statement}
 use Rattle.moves.proofs.drain.Tie as tie
 
@@ -27,7 +25,7 @@ give-found-requires : tie.Need-give-found-requires Inv-loop μ-loop
 give-found-requires c κs = search needs
 
 add-moves : tie.Need-add-moves Inv-loop μ-loop
-add-moves c = let h : c .before .before .before .before .loop .moves ≤ 64 = search draining-few in omega arith
+add-moves c = search draining-fits
 
 loop-less : tie.Need-loop-less Inv-loop μ-loop
 loop-less c = search draining-less
