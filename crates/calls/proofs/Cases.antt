@@ -1,4 +1,4 @@
--- The cases marked in document 01, "Edges": one theorem over one list. Assumes nothing.
+-- The cases marked in document 01, "Edges", as one theorem over one list, and cases that tell the rules from near misses. Assumes nothing.
 use mathlib.Core.Path.{_≡_, refl, sym, ap, _∙_}
 use mathlib.Core.Bool.{Bool, true, false, not}
 use mathlib.Core.List.{List, [], _∷_, _++_, map}
@@ -111,3 +111,65 @@ unfolding callOf takeOf takenAt takenFromOther takenFrom addressOf nextBlock ado
     placesGood placesLent eachOnce occ place lastFilled withPlace down laid renewed noneFrom bit markBit mark withMark withoutMark liveCount
     sizes counts sizeOf blocksOf firstAtLeast classOf sumBelow allBelow
 marked-cases-are = refl
+
+-- ---- further cases, which tell the rules from near misses: superblock 0's class after the call, and superblock 1's owner, stand beside the outcome
+pub record Reading : Type 0 where
+  pub state : State
+  pub call : Call
+  pub outcome : Outcome
+  pub class-after : ℕ
+  pub owner-after : ℕ
+
+-- P = 2, N = 2, K = 1, p/q = 1/4, with superblocks 0 and 1
+abbrev pub pair : Superblock → Superblock → State
+pair a b = record { setup = record { processors = 2; superblocks = 2; spare = 1; p = 1; q = 4 }; table = a ∷ b ∷ replicate 62 unused }
+
+abbrev pub none-live : ℕ → ℕ → Superblock
+none-live h c = record { owner = h; class = c; live = 0 ∷ 0 ∷ 0 ∷ 0 ∷ [] }
+
+abbrev pub one-live : ℕ → ℕ → Superblock
+one-live h c = record { owner = h; class = c; live = 1 ∷ 0 ∷ 0 ∷ 0 ∷ [] }
+
+-- their order places: of a superblock of two blocks, both free, and with block 0 live
+abbrev pub pair-order : List ℕ
+pair-order = 1 ∷ 0 ∷ replicate 254 0 ++ 1 ∷ 0 ∷ replicate 254 0
+
+-- place 2 comes before place 3: heap 0's superblock 1 is of the class, its superblock 0 is empty and lower
+abbrev pub place-2-first : Reading
+place-2-first = record { state = pair (none-live 0 25) (one-live 0 26); call = Take 1 2048; outcome = Address 6144; class-after = 25; owner-after = 1 }
+
+-- an empty superblock of heap 0, of another class, serves: not dry
+abbrev pub empty-serves : Reading
+empty-serves = record { state = pair (none-live 0 25) (one-live 2 26); call = Take 1 2048; outcome = Address 0; class-after = 26; owner-after = 2 }
+
+-- dry: none of the four places offers a superblock
+abbrev pub all-dry : Reading
+all-dry = record { state = pair (one-live 2 25) (one-live 2 26); call = Take 1 2048; outcome = Refused 4; class-after = 25; owner-after = 2 }
+
+-- processor 1 frees a block of heap 2's superblock 1, which stays heap 2's
+abbrev pub freed-for-owner : Reading
+freed-for-owner = record { state = pair unused (one-live 2 26); call = Free 1 4096; outcome = Moves 0; class-after = 0; owner-after = 2 }
+
+-- refusal 5 before 6: an address in an unused superblock is astray, on a block or not
+abbrev pub astray-first : Reading
+astray-first = record { state = pair unused (one-live 2 26); call = Free 1 7; outcome = Refused 5; class-after = 0; owner-after = 2 }
+
+-- the block's address, not its superblock's
+abbrev pub second-block : Reading
+second-block = record { state = pair unused (one-live 1 26); call = Take 1 2048; outcome = Address 6144; class-after = 0; owner-after = 1 }
+
+abbrev pub readings : List Reading
+readings = place-2-first ∷ empty-serves ∷ all-dry ∷ freed-for-owner ∷ astray-first ∷ second-block ∷ []
+
+abbrev pub read : Reading → Outcome × ℕ × ℕ
+read k =
+    let after : After = callOf (k .state) pair-order (k .call) in
+    (after .answer .outcome, superblockAt (after .answer .state) 0 .class, superblockAt (after .answer .state) 1 .owner)
+
+pub readings-are : map read readings ≡ map (λ (k : Reading). (k .outcome, k .class-after, k .owner-after)) readings
+unfolding callOf takeOf takenAt takenFromOther takenFrom addressOf nextBlock adoptedOrder adopted otherPlaces freeOf freedAt returnedOrder cleanedOf isLiveAt offBlock astray blockOf
+    checked isProcessor lawful restGood superblockGood unusedFrom heapsHeld sparseIfZero settled moved movesFor passed passedFound mustMove bothConditions
+    prefer chosenBelow moreLive fewerLive noBetter hasFree emptyInZero fullest lowestEmpty lowestUnused emptiest total belongs oneOf liveIfOf superblocksOf blocksIn liveOf isUnused
+    placesGood placesLent eachOnce occ place lastFilled withPlace down laid renewed noneFrom bit markBit mark withMark withoutMark liveCount
+    sizes counts sizeOf blocksOf firstAtLeast classOf sumBelow allBelow
+readings-are = refl

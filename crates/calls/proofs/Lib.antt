@@ -1,3 +1,4 @@
+pub mod Cases
 pub mod Effects
 pub mod Checked
 pub mod SetupLaws
@@ -9,5 +10,4 @@ pub mod MovedLaws
 pub mod CleanLaws
 pub mod SettledLaws
 pub mod FreeLaws
-pub mod Cases
 pub mod Refusals
