@@ -1,0 +1,78 @@
+-- `lines::put_result` meets its contract: one arm for each outcome. Assumes nothing.
+use Rattle.lines.proofs.FieldLaws.{put-ready, put-address, put-moves, put-refused}
+use borrow.Author.Needs.{needs}
+use Rattle.lines.proofs.put_result.Statement.{statement}
+use Rattle.lines.proofs.put_result.Tie as tie
+
+enum-told : tie.Need-enum-told
+enum-told c = search needs
+
+enum-known-outcome : tie.Need-enum-known-outcome
+enum-known-outcome c = search needs
+
+slice-aggregate-put-field : tie.Need-slice-aggregate-put-field
+slice-aggregate-put-field c = search needs
+
+put-field-requires : tie.Need-put-field-requires
+put-field-requires c κs = search needs
+
+enum-known-outcome-2 : tie.Need-enum-known-outcome-2
+enum-known-outcome-2 c = search needs
+
+slice-aggregate-put-byte : tie.Need-slice-aggregate-put-byte
+slice-aggregate-put-byte c = search needs
+
+put-byte-requires : tie.Need-put-byte-requires
+put-byte-requires c κs = search needs
+
+enum-known-outcome-3 : tie.Need-enum-known-outcome-3
+enum-known-outcome-3 c = search needs
+
+slice-aggregate-put-byte-2 : tie.Need-slice-aggregate-put-byte-2
+slice-aggregate-put-byte-2 c = search needs
+
+put-byte-requires-2 : tie.Need-put-byte-requires-2
+put-byte-requires-2 c κs = search needs
+
+returns : tie.Need-returns
+returns c = search (needs, put-ready)
+
+same-length : tie.Need-same-length
+same-length c = search needs
+
+returns-2 : tie.Need-returns-2
+returns-2 c = search (needs, put-address)
+
+same-length-2 : tie.Need-same-length-2
+same-length-2 c = search needs
+
+returns-3 : tie.Need-returns-3
+returns-3 c = search (needs, put-moves)
+
+same-length-3 : tie.Need-same-length-3
+same-length-3 c = search needs
+
+returns-4 : tie.Need-returns-4
+returns-4 c = search (needs, put-refused)
+
+pub put-result-spec : {M : Type 1} → statement M
+put-result-spec =
+    tie.close
+    (tie.spec
+    enum-told
+    enum-known-outcome
+    slice-aggregate-put-field
+    put-field-requires
+    enum-known-outcome-2
+    slice-aggregate-put-byte
+    put-byte-requires
+    enum-known-outcome-3
+    slice-aggregate-put-byte-2
+    put-byte-requires-2
+    returns
+    same-length
+    returns-2
+    same-length-2
+    returns-3
+    same-length-3
+    returns-4)

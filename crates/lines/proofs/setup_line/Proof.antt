@@ -1,0 +1,76 @@
+-- `lines::setup_line` meets its contract: the fields one after another. Assumes nothing.
+use native.Mathlib.Omega.{arith}
+use Rattle.text.proofs.PutLaws.{put-then}
+use Rattle.lines.specs.Lines.{setupLine}
+use borrow.Author.Needs.{needs}
+use Rattle.lines.proofs.setup_line.Statement.{statement}
+use Rattle.lines.proofs.setup_line.Tie as tie
+
+slice-aggregate-put-byte : tie.Need-slice-aggregate-put-byte
+slice-aggregate-put-byte c = search needs
+
+put-byte-requires : tie.Need-put-byte-requires
+put-byte-requires c κs = search needs
+
+slice-aggregate-put-byte-2 : tie.Need-slice-aggregate-put-byte-2
+slice-aggregate-put-byte-2 c = search needs
+
+put-byte-requires-2 : tie.Need-put-byte-requires-2
+put-byte-requires-2 c κs = search needs
+
+slice-aggregate-put-byte-3 : tie.Need-slice-aggregate-put-byte-3
+slice-aggregate-put-byte-3 c = search needs
+
+put-byte-requires-3 : tie.Need-put-byte-requires-3
+put-byte-requires-3 c κs = search needs
+
+slice-aggregate-put-byte-4 : tie.Need-slice-aggregate-put-byte-4
+slice-aggregate-put-byte-4 c = search needs
+
+put-byte-requires-4 : tie.Need-put-byte-requires-4
+put-byte-requires-4 c κs = search needs
+
+slice-aggregate-put-byte-5 : tie.Need-slice-aggregate-put-byte-5
+slice-aggregate-put-byte-5 c = search needs
+
+put-byte-requires-5 : tie.Need-put-byte-requires-5
+put-byte-requires-5 c κs = search needs
+
+slice-aggregate-put-text : tie.Need-slice-aggregate-put-text
+slice-aggregate-put-text c = search needs
+
+put-text-requires : tie.Need-put-text-requires
+put-text-requires c κs = search needs
+
+same-length : tie.Need-same-length
+same-length c = search needs
+
+returns : tie.Need-returns
+unfolding setupLine
+returns c =
+    let d₆ = c .before .before in
+    let d₅ = d₆ .before .before .before .before .before in
+    let d₄ = d₅ .before .before .before .before .before in
+    let d₃ = d₄ .before .before .before .before .before in
+    let d₂ = d₃ .before .before .before .before .before in
+    let d₁ = d₂ .before .before .before .before .before in
+    (put-then (put-then (put-then (put-then (put-then (d₁ .put-byte .ensures .0) (d₂ .put-byte2 .ensures .0)) (d₃ .put-byte3 .ensures .0)) (d₄ .put-byte4 .ensures .0)) (d₅ .put-byte5 .ensures .0)) (d₆ .put-text .ensures), omega arith)
+
+pub setup-line-spec : {M : Type 1} → statement M
+setup-line-spec =
+    tie.close
+    (tie.spec
+    slice-aggregate-put-byte
+    put-byte-requires
+    slice-aggregate-put-byte-2
+    put-byte-requires-2
+    slice-aggregate-put-byte-3
+    put-byte-requires-3
+    slice-aggregate-put-byte-4
+    put-byte-requires-4
+    slice-aggregate-put-byte-5
+    put-byte-requires-5
+    slice-aggregate-put-text
+    put-text-requires
+    same-length
+    returns)

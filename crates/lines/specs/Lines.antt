@@ -1,0 +1,63 @@
+-- "Record and printed key": the printed lines.
+use mathlib.Core.List.{List, [], _++_}
+use Prim.Native.Nat.{ℕ, zero, suc}
+use lib.Dec.{eqb}
+use Rattle.laws.specs.Sums.{pick}
+use Rattle.text.specs.Text.{letters, decimal}
+use Rattle.heap.specs.declared.Setup.{Setup}
+use Rattle.heap.specs.declared.State.{State}
+use Rattle.heap.specs.Counts.{superblocksOf, liveOf}
+use Rattle.calls.specs.declared.Outcome.{Outcome}
+use Rattle.calls.specs.declared.Outcome.the-variants.{Ready, Address, Moves, Refused}
+
+-- a word and a number after it
+abbrev pub field : List ℕ → ℕ → List ℕ
+field label n = label ++ decimal n
+
+-- "a setup's five numbers"
+unfoldable pub setupLine : Setup → List ℕ
+setupLine u =
+    field (letters "setup ") (u .processors) ++ field (letters " ") (u .superblocks) ++ field (letters " ") (u .spare)
+    ++ field (letters " ") (u .p) ++ field (letters " ") (u .q) ++ letters "\n"
+
+-- "the address given, the moves or the refusal"
+unfoldable pub result : Outcome → List ℕ
+result Ready = []
+result (Address a) = field (letters " at ") a
+result (Moves m) = field (letters " moved ") m
+result (Refused r) = field (letters " refused ") r
+
+-- "processor, size or address as in the record", then the result
+unfoldable pub takeLine : ℕ → ℕ → Outcome → List ℕ
+takeLine processor size outcome = field (letters "take ") processor ++ field (letters " ") size ++ result outcome ++ letters "\n"
+
+unfoldable pub freeLine : ℕ → ℕ → Outcome → List ℕ
+freeLine processor address outcome = field (letters "free ") processor ++ field (letters " ") address ++ result outcome ++ letters "\n"
+
+-- "`stopped R at B` (R the number, B the command's byte offset; 0 for 11) as the last line"
+unfoldable pub stopLine : ℕ → ℕ → List ℕ
+stopLine number offset = field (letters "stopped ") number ++ field (letters " at ") offset ++ letters "\n"
+
+-- "for a heap and class, the number of its superblocks and of their live blocks"
+unfoldable pub heapLine : ℕ → ℕ → ℕ → ℕ → List ℕ
+heapLine h c superblocks live =
+    field (letters "heap ") h ++ field (letters " class ") c ++ field (letters " superblocks ") superblocks ++ field (letters " live ") live
+    ++ letters "\n"
+
+-- a line for a heap and class "with a superblock"
+unfoldable pub heapLineIf : ℕ → ℕ → State → List ℕ
+heapLineIf h c s = pick (eqb (superblocksOf h c s) 0) [] (heapLine h c (superblocksOf h c s) (liveOf h c s))
+
+-- "classes rising": heap h's lines for the classes below c
+unfoldable pub classLines : ℕ → ℕ → State → List ℕ
+classLines h zero s = []
+classLines h (suc c) s = classLines h c s ++ heapLineIf h c s
+
+-- "heaps then classes rising": the lines of the heaps below h
+unfoldable pub heapLines : ℕ → State → List ℕ
+heapLines zero s = []
+heapLines (suc h) s = heapLines h s ++ classLines h 27 s
+
+-- "Otherwise a line for each heap and class with a superblock follows, .. then `end`": heaps 0 to P
+unfoldable pub finalLines : State → List ℕ
+finalLines s = heapLines (suc (s .setup .processors)) s ++ letters "end\n"

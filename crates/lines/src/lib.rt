@@ -1,0 +1,218 @@
+// The lines of the printed key, written into a lent buffer. The caller sees that there is room.
+use calls::Outcome;
+use heap::Setup;
+use heap::State;
+use heap::Superblock;
+use marks::live_count;
+use text::put_decimal;
+use text::put_text;
+ghost use mathlib.Core.Path.{_≡_};
+ghost use mathlib.Core.List.{_++_};
+ghost use Prim.Native.Nat.{_+_, _*_, _≤_};
+ghost use lib.ListN.{length};
+ghost use Rattle.text.specs.Text.{decimal, Put};
+ghost use Rattle.heap.specs.Counts.{belongs, oneOf, liveIfOf, superblocksOf, liveOf};
+ghost use Rattle.lines.specs.Lines.{
+  setupLine,
+  result,
+  takeLine,
+  freeLine,
+  stopLine,
+  heapLine,
+  heapLineIf,
+  classLines,
+  heapLines,
+  finalLines,
+};
+
+// A word and a number after it.
+fn put_field(out: &mut [u8], at: usize, label: &[u8], n: u32) -> usize
+    requires { ⌜ at + length (now label) + 10 ≤ length (now out) ⌝ }
+    ensures { λ r.
+        ⌜ Put (now (out .entry)) at (now (label .entry) ++ decimal n) (now (out .exit)) r × (r ≤ at + length (now (label .entry)) + 10) ⌝ }
+{
+    let next = put_text(out, at, label);
+    put_decimal(out, next, n)
+}
+
+// The same for numbers of 8 and of 16 bits, which have fewer digits.
+fn put_byte(out: &mut [u8], at: usize, label: &[u8], n: u8) -> usize
+    requires { ⌜ at + length (now label) + 10 ≤ length (now out) ⌝ }
+    ensures { λ r.
+        ⌜ Put (now (out .entry)) at (now (label .entry) ++ decimal n) (now (out .exit)) r × (r ≤ at + length (now (label .entry)) + 3) ⌝ }
+{
+    put_field(out, at, label, n as u32)
+}
+
+fn put_short(out: &mut [u8], at: usize, label: &[u8], n: u16) -> usize
+    requires { ⌜ at + length (now label) + 10 ≤ length (now out) ⌝ }
+    ensures { λ r.
+        ⌜ Put (now (out .entry)) at (now (label .entry) ++ decimal n) (now (out .exit)) r × (r ≤ at + length (now (label .entry)) + 5) ⌝ }
+{
+    put_field(out, at, label, n as u32)
+}
+
+// The line of an accepted setup.
+pub fn setup_line(out: &mut [u8], at: usize, u: Setup) -> usize
+    requires { ⌜ at + 64 ≤ length (now out) ⌝ }
+    ensures { λ r. ⌜ Put (now (out .entry)) at (setupLine u) (now (out .exit)) r × (r ≤ at + 26) ⌝ }
+{
+    let a = put_byte(out, at, b"setup ", u.processors);
+    let b = put_byte(out, a, b" ", u.superblocks);
+    let c = put_byte(out, b, b" ", u.spare);
+    let d = put_byte(out, c, b" ", u.p);
+    let e = put_byte(out, d, b" ", u.q);
+    put_text(out, e, b"\n")
+}
+
+// The address given, the moves or the refusal.
+fn put_result(out: &mut [u8], at: usize, outcome: Outcome) -> usize
+    requires { ⌜ at + 20 ≤ length (now out) ⌝ }
+    ensures { λ r. ⌜ Put (now (out .entry)) at (result outcome) (now (out .exit)) r × (r ≤ at + 14) ⌝ }
+{
+    match outcome {
+        Outcome::Ready => at,
+        Outcome::Address(a) => put_field(out, at, b" at ", a),
+        Outcome::Moves(m) => put_byte(out, at, b" moved ", m),
+        Outcome::Refused(r) => put_byte(out, at, b" refused ", r),
+    }
+}
+
+// The line of a take.
+pub fn take_line(out: &mut [u8], at: usize, processor: u8, size: u16, outcome: Outcome) -> usize
+    requires { ⌜ at + 64 ≤ length (now out) ⌝ }
+    ensures { λ r. ⌜ Put (now (out .entry)) at (takeLine processor size outcome) (now (out .exit)) r × (r ≤ at + 29) ⌝ }
+{
+    let a = put_byte(out, at, b"take ", processor);
+    let b = put_short(out, a, b" ", size);
+    let c = put_result(out, b, outcome);
+    put_text(out, c, b"\n")
+}
+
+// The line of a free.
+pub fn free_line(out: &mut [u8], at: usize, processor: u8, address: u32, outcome: Outcome) -> usize
+    requires { ⌜ at + 64 ≤ length (now out) ⌝ }
+    ensures { λ r. ⌜ Put (now (out .entry)) at (freeLine processor address outcome) (now (out .exit)) r × (r ≤ at + 34) ⌝ }
+{
+    let a = put_byte(out, at, b"free ", processor);
+    let b = put_field(out, a, b" ", address);
+    let c = put_result(out, b, outcome);
+    put_text(out, c, b"\n")
+}
+
+// The last line of a record that stops.
+pub fn stop_line(out: &mut [u8], at: usize, number: u8, offset: u32) -> usize
+    requires { ⌜ at + 64 ≤ length (now out) ⌝ }
+    ensures { λ r. ⌜ Put (now (out .entry)) at (stopLine number offset) (now (out .exit)) r × (r ≤ at + 26) ⌝ }
+{
+    let a = put_byte(out, at, b"stopped ", number);
+    let b = put_field(out, a, b" at ", offset);
+    put_text(out, b, b"\n")
+}
+
+// The line of a heap and class, with the number of its superblocks and of their live blocks.
+fn heap_line(out: &mut [u8], at: usize, heap: u8, class: u8, superblocks: u32, live: u32) -> usize
+    requires { ⌜ at + 64 ≤ length (now out) ⌝ }
+    ensures { λ r. ⌜ Put (now (out .entry)) at (heapLine heap class superblocks live) (now (out .exit)) r × (r ≤ at + 64) ⌝ }
+{
+    let a = put_byte(out, at, b"heap ", heap);
+    let b = put_byte(out, a, b" class ", class);
+    let c = put_field(out, b, b" superblocks ", superblocks);
+    let d = put_field(out, c, b" live ", live);
+    put_text(out, d, b"\n")
+}
+
+// The superblocks of a heap and class, and their live blocks.
+struct Counts {
+    superblocks: u32,
+    live: u32,
+}
+
+fn belongs_to(b: Superblock, heap: u8, class: u8) -> bool
+    ensures { λ r. ⌜ r ≡ belongs heap class b ⌝ }
+{
+    b.owner == heap && b.class == class
+}
+
+fn one_if(b: Superblock, heap: u8, class: u8) -> u32
+    ensures { λ r. ⌜ (r ≡ oneOf heap class b) × (r ≤ 1) ⌝ }
+{
+    if belongs_to(b, heap, class) { 1 } else { 0 }
+}
+
+fn live_if(b: Superblock, heap: u8, class: u8) -> u32
+    ensures { λ r. ⌜ (r ≡ liveIfOf heap class b) × (r ≤ 256) ⌝ }
+{
+    let live = b.live;
+    if belongs_to(b, heap, class) {
+        live_count(live)
+    } else {
+        0
+    }
+}
+
+fn count_of(s: State, heap: u8, class: u8) -> Counts
+    ensures { λ r.
+        ⌜ (r .superblocks ≡ superblocksOf heap class s) × (r .live ≡ liveOf heap class s) × (r .superblocks ≤ 64) × (r .live ≤ 16384) ⌝ }
+{
+    let mut superblocks: u32 = 0;
+    let mut live: u32 = 0;
+    let mut k: usize = 0;
+    while k < 64 {
+        let b = s.table[k];
+        superblocks += one_if(b, heap, class);
+        live += live_if(b, heap, class);
+        k += 1;
+    }
+    Counts { superblocks, live }
+}
+
+// The line of a heap and class, where it has a superblock.
+fn heap_line_if(out: &mut [u8], at: usize, heap: u8, class: u8, s: State) -> usize
+    requires { ⌜ at + 64 ≤ length (now out) ⌝ }
+    ensures { λ r. ⌜ Put (now (out .entry)) at (heapLineIf heap class s) (now (out .exit)) r × (r ≤ at + 64) ⌝ }
+{
+    let n = count_of(s, heap, class);
+    if n.superblocks == 0 {
+        return at;
+    }
+    heap_line(out, at, heap, class, n.superblocks, n.live)
+}
+
+// The lines of a heap, classes rising.
+fn class_lines(out: &mut [u8], at: usize, heap: u8, s: State) -> usize
+    requires { ⌜ at + 27 * 64 ≤ length (now out) ⌝ }
+    ensures { λ r. ⌜ Put (now (out .entry)) at (classLines heap 27 s) (now (out .exit)) r × (r ≤ at + 27 * 64) ⌝ }
+{
+    let mut end = at;
+    let mut class: u8 = 0;
+    while class < 27 {
+        end = heap_line_if(out, end, heap, class, s);
+        class += 1;
+    }
+    end
+}
+
+// The lines of the heaps below a number, heaps rising.
+fn heap_lines(out: &mut [u8], at: usize, heaps: usize, s: State) -> usize
+    requires { ⌜ (heaps ≤ 256) × (at + heaps * (27 * 64) ≤ length (now out)) ⌝ }
+    ensures { λ r. ⌜ Put (now (out .entry)) at (heapLines heaps s) (now (out .exit)) r × (r ≤ at + heaps * (27 * 64)) ⌝ }
+{
+    let mut end = at;
+    let mut heap: usize = 0;
+    while heap < heaps {
+        end = class_lines(out, end, heap as u8, s);
+        heap += 1;
+    }
+    end
+}
+
+// The lines at the end of a record that does not stop.
+pub fn final_lines(out: &mut [u8], at: usize, s: State) -> usize
+    requires { ⌜ at + (s .setup .processors + 1) * (27 * 64) + 4 ≤ length (now out) ⌝ }
+    ensures { λ r.
+        ⌜ Put (now (out .entry)) at (finalLines s) (now (out .exit)) r × (r ≤ at + (s .setup .processors + 1) * (27 * 64) + 4) ⌝ }
+{
+    let end = heap_lines(out, at, s.setup.processors as usize + 1, s);
+    put_text(out, end, b"end\n")
+}

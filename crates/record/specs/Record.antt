@@ -1,0 +1,85 @@
+-- "Record and printed key": what stands at a position of a record.
+use Prim.Native.Nat.{ℕ, zero, suc, _+_, _*_}
+use mathlib.Core.Bool.{Bool, true, false}
+use mathlib.Core.List.{List, [], _∷_}
+use lib.ListN.{length, getD}
+use lib.Dec.{eqb, leb, ltb}
+use Rattle.laws.specs.Sums.{pick, either}
+use Rattle.record.specs.declared.Command.{Command}
+use Rattle.record.specs.declared.Command.the-variants.{Setup, Take, Free, Refused}
+
+-- "numbers of several bytes have the low byte first"
+abbrev pub byteAt : List ℕ → ℕ → ℕ
+byteAt r i = getD r i 0
+
+abbrev pub twoAt : List ℕ → ℕ → ℕ
+twoAt r i = byteAt r i + 256 * byteAt r (i + 1)
+
+abbrev pub fourAt : List ℕ → ℕ → ℕ
+fourAt r i = twoAt r i + 65536 * twoAt r (i + 2)
+
+-- refusal 9: "the record ends inside a command", one of n bytes
+unfoldable pub whole : List ℕ → ℕ → ℕ → Command → Command
+whole r at n command = pick (leb (at + n) (length r)) command (Refused 9 at)
+
+-- "00: setup, then P, N, K, p, q, one byte each. First command, and only there."
+unfoldable pub setupAt : List ℕ → ℕ → Command
+setupAt r at =
+    pick (eqb at 0)
+    (whole r at 6 (Setup (byteAt r (at + 1)) (byteAt r (at + 2)) (byteAt r (at + 3)) (byteAt r (at + 4)) (byteAt r (at + 5))))
+    (Refused 10 at)
+
+-- refusal 10: "a setup that is not first, a known other command that is, or no byte at all"
+unfoldable pub notFirst : ℕ → Command → Command
+notFirst at command = pick (eqb at 0) (Refused 10 at) command
+
+-- "01: take, processor (1 byte), size (2)"
+unfoldable pub takeAt : List ℕ → ℕ → Command
+takeAt r at = notFirst at (whole r at 4 (Take (byteAt r (at + 1)) (twoAt r (at + 2))))
+
+-- "02: free, processor (1), address (4)"
+unfoldable pub freeAt : List ℕ → ℕ → Command
+freeAt r at = notFirst at (whole r at 6 (Free (byteAt r (at + 1)) (fourAt r (at + 2))))
+
+-- the command by its first byte; refusal 8: "unknown command byte"
+unfoldable pub knownAt : List ℕ → ℕ → Command
+knownAt r at =
+    pick (eqb (byteAt r at) 0) (setupAt r at)
+    (pick (eqb (byteAt r at) 1) (takeAt r at)
+    (pick (eqb (byteAt r at) 2) (freeAt r at)
+    (Refused 8 at)))
+
+-- "Record: 11, then for each command 8, 10, 9"; 11 stops at 0. At the record's end and past it there is no command: 10 where there
+-- is no byte at all, else 9 at the end, which no reader meets.
+unfoldable pub commandAt : List ℕ → ℕ → Command
+commandAt r at =
+    pick (ltb 60000 (length r)) (Refused 11 0)
+    (pick (ltb at (length r)) (knownAt r at)
+    (pick (eqb at 0) (Refused 10 0) (Refused 9 (length r))))
+
+-- the bytes of a command that is read whole; a refusal ends the record
+unfoldable pub sizeOfCommand : Command → ℕ
+sizeOfCommand (Setup processors superblocks spare p q) = 6
+sizeOfCommand (Take processor size) = 4
+sizeOfCommand (Free processor address) = 6
+sizeOfCommand (Refused number offset) = 0
+
+-- after a command that is refused nothing more is read
+unfoldable pub isRefused : Command → Bool
+isRefused (Setup processors superblocks spare p q) = false
+isRefused (Take processor size) = false
+isRefused (Free processor address) = false
+isRefused (Refused number offset) = true
+
+-- the commands from a position on, at most as many as the first number: one is read in any case, and more until one is refused or
+-- the record ends
+unfoldable pub commandsFrom : ℕ → List ℕ → ℕ → List Command
+commandsFrom zero r at = []
+commandsFrom (suc most) r at =
+    commandAt r at
+    ∷ pick (either (isRefused (commandAt r at)) (leb (length r) (at + sizeOfCommand (commandAt r at)))) []
+    (commandsFrom most r (at + sizeOfCommand (commandAt r at)))
+
+-- the commands of a record; each has a byte at least, so that there are no more than bytes, or one for an empty record
+unfoldable pub commandsOf : List ℕ → List Command
+commandsOf r = commandsFrom (suc (length r)) r 0

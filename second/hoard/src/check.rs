@@ -1,0 +1,106 @@
+//! The check of a state handed in.
+
+use crate::engine::{over_emptiness_threshold, Usage};
+use crate::outcome::Refusal;
+use crate::size_class::SIZE_CLASSES;
+use crate::state::{Setup, State, Superblock, GLOBAL_HEAP, ORDER_PLACES};
+
+/// Most processors of a lawful setup.
+const MOST_PROCESSORS: usize = 8;
+
+/// Live and all blocks of each heap and class.
+type UsageTable = [[Usage; SIZE_CLASSES.len()]; MOST_PROCESSORS + 1];
+
+/// Whether the five setup numbers are within their limits.
+pub fn setup_is_lawful(setup: &Setup) -> bool {
+    (1..=8).contains(&setup.processors)
+        && (1..=64).contains(&setup.superblocks)
+        && (1..=16).contains(&setup.spare)
+        && (2..=8).contains(&setup.q)
+        && 1 <= setup.p
+        && setup.p < setup.q
+}
+
+/// Checks the state and storage given to a take or free, in the order of the
+/// refusals: setup numbers, length of the storage, then the rest of the state.
+pub fn check_handed_in(state: &State, order: &[u16]) -> Result<(), Refusal> {
+    if !setup_is_lawful(&state.setup) {
+        return Err(Refusal::State);
+    }
+    if order.len() < state.setup.order_places() {
+        return Err(Refusal::Storage);
+    }
+    if !superblocks_are_sound(state, order) {
+        return Err(Refusal::State);
+    }
+    Ok(())
+}
+
+/// The check of the superblocks, with the usage of every heap counted on the way.
+fn superblocks_are_sound(state: &State, order: &[u16]) -> bool {
+    let mut usage: UsageTable = Default::default();
+    for (number, superblock) in state.superblocks.iter().enumerate() {
+        if *superblock == Superblock::UNUSED {
+            continue;
+        }
+        let known = number < usize::from(state.setup.superblocks)
+            && superblock.owner <= state.setup.processors
+            && usize::from(superblock.class) < SIZE_CLASSES.len();
+        if !known {
+            return false;
+        }
+        let places = &order[number * ORDER_PLACES..][..ORDER_PLACES];
+        if !marks_are_in_range(superblock) || !order_is_sound(superblock, places) {
+            return false;
+        }
+        if superblock.owner == GLOBAL_HEAP && !empty_enough_for_global(&state.setup, superblock) {
+            return false;
+        }
+        usage[usize::from(superblock.owner)][usize::from(superblock.class)].add(superblock);
+    }
+    !any_heap_over_threshold(&state.setup, &usage)
+}
+
+/// Whether no block at n or above is marked live.
+fn marks_are_in_range(superblock: &Superblock) -> bool {
+    let blocks = superblock.size_class().blocks;
+    (0u32..).zip(superblock.live).all(|(word, marks)| {
+        let in_range = blocks.saturating_sub(64 * word);
+        in_range >= 64 || marks >> in_range == 0
+    })
+}
+
+/// Whether the filled order places of an owned superblock hold each unmarked
+/// block just once. There are as many filled places as unmarked blocks, so it is
+/// enough that no block is marked, out of range or met before.
+fn order_is_sound(superblock: &Superblock, places: &[u16]) -> bool {
+    let blocks = superblock.size_class().blocks;
+    let mut taken = superblock.live;
+    for &place in &places[..superblock.free_count() as usize] {
+        let block = u32::from(place);
+        if block >= blocks {
+            return false;
+        }
+        let (word, bit) = (block as usize / 64, 1 << (block % 64));
+        if taken[word] & bit != 0 {
+            return false;
+        }
+        taken[word] |= bit;
+    }
+    true
+}
+
+/// Whether a superblock of the global heap is as empty as a moved one must be.
+fn empty_enough_for_global(setup: &Setup, superblock: &Superblock) -> bool {
+    let (p, q) = (u32::from(setup.p), u32::from(setup.q));
+    q * superblock.live_count() < (q - p) * superblock.size_class().blocks
+}
+
+/// Whether a processor heap and class should have given up a superblock.
+fn any_heap_over_threshold(setup: &Setup, usage: &UsageTable) -> bool {
+    usage[1..=usize::from(setup.processors)].iter().any(|heap| {
+        heap.iter()
+            .zip(&SIZE_CLASSES)
+            .any(|(usage, class)| over_emptiness_threshold(setup, class, usage))
+    })
+}

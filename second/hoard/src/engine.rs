@@ -1,0 +1,266 @@
+//! The three calls: setup, take and free.
+
+use crate::check::{check_handed_in, setup_is_lawful};
+use crate::outcome::{Answer, Outcome, Refusal};
+use crate::size_class::{class_of_size, SizeClass, SIZE_CLASSES, SUPERBLOCK_BYTES};
+use crate::state::{Setup, State, Superblock, GLOBAL_HEAP, ORDER_PLACES, UNUSED_OWNER};
+
+/// Blocks of one heap and class.
+#[derive(Clone, Copy, Debug, Default, PartialEq, Eq)]
+pub struct Usage {
+    /// Live blocks (u).
+    pub live: u32,
+    /// All blocks, live or not (a).
+    pub blocks: u32,
+}
+
+impl Usage {
+    /// Counts a superblock in.
+    pub fn add(&mut self, superblock: &Superblock) {
+        self.live += superblock.live_count();
+        self.blocks += superblock.size_class().blocks;
+    }
+}
+
+/// Where a take finds its superblock.
+struct Offer {
+    number: usize,
+    from_own_heap: bool,
+}
+
+/// Sets up: every superblock unused, the order places of the setup all 0.
+pub fn setup(asked: Setup, order: &mut [u16]) -> Answer {
+    let refusal = if !setup_is_lawful(&asked) {
+        Some(Refusal::Setup)
+    } else if order.len() < asked.order_places() {
+        Some(Refusal::Storage)
+    } else {
+        None
+    };
+    if let Some(refusal) = refusal {
+        return Answer {
+            outcome: Outcome::Refused(refusal),
+            state: State::fresh(Setup::default()),
+        };
+    }
+    order[..asked.order_places()].fill(0);
+    Answer {
+        outcome: Outcome::Ready,
+        state: State::fresh(asked),
+    }
+}
+
+/// Takes a block of at least `size` bytes for a processor.
+pub fn take(state: &State, processor: u8, size: u16, order: &mut [u16]) -> Answer {
+    let mut next = state.clone();
+    let outcome = match take_block(&mut next, processor, size, order) {
+        Ok(address) => Outcome::At(address),
+        Err(refusal) => Outcome::Refused(refusal),
+    };
+    Answer {
+        outcome,
+        state: next,
+    }
+}
+
+/// Frees the block at `address`, whichever heap owns its superblock.
+pub fn free(state: &State, processor: u8, address: u32, order: &mut [u16]) -> Answer {
+    let mut next = state.clone();
+    let outcome = match free_block(&mut next, processor, address, order) {
+        Ok(moves) => Outcome::Moved(moves),
+        Err(refusal) => Outcome::Refused(refusal),
+    };
+    Answer {
+        outcome,
+        state: next,
+    }
+}
+
+/// The take itself. State and storage change only once no refusal is left.
+fn take_block(
+    state: &mut State,
+    processor: u8,
+    size: u16,
+    order: &mut [u16],
+) -> Result<u32, Refusal> {
+    check_handed_in(state, order)?;
+    check_processor(state, processor)?;
+    let class = class_of_size(size).ok_or(Refusal::Size)?;
+    let offer = find_superblock(state, processor, class).ok_or(Refusal::Dry)?;
+
+    let superblock = &mut state.superblocks[offer.number];
+    let places = places_of(order, offer.number);
+    if !offer.from_own_heap {
+        superblock.owner = processor;
+        if superblock.live_count() == 0 {
+            renew(superblock, class, places);
+        }
+    }
+    let last_filled = superblock.free_count() - 1;
+    let block = u32::from(places[last_filled as usize]);
+    superblock.mark(block);
+    Ok(offer.number as u32 * SUPERBLOCK_BYTES + block * superblock.size_class().block_size)
+}
+
+/// The free itself. State and storage change only once no refusal is left.
+fn free_block(
+    state: &mut State,
+    processor: u8,
+    address: u32,
+    order: &mut [u16],
+) -> Result<u32, Refusal> {
+    check_handed_in(state, order)?;
+    check_processor(state, processor)?;
+    let (number, block) = find_block(state, address)?;
+
+    let superblock = &mut state.superblocks[number];
+    let next_place = superblock.free_count();
+    superblock.unmark(block);
+    places_of(order, number)[next_place as usize] = block as u16;
+
+    let (owner, class) = (superblock.owner, superblock.class);
+    if owner == GLOBAL_HEAP {
+        return Ok(0);
+    }
+    Ok(give_up_superblocks(state, owner, class))
+}
+
+fn check_processor(state: &State, processor: u8) -> Result<(), Refusal> {
+    if processor == 0 || processor > state.setup.processors {
+        return Err(Refusal::Processor);
+    }
+    Ok(())
+}
+
+/// The first superblock that one of the four places offers.
+fn find_superblock(state: &State, processor: u8, class: u8) -> Option<Offer> {
+    if let Some(number) = fullest_with_free(state, processor, class) {
+        return Some(Offer {
+            number,
+            from_own_heap: true,
+        });
+    }
+    fullest_with_free(state, GLOBAL_HEAP, class)
+        .or_else(|| first_empty_of_global(state))
+        .or_else(|| first_unused(state))
+        .map(|number| Offer {
+            number,
+            from_own_heap: false,
+        })
+}
+
+/// Places 1 and 2: of the heap's superblocks of the class with a free block, the
+/// one with most live, the lower number among equals.
+fn fullest_with_free(state: &State, heap: u8, class: u8) -> Option<usize> {
+    let mut best: Option<(usize, u32)> = None;
+    for (number, superblock) in state.superblocks.iter().enumerate() {
+        if superblock.owner != heap || superblock.class != class || superblock.free_count() == 0 {
+            continue;
+        }
+        let live = superblock.live_count();
+        if best.is_none_or(|(_, most)| live > most) {
+            best = Some((number, live));
+        }
+    }
+    best.map(|(number, _)| number)
+}
+
+/// Place 3: the first superblock of the global heap with nothing live.
+fn first_empty_of_global(state: &State) -> Option<usize> {
+    state
+        .superblocks
+        .iter()
+        .position(|superblock| superblock.owner == GLOBAL_HEAP && superblock.live_count() == 0)
+}
+
+/// Place 4: the first unused superblock of the setup.
+fn first_unused(state: &State) -> Option<usize> {
+    state.superblocks[..usize::from(state.setup.superblocks)]
+        .iter()
+        .position(|superblock| superblock.owner == UNUSED_OWNER)
+}
+
+/// Renews an empty superblock for a class: block 0 is taken first.
+pub fn renew(superblock: &mut Superblock, class: u8, places: &mut [u16]) {
+    superblock.class = class;
+    superblock.live = [0; 4];
+    let blocks = superblock.size_class().blocks as u16;
+    for (place, block) in places.iter_mut().zip((0..blocks).rev()) {
+        *place = block;
+    }
+}
+
+/// The superblock and block of a live address.
+fn find_block(state: &State, address: u32) -> Result<(usize, u32), Refusal> {
+    let number = (address / SUPERBLOCK_BYTES) as usize;
+    if number >= usize::from(state.setup.superblocks) {
+        return Err(Refusal::Astray);
+    }
+    let superblock = &state.superblocks[number];
+    if superblock.owner == UNUSED_OWNER {
+        return Err(Refusal::Astray);
+    }
+    let class = superblock.size_class();
+    let offset = address % SUPERBLOCK_BYTES;
+    let block = offset / class.block_size;
+    if !offset.is_multiple_of(class.block_size) || block >= class.blocks {
+        return Err(Refusal::OffBlock);
+    }
+    if !superblock.is_live(block) {
+        return Err(Refusal::NotLive);
+    }
+    Ok((number, block))
+}
+
+/// The order places of one superblock.
+fn places_of(order: &mut [u16], number: usize) -> &mut [u16] {
+    &mut order[number * ORDER_PLACES..][..ORDER_PLACES]
+}
+
+/// Moves the emptiest superblock of a heap and class to the global heap, again
+/// and again while the heap is over the threshold. Returns the number moved.
+fn give_up_superblocks(state: &mut State, heap: u8, class: u8) -> u32 {
+    let mut moves = 0;
+    while heap_is_over_threshold(state, heap, class) {
+        let Some(number) = emptiest(state, heap, class) else {
+            break;
+        };
+        state.superblocks[number].owner = GLOBAL_HEAP;
+        moves += 1;
+    }
+    moves
+}
+
+fn heap_is_over_threshold(state: &State, heap: u8, class: u8) -> bool {
+    let mut usage = Usage::default();
+    for superblock in &state.superblocks {
+        if superblock.owner == heap && superblock.class == class {
+            usage.add(superblock);
+        }
+    }
+    over_emptiness_threshold(&state.setup, &SIZE_CLASSES[usize::from(class)], &usage)
+}
+
+/// Whether both conditions of the move rule hold: more than K superblocks' worth
+/// of free blocks, and more than p/q of all blocks free.
+pub fn over_emptiness_threshold(setup: &Setup, class: &SizeClass, usage: &Usage) -> bool {
+    let (p, q) = (u32::from(setup.p), u32::from(setup.q));
+    let spare_blocks = u32::from(setup.spare) * class.blocks;
+    usage.live + spare_blocks < usage.blocks && q * usage.live < (q - p) * usage.blocks
+}
+
+/// The superblock of a heap and class with fewest live, the lower number among
+/// equals.
+fn emptiest(state: &State, heap: u8, class: u8) -> Option<usize> {
+    let mut best: Option<(usize, u32)> = None;
+    for (number, superblock) in state.superblocks.iter().enumerate() {
+        if superblock.owner != heap || superblock.class != class {
+            continue;
+        }
+        let live = superblock.live_count();
+        if best.is_none_or(|(_, fewest)| live < fewest) {
+            best = Some((number, live));
+        }
+    }
+    best.map(|(number, _)| number)
+}

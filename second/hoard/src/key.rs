@@ -1,0 +1,125 @@
+//! The printed key of a record.
+
+use std::fmt::{self, Display, Write};
+
+use crate::engine::{free, setup, take, Usage};
+use crate::outcome::{Answer, Outcome, Refusal};
+use crate::record::{decode, Command, Stop, LONGEST_RECORD};
+use crate::size_class::SIZE_CLASSES;
+use crate::state::{Setup, State, ORDER_PLACES, SUPERBLOCKS};
+
+/// The whole printed key of a record.
+pub fn key(record: &[u8]) -> Vec<u8> {
+    let mut text = String::new();
+    match print_commands(record, &mut text) {
+        Ok(state) => {
+            print_heaps(&state, &mut text);
+            text.push_str("end\n");
+        }
+        Err(stop) => print_line(
+            &mut text,
+            format_args!("stopped {} at {}", stop.refusal.number(), stop.offset),
+        ),
+    }
+    text.into_bytes()
+}
+
+/// Prints a line for each command; the state after the last one.
+fn print_commands(record: &[u8], text: &mut String) -> Result<State, Stop> {
+    if record.len() > LONGEST_RECORD {
+        return Err(Stop {
+            refusal: Refusal::Long,
+            offset: 0,
+        });
+    }
+    let mut order = vec![0; SUPERBLOCKS * ORDER_PLACES];
+    let mut state = State::fresh(Setup::default());
+    let mut offset = 0;
+    loop {
+        let (command, next_offset) = decode(record, offset)?;
+        let answer = run(&command, &state, &mut order);
+        if let Outcome::Refused(refusal @ Refusal::Setup) = answer.outcome {
+            return Err(Stop { refusal, offset });
+        }
+        match answer.outcome {
+            Outcome::Ready => print_line(text, format_args!("{command}")),
+            outcome => print_line(text, format_args!("{command} {outcome}")),
+        }
+        state = answer.state;
+        offset = next_offset;
+        if offset == record.len() {
+            return Ok(state);
+        }
+    }
+}
+
+/// Gives a command to the engine.
+fn run(command: &Command, state: &State, order: &mut [u16]) -> Answer {
+    match *command {
+        Command::Setup(asked) => setup(asked, order),
+        Command::Take { processor, size } => take(state, processor, size, order),
+        Command::Free { processor, address } => free(state, processor, address, order),
+    }
+}
+
+/// Prints a line for each heap and class with a superblock.
+fn print_heaps(state: &State, text: &mut String) {
+    for heap in 0..=state.setup.processors {
+        for class in 0..SIZE_CLASSES.len() as u8 {
+            print_heap_and_class(state, heap, class, text);
+        }
+    }
+}
+
+fn print_heap_and_class(state: &State, heap: u8, class: u8, text: &mut String) {
+    let mut superblocks = 0;
+    let mut usage = Usage::default();
+    for superblock in &state.superblocks {
+        if superblock.owner == heap && superblock.class == class {
+            superblocks += 1;
+            usage.add(superblock);
+        }
+    }
+    if superblocks > 0 {
+        let live = usage.live;
+        print_line(
+            text,
+            format_args!("heap {heap} class {class} superblocks {superblocks} live {live}"),
+        );
+    }
+}
+
+fn print_line(text: &mut String, line: fmt::Arguments) {
+    writeln!(text, "{line}").expect("writing to a string does not fail");
+}
+
+/// A command as in a paper: its word and numbers.
+impl Display for Command {
+    fn fmt(&self, f: &mut fmt::Formatter) -> fmt::Result {
+        match self {
+            Command::Setup(setup) => write!(f, "setup {setup}"),
+            Command::Take { processor, size } => write!(f, "take {processor} {size}"),
+            Command::Free { processor, address } => write!(f, "free {processor} {address}"),
+        }
+    }
+}
+
+/// The five numbers in record order.
+impl Display for Setup {
+    fn fmt(&self, f: &mut fmt::Formatter) -> fmt::Result {
+        let [processors, superblocks, spare, p, q] = self.numbers();
+        write!(f, "{processors} {superblocks} {spare} {p} {q}")
+    }
+}
+
+/// The answer: its word and number.
+impl Display for Outcome {
+    fn fmt(&self, f: &mut fmt::Formatter) -> fmt::Result {
+        match self {
+            Outcome::Ready => write!(f, "ready"),
+            Outcome::At(address) => write!(f, "at {address}"),
+            Outcome::Moved(moves) => write!(f, "moved {moves}"),
+            Outcome::Refused(refusal) => write!(f, "refused {}", refusal.number()),
+        }
+    }
+}

@@ -1,0 +1,61 @@
+//! Outcomes of calls and the refusals with their numbers.
+
+use crate::state::State;
+
+/// Why a call or a record was refused.
+#[derive(Clone, Copy, Debug, PartialEq, Eq)]
+pub enum Refusal {
+    /// A setup number outside its limits.
+    Setup = 1,
+    /// Processor 0 or above P.
+    Processor = 2,
+    /// Size 0 or above 2048.
+    Size = 3,
+    /// No place offers a superblock.
+    Dry = 4,
+    /// Address past the superblocks, or in an unused one.
+    Astray = 5,
+    /// Address that is not the start of a block.
+    OffBlock = 6,
+    /// The block is not live.
+    NotLive = 7,
+    /// Unknown command byte.
+    Command = 8,
+    /// The record ends inside a command.
+    Cut = 9,
+    /// A command in the wrong place, or no byte at all.
+    Place = 10,
+    /// Record above its longest length.
+    Long = 11,
+    /// Too few order places lent.
+    Storage = 12,
+    /// The state fails its check.
+    State = 13,
+}
+
+impl Refusal {
+    /// The number printed for this refusal.
+    pub fn number(self) -> u8 {
+        self as u8
+    }
+}
+
+/// What a call answers.
+#[derive(Clone, Copy, Debug, PartialEq, Eq)]
+pub enum Outcome {
+    /// An accepted setup.
+    Ready,
+    /// A take: the address it got.
+    At(u32),
+    /// A free: the superblocks it moved to the global heap.
+    Moved(u32),
+    /// A refused call.
+    Refused(Refusal),
+}
+
+/// Outcome of a call and the state after it.
+#[derive(Clone, Debug, PartialEq, Eq)]
+pub struct Answer {
+    pub outcome: Outcome,
+    pub state: State,
+}

@@ -1,0 +1,121 @@
+//! Setup, superblocks and the state handed from call to call.
+
+use crate::size_class::{SizeClass, SIZE_CLASSES};
+
+/// Superblocks that a state carries, used or not.
+pub const SUPERBLOCKS: usize = 64;
+/// Order places of each superblock.
+pub const ORDER_PLACES: usize = 256;
+/// Owner of an unused superblock.
+pub const UNUSED_OWNER: u8 = 255;
+/// Owner number of the global heap.
+pub const GLOBAL_HEAP: u8 = 0;
+
+/// The five numbers of a setup.
+#[derive(Clone, Copy, Debug, Default, PartialEq, Eq)]
+pub struct Setup {
+    /// Processors (P), each with a heap.
+    pub processors: u8,
+    /// Superblocks in use (N).
+    pub superblocks: u8,
+    /// Spare superblocks a heap may keep free for each class (K).
+    pub spare: u8,
+    /// Empty fraction p/q: p.
+    pub p: u8,
+    /// Empty fraction p/q: q.
+    pub q: u8,
+}
+
+impl Setup {
+    /// Setup from its numbers in record order: P, N, K, p, q.
+    pub fn from_numbers(numbers: [u8; 5]) -> Setup {
+        let [processors, superblocks, spare, p, q] = numbers;
+        Setup {
+            processors,
+            superblocks,
+            spare,
+            p,
+            q,
+        }
+    }
+
+    /// The numbers in record order.
+    pub fn numbers(&self) -> [u8; 5] {
+        [
+            self.processors,
+            self.superblocks,
+            self.spare,
+            self.p,
+            self.q,
+        ]
+    }
+
+    /// Order places that the superblocks of this setup need.
+    pub fn order_places(&self) -> usize {
+        usize::from(self.superblocks) * ORDER_PLACES
+    }
+}
+
+/// One superblock: its owner, size class and live marks, one bit a block.
+#[derive(Clone, Copy, Debug, PartialEq, Eq)]
+pub struct Superblock {
+    pub owner: u8,
+    pub class: u8,
+    pub live: [u64; 4],
+}
+
+impl Superblock {
+    /// A superblock that no heap owns.
+    pub const UNUSED: Superblock = Superblock {
+        owner: UNUSED_OWNER,
+        class: 0,
+        live: [0; 4],
+    };
+
+    /// Number of live blocks.
+    pub fn live_count(&self) -> u32 {
+        self.live.iter().map(|marks| marks.count_ones()).sum()
+    }
+
+    /// Whether `block` (0 to 255) is marked live.
+    pub fn is_live(&self, block: u32) -> bool {
+        self.live[block as usize / 64] >> (block % 64) & 1 == 1
+    }
+
+    /// Marks `block` (0 to 255) live.
+    pub fn mark(&mut self, block: u32) {
+        self.live[block as usize / 64] |= 1 << (block % 64);
+    }
+
+    /// Clears the live mark of `block` (0 to 255).
+    pub fn unmark(&mut self, block: u32) {
+        self.live[block as usize / 64] &= !(1 << (block % 64));
+    }
+
+    /// The size class; the class number must be below 27.
+    pub fn size_class(&self) -> SizeClass {
+        SIZE_CLASSES[usize::from(self.class)]
+    }
+
+    /// Blocks that are not live; the superblock must have passed its check.
+    pub fn free_count(&self) -> u32 {
+        self.size_class().blocks - self.live_count()
+    }
+}
+
+/// What a call is handed and hands back: the setup and 64 superblocks.
+#[derive(Clone, Debug, PartialEq, Eq)]
+pub struct State {
+    pub setup: Setup,
+    pub superblocks: [Superblock; SUPERBLOCKS],
+}
+
+impl State {
+    /// A state with every superblock unused.
+    pub fn fresh(setup: Setup) -> State {
+        State {
+            setup,
+            superblocks: [Superblock::UNUSED; SUPERBLOCKS],
+        }
+    }
+}

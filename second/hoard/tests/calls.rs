@@ -1,0 +1,186 @@
+//! Setup, take and free on states and storage handed in.
+
+use hoard::{free, renew, setup, take};
+use hoard::{Answer, Outcome, Refusal, Setup, State, Superblock, ORDER_PLACES, SUPERBLOCKS};
+
+fn numbers(processors: u8, superblocks: u8, spare: u8, p: u8, q: u8) -> Setup {
+    Setup::from_numbers([processors, superblocks, spare, p, q])
+}
+
+/// Gives superblock `number` to a heap with the first `live` blocks live.
+fn own(state: &mut State, order: &mut [u16], number: usize, owner: u8, class: u8, live: u32) {
+    let superblock = &mut state.superblocks[number];
+    superblock.owner = owner;
+    renew(superblock, class, &mut order[number * ORDER_PLACES..]);
+    (0..live).for_each(|block| superblock.mark(block));
+}
+
+/// A state of six superblocks of class 16 with 7, 7, 7, 8, 8, 8 live.
+fn on_the_threshold() -> (State, Vec<u16>) {
+    let mut state = State::fresh(numbers(1, 6, 1, 1, 4));
+    let mut order = vec![0; 6 * ORDER_PLACES];
+    for (number, live) in [7, 7, 7, 8, 8, 8].into_iter().enumerate() {
+        own(&mut state, &mut order, number, 1, 16, live);
+    }
+    (state, order)
+}
+
+fn refused(answer: &Answer) -> u8 {
+    match answer.outcome {
+        Outcome::Refused(refusal) => refusal.number(),
+        other => panic!("not refused: {other:?}"),
+    }
+}
+
+#[test]
+fn two_moves_in_one_free() {
+    let (state, mut order) = on_the_threshold();
+    let answer = free(&state, 1, 3 * 4096 + 2 * 384, &mut order);
+    assert_eq!(answer.outcome, Outcome::Moved(2));
+    let owners: Vec<u8> = answer.state.superblocks[..6]
+        .iter()
+        .map(|it| it.owner)
+        .collect();
+    assert_eq!(owners, [0, 0, 1, 1, 1, 1]);
+    assert_eq!(order[3 * ORDER_PLACES + 2], 2);
+}
+
+#[test]
+fn setup_clears_its_places_and_no_more() {
+    let mut order = vec![7; 3 * ORDER_PLACES];
+    let answer = setup(numbers(1, 2, 1, 1, 2), &mut order);
+    assert_eq!(answer.outcome, Outcome::Ready);
+    assert_eq!(answer.state, State::fresh(numbers(1, 2, 1, 1, 2)));
+    assert!(order[..2 * ORDER_PLACES].iter().all(|&place| place == 0));
+    assert!(order[2 * ORDER_PLACES..].iter().all(|&place| place == 7));
+}
+
+#[test]
+fn setup_limits() {
+    let lawful = numbers(1, 1, 1, 1, 2);
+    let most = numbers(8, 64, 16, 7, 8);
+    let mut order = vec![0; SUPERBLOCKS * ORDER_PLACES];
+    for asked in [lawful, most] {
+        assert_eq!(setup(asked, &mut order).outcome, Outcome::Ready);
+    }
+    let past = [
+        [0, 1, 1, 1, 2],
+        [9, 1, 1, 1, 2],
+        [1, 0, 1, 1, 2],
+        [1, 65, 1, 1, 2],
+        [1, 1, 0, 1, 2],
+        [1, 1, 17, 1, 2],
+        [1, 1, 1, 0, 2],
+        [1, 1, 1, 2, 2],
+        [1, 1, 1, 0, 0],
+        [1, 1, 1, 1, 0],
+        [1, 1, 1, 1, 1],
+        [1, 1, 1, 1, 9],
+        [255; 5],
+    ];
+    for asked in past {
+        let answer = setup(Setup::from_numbers(asked), &mut order);
+        assert_eq!(refused(&answer), 1, "{asked:?}");
+        assert_eq!(answer.state, State::fresh(Setup::default()));
+    }
+}
+
+#[test]
+fn refused_setup_changes_no_place() {
+    let mut order = vec![7; ORDER_PLACES - 1];
+    let before = order.clone();
+    assert_eq!(refused(&setup(numbers(1, 1, 1, 1, 2), &mut order)), 12);
+    assert_eq!(refused(&setup(numbers(1, 1, 1, 2, 2), &mut order)), 1);
+    assert_eq!(order, before);
+}
+
+#[test]
+fn storage_of_just_n_times_256_places_is_enough() {
+    let state = State::fresh(numbers(1, 2, 1, 1, 2));
+    let mut order = vec![9; 2 * ORDER_PLACES];
+    assert_eq!(take(&state, 1, 16, &mut order).outcome, Outcome::At(0));
+    let mut short = vec![9; 2 * ORDER_PLACES - 1];
+    assert_eq!(refused(&take(&state, 1, 16, &mut short)), 12);
+    assert_eq!(refused(&free(&state, 1, 0, &mut [])), 12);
+}
+
+#[test]
+fn renewal_writes_n_places_and_a_take_no_other() {
+    let state = State::fresh(numbers(1, 1, 1, 1, 2));
+    let mut order = vec![9; ORDER_PLACES];
+    let answer = take(&state, 1, 384, &mut order);
+    assert_eq!(answer.outcome, Outcome::At(0));
+    assert_eq!(order[..11], [9, 8, 7, 6, 5, 4, 3, 2, 1, 0, 9]);
+    let before = order.clone();
+    assert_eq!(
+        take(&answer.state, 1, 384, &mut order).outcome,
+        Outcome::At(384)
+    );
+    assert_eq!(order, before);
+}
+
+#[test]
+fn setup_numbers_before_storage_before_the_rest() {
+    let (mut state, mut order) = on_the_threshold();
+    state.superblocks[0].owner = 2;
+    assert_eq!(refused(&take(&state, 0, 0, &mut order)), 13);
+    assert_eq!(refused(&take(&state, 0, 0, &mut order[1..])), 12);
+    state.setup.p = 4;
+    assert_eq!(refused(&take(&state, 0, 0, &mut order[1..])), 13);
+}
+
+#[test]
+fn refused_calls_hand_back_the_state_they_were_given() {
+    let (mut state, mut order) = on_the_threshold();
+    state.superblocks[63] = Superblock {
+        owner: 1,
+        class: 3,
+        live: [u64::MAX; 4],
+    };
+    let before = order.clone();
+    for answer in [
+        take(&state, 1, 16, &mut order),
+        free(&state, 1, 0, &mut order),
+    ] {
+        assert_eq!(answer.outcome, Outcome::Refused(Refusal::State));
+        assert_eq!(answer.state, state);
+    }
+    assert_eq!(order, before);
+}
+
+/// Checks that one change to a sound state makes it fail.
+fn fails_after(change: impl Fn(&mut State, &mut Vec<u16>)) {
+    let (mut state, mut order) = on_the_threshold();
+    state.superblocks[5] = Superblock::UNUSED;
+    state.setup.spare = 2;
+    assert_eq!(
+        take(&state, 1, 16, &mut order).outcome,
+        Outcome::At(5 * 4096)
+    );
+    let (_, mut order) = on_the_threshold();
+    change(&mut state, &mut order);
+    assert_eq!(refused(&take(&state, 1, 16, &mut order)), 13);
+    assert_eq!(refused(&free(&state, 1, 0, &mut order)), 13);
+}
+
+#[test]
+fn each_clause_of_the_state_check() {
+    fails_after(|state, _| state.setup.q = 9);
+    fails_after(|state, _| state.superblocks[5].owner = 2);
+    fails_after(|state, _| state.superblocks[0].owner = 254);
+    fails_after(|state, _| state.superblocks[0].class = 27);
+    fails_after(|state, _| state.superblocks[5].class = 1);
+    fails_after(|state, _| state.superblocks[5].mark(200));
+    fails_after(|state, _| state.superblocks[0].mark(10));
+    fails_after(|state, _| state.superblocks[0].mark(255));
+    fails_after(|_, order| order[1] = order[0]);
+    fails_after(|_, order| order[1] = 10);
+    fails_after(|_, order| order[1] = 65535);
+    fails_after(|_, order| order[1] = 0);
+    fails_after(|state, order| {
+        order.resize(7 * ORDER_PLACES, 0);
+        own(state, order, 6, 0, 26, 0);
+    });
+    fails_after(|state, _| state.setup.spare = 1);
+    fails_after(|state, order| own(state, order, 5, 0, 26, 2));
+}

@@ -1,0 +1,10 @@
+//! What the programs around heap records share: paper texts, the form of a
+//! single call, and generators of records and states.
+
+pub mod call_form;
+pub mod make_record;
+pub mod make_state;
+pub mod paper;
+pub mod run;
+pub mod table;
+pub mod xorshift;

@@ -1,0 +1,364 @@
+//! Random records, the same on every run for a kind, seed and length.
+
+use hoard::{
+    read_command, write_command, Command, Setup, FREE_BYTE, LONGEST_RECORD, SIZE_CLASSES,
+    SUPERBLOCK_BYTES,
+};
+
+use crate::run::{PickFrom, Run};
+use crate::xorshift::Xorshift;
+
+/// Kinds of records.
+#[derive(Clone, Copy, Debug, PartialEq, Eq)]
+pub enum Kind {
+    /// Any setup, takes and frees of any size and processor, a few wrong ones.
+    Uniform,
+    /// A heap and class filled and drained around its emptiness threshold.
+    Threshold,
+    /// Few superblocks, so often dry.
+    Small,
+    /// Eight processors and all classes.
+    Many,
+    /// As long as a record may be: 60000 bytes.
+    Long,
+    /// A sound record cut at any byte.
+    Cut,
+    /// Random bytes, random commands, or a sound record with damaged bytes.
+    Garbage,
+    /// Sizes, addresses, processors and setups at and past each limit.
+    Edges,
+}
+
+/// Every kind with its name.
+pub const KINDS: [(&str, Kind); 8] = [
+    ("uniform", Kind::Uniform),
+    ("threshold", Kind::Threshold),
+    ("small", Kind::Small),
+    ("many", Kind::Many),
+    ("long", Kind::Long),
+    ("cut", Kind::Cut),
+    ("garbage", Kind::Garbage),
+    ("edges", Kind::Edges),
+];
+
+/// The kind of a name.
+pub fn kind_of_name(name: &str) -> Option<Kind> {
+    KINDS.iter().find(|kind| kind.0 == name).map(|kind| kind.1)
+}
+
+/// Makes a record of `length` calls or so (a long one has its own length).
+pub fn make_record(kind: Kind, seed: u64, length: usize) -> Vec<u8> {
+    let random = &mut Xorshift::new(kind as u64 + 1, seed);
+    match kind {
+        Kind::Uniform => uniform(random, length).record,
+        Kind::Threshold => threshold(random, length).record,
+        Kind::Small => small(random, length).record,
+        Kind::Many => many(random, length).record,
+        Kind::Long => long(random),
+        Kind::Cut => cut(random, length),
+        Kind::Garbage => garbage(random, length),
+        Kind::Edges => edges(random, length).record,
+    }
+}
+
+/// A run of one of the sound kinds, for the state at its end.
+pub fn any_run(random: &mut Xorshift, length: usize) -> Run {
+    match random.below(4) {
+        0 => uniform(random, length),
+        1 => threshold(random, length),
+        2 => small(random, length),
+        _ => many(random, length),
+    }
+}
+
+/// A lawful setup with at most so many processors and superblocks.
+pub fn lawful_setup(random: &mut Xorshift, most_processors: u8, most_superblocks: u8) -> Setup {
+    let q = random.byte_between(2, 8);
+    Setup {
+        processors: random.byte_between(1, most_processors),
+        superblocks: random.byte_between(1, most_superblocks),
+        spare: random.pick(&[1, 1, 1, 2, 3, 16]),
+        p: random.byte_between(1, q - 1),
+        q,
+    }
+}
+
+/// A size of a class, from the smallest to the block size.
+pub fn size_of_class(random: &mut Xorshift, class: u8) -> u16 {
+    let class = usize::from(class);
+    let smallest = match class {
+        0 => 1,
+        _ => SIZE_CLASSES[class - 1].block_size + 1,
+    };
+    random.between(smallest, SIZE_CLASSES[class].block_size) as u16
+}
+
+/// A call that is likely to be refused.
+pub fn odd_call(random: &mut Xorshift, run: &mut Run) {
+    let processors = run.state.setup.processors;
+    let processor = match random.below(3) {
+        0 => random.pick(&[0, processors.wrapping_add(1), 255]),
+        _ => random.byte_between(1, processors.max(1)),
+    };
+    if random.chance(1, 3) {
+        let size = random.pick(&[0, 1, 16, 17, 2048, 2049, 4096, 32768, 65535]);
+        run.take(processor, size);
+    } else {
+        let address = odd_address(random, run);
+        run.free(processor, address);
+    }
+}
+
+/// An address that is likely to be astray, off-block or not live.
+fn odd_address(random: &mut Xorshift, run: &Run) -> u32 {
+    let end = u32::from(run.state.setup.superblocks) * SUPERBLOCK_BYTES;
+    let near = run.any_live(random).unwrap_or(0);
+    match random.below(8) {
+        0 => random.word(),
+        1 => end,
+        2 => end.wrapping_sub(1),
+        3 => end + random.below(SUPERBLOCK_BYTES),
+        4 => near + 1,
+        5 => near.wrapping_sub(1),
+        6 => near + random.pick(&[8, 16, 24, 32, 2048, 4096]),
+        _ => random.below(end.max(1)),
+    }
+}
+
+/// A take or a free, `takes` of 100 being takes, a few odd calls among them.
+fn mixed_call(random: &mut Xorshift, run: &mut Run, takes: u32, classes: (u8, u8)) {
+    if random.chance(1, 25) {
+        return odd_call(random, run);
+    }
+    let processor = random.byte_between(1, run.state.setup.processors);
+    match run.any_live(random) {
+        Some(address) if !random.chance(takes, 100) => run.free(processor, address),
+        _ => {
+            let class = random.byte_between(classes.0, classes.1);
+            run.take(processor, size_of_class(random, class))
+        }
+    };
+}
+
+fn uniform(random: &mut Xorshift, length: usize) -> Run {
+    let mut run = Run::new(lawful_setup(random, 8, 64));
+    let takes = random.between(40, 75);
+    while run.calls < length && run.has_room() {
+        mixed_call(random, &mut run, takes, (0, 26));
+    }
+    run
+}
+
+fn small(random: &mut Xorshift, length: usize) -> Run {
+    let mut run = Run::new(lawful_setup(random, 3, 4));
+    let takes = random.between(45, 65);
+    while run.calls < length && run.has_room() {
+        mixed_call(random, &mut run, takes, (16, 26));
+    }
+    run
+}
+
+fn many(random: &mut Xorshift, length: usize) -> Run {
+    let setup = Setup {
+        processors: 8,
+        superblocks: random.byte_between(40, 64),
+        ..lawful_setup(random, 8, 64)
+    };
+    let mut run = Run::new(setup);
+    while run.calls < length && run.has_room() {
+        // Stretches that grow and stretches that shrink.
+        let takes = random.pick(&[30, 50, 70, 90]);
+        for _ in 0..random.between(20, 120) {
+            if run.calls < length && run.has_room() {
+                mixed_call(random, &mut run, takes, (0, 26));
+            }
+        }
+    }
+    run
+}
+
+/// Fills a heap and class, then drains it below its threshold, again and again.
+fn threshold(random: &mut Xorshift, length: usize) -> Run {
+    let q = random.pick(&[8, 8, 8, 7, 5, 4, 3, 2]);
+    let setup = Setup {
+        processors: random.byte_between(1, 3),
+        superblocks: random.byte_between(8, 40),
+        spare: random.pick(&[1, 1, 2]),
+        p: random.byte_between(1, q - 1),
+        q,
+    };
+    let mut run = Run::new(setup);
+    let classes = [random.byte_between(11, 26), random.byte_between(15, 26)];
+    while run.calls < length && run.has_room() {
+        let heap = random.byte_between(1, setup.processors);
+        let class = random.pick(&classes);
+        fill(random, &mut run, heap, class, length);
+        drain(random, &mut run, heap, class, length);
+    }
+    run
+}
+
+/// Takes some superblocks' worth of blocks.
+fn fill(random: &mut Xorshift, run: &mut Run, heap: u8, class: u8, length: usize) {
+    let blocks = SIZE_CLASSES[usize::from(class)].blocks;
+    for _ in 0..random.between(blocks, 16 * blocks) {
+        if run.calls < length && run.has_room() {
+            run.take(heap, size_of_class(random, class));
+        }
+    }
+}
+
+/// Frees most blocks of a heap and class. Freeing from the fullest keeps the
+/// superblocks level, so that one free may move several of them.
+fn drain(random: &mut Xorshift, run: &mut Run, heap: u8, class: u8, length: usize) {
+    let from = random.pick(&[PickFrom::Emptiest, PickFrom::Fullest, PickFrom::Any]);
+    let left = random.below(8) as usize;
+    while run.calls < length && run.has_room() && run.live.len() > left {
+        let Some(address) = run.live_of(heap, class, from, random) else {
+            return;
+        };
+        let processor = random.byte_between(1, run.state.setup.processors);
+        run.free(processor, address);
+        if random.chance(1, 12) && run.has_room() {
+            run.take(heap, size_of_class(random, class));
+        }
+    }
+}
+
+/// A record of 60000 bytes: calls until 6, 8 or 10 bytes are left, then the one
+/// or two commands that fill these.
+fn long(random: &mut Xorshift) -> Vec<u8> {
+    let mut run = Run::new(lawful_setup(random, 8, 64));
+    let takes = random.between(48, 60);
+    let lowest = random.pick(&[0, 8, 16]);
+    while run.record.len() + 12 <= LONGEST_RECORD {
+        mixed_call(random, &mut run, takes, (lowest, 26));
+    }
+    let left = LONGEST_RECORD - run.record.len();
+    if left != 6 {
+        run.take(1, 16);
+    }
+    match left {
+        8 => run.take(1, 16),
+        _ => run.free(1, 0),
+    };
+    run.record
+}
+
+fn cut(random: &mut Xorshift, length: usize) -> Vec<u8> {
+    let mut record = any_run(random, length).record;
+    let end = random.below(record.len() as u32 + 1);
+    record.truncate(end as usize);
+    record
+}
+
+fn garbage(random: &mut Xorshift, length: usize) -> Vec<u8> {
+    match random.below(3) {
+        0 => (0..4 * length).map(|_| random.byte()).collect(),
+        1 => random_commands(random, length),
+        _ => damaged(random, length),
+    }
+}
+
+/// A setup and commands with random numbers, a stray command byte now and then.
+fn random_commands(random: &mut Xorshift, length: usize) -> Vec<u8> {
+    let setup = lawful_setup(random, 8, 64);
+    let mut record = Vec::new();
+    write_command(&mut record, &Command::Setup(setup));
+    for _ in 0..length {
+        let processor = random.byte_between(0, setup.processors + 1);
+        let command = match random.below(2) {
+            0 => Command::Take {
+                processor,
+                size: random.below(2200) as u16,
+            },
+            _ => Command::Free {
+                processor,
+                address: random.below(66) * SUPERBLOCK_BYTES + random.below(8) * 16,
+            },
+        };
+        write_command(&mut record, &command);
+        if random.chance(1, 100) {
+            record.push(random.byte_between(0, FREE_BYTE + 1));
+        }
+    }
+    record
+}
+
+/// A sound record with one to four bytes changed, command bytes more often.
+fn damaged(random: &mut Xorshift, length: usize) -> Vec<u8> {
+    let mut record = any_run(random, length).record;
+    let starts = command_starts(&record);
+    for _ in 0..random.between(1, 4) {
+        let (at, byte) = match random.below(2) {
+            0 => (random.below(record.len() as u32) as usize, random.byte()),
+            _ => (random.pick(&starts), random.byte_between(0, FREE_BYTE + 1)),
+        };
+        record[at] = byte;
+    }
+    record
+}
+
+/// The byte offsets of the commands of a sound record.
+fn command_starts(record: &[u8]) -> Vec<usize> {
+    let mut starts = Vec::new();
+    let mut offset = 0;
+    while let Ok((_, next_offset)) = read_command(record, offset) {
+        starts.push(offset);
+        offset = next_offset;
+    }
+    starts
+}
+
+/// A setup at its limits, in one of three cases with one number past them.
+pub fn edge_setup(random: &mut Xorshift) -> Setup {
+    let q = random.pick(&[2, 3, 8]);
+    let mut setup = Setup {
+        processors: random.pick(&[1, 8]),
+        superblocks: random.pick(&[1, 2, 63, 64]),
+        spare: random.pick(&[1, 16]),
+        p: random.pick(&[1, q - 1]),
+        q,
+    };
+    if random.chance(1, 3) {
+        match random.below(5) {
+            0 => setup.processors = random.pick(&[0, 9, 255]),
+            1 => setup.superblocks = random.pick(&[0, 65, 255]),
+            2 => setup.spare = random.pick(&[0, 17, 255]),
+            3 => setup.p = random.pick(&[0, setup.q, setup.q + 1, 255]),
+            _ => setup.q = random.pick(&[0, 1, 9, 255]),
+        }
+    }
+    setup
+}
+
+/// Sizes at class limits, wrong processors, addresses around every limit, and
+/// double frees.
+fn edges(random: &mut Xorshift, length: usize) -> Run {
+    let mut run = Run::new(edge_setup(random));
+    let processors = run.state.setup.processors.max(1);
+    while run.calls < length && run.has_room() {
+        let processor = random.byte_between(1, processors);
+        match random.below(10) {
+            0..=3 => {
+                let size = edge_size(random);
+                run.take(processor, size);
+            }
+            4..=6 => odd_call(random, &mut run),
+            _ => {
+                let address = run.any_live(random).unwrap_or(0);
+                run.free(processor, address);
+                if random.chance(1, 3) && run.has_room() {
+                    run.free(processor, address);
+                }
+            }
+        }
+    }
+    run
+}
+
+/// A size at or one past a class limit.
+fn edge_size(random: &mut Xorshift) -> u16 {
+    let limit = SIZE_CLASSES[random.below(27) as usize].block_size as u16;
+    random.pick(&[0, 1, 16, 17, 2048, 2049, 65535, limit, limit, limit + 1])
+}

@@ -1,0 +1,463 @@
+//! States to hand in with one call: sound ones, ones with each clause of the
+//! state check broken in turn, and storage of every length around the limit.
+
+use hoard::{Command, Setup, State, GLOBAL_HEAP, SIZE_CLASSES, SUPERBLOCK_BYTES, UNUSED_OWNER};
+
+use crate::call_form::{write_input, CallInput};
+use crate::make_record::{any_run, edge_setup, lawful_setup};
+use crate::table::{any_call, live_addresses, most_live_of_global, Table};
+use crate::xorshift::Xorshift;
+
+/// Kinds of states.
+#[derive(Clone, Copy, Debug, PartialEq, Eq)]
+pub enum Kind {
+    /// A state reached by a random record.
+    Replayed,
+    /// A sound state built superblock by superblock, with order in any order.
+    Built,
+    /// A state built without regard to the check.
+    Loose,
+    /// A setup call, lawful or not, with any storage.
+    SetupCall,
+    /// A setup number of the state outside its limits.
+    SetupNumber,
+    /// An owner above P that is not 255.
+    Owner,
+    /// Class 27 or above.
+    Class,
+    /// An unused superblock of class 1 or above.
+    UnusedClass,
+    /// An unused superblock with a mark.
+    UnusedMark,
+    /// A mark at n or above.
+    MarkHigh,
+    /// A free block twice in the filled order places.
+    OrderTwice,
+    /// A filled order place at n or above.
+    OrderRange,
+    /// A filled order place that holds a live block.
+    OrderMarked,
+    /// A superblock from N on that is owned.
+    Beyond,
+    /// A processor heap and class that just meets both conditions of the move rule.
+    MoveRule,
+    /// The same with one more live block: sound, and a free from it moves.
+    MoveEdge,
+    /// A global superblock with just too many live blocks.
+    GlobalFull,
+    /// The same with one fewer: sound.
+    GlobalEdge,
+    /// One order place fewer than N x 256.
+    StorageShort,
+    /// Just N x 256 order places.
+    StorageExact,
+    /// More order places than N x 256.
+    StorageLong,
+    /// No order place.
+    StorageEmpty,
+    /// Two faults at once.
+    TwoFaults,
+    /// Input that ends early or has bytes left over.
+    Bytes,
+}
+
+/// Every kind with its name.
+pub const KINDS: [(&str, Kind); 24] = [
+    ("replayed", Kind::Replayed),
+    ("built", Kind::Built),
+    ("loose", Kind::Loose),
+    ("setup-call", Kind::SetupCall),
+    ("setup-number", Kind::SetupNumber),
+    ("owner", Kind::Owner),
+    ("class", Kind::Class),
+    ("unused-class", Kind::UnusedClass),
+    ("unused-mark", Kind::UnusedMark),
+    ("mark-high", Kind::MarkHigh),
+    ("order-twice", Kind::OrderTwice),
+    ("order-range", Kind::OrderRange),
+    ("order-marked", Kind::OrderMarked),
+    ("beyond", Kind::Beyond),
+    ("move-rule", Kind::MoveRule),
+    ("move-edge", Kind::MoveEdge),
+    ("global-full", Kind::GlobalFull),
+    ("global-edge", Kind::GlobalEdge),
+    ("storage-short", Kind::StorageShort),
+    ("storage-exact", Kind::StorageExact),
+    ("storage-long", Kind::StorageLong),
+    ("storage-empty", Kind::StorageEmpty),
+    ("two-faults", Kind::TwoFaults),
+    ("bytes", Kind::Bytes),
+];
+
+/// The kind of a name.
+pub fn kind_of_name(name: &str) -> Option<Kind> {
+    KINDS.iter().find(|kind| kind.0 == name).map(|kind| kind.1)
+}
+
+/// Makes the bytes of a call with its state and storage.
+pub fn make_state(kind: Kind, seed: u64) -> Vec<u8> {
+    let random = &mut Xorshift::new(0x5747 + kind as u64, seed);
+    let input = make_input(kind, random);
+    let mut bytes = write_input(&input);
+    if kind == Kind::Bytes {
+        spoil_length(random, &mut bytes);
+    }
+    bytes
+}
+
+fn make_input(kind: Kind, random: &mut Xorshift) -> CallInput {
+    match kind {
+        Kind::Replayed => replayed(random),
+        Kind::Built | Kind::Bytes => built(random),
+        Kind::Loose => loose(random),
+        Kind::SetupCall => setup_call(random),
+        Kind::MoveRule => around_threshold(random, 0),
+        Kind::MoveEdge => around_threshold(random, 1),
+        Kind::StorageShort | Kind::StorageExact | Kind::StorageLong | Kind::StorageEmpty => {
+            with_storage(kind, random)
+        }
+        Kind::TwoFaults => two_faults(random),
+        _ => damaged(kind, random),
+    }
+}
+
+fn replayed(random: &mut Xorshift) -> CallInput {
+    let length = random.between(1, 400) as usize;
+    let run = any_run(random, length);
+    let table = Table {
+        state: run.state,
+        order: run.order,
+    };
+    table.with_call(random)
+}
+
+/// Gives the first `count` superblocks to heaps at random, of few classes so that
+/// heaps have several of one.
+fn scatter(random: &mut Xorshift, setup: Setup, count: u8) -> Table {
+    let mut table = Table::new(setup, random);
+    let classes = [random.byte_between(0, 26), random.byte_between(8, 26)];
+    let owned_of_ten = random.between(3, 10);
+    let fullness = random.between(1, 4);
+    for number in 0..usize::from(count) {
+        if !random.chance(owned_of_ten, 10) {
+            continue;
+        }
+        let owner = random.byte_between(0, setup.processors);
+        let class = match random.below(6) {
+            0 => random.byte_between(0, 26),
+            _ => random.pick(&classes),
+        };
+        let blocks = SIZE_CLASSES[usize::from(class)].blocks;
+        let live = match random.below(4) {
+            0 => 0,
+            _ => random.below(blocks * fullness / 4 + 1),
+        };
+        table.own(number, owner, class, live, random);
+    }
+    table
+}
+
+fn built(random: &mut Xorshift) -> CallInput {
+    let setup = lawful_setup(random, 8, 64);
+    let mut table = scatter(random, setup, setup.superblocks);
+    table.settle();
+    table.with_call(random)
+}
+
+fn loose(random: &mut Xorshift) -> CallInput {
+    let setup = lawful_setup(random, 8, 64);
+    scatter(random, setup, setup.superblocks).with_call(random)
+}
+
+/// A sound state or a lawful setup, with storage of the length that the kind names.
+fn with_storage(kind: Kind, random: &mut Xorshift) -> CallInput {
+    let mut input = match random.below(3) {
+        0 => replayed(random),
+        1 => built(random),
+        _ => {
+            let setup = lawful_setup(random, 8, 64);
+            CallInput {
+                call: Command::Setup(setup),
+                state: State::fresh(setup),
+                order: Vec::new(),
+            }
+        }
+    };
+    let needed = input.state.setup.order_places();
+    let length = match kind {
+        Kind::StorageShort => needed - 1,
+        Kind::StorageExact => needed,
+        Kind::StorageLong => needed + random.pick(&[1, 7, 256, 20000]),
+        _ => 0,
+    };
+    let filler = random.word() as u16;
+    input.order.resize(length, filler);
+    input
+}
+
+fn setup_call(random: &mut Xorshift) -> CallInput {
+    let setup = match random.below(2) {
+        0 => edge_setup(random),
+        _ => lawful_setup(random, 8, 64),
+    };
+    let needed = setup.order_places() as u32;
+    let length = match random.below(4) {
+        0 => random.below(needed + 1),
+        1 => needed,
+        _ => needed + random.below(600),
+    };
+    let order = (0..length).map(|_| random.below(4) as u16).collect();
+    CallInput {
+        call: Command::Setup(setup),
+        state: State::fresh(setup),
+        order,
+    }
+}
+
+/// A sound state with superblock 0 owned, partly live, of class 1 to 23, and the
+/// last superblock of the setup unused. The setup leaves some of the 64 out.
+fn owned_and_unused(random: &mut Xorshift) -> Table {
+    let mut setup = lawful_setup(random, 8, 60);
+    setup.superblocks = setup.superblocks.max(2);
+    let mut table = scatter(random, setup, setup.superblocks - 1);
+    let class = random.byte_between(1, 23);
+    let blocks = SIZE_CLASSES[usize::from(class)].blocks;
+    let owner = random.byte_between(1, setup.processors);
+    let live = random.between(1, blocks - 2);
+    table.own(0, owner, class, live, random);
+    table.settle();
+    table
+}
+
+/// A sound state with one clause of the check broken.
+fn damaged(kind: Kind, random: &mut Xorshift) -> CallInput {
+    let mut table = owned_and_unused(random);
+    match kind {
+        Kind::SetupNumber => break_setup(random, &mut table.state.setup),
+        Kind::MarkHigh => {
+            let superblock = &mut table.state.superblocks[0];
+            let blocks = superblock.size_class().blocks;
+            superblock.mark(random.pick(&[blocks, (blocks + 255) / 2, 255]));
+        }
+        Kind::OrderTwice | Kind::OrderRange | Kind::OrderMarked => {
+            break_order(kind, random, &mut table)
+        }
+        Kind::GlobalFull | Kind::GlobalEdge => around_global_limit(kind, random, &mut table),
+        Kind::Beyond => own_beyond(random, &mut table),
+        _ => break_unused(kind, random, &mut table),
+    }
+    table.with_call(random)
+}
+
+/// Gives a superblock from N on to a heap, with an order of its own.
+fn own_beyond(random: &mut Xorshift, table: &mut Table) {
+    let setup = table.state.setup;
+    let number = random.between(setup.superblocks.into(), 63) as usize;
+    let owner = random.byte_between(0, setup.processors);
+    let class = random.byte_between(0, 26);
+    table.own(number, owner, class, 0, random);
+}
+
+/// Puts one setup number outside its limits.
+fn break_setup(random: &mut Xorshift, setup: &mut Setup) {
+    match random.below(5) {
+        0 => setup.processors = random.pick(&[0, 9, 255]),
+        1 => setup.superblocks = random.pick(&[0, 65, 255]),
+        2 => setup.spare = random.pick(&[0, 17, 255]),
+        3 => setup.p = random.pick(&[0, setup.q, 255]),
+        _ => setup.q = random.pick(&[0, setup.p, 9, 255]),
+    }
+}
+
+/// Breaks the filled order places of superblock 0, of which there are two or more.
+fn break_order(kind: Kind, random: &mut Xorshift, table: &mut Table) {
+    let superblock = &table.state.superblocks[0];
+    let blocks = superblock.size_class().blocks;
+    let filled = superblock.free_count();
+    let at = random.below(filled);
+    let value = match kind {
+        Kind::OrderTwice => table.order[((at + random.between(1, filled - 1)) % filled) as usize],
+        Kind::OrderRange => random.pick(&[blocks as u16, 256, 65535]),
+        _ => {
+            let marked = (0..blocks).filter(|&block| superblock.is_live(block));
+            random.pick(&marked.collect::<Vec<_>>()) as u16
+        }
+    };
+    table.order[at as usize] = value;
+}
+
+/// Breaks the unused last superblock of the setup.
+fn break_unused(kind: Kind, random: &mut Xorshift, table: &mut Table) {
+    let processors = table.state.setup.processors;
+    let number = usize::from(table.state.setup.superblocks) - 1;
+    match kind {
+        Kind::Owner => {
+            let owner = random.pick(&[processors + 1, 100, UNUSED_OWNER - 1]);
+            table.own(number, owner, random.byte_between(0, 26), 0, random);
+        }
+        Kind::Class => {
+            table.own(number, GLOBAL_HEAP, 26, 0, random);
+            table.state.superblocks[number].class = random.pick(&[27, 28, 255]);
+        }
+        Kind::UnusedClass => {
+            table.state.superblocks[number].class = random.pick(&[1, 26, 27, 255]);
+        }
+        _ => table.state.superblocks[number].mark(random.below(256)),
+    }
+}
+
+/// Makes the last superblock of the setup one of the global heap with just too
+/// many live blocks, or with the most it may have.
+fn around_global_limit(kind: Kind, random: &mut Xorshift, table: &mut Table) {
+    let number = usize::from(table.state.setup.superblocks) - 1;
+    let class = random.byte_between(0, 26);
+    let most = most_live_of_global(&table.state.setup, class);
+    let live = most + u32::from(kind == Kind::GlobalFull);
+    table.own(number, GLOBAL_HEAP, class, live, random);
+}
+
+/// A heap and class with the most live blocks at which it is still over its
+/// threshold, and `more` on top; the call is mostly a free from it.
+fn around_threshold(random: &mut Xorshift, more: u32) -> CallInput {
+    let (setup, class, count) = match random.below(2) {
+        0 => any_threshold(random),
+        _ => tight_threshold(random),
+    };
+    let mut table = Table::new(setup, random);
+    let heap = random.byte_between(1, setup.processors);
+    let live = most_live_over_threshold(&setup, class, count) + more;
+    let live_counts = spread(random, live, count, class, &setup);
+    for (number, live) in live_counts.into_iter().enumerate() {
+        table.own(number, heap, class, live, random);
+    }
+    let mut input = table.with_call(random);
+    if live > 0 && random.chance(3, 4) {
+        let processor = random.byte_between(1, setup.processors);
+        let address = address_to_free(random, &input.state);
+        input.call = Command::Free { processor, address };
+    }
+    input
+}
+
+/// Any live address, or one in the fullest superblock, which leaves the emptiest
+/// ones as they are.
+fn address_to_free(random: &mut Xorshift, state: &State) -> u32 {
+    let live = live_addresses(state);
+    if random.chance(1, 3) {
+        return random.pick(&live);
+    }
+    let live_of =
+        |address: &u32| state.superblocks[(address / SUPERBLOCK_BYTES) as usize].live_count();
+    *live
+        .iter()
+        .max_by_key(|address| live_of(address))
+        .unwrap_or(&0)
+}
+
+/// Any setup and class, and more superblocks than a heap may keep free.
+fn any_threshold(random: &mut Xorshift) -> (Setup, u8, u32) {
+    let mut setup = lawful_setup(random, 8, 64);
+    setup.superblocks = random.byte_between(setup.spare + 1, 64);
+    let count = random.byte_between(setup.spare + 1, setup.superblocks);
+    (setup, random.byte_between(0, 26), count.into())
+}
+
+/// A class of an odd number of blocks and a fraction of eighths at which the
+/// fullest superblock that may move makes up for just an eighth of a freed
+/// block: one free then moves up to eight.
+fn tight_threshold(random: &mut Xorshift) -> (Setup, u8, u32) {
+    let class = random.pick(&[4, 5, 7, 11, 12, 17, 20, 23]);
+    let blocks = SIZE_CLASSES[usize::from(class)].blocks;
+    let setup = Setup {
+        superblocks: random.byte_between(16, 64),
+        spare: 1,
+        p: 8 - (blocks % 8) as u8,
+        q: 8,
+        ..lawful_setup(random, 8, 64)
+    };
+    let count = random.between(12, u32::from(setup.superblocks));
+    (setup, class, count)
+}
+
+/// Most live blocks in `count` superblocks of a class at which both conditions
+/// of the move rule hold.
+fn most_live_over_threshold(setup: &Setup, class: u8, count: u32) -> u32 {
+    let (p, q) = (u32::from(setup.p), u32::from(setup.q));
+    let blocks = SIZE_CLASSES[usize::from(class)].blocks;
+    let by_spare = (count - u32::from(setup.spare)) * blocks - 1;
+    let by_fraction = ((q - p) * count * blocks).div_ceil(q) - 1;
+    by_spare.min(by_fraction)
+}
+
+/// Spreads live blocks over superblocks of a class. A base is the same for all,
+/// up to what a moved superblock may have; the others fill the first ones, or
+/// go round. Many superblocks at that base make many moves in one free.
+fn spread(random: &mut Xorshift, live: u32, count: u32, class: u8, setup: &Setup) -> Vec<u32> {
+    let blocks = SIZE_CLASSES[usize::from(class)].blocks;
+    let base = match random.below(3) {
+        0 => 0,
+        _ => most_live_of_global(setup, class).min(live / count),
+    };
+    let mut left = live - base * count;
+    let mut counts = vec![base; count as usize];
+    let step = random.pick(&[1, blocks, blocks]);
+    while left > 0 {
+        for live in &mut counts {
+            let more = step.min(blocks - *live).min(left);
+            *live += more;
+            left -= more;
+        }
+    }
+    random.shuffle(&mut counts);
+    counts
+}
+
+/// Two faults at once: the first in the order of refusals counts.
+fn two_faults(random: &mut Xorshift) -> CallInput {
+    let case = random.below(7);
+    let mut table = owned_and_unused(random);
+    let setup = table.state.setup;
+    let (processor, above) = (1, setup.processors + 1);
+    let unused = (u32::from(setup.superblocks) - 1) * SUPERBLOCK_BYTES;
+    let call = match case {
+        2 | 3 => Command::Take {
+            processor: random.pick(&[0, above]),
+            size: random.pick(&[0, 2049]),
+        },
+        4 | 5 => Command::Free {
+            processor: random.pick(&[0, above]),
+            address: random.pick(&[unused + 1, 1, u32::MAX]),
+        },
+        6 => Command::Free {
+            processor,
+            address: unused + 1,
+        },
+        _ => any_call(random, &table.state),
+    };
+    match case {
+        0 => break_setup(random, &mut table.state.setup),
+        1 | 3 | 5 => break_unused(Kind::Owner, random, &mut table),
+        _ => {}
+    }
+    if case <= 1 {
+        table.order.truncate(setup.order_places() - 1);
+    }
+    CallInput {
+        call,
+        state: table.state,
+        order: table.order,
+    }
+}
+
+/// Cuts the bytes, adds to them, or changes the call kind or the number of places.
+fn spoil_length(random: &mut Xorshift, bytes: &mut Vec<u8>) {
+    match random.below(5) {
+        0 => bytes.truncate(random.below(bytes.len() as u32) as usize),
+        1 => {
+            bytes.pop();
+        }
+        2 => bytes.push(random.byte()),
+        3 => bytes[0] = random.byte_between(3, 255),
+        _ => bytes.truncate(random.below(2200) as usize),
+    }
+}

@@ -1,0 +1,131 @@
+//! Papers as text: one command a line, as in the key but without the answers.
+
+use std::fmt::{self, Display};
+
+use hoard::{read_command, write_command, Command, Refusal, Setup};
+
+/// What is wrong in a paper's text, with its line (from 1).
+#[derive(Debug, PartialEq, Eq)]
+pub struct LineError {
+    pub line: usize,
+    pub message: String,
+}
+
+impl Display for LineError {
+    fn fmt(&self, f: &mut fmt::Formatter) -> fmt::Result {
+        write!(f, "line {}: {}", self.line, self.message)
+    }
+}
+
+/// What is wrong in a record, with the byte offset of its command.
+#[derive(Debug, PartialEq, Eq)]
+pub struct ByteError {
+    pub offset: usize,
+    pub message: String,
+}
+
+impl Display for ByteError {
+    fn fmt(&self, f: &mut fmt::Formatter) -> fmt::Result {
+        write!(f, "byte {}: {}", self.offset, self.message)
+    }
+}
+
+/// The record of a paper's text. Blank lines and lines that start with # are
+/// skipped. Any numbers that the fields can carry are allowed, in any order of
+/// commands: refusals are part of papers.
+pub fn to_record(text: &[u8]) -> Result<Vec<u8>, LineError> {
+    let mut record = Vec::new();
+    for (index, line) in text.split(|&byte| byte == b'\n').enumerate() {
+        let line = line.trim_ascii();
+        if line.is_empty() || line[0] == b'#' {
+            continue;
+        }
+        let command = read_line(line).map_err(|message| LineError {
+            line: index + 1,
+            message,
+        })?;
+        write_command(&mut record, &command);
+    }
+    Ok(record)
+}
+
+/// The text of a record.
+pub fn to_text(record: &[u8]) -> Result<String, ByteError> {
+    let mut text = String::new();
+    let mut offset = 0;
+    while offset < record.len() {
+        let (command, next_offset) = read_command(record, offset).map_err(|stop| ByteError {
+            offset,
+            message: match stop.refusal {
+                Refusal::Command => format!("unknown command byte {:02x}", record[offset]),
+                _ => "the record ends inside this command".to_string(),
+            },
+        })?;
+        text += &format!("{command}\n");
+        offset = next_offset;
+    }
+    Ok(text)
+}
+
+/// The command of one line.
+fn read_line(line: &[u8]) -> Result<Command, String> {
+    let line = std::str::from_utf8(line).map_err(|_| "not plain text".to_string())?;
+    let mut words = line.split_ascii_whitespace();
+    let command = words.next().unwrap_or("");
+    let fields: Vec<&str> = words.collect();
+    match command {
+        "setup" => {
+            let [processors, superblocks, spare, p, q] = exactly("setup", "P N K p q", &fields)?;
+            Ok(Command::Setup(Setup {
+                processors: byte("P", processors)?,
+                superblocks: byte("N", superblocks)?,
+                spare: byte("K", spare)?,
+                p: byte("p", p)?,
+                q: byte("q", q)?,
+            }))
+        }
+        "take" => {
+            let [processor, size] = exactly("take", "processor size", &fields)?;
+            Ok(Command::Take {
+                processor: byte("processor", processor)?,
+                size: number("size", size, u64::from(u16::MAX))? as u16,
+            })
+        }
+        "free" => {
+            let [processor, address] = exactly("free", "processor address", &fields)?;
+            Ok(Command::Free {
+                processor: byte("processor", processor)?,
+                address: number("address", address, u64::from(u32::MAX))? as u32,
+            })
+        }
+        other => Err(format!("unknown command \"{other}\" (setup, take or free)")),
+    }
+}
+
+/// The fields of a command, if there are as many as it has.
+fn exactly<'a, const COUNT: usize>(
+    command: &str,
+    names: &str,
+    fields: &[&'a str],
+) -> Result<[&'a str; COUNT], String> {
+    fields.try_into().map_err(|_| {
+        let found = fields.len();
+        format!("{command} has {COUNT} numbers ({names}), here are {found}")
+    })
+}
+
+/// A field of one byte.
+fn byte(name: &str, digits: &str) -> Result<u8, String> {
+    Ok(number(name, digits, u64::from(u8::MAX))? as u8)
+}
+
+/// A field of decimal digits, 0 to `most`.
+fn number(name: &str, digits: &str, most: u64) -> Result<u64, String> {
+    if !digits.bytes().all(|digit| digit.is_ascii_digit()) {
+        return Err(format!("{name} \"{digits}\" is not a decimal number"));
+    }
+    match digits.parse::<u64>() {
+        Ok(value) if value <= most => Ok(value),
+        _ => Err(format!("{name} {digits} is out of range (0 to {most})")),
+    }
+}

@@ -1,0 +1,171 @@
+//! A state and its order storage, built superblock by superblock.
+
+use hoard::{
+    over_emptiness_threshold, Command, Setup, State, Superblock, Usage, GLOBAL_HEAP, ORDER_PLACES,
+    SIZE_CLASSES, SUPERBLOCKS, SUPERBLOCK_BYTES,
+};
+
+use crate::call_form::CallInput;
+use crate::make_record::size_of_class;
+use crate::xorshift::Xorshift;
+
+/// A state and its order storage.
+pub struct Table {
+    pub state: State,
+    pub order: Vec<u16>,
+}
+
+impl Table {
+    /// A table with every superblock unused and the order places filled with anything.
+    pub fn new(setup: Setup, random: &mut Xorshift) -> Table {
+        let places = SUPERBLOCKS * ORDER_PLACES;
+        Table {
+            state: State::fresh(setup),
+            order: (0..places).map(|_| random.word() as u16).collect(),
+        }
+    }
+
+    /// Makes superblock `number` one of `owner` and `class`, any `live` of its
+    /// blocks live and the others in its order in any order.
+    pub fn own(&mut self, number: usize, owner: u8, class: u8, live: u32, random: &mut Xorshift) {
+        let mut blocks: Vec<u16> = (0..SIZE_CLASSES[usize::from(class)].blocks as u16).collect();
+        random.shuffle(&mut blocks);
+        let (marked, free) = blocks.split_at(live as usize);
+        let mut superblock = Superblock {
+            owner,
+            class,
+            live: [0; 4],
+        };
+        marked
+            .iter()
+            .for_each(|&block| superblock.mark(block.into()));
+        self.state.superblocks[number] = superblock;
+        let first = number * ORDER_PLACES;
+        self.order[first..first + free.len()].copy_from_slice(free);
+    }
+
+    /// Brings the owners within the state check: too full superblocks of the
+    /// global heap go to heap 1, then each heap gives up what it must.
+    pub fn settle(&mut self) {
+        let setup = self.state.setup;
+        for superblock in &mut self.state.superblocks {
+            if superblock.owner == GLOBAL_HEAP
+                && superblock.live_count() > most_live_of_global(&setup, superblock.class)
+            {
+                superblock.owner = 1;
+            }
+        }
+        for heap in 1..=setup.processors {
+            for class in 0..SIZE_CLASSES.len() as u8 {
+                while self.is_over_threshold(heap, class) {
+                    self.give_up_emptiest(heap, class);
+                }
+            }
+        }
+    }
+
+    fn is_over_threshold(&self, heap: u8, class: u8) -> bool {
+        let mut usage = Usage::default();
+        for superblock in &self.state.superblocks {
+            if superblock.owner == heap && superblock.class == class {
+                usage.add(superblock);
+            }
+        }
+        let class = &SIZE_CLASSES[usize::from(class)];
+        over_emptiness_threshold(&self.state.setup, class, &usage)
+    }
+
+    fn give_up_emptiest(&mut self, heap: u8, class: u8) {
+        self.state
+            .superblocks
+            .iter_mut()
+            .filter(|superblock| superblock.owner == heap && superblock.class == class)
+            .min_by_key(|superblock| superblock.live_count())
+            .expect("a heap over its threshold has a superblock")
+            .owner = GLOBAL_HEAP;
+    }
+
+    /// The table with a call and, at random, as much storage as it needs or more.
+    pub fn with_call(mut self, random: &mut Xorshift) -> CallInput {
+        if random.chance(1, 2) {
+            self.order.truncate(self.state.setup.order_places());
+        }
+        CallInput {
+            call: any_call(random, &self.state),
+            state: self.state,
+            order: self.order,
+        }
+    }
+}
+
+/// Most live blocks that a superblock of the global heap may have.
+pub fn most_live_of_global(setup: &Setup, class: u8) -> u32 {
+    let (p, q) = (u32::from(setup.p), u32::from(setup.q));
+    ((q - p) * SIZE_CLASSES[usize::from(class)].blocks).div_ceil(q) - 1
+}
+
+/// A take or free for a state, mostly with a lawful processor and size and a
+/// live address.
+pub fn any_call(random: &mut Xorshift, state: &State) -> Command {
+    let processors = state.setup.processors;
+    let processor = match random.below(12) {
+        0 => random.pick(&[0, processors.wrapping_add(1), 255]),
+        _ => random.byte_between(1, processors.max(1)),
+    };
+    if random.chance(1, 2) {
+        let size = any_size(random, state);
+        Command::Take { processor, size }
+    } else {
+        let address = any_address(random, state);
+        Command::Free { processor, address }
+    }
+}
+
+/// Mostly a size of a class that the state has superblocks of.
+fn any_size(random: &mut Xorshift, state: &State) -> u16 {
+    if random.chance(1, 12) {
+        return random.pick(&[0, 2049, 65535]);
+    }
+    let owned = state
+        .superblocks
+        .iter()
+        .filter(|it| it.owner <= state.setup.processors);
+    let classes: Vec<u8> = owned
+        .map(|it| it.class)
+        .filter(|&class| class < 27)
+        .collect();
+    let class = match random.below(3) {
+        0 => random.byte_between(0, 26),
+        _ if classes.is_empty() => 0,
+        _ => random.pick(&classes),
+    };
+    size_of_class(random, class)
+}
+
+/// Mostly the address of a live block of the state, if it has one.
+fn any_address(random: &mut Xorshift, state: &State) -> u32 {
+    let live = live_addresses(state);
+    if live.is_empty() || random.chance(1, 8) {
+        let end = u32::from(state.setup.superblocks) * SUPERBLOCK_BYTES;
+        return random.pick(&[0, 16, 17, end, end.wrapping_sub(1), u32::MAX]);
+    }
+    let address = random.pick(&live);
+    match random.below(10) {
+        0 => address + 8,
+        1 => address ^ 2048,
+        _ => address,
+    }
+}
+
+/// The addresses of all marked blocks of superblocks with a known class.
+pub fn live_addresses(state: &State) -> Vec<u32> {
+    let mut addresses = Vec::new();
+    for (number, superblock) in (0u32..).zip(&state.superblocks) {
+        let Some(class) = SIZE_CLASSES.get(usize::from(superblock.class)) else {
+            continue;
+        };
+        let marked = (0..class.blocks).filter(|&block| superblock.is_live(block));
+        addresses.extend(marked.map(|block| number * SUPERBLOCK_BYTES + block * class.block_size));
+    }
+    addresses
+}
