@@ -27,7 +27,6 @@ sizeless class e = go (decLt class 27)
     go (yes h) = absurd (let g = size-pos class h in let z : ⊥ = omega arith in z)
     go (no f) = blocks-none class (at-least f)
 
-
 either-true : (t : Bool) → true ≡ either t true
 either-true true = refl
 either-true false = refl

@@ -7,6 +7,7 @@ use native.Mathlib.Omega.{arith}
 use borrow.Author.Tests.{eq-eqb, ne-eqb}
 use Rattle.classes.specs.Classes.{sizeOf, blocksOf}
 use Rattle.classes.proofs.TableLaws.{size-le}
+use Rattle.marks.specs.Marks.{withMark}
 use Rattle.order.specs.Order.{lastFilled, renewed}
 use Rattle.heap.specs.declared.Superblock.{Superblock}
 use Rattle.heap.specs.declared.State.{State}
@@ -37,6 +38,11 @@ module _ (order : List ℕ) (class k : ℕ) (b : Superblock) (live : ℕ) (el : 
   pub order-kept : (live ≡ 0 → ⊥) → order ≡ adoptedOrder class k b order
   unfolding adoptedOrder
   order-kept f = rw (← el, ne-eqb live 0 f)
+
+-- block j of superblock k marked live
+pub marked-is : (s : State) (k j : ℕ) (live : List ℕ) → live ≡ withMark (superblockAt s k .live) j
+    → withSuperblock s k (record { owner = superblockAt s k .owner; class = superblockAt s k .class; live = live }) ≡ withSuperblock s k (marked (superblockAt s k) j)
+marked-is s k j live e = rw e
 
 -- what superblock k gives
 pub taken-is : (k : ℕ) (s : State) (order : List ℕ) (filled j class address : ℕ) (t : State)

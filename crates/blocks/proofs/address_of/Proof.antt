@@ -1,4 +1,5 @@
 -- `blocks::address_of` meets its contract: a block size is at most 2048, so the sum fits. Assumes nothing.
+use Prim.Native.Nat.{_*_, _≤_}
 use native.Mathlib.Omega.{arith}
 use borrow.Author.Needs.{needs}
 use Rattle.calls.specs.Take.{addressOf}
@@ -12,14 +13,17 @@ block-size-requires c κs = search needs
 cast-size : tie.Need-cast-size
 cast-size c = search needs
 
+offset : (c : tie.After-block-size) → c .before .args .j * c .block-size .result ≤ 65535 * 2048
+offset c = offset-le (c .before .args .class) (c .before .args .j) (c .block-size .result) (c .block-size .ensures) (omega arith)
+
 mul-result : tie.Need-mul-result
 mul-result c = search needs
 
 mul-result-2 : tie.Need-mul-result-2
-mul-result-2 c = let h = offset-le (c .before .args .class) (c .before .args .j) (c .block-size .result) (c .block-size .ensures) (omega arith) in omega arith
+mul-result-2 c = let h = offset c in omega arith
 
 add-result : tie.Need-add-result
-add-result c = let h = offset-le (c .before .args .class) (c .before .args .j) (c .block-size .result) (c .block-size .ensures) (omega arith) in omega arith
+add-result c = let h = offset c in omega arith
 
 returns : tie.Need-returns
 unfolding addressOf

@@ -10,11 +10,11 @@ live-count-requires c κs = search needs
 
 returns : tie.Need-returns
 unfolding adopted
-returns c = search (eq-eqb, ne-eqb, ← (c .before .live-count .ensures .0))
+returns c = search (eq-eqb, ← (c .before .live-count .ensures .0))
 
 returns-2 : tie.Need-returns-2
 unfolding adopted
-returns-2 c = search (eq-eqb, ne-eqb, ← (c .before .live-count .ensures .0))
+returns-2 c = search (ne-eqb, ← (c .before .live-count .ensures .0))
 
 pub adopt-spec : {M : Type 1} → statement M
 adopt-spec = tie.close (tie.spec live-count-requires returns returns-2)

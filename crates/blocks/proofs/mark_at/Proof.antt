@@ -2,6 +2,7 @@
 use borrow.Author.Needs.{needs}
 use Rattle.laws.proofs.Replaced.{length-mapped}
 use Rattle.blocks.proofs.PastLaws.{past-set}
+use Rattle.blocks.proofs.TakeLaws.{marked-is}
 use Rattle.blocks.proofs.mark_at.Statement.{statement}
 use Rattle.blocks.proofs.mark_at.Tie as tie
 
@@ -24,7 +25,7 @@ element-set-from-t : tie.Need-element-set-from-t
 element-set-from-t c = search needs
 
 returns-2 : tie.Need-returns-2
-returns-2 c = rw (c .set-live .ensures)
+returns-2 c = search marked-is
 
 pub mark-at-spec : {M : Type 1} → statement M
 mark-at-spec =
