@@ -2,8 +2,6 @@
 use calls::Outcome;
 use heap::Setup;
 use heap::State;
-use heap::Superblock;
-use marks::live_count;
 use text::put_decimal;
 use text::put_text;
 ghost use mathlib.Core.Path.{_≡_};
@@ -11,7 +9,6 @@ ghost use mathlib.Core.List.{_++_};
 ghost use Prim.Native.Nat.{_+_, _*_, _≤_};
 ghost use lib.ListN.{length};
 ghost use Rattle.text.specs.Text.{decimal, Put};
-ghost use Rattle.heap.specs.Counts.{belongs, oneOf, liveIfOf, superblocksOf, liveOf};
 ghost use Rattle.lines.specs.Lines.{
   setupLine,
   result,
@@ -122,57 +119,12 @@ fn heap_line(out: &mut [u8], at: usize, heap: u8, class: u8, superblocks: u32, l
     put_text(out, d, b"\n")
 }
 
-// The superblocks of a heap and class, and their live blocks.
-struct Counts {
-    superblocks: u32,
-    live: u32,
-}
-
-fn belongs_to(b: Superblock, heap: u8, class: u8) -> bool
-    ensures { λ r. ⌜ r ≡ belongs heap class b ⌝ }
-{
-    b.owner == heap && b.class == class
-}
-
-fn one_if(b: Superblock, heap: u8, class: u8) -> u32
-    ensures { λ r. ⌜ (r ≡ oneOf heap class b) × (r ≤ 1) ⌝ }
-{
-    if belongs_to(b, heap, class) { 1 } else { 0 }
-}
-
-fn live_if(b: Superblock, heap: u8, class: u8) -> u32
-    ensures { λ r. ⌜ (r ≡ liveIfOf heap class b) × (r ≤ 256) ⌝ }
-{
-    let live = b.live;
-    if belongs_to(b, heap, class) {
-        live_count(live)
-    } else {
-        0
-    }
-}
-
-fn count_of(s: State, heap: u8, class: u8) -> Counts
-    ensures { λ r.
-        ⌜ (r .superblocks ≡ superblocksOf heap class s) × (r .live ≡ liveOf heap class s) × (r .superblocks ≤ 64) × (r .live ≤ 16384) ⌝ }
-{
-    let mut superblocks: u32 = 0;
-    let mut live: u32 = 0;
-    let mut k: usize = 0;
-    while k < 64 {
-        let b = s.table[k];
-        superblocks += one_if(b, heap, class);
-        live += live_if(b, heap, class);
-        k += 1;
-    }
-    Counts { superblocks, live }
-}
-
 // The line of a heap and class, where it has a superblock.
 fn heap_line_if(out: &mut [u8], at: usize, heap: u8, class: u8, s: State) -> usize
     requires { ⌜ at + 64 ≤ length (now out) ⌝ }
     ensures { λ r. ⌜ Put (now (out .entry)) at (heapLineIf heap class s) (now (out .exit)) r × (r ≤ at + 64) ⌝ }
 {
-    let n = count_of(s, heap, class);
+    let n = moves::count_of(s, heap, class);
     if n.superblocks == 0 {
         return at;
     }

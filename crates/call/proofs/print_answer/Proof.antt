@@ -1,0 +1,59 @@
+-- `call::print_answer` is safe and ends: the loop counts the superblocks. Assumes nothing.
+use Prim.Native.Nat.{_-_, _≤_}
+use native.Mathlib.Omega.{arith}
+use borrow.Author.Needs.{needs}
+use Rattle.call.proofs.print_answer.Statement.{statement}
+use Rattle.call.proofs.print_answer.Tie as tie
+
+abbrev Inv-loop : tie.InvT-loop
+Inv-loop s k₀ k = k ≤ 64
+
+abbrev μ-loop : tie.MeasureT-loop
+μ-loop s k₀ k = 64 - k
+
+print-outcome-requires : tie.Need-print-outcome-requires Inv-loop μ-loop
+print-outcome-requires c κs = search needs
+
+print-setup-requires : tie.Need-print-setup-requires Inv-loop μ-loop
+print-setup-requires c κs = search needs
+
+loop-holds : tie.Need-loop-holds Inv-loop μ-loop
+loop-holds c = omega arith
+
+mul-b : tie.Need-mul-b Inv-loop μ-loop
+mul-b c = omega arith
+
+element-copy-out-b : tie.Need-element-copy-out-b Inv-loop μ-loop
+element-copy-out-b c = omega arith
+
+print-superblock-requires : tie.Need-print-superblock-requires Inv-loop μ-loop
+print-superblock-requires c κs = search needs
+
+add-k : tie.Need-add-k Inv-loop μ-loop
+add-k c = omega arith
+
+loop-less : tie.Need-loop-less Inv-loop μ-loop
+loop-less c = omega arith
+
+loop-again : tie.Need-loop-again Inv-loop μ-loop
+loop-again c = omega arith
+
+returns : tie.Need-returns Inv-loop μ-loop
+returns c = search needs
+
+pub print-answer-spec : {M : Type 1} → statement M
+print-answer-spec =
+    tie.close
+    (tie.spec
+    Inv-loop
+    μ-loop
+    print-outcome-requires
+    print-setup-requires
+    loop-holds
+    mul-b
+    element-copy-out-b
+    print-superblock-requires
+    add-k
+    loop-less
+    loop-again
+    returns)

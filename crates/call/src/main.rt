@@ -1,0 +1,189 @@
+// One call of the engine on a state handed in, read from standard input; the outcome, the next state and the order places that
+// changed go to standard output (docs/FORMATS.md, "One call").
+ghost use mathlib.Core.Path.{_≡_};
+ghost use Prim.Native.Nat.{_+_, _≤_};
+ghost use lib.ListN.{length};
+ghost use Rattle.io.specs.Counts.{Counts};
+use callform::Asked;
+use calls::Answer;
+use calls::Outcome;
+use heap::Setup;
+use heap::State;
+use heap::Superblock;
+
+// An input that the program takes has at most 36191 bytes, so that one cut off by the buffer's end is bad in any case.
+fn main() {
+    let mut input = io::large_buffer();
+    let n = io::read_full(0, &mut input);
+    reply(&input[..n]);
+}
+
+// Input that is not of the form, or that lends more places than the program has, calls nothing.
+fn reply(bytes: &[u8]) {
+    if !callform::well_formed(bytes) {
+        io::write_all(1, b"bad input\n");
+        return;
+    }
+    let lent = callform::places_lent(bytes);
+    if lent > 17000 {
+        io::write_all(1, b"bad input\n");
+        return;
+    }
+    make_call(bytes, lent);
+}
+
+// The program's own storage, and as much for a copy, of which as many places are lent as the input asks.
+fn make_call(bytes: &[u8], lent: usize)
+    requires { ⌜ lent ≤ 17000 ⌝ }
+{
+    let mut storage = [0u16; 17000];
+    let mut copy = [0u16; 17000];
+    call_on(bytes, &mut storage[0..lent], &mut copy[0..lent]);
+}
+
+// The call, on order places as the input has them; a copy of these tells which of them changed.
+fn call_on(bytes: &[u8], order: &mut [u16], before: &mut [u16])
+    requires { ⌜ length (now order) ≡ length (now before) ⌝ }
+{
+    let from = callform::places_from(bytes);
+    callform::load_places(bytes, from, order);
+    callform::load_places(bytes, from, before);
+    let a = answer_to(bytes, order);
+    print_answer(a);
+    print_changes(before, order);
+    io::write_all(1, b"end\n");
+}
+
+fn answer_to(bytes: &[u8], order: &mut [u16]) -> Answer {
+    let asked = callform::call_in(bytes);
+    match asked {
+        Asked::Setup => {
+            let u = callform::setup_in(bytes);
+            engine::setup(u, order)
+        }
+        Asked::Take { processor, size } => {
+            let s = callform::state_at(bytes, callform::table_from(bytes));
+            engine::take(s, order, processor, size)
+        }
+        Asked::Free { processor, address } => {
+            let s = callform::state_at(bytes, callform::table_from(bytes));
+            engine::free(s, order, processor, address)
+        }
+    }
+}
+
+// ---- printed lines
+
+// The outcome, the setup, and each superblock that differs from an unused one.
+fn print_answer(a: Answer) {
+    let outcome = a.outcome;
+    let s = a.state;
+    print_outcome(outcome);
+    let u = s.setup;
+    print_setup(u);
+    let mut k = 0;
+    while k < 64 {
+        let b = s.table[k];
+        print_superblock(k, b);
+        k += 1;
+    }
+}
+
+fn print_outcome(outcome: Outcome) {
+    match outcome {
+        Outcome::Ready => {
+            io::write_all(1, b"ready\n");
+        }
+        Outcome::Address(address) => print_number(b"at ", address as u64),
+        Outcome::Moves(moves) => print_number(b"moved ", moves as u64),
+        Outcome::Refused(number) => print_number(b"refused ", number as u64),
+    }
+}
+
+fn print_number(label: &[u8], n: u64)
+    requires { ⌜ length (now label) ≤ 8 ⌝ }
+{
+    let mut line = [0u8; 32];
+    let a = put_field(&mut line, 0, label, n);
+    let end = put_end(&mut line, a);
+    io::write_all(1, &line[..end]);
+}
+
+fn print_setup(u: Setup) {
+    let mut line = [0u8; 128];
+    let a = put_field(&mut line, 0, b"setup ", u.processors as u64);
+    let b = put_field(&mut line, a, b" ", u.superblocks as u64);
+    let c = put_field(&mut line, b, b" ", u.spare as u64);
+    let d = put_field(&mut line, c, b" ", u.p as u64);
+    let e = put_field(&mut line, d, b" ", u.q as u64);
+    let end = put_end(&mut line, e);
+    io::write_all(1, &line[..end]);
+}
+
+fn print_superblock(k: usize, b: Superblock) {
+    if choose::is_unused(b) {
+        return;
+    }
+    let live = b.live;
+    let mut line = [0u8; 192];
+    let name = put_field(&mut line, 0, b"superblock ", k as u64);
+    let owner = put_field(&mut line, name, b" owner ", b.owner as u64);
+    let class = put_field(&mut line, owner, b" class ", b.class as u64);
+    let marks = put_marks(&mut line, class, live);
+    let end = put_end(&mut line, marks);
+    io::write_all(1, &line[..end]);
+}
+
+// Each place that changed, with its new value.
+fn print_changes(before: &[u16], after: &[u16])
+    requires { ⌜ length (now before) ≡ length (now after) ⌝ }
+{
+    let mut i = 0;
+    while i < after.len() {
+        let old = before[i];
+        let new = after[i];
+        print_change(i, old, new);
+        i += 1;
+    }
+}
+
+fn print_change(i: usize, old: u16, new: u16) {
+    if old == new {
+        return;
+    }
+    let mut line = [0u8; 64];
+    let place = put_field(&mut line, 0, b"place ", i as u64);
+    let value = put_field(&mut line, place, b" ", new as u64);
+    let end = put_end(&mut line, value);
+    io::write_all(1, &line[..end]);
+}
+
+// The four numbers of live marks; the place after them.
+fn put_marks(out: &mut [u8], at: usize, live: [u64; 4]) -> usize
+    requires { ⌜ at + 89 ≤ length (now out) ⌝ }
+    ensures { λ r. ⌜ r ≤ at + 89 ⌝ }
+{
+    let first = put_field(out, at, b" live ", live[0]);
+    let second = put_field(out, first, b" ", live[1]);
+    let third = put_field(out, second, b" ", live[2]);
+    put_field(out, third, b" ", live[3])
+}
+
+// A word and a number after it, of at most 20 digits; the place after them.
+fn put_field(out: &mut [u8], at: usize, label: &[u8], n: u64) -> usize
+    requires { ⌜ at + length (now label) + 20 ≤ length (now out) ⌝ }
+    ensures { λ r. ⌜ r ≤ at + length (now (label .entry)) + 20 ⌝ }
+{
+    let mut digits = [0u8; 20];
+    let k = io::decimal(n, &mut digits);
+    let next = text::put_text(out, at, label);
+    text::put_text(out, next, &digits[..k])
+}
+
+// The end of a line; the place after it.
+fn put_end(out: &mut [u8], at: usize) -> usize
+    requires { ⌜ at + 1 ≤ length (now out) ⌝ }
+    ensures { λ r. ⌜ Counts r (now (out .exit)) ⌝ }
+{
+    text::put_text(out, at, b"\n")
+}

@@ -1,0 +1,5 @@
+pub mod SetupKept
+pub mod StepLaws
+pub mod LoopLaws
+pub mod Joined
+pub mod WholeCase

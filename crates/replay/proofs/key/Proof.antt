@@ -1,0 +1,27 @@
+use Rattle.replay.proofs.LoopLaws.{key-text, key-no-room}
+use borrow.Author.Needs.{needs}
+use Rattle.replay.proofs.key.Statement.{statement}
+use Rattle.replay.proofs.key.Tie as tie
+
+returns : tie.Need-returns
+returns c = search key-no-room
+
+replay-all-requires : tie.Need-replay-all-requires
+replay-all-requires c κs = search needs
+
+finish-requires : tie.Need-finish-requires
+finish-requires c κs = search needs
+
+same-length : tie.Need-same-length
+same-length c = search needs
+
+same-length-2 : tie.Need-same-length-2
+same-length-2 c = search needs
+
+returns-2 : tie.Need-returns-2
+returns-2 c = search key-text
+
+pub key-spec : {M : Type 1} → statement M
+key-spec =
+    tie.close
+    (tie.spec returns replay-all-requires finish-requires same-length same-length-2 returns-2)
