@@ -96,9 +96,9 @@ key-text r order out x new mid text n big over put =
       },
     )
 
-pub key-no-room : (r order out : List ℕ) → length out < 524288 → Answered r order out NoRoom order out
+pub key-no-room : (r order out : List ℕ) (n : ℕ) → length out < n → n ≤ 524288 → Answered r order out NoRoom order out
 unfolding Answered
-key-no-room r order out small = (small, refl, refl)
+key-no-room r order out n small few = (omega arith, refl, refl)
 
 -- ---- for a caller: the key's bytes lie in the buffer
 module _ (r order out : List ℕ) (printed : Printed) (left new : List ℕ) (n : ℕ) (answered : Answered r order out printed left new) (e : printed ≡ Text n) where

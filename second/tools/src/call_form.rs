@@ -14,6 +14,9 @@ pub struct CallInput {
     pub order: Vec<u16>,
 }
 
+/// The most order places of a call.
+pub const MOST_PLACES: usize = 17000;
+
 /// What is printed for input that is no call.
 pub const BAD_INPUT: &str = "bad input\n";
 
@@ -90,6 +93,9 @@ pub fn read_input(bytes: &[u8]) -> Option<CallInput> {
         }
     }
     let places = u32::from_le_bytes(bytes.next()?);
+    if places as usize > MOST_PLACES {
+        return None;
+    }
     let order = read_places(bytes.0, places)?;
     Some(CallInput { call, state, order })
 }

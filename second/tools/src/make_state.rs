@@ -187,7 +187,7 @@ fn with_storage(kind: Kind, random: &mut Xorshift) -> CallInput {
     let length = match kind {
         Kind::StorageShort => needed - 1,
         Kind::StorageExact => needed,
-        Kind::StorageLong => needed + random.pick(&[1, 7, 256, 20000]),
+        Kind::StorageLong => needed + random.pick(&[1, 7, 256, 600]),
         _ => 0,
     };
     let filler = random.word() as u16;

@@ -4,7 +4,7 @@ use Rattle.replay.proofs.key.Statement.{statement}
 use Rattle.replay.proofs.key.Tie as tie
 
 returns : tie.Need-returns
-returns c = search key-no-room
+returns c = search (needs, key-no-room)
 
 replay-all-requires : tie.Need-replay-all-requires
 replay-all-requires c κs = search needs

@@ -1,0 +1,15 @@
+-- A lent row and a table by value.
+use mathlib.Core.List.{List}
+use lib.Dec.{eqb}
+use lib.ListN.{length, replicate}
+use Rattle.laws.specs.Sums.{pick}
+use Rattle.heap.specs.declared.Superblock.{Superblock}
+use Rattle.heap.specs.Table.{unused}
+
+-- the table of a row of 64 records; a row of another length has none, and an unused table stands for it
+abbrev pub loadOf : List Superblock → List Superblock
+loadOf row = pick (eqb (length row) 64) row (replicate 64 unused)
+
+-- a row of 64 records with a table stored in it; a row of another length stays
+abbrev pub storeOf : List Superblock → List Superblock → List Superblock
+storeOf row table = pick (eqb (length row) 64) table row

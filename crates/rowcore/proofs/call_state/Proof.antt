@@ -1,0 +1,41 @@
+use Rattle.rowcore.proofs.TableLaws.{call-take, call-free}
+use borrow.Author.Needs.{needs}
+use Rattle.rowcore.proofs.call_state.Statement.{statement}
+use Rattle.rowcore.proofs.call_state.Tie as tie
+
+enum-known-c : tie.Need-enum-known-c
+enum-known-c c = search needs
+
+take-requires : tie.Need-take-requires
+take-requires c κs = search needs
+
+enum-known-c-2 : tie.Need-enum-known-c-2
+enum-known-c-2 c = search needs
+
+free-requires : tie.Need-free-requires
+free-requires c κs = search needs
+
+same-length : tie.Need-same-length
+same-length c = search needs
+
+returns : tie.Need-returns
+returns c = search call-take
+
+same-length-2 : tie.Need-same-length-2
+same-length-2 c = search needs
+
+returns-2 : tie.Need-returns-2
+returns-2 c = search call-free
+
+pub call-state-spec : {M : Type 1} → statement M
+call-state-spec =
+    tie.close
+    (tie.spec
+    enum-known-c
+    take-requires
+    enum-known-c-2
+    free-requires
+    same-length
+    returns
+    same-length-2
+    returns-2)

@@ -1,0 +1,41 @@
+use Rattle.rowcore.proofs.TableLaws.{call-refused, call-answered}
+use borrow.Author.Needs.{needs}
+use Rattle.rowcore.proofs.call_table.Statement.{statement}
+use Rattle.rowcore.proofs.call_table.Tie as tie
+
+first-refusal-requires : tie.Need-first-refusal-requires
+first-refusal-requires c κs = search needs
+
+refuse-requires : tie.Need-refuse-requires
+refuse-requires c κs = search needs
+
+same-length : tie.Need-same-length
+same-length c = search needs
+
+returns : tie.Need-returns
+returns c = search call-refused
+
+call-state-requires : tie.Need-call-state-requires
+call-state-requires c κs = search needs
+
+answered-requires : tie.Need-answered-requires
+answered-requires c κs = search needs
+
+same-length-2 : tie.Need-same-length-2
+same-length-2 c = search needs
+
+returns-2 : tie.Need-returns-2
+returns-2 c = search call-answered
+
+pub call-table-spec : {M : Type 1} → statement M
+call-table-spec =
+    tie.close
+    (tie.spec
+    first-refusal-requires
+    refuse-requires
+    same-length
+    returns
+    call-state-requires
+    answered-requires
+    same-length-2
+    returns-2)

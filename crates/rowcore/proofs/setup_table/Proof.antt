@@ -1,0 +1,45 @@
+use Rattle.rowcore.proofs.TableLaws.{setup-refused, setup-answered}
+use borrow.Author.Needs.{needs}
+use Rattle.rowcore.proofs.setup_table.Statement.{statement}
+use Rattle.rowcore.proofs.setup_table.Tie as tie
+
+first-refusal-requires : tie.Need-first-refusal-requires
+first-refusal-requires c κs = search needs
+
+no-state-requires : tie.Need-no-state-requires
+no-state-requires c κs = search needs
+
+refuse-requires : tie.Need-refuse-requires
+refuse-requires c κs = search needs
+
+same-length : tie.Need-same-length
+same-length c = search needs
+
+returns : tie.Need-returns
+returns c = search setup-refused
+
+setup-requires : tie.Need-setup-requires
+setup-requires c κs = search needs
+
+answered-requires : tie.Need-answered-requires
+answered-requires c κs = search needs
+
+same-length-2 : tie.Need-same-length-2
+same-length-2 c = search needs
+
+returns-2 : tie.Need-returns-2
+returns-2 c = search setup-answered
+
+pub setup-table-spec : {M : Type 1} → statement M
+setup-table-spec =
+    tie.close
+    (tie.spec
+    first-refusal-requires
+    no-state-requires
+    refuse-requires
+    same-length
+    returns
+    setup-requires
+    answered-requires
+    same-length-2
+    returns-2)

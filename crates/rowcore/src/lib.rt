@@ -1,0 +1,105 @@
+// A call on a lent row, decided on a table by value: the row's length is a number among the arguments, and the table that is to be
+// stored in the row is handed back. A refused call hands back the table that it was given.
+ghost use mathlib.Core.Path.{_≡_};
+ghost use lib.ListN.{replicate};
+ghost use Rattle.heap.specs.Table.{unused};
+ghost use Rattle.calls.specs.Answers.{After};
+ghost use Rattle.calls.specs.Calls.{callOf};
+ghost use Rattle.rowrules.specs.Row.{setupOn, callOn};
+ghost use Rattle.rowcore.specs.Tables.{firstOf, refusedBy, answeredBy, leaves};
+use calls::Answer;
+use calls::Call;
+use calls::Outcome;
+use heap::Setup;
+use heap::State;
+use heap::Superblock;
+use rowrules::RowAnswer;
+
+// What is to be stored in the row, and the answer.
+pub struct Called {
+    pub table: [Superblock; 64],
+    pub answer: RowAnswer,
+}
+
+// A table of unused superblocks.
+pub fn unused_table() -> [Superblock; 64]
+    ensures { λ r. ⌜ r ≡ replicate 64 unused ⌝ }
+{
+    let s = blocks::no_state();
+    s.table
+}
+
+// The refusals before any superblock is looked at: setup numbers, 12, 13 for the row's length; 0 where none applies.
+fn first_refusal(numbers: u8, n: usize, order: &[u16], u: Setup) -> u8
+    ensures { λ r. ⌜ r ≡ firstOf numbers n (now (order .entry)) u ⌝ }
+{
+    if !inspect::lawful(u) {
+        return numbers;
+    }
+    if order.len() < u.superblocks as usize * 256 {
+        return 12;
+    }
+    if n != 64 {
+        return 13;
+    }
+    0
+}
+
+// A refusal, with the setup numbers and the table as they are to be.
+fn refuse(number: u8, u: Setup, table: [Superblock; 64]) -> Called
+    ensures { λ r. ⌜ r ≡ refusedBy number u table ⌝ }
+{
+    let answer = RowAnswer {
+        outcome: Outcome::Refused(number),
+        setup: u,
+    };
+    Called { table, answer }
+}
+
+// The engine's answer, its state taken apart.
+fn answered(a: Answer) -> Called
+    ensures { λ r. ⌜ r ≡ answeredBy a ⌝ }
+{
+    let s = a.state;
+    let table = s.table;
+    let outcome = a.outcome;
+    let setup = s.setup;
+    let answer = RowAnswer { outcome, setup };
+    Called { table, answer }
+}
+
+// A setup where n records are lent.
+pub fn setup_table(n: usize, table: [Superblock; 64], order: &mut [u16], u: Setup) -> Called
+    ensures { λ r. ⌜ leaves r (now (order .exit)) ≡ setupOn n u table (now (order .entry)) ⌝ }
+{
+    let first = first_refusal(1, n, order, u);
+    if first != 0 {
+        let none = blocks::no_state();
+        let zeros = none.setup;
+        return refuse(first, zeros, table);
+    }
+    let a = engine::setup(u, order);
+    answered(a)
+}
+
+// A take or a free on a state.
+fn call_state(s: State, order: &mut [u16], c: Call) -> Answer
+    ensures { λ r. ⌜ record { answer = r; order = now (order .exit) } ≡ callOf s (now (order .entry)) c ⌝ }
+{
+    match c {
+        Call::Take { processor, size } => engine::take(s, order, processor, size),
+        Call::Free { processor, address } => engine::free(s, order, processor, address),
+    }
+}
+
+// A take or a free where n records are lent.
+pub fn call_table(n: usize, table: [Superblock; 64], order: &mut [u16], u: Setup, c: Call) -> Called
+    ensures { λ r. ⌜ leaves r (now (order .exit)) ≡ callOn n u table (now (order .entry)) c ⌝ }
+{
+    let first = first_refusal(13, n, order, u);
+    if first != 0 {
+        return refuse(first, u, table);
+    }
+    let a = call_state(State { setup: u, table }, order, c);
+    answered(a)
+}

@@ -1,0 +1,3 @@
+pub mod Apart
+pub mod Made
+pub mod MostLaws

@@ -1,0 +1,68 @@
+// Rows lent from the front of a local array, for callers with plain values: no reference to a record is needed to call these.
+ghost use mathlib.Core.Path.{_≡_};
+ghost use Prim.Native.Nat.{_≤_, min};
+ghost use lib.ListN.{take};
+ghost use Rattle.rowrules.specs.Row.{rowSetup, rowCall};
+ghost use Rattle.rowplain.specs.Front.{LentAfter, lentAfter};
+use calls::Call;
+use heap::Setup;
+use heap::Superblock;
+use rowrules::RowAnswer;
+
+// The records as the call left them, and its answer.
+pub struct Lent {
+    pub records: [Superblock; 65],
+    pub answer: RowAnswer,
+}
+
+// As many as there are records.
+fn at_most(n: usize) -> usize
+    ensures { λ r. ⌜ (r ≡ min n 65) × (r ≤ 65) ⌝ }
+{
+    if n <= 65 {
+        return n;
+    }
+    65
+}
+
+// A take or a free on a row of the first n records.
+fn lend_call(n: usize, records: [Superblock; 65], order: &mut [u16], u: Setup, c: Call) -> Lent
+    requires { ⌜ n ≤ 65 ⌝ }
+    ensures { λ r. ⌜ record { lent = r; order = now (order .exit) } ≡ lentAfter n records (rowCall u (take n records) (now (order .entry)) c) ⌝ }
+{
+    let mut t = records;
+    let answer = row::call_row(&mut t[..n], order, u, c);
+    Lent { records: t, answer }
+}
+
+// A take or a free on a row of the first n records, of all 65 where n is above.
+pub fn call_by_row(
+    n: usize,
+    records: [Superblock; 65],
+    order: &mut [u16],
+    u: Setup,
+    c: Call,
+) -> Lent
+    ensures { λ r. ⌜ record { lent = r; order = now (order .exit) } ≡ lentAfter n records (rowCall u (take n records) (now (order .entry)) c) ⌝ }
+{
+    let m = at_most(n);
+    lend_call(m, records, order, u, c)
+}
+
+// A setup on a row of the first n records.
+fn lend_setup(n: usize, records: [Superblock; 65], order: &mut [u16], u: Setup) -> Lent
+    requires { ⌜ n ≤ 65 ⌝ }
+    ensures { λ r. ⌜ record { lent = r; order = now (order .exit) } ≡ lentAfter n records (rowSetup u (take n records) (now (order .entry))) ⌝ }
+{
+    let mut t = records;
+    let answer = row::setup_row(&mut t[..n], order, u);
+    Lent { records: t, answer }
+}
+
+// A setup on a row of the first n records, of all 65 where n is above.
+pub fn setup_by_row(n: usize, records: [Superblock; 65], order: &mut [u16], u: Setup) -> Lent
+    ensures { λ r. ⌜ record { lent = r; order = now (order .exit) } ≡ lentAfter n records (rowSetup u (take n records) (now (order .entry))) ⌝ }
+{
+    let m = at_most(n);
+    lend_setup(m, records, order, u)
+}

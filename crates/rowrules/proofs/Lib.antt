@@ -1,0 +1,3 @@
+pub mod CallCases
+pub mod RowLaws
+pub mod RowDemand

@@ -1,0 +1,75 @@
+-- Calls on a table of superblocks that is lent as a row of records: "The table of superblocks is .. also lent as a row of records and
+-- edited there."
+use Prim.Native.Nat.{ℕ, _*_}
+use mathlib.Core.List.{List}
+use lib.ListN.{length, replicate}
+use lib.Dec.{eqb, leb}
+use Rattle.laws.specs.Sums.{pick}
+use Rattle.order.specs.Order.{cleared}
+use Rattle.heap.specs.declared.Superblock.{Superblock}
+use Rattle.heap.specs.declared.Setup.{Setup}
+use Rattle.heap.specs.declared.State.{State}
+use Rattle.heap.specs.Table.{unused, noState}
+use Rattle.heap.specs.Check.{lawful}
+use Rattle.calls.specs.declared.Call.{Call}
+use Rattle.calls.specs.declared.Outcome.{Outcome}
+use Rattle.calls.specs.declared.Outcome.the-variants.{Ready, Refused}
+use Rattle.calls.specs.Answers.{After}
+use Rattle.calls.specs.Calls.{callOf}
+use Rattle.rowrules.specs.declared.RowAnswer.{RowAnswer}
+
+-- what a call leaves: its outcome, the setup numbers, the row's records and all order places
+pub record RowAfter : Type 0 where
+  pub outcome : Outcome
+  pub setup : Setup
+  pub row : List Superblock
+  pub order : List ℕ
+
+-- what a call leaves, from what it hands back, the row and the storage as they are then
+abbrev pub rowAfter : RowAnswer → List Superblock → List ℕ → RowAfter
+rowAfter r row order = record { outcome = r .outcome; setup = r .setup; row = row; order = order }
+
+-- the state that setup numbers and a row of 64 records make
+abbrev pub stateOf : Setup → List Superblock → State
+stateOf u row = record { setup = u; table = row }
+
+-- what a call on that state leaves, its table read as the row
+abbrev pub rowOf : After → RowAfter
+rowOf a = record { outcome = a .answer .outcome; setup = a .answer .state .setup; row = a .answer .state .table; order = a .order }
+
+-- "A refusal carries its number alone .. and changes neither state nor storage"
+abbrev pub rowRefused : ℕ → Setup → List Superblock → List ℕ → RowAfter
+rowRefused r u row order = record { outcome = Refused r; setup = u; row = row; order = order }
+
+-- "an accepted setup writes them all": 64 unused superblocks, and the first N × 256 order places 0
+abbrev pub rowStarted : Setup → List ℕ → RowAfter
+rowStarted u order = record { outcome = Ready; setup = u; row = replicate 64 unused; order = cleared order (u .superblocks * 256) }
+
+-- A setup where n records are lent: "setup 1, 12, then 13 for a lent row that is not 64 long (its contents are not checked ..)". "A
+-- refused setup hands back five zeros ..; a lent row it does not write."
+unfoldable pub setupOn : ℕ → Setup → List Superblock → List ℕ → RowAfter
+setupOn n u row order =
+    pick (lawful u)
+    (pick (leb (u .superblocks * 256) (length order))
+    (pick (eqb n 64) (rowStarted u order)
+    (rowRefused 13 (noState .setup) row order))
+    (rowRefused 12 (noState .setup) row order))
+    (rowRefused 1 (noState .setup) row order)
+
+-- A take or a free where n records are lent: "13 for setup numbers, 12, the rest of 13", in which is "a lent row exactly 64 records
+-- long". What else is checked, and the call's own refusals, are those of the state.
+unfoldable pub callOn : ℕ → Setup → List Superblock → List ℕ → Call → RowAfter
+callOn n u row order call =
+    pick (lawful u)
+    (pick (leb (u .superblocks * 256) (length order))
+    (pick (eqb n 64) (rowOf (callOf (stateOf u row) order call))
+    (rowRefused 13 u row order))
+    (rowRefused 12 u row order))
+    (rowRefused 13 u row order)
+
+-- a setup, and a take or a free, on a lent row
+abbrev pub rowSetup : Setup → List Superblock → List ℕ → RowAfter
+rowSetup u row order = setupOn (length row) u row order
+
+abbrev pub rowCall : Setup → List Superblock → List ℕ → Call → RowAfter
+rowCall u row order call = callOn (length row) u row order call

@@ -1,0 +1,9 @@
+// Calls on a table of superblocks that is lent as a row of records. The rules are in specs/, demand 3 of a lent row in proofs/.
+use calls::Outcome;
+use heap::Setup;
+
+// What a call on a lent row hands back: its outcome and the setup numbers after it. The superblocks are in the row.
+pub struct RowAnswer {
+    pub outcome: Outcome,
+    pub setup: Setup,
+}
