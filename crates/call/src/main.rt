@@ -1,21 +1,35 @@
-// One call of the engine on a state handed in, read from standard input; the outcome, the next state and the order places that
-// changed go to standard output (docs/FORMATS.md, "One call").
+// One call of the engine on a state handed in, by value or as a lent row, read from standard input; the outcome, the next state and
+// the order places that changed go to standard output (docs/FORMATS.md, "One call").
 ghost use mathlib.Core.Path.{_≡_};
 ghost use Prim.Native.Nat.{_+_, _≤_};
 ghost use lib.ListN.{length};
+ghost use lib.ListN.{length as lengthOf};
 ghost use Rattle.io.specs.Counts.{Counts};
 use callform::Asked;
 use calls::Answer;
+use calls::Call;
 use calls::Outcome;
 use heap::Setup;
 use heap::State;
 use heap::Superblock;
+use rowplain::Lent;
 
 // An input that the program takes has at most 36191 bytes, so that one cut off by the buffer's end is bad in any case.
 fn main() {
     let mut input = io::large_buffer();
     let n = io::read_full(0, &mut input);
-    reply(&input[..n]);
+    reply_any(&input[..n]);
+}
+
+// Byte 3 and a length come before a call on a lent row.
+fn reply_any(bytes: &[u8]) {
+    if bytes.len() < 2 {
+        return reply(bytes);
+    }
+    if bytes[0] != 3 {
+        return reply(bytes);
+    }
+    reply_row(bytes[1], &bytes[2..]);
 }
 
 // Input that is not of the form, or that lends more places than the program has, calls nothing.
@@ -69,6 +83,99 @@ fn answer_to(bytes: &[u8], order: &mut [u16]) -> Answer {
             let s = callform::state_at(bytes, callform::table_from(bytes));
             engine::free(s, order, processor, address)
         }
+    }
+}
+
+// ---- a call on a lent row
+
+fn reply_row(length: u8, bytes: &[u8]) {
+    if length > 65 {
+        io::write_all(1, b"bad input\n");
+        return;
+    }
+    if !callform::well_formed(bytes) {
+        io::write_all(1, b"bad input\n");
+        return;
+    }
+    let lent = callform::places_lent(bytes);
+    if lent > 17000 {
+        io::write_all(1, b"bad input\n");
+        return;
+    }
+    make_row_call(length as usize, bytes, lent);
+}
+
+fn make_row_call(length: usize, bytes: &[u8], lent: usize)
+    requires { ⌜ (length ≤ 65) × (lent ≤ 17000) ⌝ }
+{
+    let mut storage = [0u16; 17000];
+    let mut copy = [0u16; 17000];
+    row_call_on(length, bytes, &mut storage[0..lent], &mut copy[0..lent]);
+}
+
+fn row_call_on(length: usize, bytes: &[u8], order: &mut [u16], before: &mut [u16])
+    requires { ⌜ (length ≤ 65) × (lengthOf (now order) ≡ lengthOf (now before)) ⌝ }
+{
+    let from = callform::places_from(bytes);
+    callform::load_places(bytes, from, order);
+    callform::load_places(bytes, from, before);
+    let l = row_answer_to(length, bytes, order);
+    print_lent(length, l);
+    print_changes(before, order);
+    io::write_all(1, b"end\n");
+}
+
+fn row_answer_to(length: usize, bytes: &[u8], order: &mut [u16]) -> Lent {
+    let asked = callform::call_in(bytes);
+    let u = callform::setup_in(bytes);
+    match asked {
+        Asked::Setup => rowplain::setup_by_row(length, other_records(), order, u),
+        Asked::Take { processor, size } => {
+            let records = records_of(callform::state_at(bytes, callform::table_from(bytes)));
+            rowplain::call_by_row(length, records, order, u, Call::Take { processor, size })
+        }
+        Asked::Free { processor, address } => {
+            let records = records_of(callform::state_at(bytes, callform::table_from(bytes)));
+            rowplain::call_by_row(length, records, order, u, Call::Free { processor, address })
+        }
+    }
+}
+
+// Records that no superblock of a sound state has: they show what a call writes.
+fn other_records() -> [Superblock; 65] {
+    let b = Superblock {
+        owner: 9,
+        class: 9,
+        live: [9u64; 4],
+    };
+    [b; 65]
+}
+
+// A state's 64 superblocks, and one record more.
+fn records_of(s: State) -> [Superblock; 65] {
+    let mut records = other_records();
+    let mut k = 0;
+    while k < 64 {
+        let b = s.table[k];
+        records[k] = b;
+        k += 1;
+    }
+    records
+}
+
+fn print_lent(length: usize, l: Lent)
+    requires { ⌜ length ≤ 65 ⌝ }
+{
+    let a = l.answer;
+    let outcome = a.outcome;
+    print_outcome(outcome);
+    let u = a.setup;
+    print_setup(u);
+    let mut k = 0;
+    while k < length {
+        let b = l.records[k];
+        print_superblock(k, b);
+        k += 1;
     }
 }
 

@@ -1,0 +1,58 @@
+-- `call::print_lent` is safe and ends: the loop counts the records. Assumes nothing.
+use Prim.Native.Nat.{_-_, _≤_}
+use borrow.Author.Needs.{needs}
+use Rattle.call.proofs.print_lent.Statement.{statement}
+use Rattle.call.proofs.print_lent.Tie as tie
+
+abbrev Inv-loop : tie.InvT-loop
+Inv-loop length l k₀ k = k ≤ length
+
+abbrev μ-loop : tie.MeasureT-loop
+μ-loop length l k₀ k = length - k
+
+print-outcome-requires : tie.Need-print-outcome-requires Inv-loop μ-loop
+print-outcome-requires c κs = search needs
+
+print-setup-requires : tie.Need-print-setup-requires Inv-loop μ-loop
+print-setup-requires c κs = search needs
+
+loop-holds : tie.Need-loop-holds Inv-loop μ-loop
+loop-holds c = search needs
+
+mul-b : tie.Need-mul-b Inv-loop μ-loop
+mul-b c = search needs
+
+element-copy-out-b : tie.Need-element-copy-out-b Inv-loop μ-loop
+element-copy-out-b c = search needs
+
+print-superblock-requires : tie.Need-print-superblock-requires Inv-loop μ-loop
+print-superblock-requires c κs = search needs
+
+add-k : tie.Need-add-k Inv-loop μ-loop
+add-k c = search needs
+
+loop-less : tie.Need-loop-less Inv-loop μ-loop
+loop-less c = search needs
+
+loop-again : tie.Need-loop-again Inv-loop μ-loop
+loop-again c = search needs
+
+returns : tie.Need-returns Inv-loop μ-loop
+returns c = search needs
+
+pub print-lent-spec : {M : Type 1} → statement M
+print-lent-spec =
+    tie.close
+    (tie.spec
+    Inv-loop
+    μ-loop
+    print-outcome-requires
+    print-setup-requires
+    loop-holds
+    mul-b
+    element-copy-out-b
+    print-superblock-requires
+    add-k
+    loop-less
+    loop-again
+    returns)
