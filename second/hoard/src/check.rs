@@ -21,15 +21,33 @@ pub fn setup_is_lawful(setup: &Setup) -> bool {
         && setup.p < setup.q
 }
 
+/// Checks the numbers asked for and the storage given to a setup.
+pub(crate) fn check_asked(asked: &Setup, order: &[u16]) -> Result<(), Refusal> {
+    if !setup_is_lawful(asked) {
+        return Err(Refusal::Setup);
+    }
+    check_storage(asked, order)
+}
+
+/// Checks the setup numbers and storage given to a take or free.
+pub(crate) fn check_numbers_and_storage(setup: &Setup, order: &[u16]) -> Result<(), Refusal> {
+    if !setup_is_lawful(setup) {
+        return Err(Refusal::State);
+    }
+    check_storage(setup, order)
+}
+
+fn check_storage(setup: &Setup, order: &[u16]) -> Result<(), Refusal> {
+    if order.len() < setup.order_places() {
+        return Err(Refusal::Storage);
+    }
+    Ok(())
+}
+
 /// Checks the state and storage given to a take or free, in the order of the
 /// refusals: setup numbers, length of the storage, then the rest of the state.
 pub fn check_handed_in(state: &State, order: &[u16]) -> Result<(), Refusal> {
-    if !setup_is_lawful(&state.setup) {
-        return Err(Refusal::State);
-    }
-    if order.len() < state.setup.order_places() {
-        return Err(Refusal::Storage);
-    }
+    check_numbers_and_storage(&state.setup, order)?;
     if !superblocks_are_sound(state, order) {
         return Err(Refusal::State);
     }

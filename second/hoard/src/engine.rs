@@ -1,6 +1,6 @@
 //! The three calls: setup, take and free.
 
-use crate::check::{check_handed_in, setup_is_lawful};
+use crate::check::{check_asked, check_handed_in};
 use crate::outcome::{Answer, Outcome, Refusal};
 use crate::size_class::{class_of_size, SizeClass, SIZE_CLASSES, SUPERBLOCK_BYTES};
 use crate::state::{Setup, State, Superblock, GLOBAL_HEAP, ORDER_PLACES, UNUSED_OWNER};
@@ -30,14 +30,7 @@ struct Offer {
 
 /// Sets up: every superblock unused, the order places of the setup all 0.
 pub fn setup(asked: Setup, order: &mut [u16]) -> Answer {
-    let refusal = if !setup_is_lawful(&asked) {
-        Some(Refusal::Setup)
-    } else if order.len() < asked.order_places() {
-        Some(Refusal::Storage)
-    } else {
-        None
-    };
-    if let Some(refusal) = refusal {
+    if let Err(refusal) = check_asked(&asked, order) {
         return Answer {
             outcome: Outcome::Refused(refusal),
             state: State::fresh(Setup::default()),

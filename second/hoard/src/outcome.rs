@@ -1,6 +1,6 @@
 //! Outcomes of calls and the refusals with their numbers.
 
-use crate::state::State;
+use crate::state::{Setup, State};
 
 /// Why a call or a record was refused.
 #[derive(Clone, Copy, Debug, PartialEq, Eq)]
@@ -58,4 +58,12 @@ pub enum Outcome {
 pub struct Answer {
     pub outcome: Outcome,
     pub state: State,
+}
+
+/// Outcome of a call on a lent row and the setup numbers handed back; the
+/// superblocks are in the row.
+#[derive(Clone, Debug, PartialEq, Eq)]
+pub struct RowAnswer {
+    pub outcome: Outcome,
+    pub setup: Setup,
 }

@@ -3,7 +3,9 @@
 
 use std::fmt::Write;
 
-use hoard::{Answer, Command, Setup, State, Superblock, FREE_BYTE, SETUP_BYTE, TAKE_BYTE};
+use hoard::{Answer, Command, Outcome, Setup, State, Superblock, FREE_BYTE, SETUP_BYTE, TAKE_BYTE};
+
+use crate::row_form::{answer_row_input, read_row_input, ROW_BYTE};
 
 /// A call, the state handed in (for a setup the numbers asked for, no more) and
 /// the order storage lent.
@@ -20,19 +22,27 @@ pub const MOST_PLACES: usize = 17000;
 /// What is printed for input that is no call.
 pub const BAD_INPUT: &str = "bad input\n";
 
-/// The output for the bytes of a call.
+/// The output for the bytes of a call, on a state or on a lent row.
 pub fn answer_bytes(bytes: &[u8]) -> String {
-    match read_input(bytes) {
-        Some(input) => answer_input(&input),
-        None => BAD_INPUT.to_string(),
-    }
+    let answer = match bytes {
+        [ROW_BYTE, ..] => read_row_input(bytes).map(|input| answer_row_input(&input)),
+        _ => read_input(bytes).map(|input| answer_input(&input)),
+    };
+    answer.unwrap_or_else(|| BAD_INPUT.to_string())
 }
 
 /// Runs the call and prints its answer.
 pub fn answer_input(input: &CallInput) -> String {
     let mut order = input.order.clone();
     let answer = run_call(input, &mut order);
-    print_answer(&answer, &input.order, &order)
+    let Answer { outcome, state } = answer;
+    print_answer(
+        &outcome,
+        &state.setup,
+        &state.superblocks,
+        &input.order,
+        &order,
+    )
 }
 
 /// Runs the call on the storage given.
@@ -47,9 +57,15 @@ pub fn run_call(input: &CallInput, order: &mut [u16]) -> Answer {
 }
 
 /// The lines of an answer: outcome, setup, superblocks in use, changed places.
-fn print_answer(answer: &Answer, before: &[u16], after: &[u16]) -> String {
-    let mut text = format!("{}\nsetup {}\n", answer.outcome, answer.state.setup);
-    for (number, superblock) in answer.state.superblocks.iter().enumerate() {
+pub(crate) fn print_answer(
+    outcome: &Outcome,
+    setup: &Setup,
+    superblocks: &[Superblock],
+    before: &[u16],
+    after: &[u16],
+) -> String {
+    let mut text = format!("{outcome}\nsetup {setup}\n");
+    for (number, superblock) in superblocks.iter().enumerate() {
         if *superblock == Superblock::UNUSED {
             continue;
         }

@@ -5,6 +5,7 @@ pub mod call_form;
 pub mod make_record;
 pub mod make_state;
 pub mod paper;
+pub mod row_form;
 pub mod run;
 pub mod table;
 pub mod xorshift;

@@ -1,10 +1,14 @@
 //! States to hand in with one call: sound ones, ones with each clause of the
-//! state check broken in turn, and storage of every length around the limit.
+//! state check broken in turn, storage of every length around the limit, and the
+//! same on lent rows.
 
-use hoard::{Command, Setup, State, GLOBAL_HEAP, SIZE_CLASSES, SUPERBLOCK_BYTES, UNUSED_OWNER};
+use hoard::{
+    Command, Setup, State, GLOBAL_HEAP, SIZE_CLASSES, SUPERBLOCKS, SUPERBLOCK_BYTES, UNUSED_OWNER,
+};
 
-use crate::call_form::{write_input, CallInput};
+use crate::call_form::{write_input, CallInput, MOST_PLACES};
 use crate::make_record::{any_run, edge_setup, lawful_setup};
+use crate::row_form::{write_row_input, RowInput, MOST_RECORDS, ROW_BYTE};
 use crate::table::{any_call, live_addresses, most_live_of_global, Table};
 use crate::xorshift::Xorshift;
 
@@ -59,10 +63,15 @@ pub enum Kind {
     TwoFaults,
     /// Input that ends early or has bytes left over.
     Bytes,
+    /// A sound state, or a setup, on a lent row that is mostly 64 long.
+    Row,
+    /// A state or setup of any other kind on a lent row of any length, with
+    /// storage that is at times short.
+    RowDamaged,
 }
 
 /// Every kind with its name.
-pub const KINDS: [(&str, Kind); 24] = [
+pub const KINDS: [(&str, Kind); 26] = [
     ("replayed", Kind::Replayed),
     ("built", Kind::Built),
     ("loose", Kind::Loose),
@@ -87,7 +96,22 @@ pub const KINDS: [(&str, Kind); 24] = [
     ("storage-empty", Kind::StorageEmpty),
     ("two-faults", Kind::TwoFaults),
     ("bytes", Kind::Bytes),
+    ("row", Kind::Row),
+    ("row-damaged", Kind::RowDamaged),
 ];
+
+/// Kinds whose states pass the check and whose storage is enough.
+const SOUND_KINDS: [Kind; 6] = [
+    Kind::Replayed,
+    Kind::Built,
+    Kind::MoveEdge,
+    Kind::GlobalEdge,
+    Kind::StorageExact,
+    Kind::StorageLong,
+];
+
+/// Lengths of a row that is refused.
+const WRONG_LENGTHS: [u8; 4] = [0, 1, 63, 65];
 
 /// The kind of a name.
 pub fn kind_of_name(name: &str) -> Option<Kind> {
@@ -97,12 +121,77 @@ pub fn kind_of_name(name: &str) -> Option<Kind> {
 /// Makes the bytes of a call with its state and storage.
 pub fn make_state(kind: Kind, seed: u64) -> Vec<u8> {
     let random = &mut Xorshift::new(0x5747 + kind as u64, seed);
-    let input = make_input(kind, random);
-    let mut bytes = write_input(&input);
-    if kind == Kind::Bytes {
-        spoil_length(random, &mut bytes);
+    match kind {
+        Kind::Row => write_row_input(&row(random)),
+        Kind::RowDamaged => row_damaged(random),
+        Kind::Bytes => {
+            let mut bytes = write_input(&make_input(kind, random));
+            spoil_length(random, &mut bytes);
+            bytes
+        }
+        _ => write_input(&make_input(kind, random)),
+    }
+}
+
+/// A sound state with a call, or a setup call, on a row mostly of 64 records.
+fn row(random: &mut Xorshift) -> RowInput {
+    let kind = match random.below(4) {
+        0 => Kind::SetupCall,
+        _ => random.pick(&SOUND_KINDS),
+    };
+    let mut input = make_input(kind, random);
+    input.order.truncate(MOST_PLACES);
+    let length = match random.below(4) {
+        0 => random.pick(&WRONG_LENGTHS),
+        _ => SUPERBLOCKS as u8,
+    };
+    RowInput { length, input }
+}
+
+/// A call of any other kind on a row of any length. Setup numbers are at times
+/// broken on top, storage is at times short, one in sixteen is no call at all.
+fn row_damaged(random: &mut Xorshift) -> Vec<u8> {
+    let kind = match random.below(3) {
+        0 => Kind::SetupCall,
+        _ => random.pick(&KINDS[..KINDS.len() - 2]).1,
+    };
+    let mut input = make_input(kind, random);
+    input.order.truncate(MOST_PLACES);
+    if random.chance(1, 4) {
+        let needed = input.state.setup.order_places();
+        let short = random.below(needed as u32 + 1) as usize;
+        let length = random.pick(&[needed.saturating_sub(1), short, 0]);
+        input.order.truncate(length);
+    }
+    if random.chance(1, 4) {
+        break_setup(random, &mut input.state.setup);
+        if let Command::Setup(asked) = &mut input.call {
+            *asked = input.state.setup;
+        }
+    }
+    let length = match random.below(5) {
+        0 => SUPERBLOCKS as u8,
+        _ => random.pick(&WRONG_LENGTHS),
+    };
+    let mut bytes = write_row_input(&RowInput { length, input });
+    if random.chance(1, 16) {
+        spoil_row(random, &mut bytes);
     }
     bytes
+}
+
+/// Makes the row too long, puts a row in a row, or cuts the bytes or adds to them.
+fn spoil_row(random: &mut Xorshift, bytes: &mut Vec<u8>) {
+    match random.below(6) {
+        0 => bytes[1] = random.pick(&[MOST_RECORDS + 1, 128, 255]),
+        1 => bytes[2] = random.byte_between(ROW_BYTE, 255),
+        2 => bytes.truncate(random.below(4) as usize),
+        3 => bytes.truncate(random.below(bytes.len() as u32) as usize),
+        4 => {
+            bytes.pop();
+        }
+        _ => bytes.push(random.byte()),
+    }
 }
 
 fn make_input(kind: Kind, random: &mut Xorshift) -> CallInput {
