@@ -10,8 +10,9 @@ use borrow.Author.Tests.{le-leb, eq-eqb, ne-eqb}
 use lib.Dec.{eqb, leb}
 use lib.ListN.{length, set}
 use Rattle.laws.specs.Sums.{either}
+use Rattle.laws.proofs.Orders.{at-least}
 use Rattle.classes.specs.Classes.{sizeOf, blocksOf}
-use Rattle.classes.proofs.TableLaws.{at-least, size-pos, blocks-none}
+use Rattle.classes.proofs.TableLaws.{size-pos, blocks-none}
 use Rattle.marks.specs.Marks.{mark, withoutMark}
 use Rattle.order.specs.Order.{withPlace}
 use Rattle.order.proofs.OrderLaws.{with-place-none}

@@ -12,9 +12,10 @@ use lib.ListN.{length}
 use lib.Seq.{getD-set-same, getD-set-other}
 use lib.Dec.{T, eqb}
 use Rattle.laws.specs.Sums.{pick, both, one}
+use Rattle.laws.proofs.Orders.{at-least}
 use Rattle.laws.proofs.SumLaws.{sum-same}
 use Rattle.classes.specs.Classes.{blocksOf}
-use Rattle.classes.proofs.TableLaws.{blocks-le, at-least}
+use Rattle.classes.proofs.TableLaws.{blocks-le}
 use Rattle.marks.specs.Marks.{markBit}
 use Rattle.marks.proofs.MarkLaws.{count-without, length-without, without-same, without-other}
 use Rattle.order.specs.Order.{withPlace}
@@ -30,6 +31,7 @@ use Rattle.heap.proofs.CountLaws.{total-set, live-in, live-owner, live-class}
 use Rattle.heap.proofs.Sound.{shape-set, owned-is}
 use Rattle.heap.proofs.MoveLaws.{must-make}
 use Rattle.calls.proofs.Effects.{Passed}
+use Rattle.calls.proofs.SuperblockLaws.{is-of-class, not-of-class}
 use Rattle.calls.proofs.MovedLaws.{SoundBut, must-same}
 
 -- block j of superblock k is live, in a state that passes its check
@@ -55,19 +57,6 @@ cleaned s k j = withSuperblock s k (unmarked (superblockAt s k) j)
 -- "and its number goes in the next place of its superblock's order"
 abbrev pub returned : State → List ℕ → ℕ → ℕ → List ℕ
 returned s order k j = withPlace order k (blocksOf (superblockAt s k .class) - liveIn (superblockAt s k)) j
-
--- what counts by class adds for a superblock
-owned-in : (c : ℕ) (b : Superblock) → (b .owner ≡ 255 → ⊥) → b .class ≡ c → ownedOfClass c b ≡ true
-unfolding ownedOfClass
-owned-in c b f e = rw (ne-eqb (b .owner) 255 f, eq-eqb (b .class) c e)
-
-owned-class : (c : ℕ) (b : Superblock) → (b .class ≡ c → ⊥) → ownedOfClass c b ≡ false
-unfolding ownedOfClass
-owned-class c b f = go (not (eqb (b .owner) 255))
-  where
-    go : (t : Bool) → both t (eqb (b .class) c) ≡ false
-    go true = ne-eqb (b .class) c f
-    go false = refl
 
 -- where the move rule does not ask for a move, one of its conditions is not met
 not-both-met : (h c : ℕ) (s : State) → (T (mustMove h c s) → ⊥)
@@ -180,13 +169,13 @@ module _ (s : State) (order : List ℕ) (k j : ℕ) (live : LiveBlock s order k 
   unfolding liveOfClass
   clean-live-class =
       less-count (λ b. pick (ownedOfClass (classAt s k) b) (liveIn b) 0)
-      (rw (owned-in (classAt s k) (superblockAt s k) (live .owned) refl, owned-in (classAt s k) (unmarked (superblockAt s k) j) (live .owned) refl) clean-live)
+      (rw (is-of-class (classAt s k) (superblockAt s k) (live .owned) refl, is-of-class (classAt s k) (unmarked (superblockAt s k) j) (live .owned) refl) clean-live)
 
   pub clean-live-classes : (d : ℕ) → (d ≡ classAt s k → ⊥) → liveOfClass d (cleaned s k j) ≡ liveOfClass d s
   unfolding liveOfClass
   clean-live-classes d apart =
       same-count (λ b. pick (ownedOfClass d b) (liveIn b) 0)
-      (rw (owned-class d (superblockAt s k) (λ q. apart (sym q)), owned-class d (unmarked (superblockAt s k) j) (λ (q : classAt s k ≡ d). apart (sym q))))
+      (rw (not-of-class d (superblockAt s k) (λ q. apart (sym q)), not-of-class d (unmarked (superblockAt s k) j) (λ (q : classAt s k ≡ d). apart (sym q))))
 
   -- clearing a mark changes no owner
   pub clean-changed : (t : State) → ownersChanged s t ≡ ownersChanged (cleaned s k j) t

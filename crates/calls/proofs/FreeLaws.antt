@@ -9,7 +9,7 @@ use lib.ListN.{length}
 use borrow.Author.Tests.{eqb-true, leb-false, not-false}
 use lib.Dec.{eqb, leb}
 use Rattle.laws.specs.Sums.{pick, either}
-use Rattle.laws.proofs.Tests.{T-true, T-false, either-left, either-right, false-T}
+use Rattle.laws.proofs.Tests.{T-true, T-false, neither-left, neither-right}
 use Rattle.classes.specs.Classes.{sizeOf, blocksOf}
 use Rattle.classes.proofs.AddressLaws.{block-offset}
 use Rattle.marks.proofs.MarkLaws.{set-of}
@@ -53,13 +53,6 @@ free-cases s order i a = by-check (checked-cases s order (tests (isProcessor s i
         → ((r : ℕ) × (freeOf s order i a ≡ refused r s order)) ⊎ FreeAccepted s order i a
     by-check (inl r) = inl r
     by-check (inr (passed, e)) = by-tests (isProcessor s i) (astray s a) (offBlock s a) (isLiveAt s a) refl refl refl refl passed e
-
--- neither of two tests passes
-neither-left : (x y : Bool) → either x y ≡ false → x ≡ false
-neither-left x y e = false-T x (λ t. T-false (either x y) e (either-left x y t))
-
-neither-right : (x y : Bool) → either x y ≡ false → y ≡ false
-neither-right x y e = false-T y (λ t. T-false (either x y) e (either-right x y t))
 
 module _ (s : State) (order : List ℕ) (i a : ℕ) (shape : Shape s) (acc : FreeAccepted s order i a) where
   -- the moves that it reports

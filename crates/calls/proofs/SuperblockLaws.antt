@@ -1,46 +1,21 @@
--- One superblock: what a choice asks of it, what it adds to a class's counts, and the owners that its replacement changes. Assumes nothing.
+-- One superblock: what it adds to a class's counts, and the owners that its replacement changes. Assumes nothing.
 use mathlib.Core.Path.{_≡_, refl, sym, ap, ap₂, _∙_, subst}
 use mathlib.Core.Bool.{Bool, true, false, not}
 use Prim.Native.Nat.{ℕ, _≤_, _<_}
 use native.Mathlib.Omega.{arith}
 use borrow.Author.Tests.{eq-eqb, ne-eqb}
 use lib.ListN.{length}
-use lib.Dec.{T, eqb, ltb, eqb→eq, ltb→lt, lt→ltb}
+use lib.Dec.{eqb}
 use Rattle.laws.specs.Sums.{pick, both, one}
-use Rattle.laws.proofs.Tests.{both-left, both-right, both-make, one-le}
+use Rattle.laws.proofs.Tests.{one-le}
 use Rattle.laws.proofs.SumLaws.{sum-none}
 use Rattle.laws.proofs.Replaced.{sum-set-by}
-use Rattle.classes.specs.Classes.{blocksOf}
 use Rattle.heap.specs.declared.Superblock.{Superblock}
 use Rattle.heap.specs.declared.State.{State}
 use Rattle.heap.specs.Table.{blank, superblockAt, withSuperblock, liveIn}
-use Rattle.heap.specs.Counts.{belongs, ownedOfClass, ownersChanged}
-use Rattle.heap.specs.Choice.{hasFree, emptyInZero}
-use Rattle.heap.proofs.CountLaws.{belongs-is}
+use Rattle.heap.specs.Counts.{ownedOfClass, ownersChanged}
 
--- ---- what a choice asks
-pub has-free-belongs : (h c : ℕ) (b : Superblock) → T (hasFree h c b) → T (belongs h c b)
-unfolding hasFree
-has-free-belongs h c b t = both-left (belongs h c b) (ltb (liveIn b) (blocksOf c)) t
-
-pub has-free-room : (h c : ℕ) (b : Superblock) → T (hasFree h c b) → liveIn b < blocksOf (b .class)
-unfolding hasFree
-has-free-room h c b t =
-    subst (λ (d : ℕ). liveIn b < blocksOf d) (sym (belongs-is h c b (has-free-belongs h c b t) .1))
-    (ltb→lt (liveIn b) (blocksOf c) (both-right (belongs h c b) (ltb (liveIn b) (blocksOf c)) t))
-
-pub has-free-make : (h c : ℕ) (b : Superblock) → T (belongs h c b) → liveIn b < blocksOf c → T (hasFree h c b)
-unfolding hasFree
-has-free-make h c b t l = both-make (belongs h c b) (ltb (liveIn b) (blocksOf c)) t (lt→ltb (liveIn b) (blocksOf c) l)
-
-pub empty-is : (b : Superblock) → T (emptyInZero b) → (b .owner ≡ 0) × (liveIn b ≡ 0)
-unfolding emptyInZero
-empty-is b t = (
-  eqb→eq (b .owner) 0 (both-left (eqb (b .owner) 0) (eqb (liveIn b) 0) t),
-  eqb→eq (liveIn b) 0 (both-right (eqb (b .owner) 0) (eqb (liveIn b) 0) t),
-)
-
--- ---- what a superblock adds to a class's counts over all heaps
+-- what a superblock adds to a class's counts over all heaps
 pub is-of-class : (c : ℕ) (b : Superblock) → (b .owner ≡ 255 → ⊥) → b .class ≡ c → ownedOfClass c b ≡ true
 unfolding ownedOfClass
 is-of-class c b f e = ap₂ (λ (x y : Bool). both (not x) y) (ne-eqb (b .owner) 255 f) (eq-eqb (b .class) c e)
@@ -61,7 +36,7 @@ none-live c b e = go (ownedOfClass c b)
     go true = e
     go false = refl
 
--- ---- one superblock replaced changes at most one owner
+-- one superblock replaced changes at most one owner
 pub owners-set : (s : State) (k : ℕ) (b : Superblock) → length (s .table) ≡ 64 → k < 64 → ownersChanged s (withSuperblock s k b) ≤ 1
 unfolding ownersChanged
 owners-set s k b long l =

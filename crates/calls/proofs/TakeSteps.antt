@@ -10,8 +10,9 @@ use lib.ListN.{length}
 use lib.Seq.{getD-set-same, set-set}
 use lib.Dec.{T, eqb}
 use Rattle.laws.specs.Sums.{pick}
+use Rattle.laws.proofs.Orders.{at-least}
 use Rattle.classes.specs.Classes.{blocksOf}
-use Rattle.classes.proofs.TableLaws.{blocks-le, blocks-pos, at-least}
+use Rattle.classes.proofs.TableLaws.{blocks-le, blocks-pos}
 use Rattle.marks.specs.Marks.{markBit}
 use Rattle.marks.proofs.MarkLaws.{count-zero, noMarks-bit, noMarks-count}
 use Rattle.order.specs.Order.{place, lastFilled, renewed}
@@ -29,11 +30,10 @@ use Rattle.heap.proofs.Facts.{Shape}
 use Rattle.calls.specs.Answers.{After}
 use Rattle.calls.specs.declared.Outcome.the-variants.{Address}
 use Rattle.calls.specs.Take.{otherPlaces, fresh, adopted, adoptedOrder, nextBlock, addressOf, takenFrom, takenFromOther}
-use Rattle.heap.proofs.ChoiceLaws.{fullest-is, fullest-none, lowest-empty-is, lowest-unused-is}
+use Rattle.heap.proofs.ChoiceLaws.{fullest-is, fullest-none, has-free-is, has-free-make, empty-is, lowest-empty-is, lowest-unused-is}
 use Rattle.heap.proofs.CountLaws.{belongs-is, superblocks-none, live-at-least}
 use Rattle.heap.proofs.Sound.{unused-is, owned-below, owned-is, sparse-room}
 use Rattle.calls.proofs.Effects.{Passed}
-use Rattle.calls.proofs.SuperblockLaws.{has-free-belongs, has-free-room, has-free-make, empty-is}
 
 -- the block in the last filled place of superblock k, where it is b
 unfoldable pub lastOf : List ℕ → ℕ → Superblock → ℕ
@@ -100,12 +100,12 @@ module _ (s : State) (order : List ℕ) (shape : Shape s) (passed : Passed s ord
   pub own-gives : (i c k : ℕ) → i ≤ s .setup .processors → fullest i c s ≡ At k → Gives s order i c k (superblockAt s k) order
   own-gives i c k l e =
       let best = fullest-is i c s k e in
-      let h = belongs-is i c (superblockAt s k) (has-free-belongs i c (superblockAt s k) (best .is-wanted)) in
+      let h = has-free-is i c (superblockAt s k) (best .is-wanted) in
       record {
         below = owned-below s order (passed .sound) k (best .below) (not-nobody k i l (h .0));
         owner = h .0;
         class = h .1;
-        room = has-free-room i c (superblockAt s k) (best .is-wanted);
+        room = subst (λ (d : ℕ). liveIn (superblockAt s k) < blocksOf d) (sym (h .1)) (h .2);
         four = shape .four k (best .below);
         good = owned-is s order (passed .sound) k (best .below) (not-nobody k i l (h .0)) .places;
         marks = λ m lm. refl;
@@ -119,14 +119,14 @@ module _ (s : State) (order : List ℕ) (shape : Shape s) (passed : Passed s ord
   -- ---- places 2 to 4
   -- a heap that place 1 offers nothing of is full
   full-heap : (i c : ℕ) → fullest i c s ≡ Nothing → superblocksOf i c s * blocksOf c ≤ liveOf i c s
-  full-heap i c e = live-at-least i c (blocksOf c) s (λ m l t. at-least (λ h. fullest-none i c s e m l (has-free-make i c (superblockAt s m) t h)))
+  full-heap i c e = live-at-least i c (blocksOf c) s (λ m l t. at-least (λ h. fullest-none i c s e m l (let o = belongs-is i c (superblockAt s m) t in has-free-make i c (superblockAt s m) (o .0) (o .1) h)))
 
   -- each superblock of heap 0 is sparse and so has a free block: place 2 offers nothing only where heap 0 has none of the class
   none-in-zero : (c : ℕ) → fullest 0 c s ≡ Nothing → superblocksOf 0 c s ≡ 0
   none-in-zero c e =
       superblocks-none 0 c s (λ m l t.
       let h = belongs-is 0 c (superblockAt s m) t in
-      fullest-none 0 c s e m l (has-free-make 0 c (superblockAt s m) t (subst (λ (d : ℕ). liveIn (superblockAt s m) < blocksOf d) (h .1) (sparse-room s order (passed .sound) m l (h .0)))))
+      fullest-none 0 c s e m l (has-free-make 0 c (superblockAt s m) (h .0) (h .1) (subst (λ (d : ℕ). liveIn (superblockAt s m) < blocksOf d) (h .1) (sparse-room s order (passed .sound) m l (h .0)))))
 
   zero-below : (k : ℕ) → k < 64 → superblockAt s k .owner ≡ 0 → k < s .setup .superblocks
   zero-below k l e = owned-below s order (passed .sound) k l (λ (q : superblockAt s k .owner ≡ 255). omega arith)
@@ -134,11 +134,11 @@ module _ (s : State) (order : List ℕ) (shape : Shape s) (passed : Passed s ord
   offered-2 : (c k : ℕ) → fullest 0 c s ≡ At k → Offered s c k
   offered-2 c k e =
       let best = fullest-is 0 c s k e in
-      let h = belongs-is 0 c (superblockAt s k) (has-free-belongs 0 c (superblockAt s k) (best .is-wanted)) in
+      let h = has-free-is 0 c (superblockAt s k) (best .is-wanted) in
       record {
         below = zero-below k (best .below) (h .0);
         owner = inl (h .0);
-        live = inr (h .0, h .1, has-free-room 0 c (superblockAt s k) (best .is-wanted));
+        live = inr (h .0, h .1, subst (λ (d : ℕ). liveIn (superblockAt s k) < blocksOf d) (sym (h .1)) (h .2));
         supply = inl (λ (q : superblockAt s k .owner ≡ 255). omega arith, h .1);
       }
 

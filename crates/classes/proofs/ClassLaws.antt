@@ -3,9 +3,10 @@ use mathlib.Core.Path.{_≡_, refl}
 use Prim.Native.Nat.{ℕ, _≤_, _<_}
 use native.Mathlib.Nat.{lt-of-not-le, le-antisymm}
 use native.Mathlib.Omega.{arith}
+use Rattle.laws.proofs.Orders.{at-least}
 use Rattle.classes.specs.Classes.{sizes, sizeOf, classOf}
 use Rattle.classes.proofs.FirstLaws.{first-holds, first-least, first-le}
-use Rattle.classes.proofs.TableLaws.{at-least, size-le}
+use Rattle.classes.proofs.TableLaws.{size-le}
 
 pub class-least : (s k : ℕ) → k < classOf s → sizeOf k < s
 unfolding classOf sizeOf

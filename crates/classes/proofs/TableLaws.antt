@@ -2,13 +2,14 @@
 use mathlib.Core.Path.{_≡_, sym, subst}
 use mathlib.Core.Bool.{Bool}
 use Prim.Native.Nat.{ℕ, _/_, _*_, _≤_, _<_, zero-le}
-use native.Mathlib.Nat.{div-mul-le-self, lt-of-not-le, le-of-suc-le-suc}
+use native.Mathlib.Nat.{div-mul-le-self}
 use native.Mathlib.Decide.{decLt}
 use native.Mathlib.Omega.{arith}
 use lib.Dec.{T, eqb, leb, eqb→eq, leb→le}
 use lib.ListN.{List·getD-eq-default}
 use Rattle.laws.specs.Sums.{both}
 use Rattle.laws.proofs.Tests.{both-left, both-right}
+use Rattle.laws.proofs.Orders.{at-least}
 use Rattle.laws.proofs.Range.{every, inside}
 use Rattle.classes.specs.Classes.{sizes, counts, sizeOf, blocksOf}
 
@@ -48,9 +49,6 @@ bounds-are c h =
     }
 
 -- past the table
-pub at-least : {a b : ℕ} → (a < b → ⊥) → b ≤ a
-at-least f = le-of-suc-le-suc (lt-of-not-le f)
-
 pub size-none : (c : ℕ) → 27 ≤ c → sizeOf c ≡ 0
 unfolding sizeOf sizes
 size-none c h = List·getD-eq-default sizes 0 h

@@ -8,8 +8,8 @@ use borrow.Author.Count.{below-more}
 use borrow.Author.Tests.{not-true, not-false, eqb-true, eq-eqb, ne-eqb, le-leb, lt-leb, lt-ltb, le-ltb}
 use lib.Dec.{T, eqb}
 use Rattle.laws.specs.Sums.{both, either, allBelow}
-use Rattle.laws.proofs.Tests.{T-true}
-use Rattle.laws.proofs.SumLaws.{all-false, all-true}
+use Rattle.laws.proofs.Tests.{T-true, both-no, both-yes}
+use Rattle.laws.proofs.SumLaws.{all-both, all-false, all-true}
 use Rattle.classes.specs.Classes.{blocksOf}
 use Rattle.marks.specs.Marks.{liveCount}
 use Rattle.filled.specs.Filled.{placesGood}
@@ -20,29 +20,9 @@ use Rattle.heap.specs.Table.{superblockAt, isUnused}
 use Rattle.heap.specs.Check.{superblockGood, unusedFrom, sparseIfZero, heapsHeld, restGood}
 use Rattle.inspect.specs.Parts.{sparse, aloneGood, eachGood}
 
-pub both-no : (a : Bool) → both a false ≡ false
-both-no true = refl
-both-no false = refl
-
-pub both-yes : (a : Bool) → both a true ≡ a
-both-yes true = refl
-both-yes false = refl
-
 -- a test that a call answered, and that was passed
 pub passed : (a b : Bool) → a ≡ b → not a ≡ false → T b
 passed a b e f = T-true b (sym e ∙ not-false a f)
-
--- two tests of each number are one
-pub all-both : (p r : ℕ → Bool) (n : ℕ) → allBelow (λ k. both (p k) (r k)) n ≡ both (allBelow p n) (allBelow r n)
-unfolding allBelow
-all-both p r zero = refl
-all-both p r (suc n) = ap (λ (t : Bool). both t (both (p n) (r n))) (all-both p r n) ∙ cross (allBelow p n) (allBelow r n) (p n) (r n)
-  where
-    cross : (a b x y : Bool) → both (both a b) (both x y) ≡ both (both a x) (both b y)
-    cross true true x y = refl
-    cross true false true y = refl
-    cross true false false y = refl
-    cross false b x y = refl
 
 module _ (u : Setup) (order : List ℕ) (k : ℕ) (b : Superblock) (live : ℕ) (r : Bool) (count : live ≡ liveCount (b .live))
     (unused : r ≡ both (eqb (b .owner) 255) (both (eqb (b .class) 0) (eqb live 0))) where

@@ -1,16 +1,16 @@
--- The move rule by tallied numbers: bounds of its products, and the heaps of a state nine at a time. Assumes nothing.
+-- The move rule by tallied numbers, and the heaps of a state nine at a time. Assumes nothing.
 use mathlib.Core.Path.{_≡_, refl, sym, ap, ap₂, _∙_, subst}
 use mathlib.Core.Bool.{Bool, true, false, not}
 use mathlib.Core.List.{List}
 use Prim.Native.Nat.{ℕ, suc, _+_, _-_, _*_, _≤_, _<_, zero-le}
-use native.Mathlib.Nat.{mul-le-mul-left, mul-le-mul-right, le-trans, zero-mul}
+use native.Mathlib.Nat.{zero-mul}
 use native.Mathlib.Decide.{decLt}
 use native.Mathlib.Omega.{arith}
 use borrow.Author.Count.{below-more}
 use borrow.Author.Tests.{le-leb, lt-leb, lt-ltb, le-ltb, not-true, not-false}
 use lib.Dec.{T, leb, leb→le}
 use Rattle.laws.specs.Sums.{either, allBelow}
-use Rattle.laws.proofs.Tests.{T-true, T-false, true-T, false-T, both-left, both-right, either-other}
+use Rattle.laws.proofs.Tests.{T-true, T-false, true-T, false-T, both-left, both-right, both-no, either-other}
 use Rattle.laws.proofs.SumLaws.{all-at, all-from, all-same, all-false, all-true}
 use Rattle.classes.specs.Classes.{blocksOf}
 use Rattle.heap.specs.declared.Setup.{Setup}
@@ -18,11 +18,8 @@ use Rattle.heap.specs.declared.State.{State}
 use Rattle.heap.specs.Counts.{total, superblocksOf, blocksIn, liveOf}
 use Rattle.heap.specs.Moves.{bothConditions, mustMove}
 use Rattle.heap.specs.Check.{within, heapsHeld}
-use Rattle.inspect.proofs.CheckLaws.{both-no, passed}
+use Rattle.inspect.proofs.CheckLaws.{passed}
 use Rattle.inspect.specs.Parts.{sparse, pairHeld, classHeld, Tallied, heapHeld, nineHeld}
-
-pub mul-le : (m n : ℕ) {a b : ℕ} → a ≤ m → b ≤ n → a * b ≤ m * n
-mul-le m n {a} {b} p q = le-trans (mul-le-mul-left a q) (mul-le-mul-right n p)
 
 -- ---- the two conditions
 module _ (u : Setup) (n a live : ℕ) where

@@ -3,9 +3,9 @@ use mathlib.Core.Path.{_≡_, sym, _∙_}
 use mathlib.Core.Bool.{Bool, true, false, not}
 use Prim.Native.Nat.{_≤_, _<_}
 use borrow.Author.Tests.{not-true, not-false, le-leb, lt-leb, lt-ltb, le-ltb}
+use Rattle.laws.proofs.Tests.{both-no}
 use Rattle.heap.specs.declared.Setup.{Setup}
 use Rattle.heap.specs.Check.{within, lawful}
-use Rattle.inspect.proofs.CheckLaws.{both-no}
 
 module _ (u : Setup) (r : Bool) where
   pub unlawful-processors : r ≡ within 1 8 (u .processors) → not r ≡ true → false ≡ lawful u

@@ -1,4 +1,5 @@
 pub mod Tests
+pub mod Orders
 pub mod Range
 pub mod SumLaws
 pub mod Counting

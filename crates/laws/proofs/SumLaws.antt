@@ -19,6 +19,12 @@ pub sum-step : (f : ℕ → ℕ) (n : ℕ) → sumBelow f (n + 1) ≡ sumBelow f
 unfolding sumBelow
 sum-step f n = rw add-one
 
+pub sum-again : (f : ℕ → ℕ) (k a r : ℕ) → a ≡ sumBelow f k → r ≡ a + f k → r ≡ sumBelow f (k + 1)
+sum-again f k a r e g = g ∙ ap (λ (x : ℕ). x + f k) e ∙ sym (sum-step f k)
+
+pub sum-end : (f : ℕ → ℕ) (k n a : ℕ) → a ≡ sumBelow f k → k ≤ n → n ≤ k → a ≡ sumBelow f n
+sum-end f k n a e h g = e ∙ ap (sumBelow f) (le-antisymm h g)
+
 pub all-zero-is : (p : ℕ → Bool) → allBelow p 0 ≡ true
 unfolding allBelow
 all-zero-is p = refl
@@ -126,6 +132,18 @@ pub all-same : (p r : ℕ → Bool) (n : ℕ) → ((k : ℕ) → k < n → p k �
 unfolding allBelow
 all-same p r zero h = refl
 all-same p r (suc n) h = ap₂ both (all-same p r n (λ k l. h k (omega arith))) (h n (lt-suc-self n))
+
+-- two tests of each number are one
+pub all-both : (p r : ℕ → Bool) (n : ℕ) → allBelow (λ k. both (p k) (r k)) n ≡ both (allBelow p n) (allBelow r n)
+unfolding allBelow
+all-both p r zero = refl
+all-both p r (suc n) = ap (λ (t : Bool). both t (both (p n) (r n))) (all-both p r n) ∙ cross (allBelow p n) (allBelow r n) (p n) (r n)
+  where
+    cross : (a b x y : Bool) → both (both a b) (both x y) ≡ both (both a x) (both b y)
+    cross true true x y = refl
+    cross true false true y = refl
+    cross true false false y = refl
+    cross false b x y = refl
 
 -- how a loop that tests each number below n ends
 pub all-false : (p : ℕ → Bool) (n k : ℕ) → k < n → p k ≡ false → false ≡ allBelow p n

@@ -62,6 +62,26 @@ pub either-other : (a b : Bool) → T (either a b) → a ≡ false → T b
 either-other true b t e = absurd (subst (λ (x : Bool). T (not x)) (sym e) tt)
 either-other false b t e = t
 
+-- neither of two tests passes
+pub neither-left : (x y : Bool) → either x y ≡ false → x ≡ false
+neither-left x y e = false-T x (λ t. T-false (either x y) e (either-left x y t))
+
+pub neither-right : (x y : Bool) → either x y ≡ false → y ≡ false
+neither-right x y e = false-T y (λ t. T-false (either x y) e (either-right x y t))
+
+pub both-no : (a : Bool) → both a false ≡ false
+both-no true = refl
+both-no false = refl
+
+pub both-yes : (a : Bool) → both a true ≡ a
+both-yes true = refl
+both-yes false = refl
+
+-- what is so of each arm of a choice is so of the choice
+pub by-pick : {A : Type 0} (P : A → Type 0) (t : Bool) (x y : A) → (t ≡ true → P x) → (t ≡ false → P y) → P (pick t x y)
+by-pick P true x y f g = f refl
+by-pick P false x y f g = g refl
+
 -- a choice whose test is known
 pub pick-true : {A : Type 0} (t : Bool) (x y : A) → t ≡ true → pick t x y ≡ x
 pick-true t x y e = rw e

@@ -1,2 +1,1 @@
-pub mod CountedLaws
 pub mod DrainLaws

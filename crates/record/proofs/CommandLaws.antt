@@ -9,14 +9,10 @@ use borrow.Author.Tests.{ltb-true, ltb-false, leb-true, leb-false, eqb-true, eqb
 use lib.ListN.{length}
 use lib.Dec.{T, eqb, leb, ltb}
 use Rattle.laws.specs.Sums.{pick, either}
+use Rattle.laws.proofs.Tests.{by-pick}
 use Rattle.record.specs.declared.Command.{Command}
 use Rattle.record.specs.declared.Command.the-variants.{Setup, Take, Free, Refused}
 use Rattle.record.specs.Record.{byteAt, twoAt, fourAt, whole, setupAt, notFirst, takeAt, freeAt, knownAt, commandAt, sizeOfCommand, isRefused, commandsFrom, commandsOf}
-
--- what is so of each arm of a choice is so of the choice
-by-pick : {A : Type 0} (P : A → Type 0) (t : Bool) (x y : A) → (t ≡ true → P x) → (t ≡ false → P y) → P (pick t x y)
-by-pick P true x y f g = f refl
-by-pick P false x y f g = g refl
 
 -- ---- one command
 

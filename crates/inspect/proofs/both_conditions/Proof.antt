@@ -1,7 +1,8 @@
 -- `inspect::both_conditions` meets its contract: the products are far below 2 ^ 32. Assumes nothing.
 use Prim.Native.Nat.{_*_, _≤_}
 use native.Mathlib.Omega.{arith}
-use Rattle.inspect.proofs.HeldLaws.{mul-le, both-sparse, both-not}
+use Rattle.inspect.proofs.HeldLaws.{both-sparse, both-not}
+use Rattle.laws.proofs.Orders.{mul-le}
 use borrow.Author.Needs.{needs}
 use Rattle.inspect.proofs.both_conditions.Statement.{statement}
 use Rattle.inspect.proofs.both_conditions.Tie as tie

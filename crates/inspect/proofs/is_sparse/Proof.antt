@@ -2,7 +2,7 @@
 use Prim.Native.Nat.{_*_, _≤_}
 use native.Mathlib.Omega.{arith}
 use Rattle.inspect.specs.Parts.{sparse}
-use Rattle.inspect.proofs.HeldLaws.{mul-le}
+use Rattle.laws.proofs.Orders.{mul-le}
 use borrow.Author.Needs.{needs}
 use Rattle.inspect.proofs.is_sparse.Statement.{statement}
 use Rattle.inspect.proofs.is_sparse.Tie as tie

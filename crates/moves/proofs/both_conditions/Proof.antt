@@ -3,7 +3,7 @@ use borrow.Author.Tests.{lt-ltb, le-ltb}
 use Prim.Native.Nat.{_*_, _≤_}
 use native.Mathlib.Omega.{arith}
 use Rattle.heap.specs.Moves.{bothConditions}
-use Rattle.moves.proofs.CountedLaws.{mul-le}
+use Rattle.laws.proofs.Orders.{mul-le}
 use borrow.Author.Needs.{needs}
 use Rattle.moves.proofs.both_conditions.Statement.{statement}
 use Rattle.moves.proofs.both_conditions.Tie as tie

@@ -5,10 +5,9 @@ use lib.ListN.{getD}
 use native.Mathlib.Omega.{arith}
 use borrow.Author.Needs.{needs}
 use Rattle.laws.specs.Sums.{sumBelow}
-use Rattle.laws.proofs.SumLaws.{sum-zero-is}
+use Rattle.laws.proofs.SumLaws.{sum-zero-is, sum-again, sum-end}
 use Rattle.heap.specs.Table.{blank}
 use Rattle.heap.specs.Counts.{total, oneOf, liveIfOf, superblocksOf, liveOf}
-use Rattle.moves.proofs.CountedLaws.{sum-again, sum-end}
 use Rattle.moves.proofs.count_of.Statement.{statement}
 use Rattle.moves.proofs.count_of.Tie as tie
 

@@ -1,7 +1,7 @@
 -- `moves::must_move` meets its contract: the conditions are tested on the counts. Assumes nothing.
 use Prim.Native.Nat.{_*_, _≤_}
 use native.Mathlib.Omega.{arith}
-use Rattle.moves.proofs.CountedLaws.{mul-le}
+use Rattle.laws.proofs.Orders.{mul-le}
 use Rattle.moves.proofs.DrainLaws.{must-by}
 use borrow.Author.Needs.{needs}
 use Rattle.moves.proofs.must_move.Statement.{statement}
