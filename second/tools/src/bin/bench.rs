@@ -14,6 +14,8 @@ use tools::xorshift::Xorshift;
 
 const RUNS: usize = 5;
 const LENGTHS: [usize; 4] = [0, 1000, 3000, 9000];
+/// Calls that are refused right after the state check.
+const REFUSED: usize = 4000;
 
 fn main() -> ExitCode {
     let program = std::env::args().nth(1).map(PathBuf::from);
@@ -34,11 +36,13 @@ fn bench(program: Option<&Path>) -> io::Result<()> {
     println!();
     println!("Child processes, best of {RUNS} (time; time per call; per call above 0 calls):");
     let second = time_lengths(&second_key)?;
+    print_check_alone(&second_key)?;
     let Some(program) = program else {
         return Ok(());
     };
     check_same_key(&second_key, program, &longest.record)?;
     let other = time_lengths(program)?;
+    print_check_alone(program)?;
     print_ratios(program, &second, &other);
     Ok(())
 }
@@ -181,6 +185,24 @@ fn time_lengths(program: &Path) -> io::Result<Vec<Duration>> {
         }
     }
     Ok(times)
+}
+
+/// The state check alone, in the child process: takes for processor 0, which are
+/// refused right after it, added to the record's first 3000 calls.
+fn print_check_alone(program: &Path) -> io::Result<()> {
+    let mut record = crowded_run(3000).record;
+    let file = RecordFile::new(&record)?;
+    let without = best_of(|| time_child(program, &file.0))?;
+    for _ in 0..REFUSED {
+        record.extend_from_slice(&[1, 0, 16, 0]);
+    }
+    let file = RecordFile::new(&record)?;
+    let with = best_of(|| time_child(program, &file.0))?;
+    println!(
+        "  the check alone, after 3000 calls: {:.3} us",
+        micros_per_call(with.saturating_sub(without), REFUSED)
+    );
+    Ok(())
 }
 
 /// The time from start to end of a child process that reads the record.
