@@ -12,7 +12,7 @@ use Rattle.order.specs.Order.{place, lastFilled, withPlace, down, laid, renewed
 use Rattle.filled.specs.Filled.{occ, placesLent, eachOnce, placesGood}
 use Rattle.heap.specs.declared.Superblock.{Superblock}
 use Rattle.heap.specs.declared.State.{State}
-use Rattle.heap.specs.Table.{unused, superblockAt, isUnused, newState}
+use Rattle.heap.specs.Table.{unused, superblockAt, liveIn, isUnused}
 use Rattle.heap.specs.Counts.{total, belongs, oneOf, liveIfOf, superblocksOf, blocksIn, liveOf}
 use Rattle.heap.specs.Choice.{prefer, chosenBelow, moreLive, fewerLive, noBetter, hasFree, emptyInZero, fullest, lowestEmpty, lowestUnused, emptiest}
 use Rattle.heap.specs.Moves.{bothConditions, mustMove, passed, passedFound, movesFor, moved, settled}
@@ -112,13 +112,14 @@ unfolding callOf takeOf takenAt takenFromOther takenFrom addressOf nextBlock ado
     sizes counts sizeOf blocksOf firstAtLeast classOf sumBelow allBelow
 marked-cases-are = refl
 
--- ---- further cases, which tell the rules from near misses: superblock 0's class after the call, and superblock 1's owner, stand beside the outcome
+-- ---- further cases, which tell the rules from near misses: superblock 0's class after the call, and superblock 1's owner and live blocks, stand beside the outcome
 pub record Reading : Type 0 where
   pub state : State
   pub call : Call
   pub outcome : Outcome
   pub class-after : ℕ
   pub owner-after : ℕ
+  pub live-after : ℕ
 
 -- P = 2, N = 2, K = 1, p/q = 1/4, with superblocks 0 and 1
 abbrev pub pair : Superblock → Superblock → State
@@ -136,37 +137,42 @@ pair-order = 1 ∷ 0 ∷ replicate 254 0 ++ 1 ∷ 0 ∷ replicate 254 0
 
 -- place 2 comes before place 3: heap 0's superblock 1 is of the class, its superblock 0 is empty and lower
 abbrev pub place-2-first : Reading
-place-2-first = record { state = pair (none-live 0 25) (one-live 0 26); call = Take 1 2048; outcome = Address 6144; class-after = 25; owner-after = 1 }
+place-2-first = record { state = pair (none-live 0 25) (one-live 0 26); call = Take 1 2048; outcome = Address 6144; class-after = 25; owner-after = 1; live-after = 2 }
 
 -- an empty superblock of heap 0, of another class, serves: not dry
 abbrev pub empty-serves : Reading
-empty-serves = record { state = pair (none-live 0 25) (one-live 2 26); call = Take 1 2048; outcome = Address 0; class-after = 26; owner-after = 2 }
+empty-serves = record { state = pair (none-live 0 25) (one-live 2 26); call = Take 1 2048; outcome = Address 0; class-after = 26; owner-after = 2; live-after = 1 }
 
 -- dry: none of the four places offers a superblock
 abbrev pub all-dry : Reading
-all-dry = record { state = pair (one-live 2 25) (one-live 2 26); call = Take 1 2048; outcome = Refused 4; class-after = 25; owner-after = 2 }
+all-dry = record { state = pair (one-live 2 25) (one-live 2 26); call = Take 1 2048; outcome = Refused 4; class-after = 25; owner-after = 2; live-after = 1 }
 
 -- processor 1 frees a block of heap 2's superblock 1, which stays heap 2's
 abbrev pub freed-for-owner : Reading
-freed-for-owner = record { state = pair unused (one-live 2 26); call = Free 1 4096; outcome = Moves 0; class-after = 0; owner-after = 2 }
+freed-for-owner = record { state = pair unused (one-live 2 26); call = Free 1 4096; outcome = Moves 0; class-after = 0; owner-after = 2; live-after = 0 }
 
 -- refusal 5 before 6: an address in an unused superblock is astray, on a block or not
 abbrev pub astray-first : Reading
-astray-first = record { state = pair unused (one-live 2 26); call = Free 1 7; outcome = Refused 5; class-after = 0; owner-after = 2 }
+astray-first = record { state = pair unused (one-live 2 26); call = Free 1 7; outcome = Refused 5; class-after = 0; owner-after = 2; live-after = 1 }
 
 -- the block's address, not its superblock's
 abbrev pub second-block : Reading
-second-block = record { state = pair unused (one-live 1 26); call = Take 1 2048; outcome = Address 6144; class-after = 0; owner-after = 1 }
+second-block = record { state = pair unused (one-live 1 26); call = Take 1 2048; outcome = Address 6144; class-after = 0; owner-after = 1; live-after = 2 }
+
+-- processor 0 is none
+abbrev pub processor-zero : Reading
+processor-zero =
+    record { state = pair unused (one-live 1 26); call = Take 0 2048; outcome = Refused 2; class-after = 0; owner-after = 1; live-after = 1 }
 
 abbrev pub readings : List Reading
-readings = place-2-first ∷ empty-serves ∷ all-dry ∷ freed-for-owner ∷ astray-first ∷ second-block ∷ []
+readings = processor-zero ∷ place-2-first ∷ empty-serves ∷ all-dry ∷ freed-for-owner ∷ astray-first ∷ second-block ∷ []
 
-abbrev pub read : Reading → Outcome × ℕ × ℕ
+abbrev pub read : Reading → Outcome × ℕ × ℕ × ℕ
 read k =
     let after : After = callOf (k .state) pair-order (k .call) in
-    (after .answer .outcome, superblockAt (after .answer .state) 0 .class, superblockAt (after .answer .state) 1 .owner)
+    (after .answer .outcome, superblockAt (after .answer .state) 0 .class, superblockAt (after .answer .state) 1 .owner, liveIn (superblockAt (after .answer .state) 1))
 
-pub readings-are : map read readings ≡ map (λ (k : Reading). (k .outcome, k .class-after, k .owner-after)) readings
+pub readings-are : map read readings ≡ map (λ (k : Reading). (k .outcome, k .class-after, k .owner-after, k .live-after)) readings
 unfolding callOf takeOf takenAt takenFromOther takenFrom addressOf nextBlock adoptedOrder adopted otherPlaces freeOf freedAt returnedOrder cleanedOf isLiveAt offBlock astray blockOf
     checked isProcessor lawful restGood superblockGood unusedFrom heapsHeld sparseIfZero settled moved movesFor passed passedFound mustMove bothConditions
     prefer chosenBelow moreLive fewerLive noBetter hasFree emptyInZero fullest lowestEmpty lowestUnused emptiest total belongs oneOf liveIfOf superblocksOf blocksIn liveOf isUnused

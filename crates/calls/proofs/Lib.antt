@@ -11,3 +11,4 @@ pub mod CleanLaws
 pub mod SettledLaws
 pub mod FreeLaws
 pub mod Refusals
+pub mod Told
