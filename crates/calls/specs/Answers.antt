@@ -1,12 +1,13 @@
 -- What a call leaves, and the refusals that take and free share.
 use Prim.Native.Nat.{ℕ, _*_}
+use mathlib.Core.Path.{_≡_}
 use mathlib.Core.Bool.{Bool, true, false}
 use mathlib.Core.List.{List, [], _∷_}
 use lib.ListN.{length}
 use lib.Dec.{leb}
 use Rattle.laws.specs.Sums.{pick}
 use Rattle.heap.specs.declared.State.{State}
-use Rattle.heap.specs.Check.{within, lawful, restGood}
+use Rattle.heap.specs.Check.{within, lawful, restGood, passes}
 use Rattle.calls.specs.declared.Answer.{Answer}
 use Rattle.calls.specs.declared.Outcome.{Outcome}
 use Rattle.calls.specs.declared.Outcome.the-variants.{Ready, Address, Moves, Refused}
@@ -29,6 +30,15 @@ valuesOf Ready = []
 valuesOf (Address a) = a ∷ []
 valuesOf (Moves m) = m ∷ []
 valuesOf (Refused r) = []
+
+-- an outcome has the number and the values of the outcome that the rules give
+pub record Told (outcome rules : Outcome) : Type 0 where
+  pub number-is : numberOf outcome ≡ numberOf rules
+  pub values-are : valuesOf outcome ≡ valuesOf rules
+
+-- "An accepted call yields a state that passes."
+abbrev pub Yields : Outcome → State → List ℕ → Type 0
+Yields outcome s order = numberOf outcome ≡ 0 → passes s order ≡ true
 
 -- "changes neither state nor storage"
 abbrev pub refused : ℕ → State → List ℕ → After
