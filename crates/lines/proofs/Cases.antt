@@ -1,9 +1,20 @@
--- Lines of document 01's whole case, as printed there. Assumes nothing.
+-- Lines computed, and held against the text that is to be printed: those of document 01's whole case, and lines whose numbers all differ.
+-- Assumes nothing.
 use mathlib.Core.Path.{_≡_, refl}
+use mathlib.Core.List.{[], _∷_}
+use Prim.Native.Nat.{ℕ}
+use lib.ListN.{replicate}
+use Rattle.laws.specs.Sums.{sumBelow}
+use Rattle.marks.specs.Marks.{liveCount, markBit, bit}
 use Rattle.text.specs.Text.{letters, decimal, digits}
+use Rattle.heap.specs.declared.Superblock.{Superblock}
+use Rattle.heap.specs.declared.State.{State}
+use Rattle.heap.specs.Table.{unused}
+use Rattle.heap.specs.Counts.{total, belongs, oneOf, liveIfOf, superblocksOf, liveOf}
 use Rattle.calls.specs.declared.Outcome.the-variants.{Address, Moves, Refused}
-use Rattle.lines.specs.Lines.{setupLine, result, takeLine, freeLine, stopLine, heapLine}
+use Rattle.lines.specs.Lines.{setupLine, result, takeLine, freeLine, stopLine, heapLine, heapLineIf, classLines, heapLines, finalLines}
 
+-- ---- the whole case
 setup-printed : setupLine (record { processors = 1; superblocks = 2; spare = 1; p = 1; q = 4 }) ≡ letters "setup 1 2 1 1 4\n"
 unfolding setupLine decimal digits
 setup-printed = refl
@@ -24,10 +35,61 @@ refused-free-printed : freeLine 1 0 (Refused 7) ≡ letters "free 1 0 refused 7\
 unfolding freeLine result decimal digits
 refused-free-printed = refl
 
-heap-printed : heapLine 1 26 1 1 ≡ letters "heap 1 class 26 superblocks 1 live 1\n"
-unfolding heapLine decimal digits
-heap-printed = refl
+-- ---- numbers that all differ: P, N, K, p, q; processor, size or address, and result
+setup-order : setupLine (record { processors = 7; superblocks = 63; spare = 15; p = 3; q = 8 }) ≡ letters "setup 7 63 15 3 8\n"
+unfolding setupLine decimal digits
+setup-order = refl
 
-stop-printed : stopLine 10 4294967295 ≡ letters "stopped 10 at 4294967295\n"
+take-order : takeLine 3 1792 (Address 258048) ≡ letters "take 3 1792 at 258048\n"
+unfolding takeLine result decimal digits
+take-order = refl
+
+free-order : freeLine 6 200704 (Moves 5) ≡ letters "free 6 200704 moved 5\n"
+unfolding freeLine result decimal digits
+free-order = refl
+
+stop-order : stopLine 10 59996 ≡ letters "stopped 10 at 59996\n"
 unfolding stopLine decimal digits
-stop-printed = refl
+stop-order = refl
+
+heap-order : heapLine 8 26 64 128 ≡ letters "heap 8 class 26 superblocks 64 live 128\n"
+unfolding heapLine decimal digits
+heap-order = refl
+
+-- ---- the lines at the end: P = 2, heap 0 too, two classes of heap 1, one of them with nothing live; the superblocks stand in another order,
+-- others are unused, and owner 3 is no heap where P is 2
+abbrev superblock : ℕ → ℕ → ℕ → Superblock
+superblock owner class marks = record { owner = owner; class = class; live = marks ∷ 0 ∷ 0 ∷ 0 ∷ [] }
+
+abbrev several : State
+several =
+    record {
+      setup = record { processors = 2; superblocks = 63; spare = 15; p = 3; q = 8 };
+      table =
+          superblock 2 26 3 ∷ superblock 1 11 0 ∷ superblock 1 0 15 ∷ superblock 3 8 1 ∷ superblock 2 26 3 ∷ unused ∷ superblock 1 11 0 ∷ superblock 0 9 31
+          ∷ superblock 2 26 1 ∷ superblock 1 0 3 ∷ superblock 2 26 3 ∷ superblock 1 11 0 ∷ replicate 52 unused;
+    }
+
+-- superblocks with nothing live have a line, and a class without a superblock has none
+nothing-live-printed : heapLineIf 1 11 several ≡ letters "heap 1 class 11 superblocks 3 live 0\n"
+unfolding heapLineIf heapLine decimal digits superblocksOf liveOf total belongs oneOf liveIfOf sumBelow liveCount markBit bit
+nothing-live-printed = refl
+
+nothing-printed : heapLineIf 2 11 several ≡ []
+unfolding heapLineIf superblocksOf total belongs oneOf sumBelow
+nothing-printed = refl
+
+classes-order : classLines 1 27 several ≡ letters "heap 1 class 0 superblocks 2 live 6\nheap 1 class 11 superblocks 3 live 0\n"
+unfolding classLines heapLineIf heapLine decimal digits superblocksOf liveOf total belongs oneOf liveIfOf sumBelow liveCount markBit bit
+classes-order = refl
+
+final-order : finalLines several
+    ≡ letters "heap 0 class 9 superblocks 1 live 5\nheap 1 class 0 superblocks 2 live 6\nheap 1 class 11 superblocks 3 live 0\nheap 2 class 26 superblocks 4 live 7\nend\n"
+unfolding finalLines heapLines classLines heapLineIf heapLine decimal digits superblocksOf liveOf total belongs oneOf liveIfOf sumBelow liveCount markBit bit
+final-order = refl
+
+-- the whole case's own: block 0 of class 0 is live in superblock 0, block 0 of class 26 in superblock 1
+whole-case-final : finalLines (record { setup = record { processors = 1; superblocks = 2; spare = 1; p = 1; q = 4 }; table = superblock 1 0 1 ∷ superblock 1 26 1 ∷ replicate 62 unused })
+    ≡ letters "heap 1 class 0 superblocks 1 live 1\nheap 1 class 26 superblocks 1 live 1\nend\n"
+unfolding finalLines heapLines classLines heapLineIf heapLine decimal digits superblocksOf liveOf total belongs oneOf liveIfOf sumBelow liveCount markBit bit
+whole-case-final = refl

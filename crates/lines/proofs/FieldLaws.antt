@@ -1,44 +1,42 @@
--- A word and a number put into a buffer, and the result of a call. Assumes nothing.
+-- Words and numbers put into a buffer, and the result of a call. Assumes nothing.
 use mathlib.Core.Path.{_≡_}
-use mathlib.Core.List.{List, _++_}
-use Prim.Native.Nat.{ℕ, _+_, _≤_, _<_}
-use native.Mathlib.Omega.{arith}
-use lib.ListN.{length, length-append}
-use Rattle.text.specs.Text.{Put, letters, decimal}
-use Rattle.text.proofs.PutLaws.{put-none}
-use Rattle.text.proofs.DigitLaws.{decimal-le, decimal-byte, decimal-short}
+use mathlib.Core.List.{List, [], _++_}
+use Prim.Native.Nat.{ℕ}
+use Rattle.text.specs.Text.{pasted, letters, decimal}
 use Rattle.calls.specs.declared.Outcome.{Outcome}
 use Rattle.calls.specs.declared.Outcome.the-variants.{Ready, Address, Moves, Refused}
 use Rattle.lines.specs.Lines.{field, result}
+-- the computed cases come first: a wrong definition fails there
+use Rattle.lines.proofs.Cases as cases
 
--- where a field ends, by the type of its number
-module _ {l₀ l₁ : List ℕ} {at r : ℕ} (label : List ℕ) (n : ℕ) (p : Put l₀ at (label ++ decimal n) l₁ r) where
-  ends : r ≡ at + length label + length (decimal n)
-  ends = omega (arith, p .end, length-append label (decimal n))
+module _ (l₀ : List ℕ) {l : List ℕ} (at : ℕ) {r : ℕ} where
+  -- the text put is this word
+  pub word-put : (text : List ℕ) → record { end = r; buffer = l } ≡ pasted l₀ at text → (word : List ℕ) → text ≡ word → record { end = r; buffer = l } ≡ pasted l₀ at word
+  word-put text p word e = rw e at p
 
-  pub field-ends : r ≤ at + length label + 10
-  field-ends = omega (arith, ends, decimal-le n)
+  -- it was put at this place
+  pub place-put : (text : List ℕ) → record { end = r; buffer = l } ≡ pasted l₀ at text → (place : ℕ) → at ≡ place → record { end = r; buffer = l } ≡ pasted l₀ place text
+  place-put text p place e = rw (← e) p
 
-  pub byte-ends : n < 256 → r ≤ at + length label + 3
-  byte-ends h = omega (arith, ends, decimal-byte n h)
+  -- the text put is this word and this number
+  pub field-put : (label : List ℕ) (n : ℕ) → record { end = r; buffer = l } ≡ pasted l₀ at (label ++ decimal n)
+      → (word : List ℕ) (m : ℕ) → label ≡ word → n ≡ m → record { end = r; buffer = l } ≡ pasted l₀ at (field word m)
+  field-put label n p word m e f = rw (← e, ← f) p
 
-  pub short-ends : n < 65536 → r ≤ at + length label + 5
-  short-ends h = omega (arith, ends, decimal-short n h)
+  -- the result of a call, by its outcome
+  module _ (o : Outcome) where
+    pub ready-put : record { end = r; buffer = l } ≡ pasted l₀ at [] → o ≡ Ready → record { end = r; buffer = l } ≡ pasted l₀ at (result o)
+    unfolding result
+    ready-put p k = rw k p
 
--- the result of a call, by its outcome
-pub put-ready : {l : List ℕ} {at : ℕ} {o : Outcome} → o ≡ Ready → Put l at (result o) l at
-unfolding result
-put-ready {l} {at} k = rw k (put-none l at)
+    pub address-put : (a : ℕ) → record { end = r; buffer = l } ≡ pasted l₀ at (field (letters " at ") a) → o ≡ Address a → record { end = r; buffer = l } ≡ pasted l₀ at (result o)
+    unfolding result
+    address-put a p k = rw k p
 
-module _ {l₀ l₁ : List ℕ} {at r : ℕ} {o : Outcome} where
-  pub put-address : {a : ℕ} → o ≡ Address a → Put l₀ at (field (letters " at ") a) l₁ r → Put l₀ at (result o) l₁ r
-  unfolding result
-  put-address k p = rw k p
+    pub moves-put : (m : ℕ) → record { end = r; buffer = l } ≡ pasted l₀ at (field (letters " moved ") m) → o ≡ Moves m → record { end = r; buffer = l } ≡ pasted l₀ at (result o)
+    unfolding result
+    moves-put m p k = rw k p
 
-  pub put-moves : {m : ℕ} → o ≡ Moves m → Put l₀ at (field (letters " moved ") m) l₁ r → Put l₀ at (result o) l₁ r
-  unfolding result
-  put-moves k p = rw k p
-
-  pub put-refused : {n : ℕ} → o ≡ Refused n → Put l₀ at (field (letters " refused ") n) l₁ r → Put l₀ at (result o) l₁ r
-  unfolding result
-  put-refused k p = rw k p
+    pub refused-put : (n : ℕ) → record { end = r; buffer = l } ≡ pasted l₀ at (field (letters " refused ") n) → o ≡ Refused n → record { end = r; buffer = l } ≡ pasted l₀ at (result o)
+    unfolding result
+    refused-put n p k = rw k p

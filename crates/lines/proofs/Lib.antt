@@ -1,4 +1,4 @@
+pub mod Cases
 pub mod FieldLaws
 pub mod FinalLaws
 pub mod LengthLaws
-pub mod Cases

@@ -1,4 +1,4 @@
-// The lines of the printed key, written into a lent buffer. The caller sees that there is room.
+// The lines of the printed key, written into a lent buffer, as far as they reach.
 use calls::Outcome;
 use heap::Setup;
 use heap::State;
@@ -6,9 +6,8 @@ use text::put_decimal;
 use text::put_text;
 ghost use mathlib.Core.Path.{_≡_};
 ghost use mathlib.Core.List.{_++_};
-ghost use Prim.Native.Nat.{_+_, _*_, _≤_};
-ghost use lib.ListN.{length};
-ghost use Rattle.text.specs.Text.{decimal, Put};
+ghost use Prim.Native.Nat.{_≤_};
+ghost use Rattle.text.specs.Text.{decimal, pasted};
 ghost use Rattle.lines.specs.Lines.{
   setupLine,
   result,
@@ -24,35 +23,28 @@ ghost use Rattle.lines.specs.Lines.{
 
 // A word and a number after it.
 fn put_field(out: &mut [u8], at: usize, label: &[u8], n: u32) -> usize
-    requires { ⌜ at + length (now label) + 10 ≤ length (now out) ⌝ }
-    ensures { λ r.
-        ⌜ Put (now (out .entry)) at (now (label .entry) ++ decimal n) (now (out .exit)) r × (r ≤ at + length (now (label .entry)) + 10) ⌝ }
+    ensures { λ r. ⌜ record { end = r; buffer = now (out .exit) } ≡ pasted (now (out .entry)) at (now (label .entry) ++ decimal n) ⌝ }
 {
     let next = put_text(out, at, label);
     put_decimal(out, next, n)
 }
 
-// The same for numbers of 8 and of 16 bits, which have fewer digits.
+// The same for numbers of 8 and of 16 bits.
 fn put_byte(out: &mut [u8], at: usize, label: &[u8], n: u8) -> usize
-    requires { ⌜ at + length (now label) + 10 ≤ length (now out) ⌝ }
-    ensures { λ r.
-        ⌜ Put (now (out .entry)) at (now (label .entry) ++ decimal n) (now (out .exit)) r × (r ≤ at + length (now (label .entry)) + 3) ⌝ }
+    ensures { λ r. ⌜ record { end = r; buffer = now (out .exit) } ≡ pasted (now (out .entry)) at (now (label .entry) ++ decimal n) ⌝ }
 {
     put_field(out, at, label, n as u32)
 }
 
 fn put_short(out: &mut [u8], at: usize, label: &[u8], n: u16) -> usize
-    requires { ⌜ at + length (now label) + 10 ≤ length (now out) ⌝ }
-    ensures { λ r.
-        ⌜ Put (now (out .entry)) at (now (label .entry) ++ decimal n) (now (out .exit)) r × (r ≤ at + length (now (label .entry)) + 5) ⌝ }
+    ensures { λ r. ⌜ record { end = r; buffer = now (out .exit) } ≡ pasted (now (out .entry)) at (now (label .entry) ++ decimal n) ⌝ }
 {
     put_field(out, at, label, n as u32)
 }
 
 // The line of an accepted setup.
 pub fn setup_line(out: &mut [u8], at: usize, u: Setup) -> usize
-    requires { ⌜ at + 64 ≤ length (now out) ⌝ }
-    ensures { λ r. ⌜ Put (now (out .entry)) at (setupLine u) (now (out .exit)) r × (r ≤ at + 26) ⌝ }
+    ensures { λ r. ⌜ record { end = r; buffer = now (out .exit) } ≡ pasted (now (out .entry)) at (setupLine u) ⌝ }
 {
     let a = put_byte(out, at, b"setup ", u.processors);
     let b = put_byte(out, a, b" ", u.superblocks);
@@ -64,11 +56,10 @@ pub fn setup_line(out: &mut [u8], at: usize, u: Setup) -> usize
 
 // The address given, the moves or the refusal.
 fn put_result(out: &mut [u8], at: usize, outcome: Outcome) -> usize
-    requires { ⌜ at + 20 ≤ length (now out) ⌝ }
-    ensures { λ r. ⌜ Put (now (out .entry)) at (result outcome) (now (out .exit)) r × (r ≤ at + 14) ⌝ }
+    ensures { λ r. ⌜ record { end = r; buffer = now (out .exit) } ≡ pasted (now (out .entry)) at (result outcome) ⌝ }
 {
     match outcome {
-        Outcome::Ready => at,
+        Outcome::Ready => put_text(out, at, b""),
         Outcome::Address(a) => put_field(out, at, b" at ", a),
         Outcome::Moves(m) => put_byte(out, at, b" moved ", m),
         Outcome::Refused(r) => put_byte(out, at, b" refused ", r),
@@ -77,8 +68,7 @@ fn put_result(out: &mut [u8], at: usize, outcome: Outcome) -> usize
 
 // The line of a take.
 pub fn take_line(out: &mut [u8], at: usize, processor: u8, size: u16, outcome: Outcome) -> usize
-    requires { ⌜ at + 64 ≤ length (now out) ⌝ }
-    ensures { λ r. ⌜ Put (now (out .entry)) at (takeLine processor size outcome) (now (out .exit)) r × (r ≤ at + 29) ⌝ }
+    ensures { λ r. ⌜ record { end = r; buffer = now (out .exit) } ≡ pasted (now (out .entry)) at (takeLine processor size outcome) ⌝ }
 {
     let a = put_byte(out, at, b"take ", processor);
     let b = put_short(out, a, b" ", size);
@@ -88,8 +78,7 @@ pub fn take_line(out: &mut [u8], at: usize, processor: u8, size: u16, outcome: O
 
 // The line of a free.
 pub fn free_line(out: &mut [u8], at: usize, processor: u8, address: u32, outcome: Outcome) -> usize
-    requires { ⌜ at + 64 ≤ length (now out) ⌝ }
-    ensures { λ r. ⌜ Put (now (out .entry)) at (freeLine processor address outcome) (now (out .exit)) r × (r ≤ at + 34) ⌝ }
+    ensures { λ r. ⌜ record { end = r; buffer = now (out .exit) } ≡ pasted (now (out .entry)) at (freeLine processor address outcome) ⌝ }
 {
     let a = put_byte(out, at, b"free ", processor);
     let b = put_field(out, a, b" ", address);
@@ -99,8 +88,7 @@ pub fn free_line(out: &mut [u8], at: usize, processor: u8, address: u32, outcome
 
 // The last line of a record that stops.
 pub fn stop_line(out: &mut [u8], at: usize, number: u8, offset: u32) -> usize
-    requires { ⌜ at + 64 ≤ length (now out) ⌝ }
-    ensures { λ r. ⌜ Put (now (out .entry)) at (stopLine number offset) (now (out .exit)) r × (r ≤ at + 26) ⌝ }
+    ensures { λ r. ⌜ record { end = r; buffer = now (out .exit) } ≡ pasted (now (out .entry)) at (stopLine number offset) ⌝ }
 {
     let a = put_byte(out, at, b"stopped ", number);
     let b = put_field(out, a, b" at ", offset);
@@ -109,8 +97,7 @@ pub fn stop_line(out: &mut [u8], at: usize, number: u8, offset: u32) -> usize
 
 // The line of a heap and class, with the number of its superblocks and of their live blocks.
 fn heap_line(out: &mut [u8], at: usize, heap: u8, class: u8, superblocks: u32, live: u32) -> usize
-    requires { ⌜ at + 64 ≤ length (now out) ⌝ }
-    ensures { λ r. ⌜ Put (now (out .entry)) at (heapLine heap class superblocks live) (now (out .exit)) r × (r ≤ at + 64) ⌝ }
+    ensures { λ r. ⌜ record { end = r; buffer = now (out .exit) } ≡ pasted (now (out .entry)) at (heapLine heap class superblocks live) ⌝ }
 {
     let a = put_byte(out, at, b"heap ", heap);
     let b = put_byte(out, a, b" class ", class);
@@ -121,22 +108,20 @@ fn heap_line(out: &mut [u8], at: usize, heap: u8, class: u8, superblocks: u32, l
 
 // The line of a heap and class, where it has a superblock.
 fn heap_line_if(out: &mut [u8], at: usize, heap: u8, class: u8, s: State) -> usize
-    requires { ⌜ at + 64 ≤ length (now out) ⌝ }
-    ensures { λ r. ⌜ Put (now (out .entry)) at (heapLineIf heap class s) (now (out .exit)) r × (r ≤ at + 64) ⌝ }
+    ensures { λ r. ⌜ record { end = r; buffer = now (out .exit) } ≡ pasted (now (out .entry)) at (heapLineIf heap class s) ⌝ }
 {
     let n = moves::count_of(s, heap, class);
     if n.superblocks == 0 {
-        return at;
+        return put_text(out, at, b"");
     }
     heap_line(out, at, heap, class, n.superblocks, n.live)
 }
 
 // The lines of a heap, classes rising.
 fn class_lines(out: &mut [u8], at: usize, heap: u8, s: State) -> usize
-    requires { ⌜ at + 27 * 64 ≤ length (now out) ⌝ }
-    ensures { λ r. ⌜ Put (now (out .entry)) at (classLines heap 27 s) (now (out .exit)) r × (r ≤ at + 27 * 64) ⌝ }
+    ensures { λ r. ⌜ record { end = r; buffer = now (out .exit) } ≡ pasted (now (out .entry)) at (classLines heap 27 s) ⌝ }
 {
-    let mut end = at;
+    let mut end = put_text(out, at, b"");
     let mut class: u8 = 0;
     while class < 27 {
         end = heap_line_if(out, end, heap, class, s);
@@ -147,10 +132,10 @@ fn class_lines(out: &mut [u8], at: usize, heap: u8, s: State) -> usize
 
 // The lines of the heaps below a number, heaps rising.
 fn heap_lines(out: &mut [u8], at: usize, heaps: usize, s: State) -> usize
-    requires { ⌜ (heaps ≤ 256) × (at + heaps * (27 * 64) ≤ length (now out)) ⌝ }
-    ensures { λ r. ⌜ Put (now (out .entry)) at (heapLines heaps s) (now (out .exit)) r × (r ≤ at + heaps * (27 * 64)) ⌝ }
+    requires { ⌜ heaps ≤ 256 ⌝ }
+    ensures { λ r. ⌜ record { end = r; buffer = now (out .exit) } ≡ pasted (now (out .entry)) at (heapLines heaps s) ⌝ }
 {
-    let mut end = at;
+    let mut end = put_text(out, at, b"");
     let mut heap: usize = 0;
     while heap < heaps {
         end = class_lines(out, end, heap as u8, s);
@@ -161,9 +146,7 @@ fn heap_lines(out: &mut [u8], at: usize, heaps: usize, s: State) -> usize
 
 // The lines at the end of a record that does not stop.
 pub fn final_lines(out: &mut [u8], at: usize, s: State) -> usize
-    requires { ⌜ at + (s .setup .processors + 1) * (27 * 64) + 4 ≤ length (now out) ⌝ }
-    ensures { λ r.
-        ⌜ Put (now (out .entry)) at (finalLines s) (now (out .exit)) r × (r ≤ at + (s .setup .processors + 1) * (27 * 64) + 4) ⌝ }
+    ensures { λ r. ⌜ record { end = r; buffer = now (out .exit) } ≡ pasted (now (out .entry)) at (finalLines s) ⌝ }
 {
     let end = heap_lines(out, at, s.setup.processors as usize + 1, s);
     put_text(out, end, b"end\n")

@@ -1,2 +1,3 @@
-pub mod PutLaws
+pub mod Cases
+pub mod PasteLaws
 pub mod DigitLaws

@@ -1,11 +1,10 @@
--- Text as bytes, and numbers in decimal.
-use mathlib.Core.Path.{_≡_}
+-- Text as bytes, numbers in decimal, and a text pasted into a buffer.
 use mathlib.Core.List.{List, [], _∷_, _++_}
-use Prim.Native.Nat.{ℕ, zero, suc, _+_, _/_, _%_}
+use Prim.Native.Nat.{ℕ, zero, suc, _+_, _-_, _/_, _%_, min}
 use Prim.Native.Char.{code}
 use Prim.Native.String.{String}
 use Prim.Native.String as S
-use lib.ListN.{length, take}
+use lib.ListN.{length, take, drop}
 use lib.Dec.{ltb}
 use Rattle.laws.specs.Sums.{pick}
 
@@ -23,8 +22,16 @@ digits (suc most) n = pick (ltb n 10) ((48 + n % 10) ∷ []) (digits most (n / 1
 unfoldable pub decimal : ℕ → List ℕ
 decimal n = digits 10 n
 
--- a text was put at a place of a buffer: it ends at r; up to there the buffer is as it was and then the text; its length stays
-pub record Put (old : List ℕ) (at : ℕ) (text : List ℕ) (new : List ℕ) (r : ℕ) : Type 0 where
-  pub end : r ≡ at + length text
-  pub upto : take r new ≡ take at old ++ text
-  pub long : length new ≡ length old
+-- where a pasted text ends, and the buffer with it
+pub record Pasted : Type 0 where
+  pub end : ℕ
+  pub buffer : List ℕ
+
+-- a text pasted into a buffer at a place, as far as it reaches: what does not fit is left out, and the text then ends where the buffer does;
+-- all other bytes are as they were
+unfoldable pub pasted : List ℕ → ℕ → List ℕ → Pasted
+pasted old at text =
+    record {
+      end = min (at + length text) (length old);
+      buffer = take at old ++ take (length old - at) text ++ drop (at + length text) old;
+    }

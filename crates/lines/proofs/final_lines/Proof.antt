@@ -1,6 +1,10 @@
 -- `lines::final_lines` meets its contract: the heaps, then the last line. Assumes nothing.
-use Rattle.lines.proofs.FinalLaws.{finals}
+use mathlib.Core.Path.{refl}
+use native.Mathlib.Omega.{arith}
 use borrow.Author.Needs.{needs}
+use Rattle.text.specs.Text.{letters}
+use Rattle.lines.proofs.FieldLaws.{word-put}
+use Rattle.lines.proofs.FinalLaws.{finals}
 use Rattle.lines.proofs.final_lines.Statement.{statement}
 use Rattle.lines.proofs.final_lines.Tie as tie
 
@@ -23,7 +27,9 @@ same-length : tie.Need-same-length
 same-length c = search needs
 
 returns : tie.Need-returns
-returns c = search (needs, finals)
+returns c =
+    let h = c .before .before .before .before .before .before .before .heap-lines in
+    finals _ _ _ _ (h .ensures) (omega arith) (word-put _ _ _ (c .before .before .put-text .ensures) (letters "end\n") refl)
 
 pub final-lines-spec : {M : Type 1} → statement M
 final-lines-spec =

@@ -1,11 +1,19 @@
 -- `lines::put_result` meets its contract: one arm for each outcome. Assumes nothing.
-use Rattle.lines.proofs.FieldLaws.{put-ready, put-address, put-moves, put-refused}
+use mathlib.Core.Path.{refl}
+use Rattle.text.specs.Text.{letters}
+use Rattle.lines.proofs.FieldLaws.{field-put, ready-put, address-put, moves-put, refused-put}
 use borrow.Author.Needs.{needs}
 use Rattle.lines.proofs.put_result.Statement.{statement}
 use Rattle.lines.proofs.put_result.Tie as tie
 
 enum-told : tie.Need-enum-told
 enum-told c = search needs
+
+slice-aggregate-put-text : tie.Need-slice-aggregate-put-text
+slice-aggregate-put-text c = search needs
+
+put-text-requires : tie.Need-put-text-requires
+put-text-requires c κs = search needs
 
 enum-known-outcome : tie.Need-enum-known-outcome
 enum-known-outcome c = search needs
@@ -34,32 +42,37 @@ slice-aggregate-put-byte-2 c = search needs
 put-byte-requires-2 : tie.Need-put-byte-requires-2
 put-byte-requires-2 c κs = search needs
 
-returns : tie.Need-returns
-returns c = search (needs, put-ready)
-
 same-length : tie.Need-same-length
 same-length c = search needs
 
-returns-2 : tie.Need-returns-2
-returns-2 c = search (needs, put-address)
+returns : tie.Need-returns
+returns c = ready-put _ _ _ (c .before .before .put-text .ensures) (search needs)
 
 same-length-2 : tie.Need-same-length-2
 same-length-2 c = search needs
 
-returns-3 : tie.Need-returns-3
-returns-3 c = search (needs, put-moves)
+returns-2 : tie.Need-returns-2
+returns-2 c = address-put _ _ _ _ (field-put _ _ _ _ (c .before .before .put-field .ensures) (letters " at ") _ refl refl) (search needs)
 
 same-length-3 : tie.Need-same-length-3
 same-length-3 c = search needs
 
+returns-3 : tie.Need-returns-3
+returns-3 c = moves-put _ _ _ _ (field-put _ _ _ _ (c .before .before .put-byte .ensures) (letters " moved ") _ refl refl) (search needs)
+
+same-length-4 : tie.Need-same-length-4
+same-length-4 c = search needs
+
 returns-4 : tie.Need-returns-4
-returns-4 c = search (needs, put-refused)
+returns-4 c = refused-put _ _ _ _ (field-put _ _ _ _ (c .before .before .put-byte2 .ensures) (letters " refused ") _ refl refl) (search needs)
 
 pub put-result-spec : {M : Type 1} → statement M
 put-result-spec =
     tie.close
     (tie.spec
     enum-told
+    slice-aggregate-put-text
+    put-text-requires
     enum-known-outcome
     slice-aggregate-put-field
     put-field-requires
@@ -69,10 +82,11 @@ put-result-spec =
     enum-known-outcome-3
     slice-aggregate-put-byte-2
     put-byte-requires-2
-    returns
     same-length
-    returns-2
+    returns
     same-length-2
-    returns-3
+    returns-2
     same-length-3
+    returns-3
+    same-length-4
     returns-4)

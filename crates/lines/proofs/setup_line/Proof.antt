@@ -1,6 +1,9 @@
 -- `lines::setup_line` meets its contract: the fields one after another. Assumes nothing.
 use native.Mathlib.Omega.{arith}
-use Rattle.text.proofs.PutLaws.{put-then}
+use mathlib.Core.Path.{refl}
+use Rattle.text.specs.Text.{letters}
+use Rattle.text.proofs.PasteLaws.{then-pasted}
+use Rattle.lines.proofs.FieldLaws.{word-put, field-put}
 use Rattle.lines.specs.Lines.{setupLine}
 use borrow.Author.Needs.{needs}
 use Rattle.lines.proofs.setup_line.Statement.{statement}
@@ -54,7 +57,14 @@ returns c =
     let d₃ = d₄ .before .before .before .before .before in
     let d₂ = d₃ .before .before .before .before .before in
     let d₁ = d₂ .before .before .before .before .before in
-    (put-then (put-then (put-then (put-then (put-then (d₁ .put-byte .ensures .0) (d₂ .put-byte2 .ensures .0)) (d₃ .put-byte3 .ensures .0)) (d₄ .put-byte4 .ensures .0)) (d₅ .put-byte5 .ensures .0)) (d₆ .put-text .ensures), omega arith)
+    let a = d₁ .before .before .before .before .args in
+    let p₁ = field-put _ _ _ _ (d₁ .put-byte .ensures) (letters "setup ") (a .u .processors) refl (omega arith) in
+    let p₂ = field-put _ _ _ _ (d₂ .put-byte2 .ensures) (letters " ") (a .u .superblocks) refl (omega arith) in
+    let p₃ = field-put _ _ _ _ (d₃ .put-byte3 .ensures) (letters " ") (a .u .spare) refl (omega arith) in
+    let p₄ = field-put _ _ _ _ (d₄ .put-byte4 .ensures) (letters " ") (a .u .p) refl (omega arith) in
+    let p₅ = field-put _ _ _ _ (d₅ .put-byte5 .ensures) (letters " ") (a .u .q) refl (omega arith) in
+    let p₆ = word-put _ _ _ (d₆ .put-text .ensures) (letters "\n") refl in
+    then-pasted _ _ _ _ (then-pasted _ _ _ _ (then-pasted _ _ _ _ (then-pasted _ _ _ _ (then-pasted _ _ _ _ p₁ p₂) p₃) p₄) p₅) p₆
 
 pub setup-line-spec : {M : Type 1} → statement M
 setup-line-spec =

@@ -1,6 +1,9 @@
 -- `lines::stop_line` meets its contract: the fields one after another. Assumes nothing.
 use native.Mathlib.Omega.{arith}
-use Rattle.text.proofs.PutLaws.{put-then}
+use mathlib.Core.Path.{refl}
+use Rattle.text.specs.Text.{letters}
+use Rattle.text.proofs.PasteLaws.{then-pasted}
+use Rattle.lines.proofs.FieldLaws.{word-put, field-put}
 use Rattle.lines.specs.Lines.{stopLine}
 use borrow.Author.Needs.{needs}
 use Rattle.lines.proofs.stop_line.Statement.{statement}
@@ -33,7 +36,11 @@ returns c =
     let d₃ = c .before .before in
     let d₂ = d₃ .before .before .before .before .before in
     let d₁ = d₂ .before .before .before .before .before in
-    (put-then (put-then (d₁ .put-byte .ensures .0) (d₂ .put-field .ensures .0)) (d₃ .put-text .ensures), omega arith)
+    let a = d₁ .before .before .before .before .args in
+    let p₁ = field-put _ _ _ _ (d₁ .put-byte .ensures) (letters "stopped ") (a .number) refl (omega arith) in
+    let p₂ = field-put _ _ _ _ (d₂ .put-field .ensures) (letters " at ") (a .offset) refl (omega arith) in
+    let p₃ = word-put _ _ _ (d₃ .put-text .ensures) (letters "\n") refl in
+    then-pasted _ _ _ _ (then-pasted _ _ _ _ p₁ p₂) p₃
 
 pub stop-line-spec : {M : Type 1} → statement M
 stop-line-spec =

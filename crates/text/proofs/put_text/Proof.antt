@@ -1,64 +1,55 @@
--- `text::put_text` meets its contract. The loop's invariant: the first i bytes of the text stand at their place, and all else is as it was.
--- The measure is what is left of the text. Assumes nothing.
-use mathlib.Core.Path.{_≡_, refl, sym, ap, subst, _∙_}
-use mathlib.Core.List.{List}
-use Prim.Native.Nat.{ℕ, _≤_, zero-le, _+_, _-_}
+-- `text::put_text` meets its contract. The loop's invariant: the first i bytes of the text are pasted. The measure is what is left of the text. Assumes nothing.
+use mathlib.Core.Path.{_≡_, refl, _∙_}
+use Prim.Native.Nat.{_≤_, _-_}
+use lib.ListN.{length, take}
 use native.Mathlib.Omega.{arith}
-use native.Mathlib.Numerals.{add-one}
-use lib.ListN.{length, set, getD, length-set}
-use lib.Seq.{paste, paste-zero, paste-suc}
-use Rattle.text.specs.Text.{Put}
-use Rattle.text.proofs.PutLaws.{put-pasted}
+use borrow.Author.Needs.{needs}
+use Rattle.text.specs.Text.{pasted}
+use Rattle.text.proofs.PasteLaws.{none-pasted, again-pasted, all-pasted}
 use Rattle.text.proofs.put_text.Statement.{statement}
 use Rattle.text.proofs.put_text.Tie as tie
 
 abbrev Inv-loop : tie.InvT-loop
-Inv-loop out₀ at text i₀ out i = (length out ≡ length out₀) × (i ≤ length text) × (out ≡ paste out₀ at text i)
+Inv-loop out₀ at text end₀ i₀ out end i = (i ≤ length text) × (record { end = end; buffer = out } ≡ pasted out₀ at (take i text)) × (length out ≡ length out₀)
 
 abbrev μ-loop : tie.MeasureT-loop
-μ-loop out₀ at text i₀ out i = length text - i
+μ-loop out₀ at text end₀ i₀ out end i = length text - i
+
+lesser-requires : tie.Need-lesser-requires Inv-loop μ-loop
+lesser-requires c κs = search needs
 
 loop-holds : tie.Need-loop-holds Inv-loop μ-loop
-loop-holds c = (refl, zero-le, paste-zero (c .args .out .now) (c .args .at) (c .args .text .now))
+loop-holds c =
+    let a = c .before .before .before .args in
+    (omega arith, none-pasted (a .out .now) (a .at) (a .text .now) (c .lesser .result) (omega arith), refl)
 
-shared-slice-read-out : tie.Need-shared-slice-read-out Inv-loop μ-loop
-shared-slice-read-out c = omega arith
+shared-slice-read-put-byte : tie.Need-shared-slice-read-put-byte Inv-loop μ-loop
+shared-slice-read-put-byte c = search needs
 
-add-out : tie.Need-add-out Inv-loop μ-loop
-add-out c = omega arith
-
-slice-write-out : tie.Need-slice-write-out Inv-loop μ-loop
-slice-write-out c = omega arith
+put-byte-requires : tie.Need-put-byte-requires Inv-loop μ-loop
+put-byte-requires c κs = search needs
 
 add-i : tie.Need-add-i Inv-loop μ-loop
-add-i c = omega arith
+add-i c = search needs
 
 loop-less : tie.Need-loop-less Inv-loop μ-loop
-loop-less c = omega arith
+loop-less c = search needs
 
 loop-again : tie.Need-loop-again Inv-loop μ-loop
 loop-again c =
-    let a = c .before .before .before .args in
-    let l = c .before .before .loop in (
-      simp length-set (l .inv .0),
-      omega arith,
-      ap (λ (x : List ℕ). set x (a .at + l .i) (getD (a .text .now) (l .i) 0)) (l .inv .2)
-          ∙ paste-suc (a .out .now) (a .at) (a .text .now) (l .i) 0 (omega arith) (omega arith)
-          ∙ ap (paste (a .out .now) (a .at) (a .text .now)) (sym (add-one (l .i))),
-    )
-
-add-result : tie.Need-add-result Inv-loop μ-loop
-add-result c = omega arith
+    let p = c .before .before .put-byte in
+    let l = c .before .before .before .before .before .before .loop in
+    let a = c .before .before .before .before .before .before .before .before .before .before .args in
+    (omega arith, again-pasted (a .out .now) (a .at) (a .text .now) (l .i) _ (omega arith) (omega arith) (l .inv .1) (p .ensures), p .kept .0 ∙ l .inv .2)
 
 same-length : tie.Need-same-length Inv-loop μ-loop
-same-length c = c .before .loop .inv .0
+same-length c = search needs
 
 returns : tie.Need-returns Inv-loop μ-loop
 returns c =
-    let a = c .before .before .args in
     let l = c .before .loop in
-    subst (λ (x : List ℕ). Put (a .out .now) (a .at) (a .text .now) x (a .at + l .i)) (sym (l .inv .2))
-    (put-pasted (a .out .now) (a .at) (a .text .now) (l .i) (omega arith) (omega arith))
+    let a = c .before .before .before .before .before .args in
+    all-pasted (a .out .now) (a .at) (a .text .now) (l .i) (omega arith) (l .inv .1)
 
 pub put-text-spec : {M : Type 1} → statement M
 put-text-spec =
@@ -66,13 +57,12 @@ put-text-spec =
     (tie.spec
     Inv-loop
     μ-loop
+    lesser-requires
     loop-holds
-    shared-slice-read-out
-    add-out
-    slice-write-out
+    shared-slice-read-put-byte
+    put-byte-requires
     add-i
     loop-less
     loop-again
-    add-result
     same-length
     returns)
