@@ -2,17 +2,19 @@
 use mathlib.Core.Path.{_≡_, refl, sym, ap, subst}
 use mathlib.Core.Bool.{Bool, true, false}
 use mathlib.Core.List.{List, [], _∷_}
+use mathlib.Core.Logic.{⊎-elim}
 use Prim.Native.Nat.{ℕ, zero, suc, _+_, _≤_, _<_}
 use native.Mathlib.Nat.{le-refl}
 use native.Mathlib.Omega.{arith}
-use borrow.Author.Tests.{ltb-true, ltb-false, leb-true, leb-false, eqb-true, eqb-false, lt-leb, le-leb}
+use borrow.Author.Tests.{leb-false, lt-leb, le-leb}
 use lib.ListN.{length}
-use lib.Dec.{T, eqb, leb, ltb}
+use lib.Dec.{T, leb}
 use Rattle.laws.specs.Sums.{pick, either}
-use Rattle.laws.proofs.Tests.{by-pick}
+use Rattle.record.proofs.Table.{Row, row-of}
+use Rattle.record.proofs.Table as row
 use Rattle.record.specs.declared.Command.{Command}
 use Rattle.record.specs.declared.Command.the-variants.{Setup, Take, Free, Refused}
-use Rattle.record.specs.Record.{byteAt, twoAt, fourAt, whole, setupAt, notFirst, takeAt, freeAt, knownAt, commandAt, sizeOfCommand, isRefused, commandsFrom, commandsOf}
+use Rattle.record.specs.Record.{byteAt, twoAt, fourAt, commandAt, sizeOfCommand, isRefused, commandsFrom, commandsOf}
 
 -- ---- one command
 
@@ -24,131 +26,86 @@ pub record Read (r : List ℕ) (at : ℕ) (c : Command) : Type 0 where
   pub few : sizeOfCommand c ≤ 6
 
 -- what is known of the command at a position, by its kind
-Told : List ℕ → ℕ → Command → Type 0
-Told r at (Setup processors superblocks spare p q) =
+Known : List ℕ → ℕ → Command → Type 0
+Known r at (Setup processors superblocks spare p q) =
     (length r ≤ 60000) × (at ≡ 0) × (at + 6 ≤ length r)
     × (processors ≡ byteAt r (at + 1)) × (superblocks ≡ byteAt r (at + 2)) × (spare ≡ byteAt r (at + 3)) × (p ≡ byteAt r (at + 4)) × (q ≡ byteAt r (at + 5))
-Told r at (Take processor size) =
+Known r at (Take processor size) =
     (length r ≤ 60000) × (0 < at) × (at + 4 ≤ length r) × (processor ≡ byteAt r (at + 1)) × (size ≡ twoAt r (at + 2))
-Told r at (Free processor address) =
+Known r at (Free processor address) =
     (length r ≤ 60000) × (0 < at) × (at + 6 ≤ length r) × (processor ≡ byteAt r (at + 1)) × (address ≡ fourAt r (at + 2))
-Told r at (Refused number offset) = (8 ≤ number) × (number ≤ 11) × (offset ≤ 60000)
+Known r at (Refused number offset) = (8 ≤ number) × (number ≤ 11) × (offset ≤ 60000)
 
-module _ (r : List ℕ) (at : ℕ) (short : length r ≤ 60000) (inside : at < length r) where
-  told-whole : (n : ℕ) (c : Command) → (at + n ≤ length r → Told r at c) → Told r at (whole r at n c)
-  unfolding whole Told
-  told-whole n c f =
-      by-pick (Told r at) (leb (at + n) (length r)) c (Refused 9 at)
-      (λ e. f (leb-true (at + n) (length r) e))
-      (λ e. (omega arith, omega arith, omega arith))
-
-  told-notFirst : (c : Command) → (0 < at → Told r at c) → Told r at (notFirst at c)
-  unfolding notFirst Told
-  told-notFirst c f =
-      by-pick (Told r at) (eqb at 0) (Refused 10 at) c
-      (λ e. (omega arith, omega arith, omega arith))
-      (λ e. f (let n = eqb-false at 0 e in omega arith))
-
-  told-setup : Told r at (setupAt r at)
-  unfolding setupAt Told
-  told-setup =
-      by-pick (Told r at) (eqb at 0) (whole r at 6 (Setup (byteAt r (at + 1)) (byteAt r (at + 2)) (byteAt r (at + 3)) (byteAt r (at + 4)) (byteAt r (at + 5)))) (Refused 10 at)
-      (λ e. told-whole 6 (Setup (byteAt r (at + 1)) (byteAt r (at + 2)) (byteAt r (at + 3)) (byteAt r (at + 4)) (byteAt r (at + 5))) (λ l. (short, eqb-true at 0 e, l, refl, refl, refl, refl, refl)))
-      (λ e. (omega arith, omega arith, omega arith))
-
-  told-take : Told r at (takeAt r at)
-  unfolding takeAt Told
-  told-take =
-      told-notFirst (whole r at 4 (Take (byteAt r (at + 1)) (twoAt r (at + 2))))
-      (λ later. told-whole 4 (Take (byteAt r (at + 1)) (twoAt r (at + 2))) (λ l. (short, later, l, refl, refl)))
-
-  told-free : Told r at (freeAt r at)
-  unfolding freeAt Told
-  told-free =
-      told-notFirst (whole r at 6 (Free (byteAt r (at + 1)) (fourAt r (at + 2))))
-      (λ later. told-whole 6 (Free (byteAt r (at + 1)) (fourAt r (at + 2))) (λ l. (short, later, l, refl, refl)))
-
-  told-known : Told r at (knownAt r at)
-  unfolding knownAt Told
-  told-known =
-      let P = Told r at in
-      by-pick P (eqb (byteAt r at) 0) (setupAt r at) _ (λ e. told-setup)
-      (λ e. by-pick P (eqb (byteAt r at) 1) (takeAt r at) _ (λ g. told-take)
-      (λ g. by-pick P (eqb (byteAt r at) 2) (freeAt r at) (Refused 8 at) (λ h. told-free)
-      (λ h. (omega arith, omega arith, omega arith))))
-
-told : (r : List ℕ) (at : ℕ) → Told r at (commandAt r at)
-unfolding commandAt Told
-told r at =
-    let P = Told r at in
-    by-pick P (ltb 60000 (length r)) (Refused 11 0) _
-    (λ e. (omega arith, omega arith, omega arith))
-    (λ e. let short = ltb-false 60000 (length r) e in
-    by-pick P (ltb at (length r)) (knownAt r at) _
-    (λ g. told-known r at short (ltb-true at (length r) g))
-    (λ g. by-pick P (eqb at 0) (Refused 10 0) (Refused 9 (length r))
-    (λ h. (omega arith, omega arith, omega arith))
-    (λ h. (omega arith, omega arith, short))))
+known : {r : List ℕ} {at : ℕ} {c : Command} → Row r at c → Known r at c
+unfolding Known
+known (row.long l) = (omega arith, omega arith, omega arith)
+known (row.unknown l u) = (omega arith, omega arith, omega arith)
+known (row.place l u m) = (omega arith, omega arith, ⊎-elim (λ w. omega arith) (⊎-elim (λ w. omega arith) (λ w. omega arith)) m)
+known (row.cut l u m c i) = (omega arith, omega arith, omega arith)
+known (row.past l u m c i) = (omega arith, omega arith, omega arith)
+known (row.setup s f b i) = (s, f, i, refl, refl, refl, refl, refl)
+known (row.take s f b i) = (s, f, i, refl, refl)
+known (row.free s f b i) = (s, f, i, refl, refl)
 
 module _ (r : List ℕ) (at : ℕ) (c : Command) (e : c ≡ commandAt r at) where
-  told-of : Told r at c
-  told-of = subst (Told r at) (sym e) (told r at)
+  known-of : Known r at c
+  known-of = subst (Known r at) (sym e) (known (row-of r at))
 
   pub read : isRefused c ≡ false → Read r at c
-  unfolding isRefused sizeOfCommand Told
-  read f = go c f told-of
+  unfolding isRefused sizeOfCommand Known
+  read f = go c f known-of
     where
-      go : (d : Command) → isRefused d ≡ false → Told r at d → Read r at d
+      go : (d : Command) → isRefused d ≡ false → Known r at d → Read r at d
       go (Setup processors superblocks spare p q) f t = record { short = t .0; inside = t .2; some = omega arith; few = le-refl 6 }
       go (Take processor size) f t = record { short = t .0; inside = t .2; some = le-refl 4; few = omega arith }
       go (Free processor address) f t = record { short = t .0; inside = t .2; some = omega arith; few = le-refl 6 }
       go (Refused number offset) f t = absurd (subst T f tt)
 
-  setup-told : (processors superblocks spare p q : ℕ) → c ≡ Setup processors superblocks spare p q → Told r at (Setup processors superblocks spare p q)
-  setup-told processors superblocks spare p q k = subst (Told r at) k told-of
+  setup-known : (processors superblocks spare p q : ℕ) → c ≡ Setup processors superblocks spare p q → Known r at (Setup processors superblocks spare p q)
+  setup-known processors superblocks spare p q k = subst (Known r at) k known-of
 
-  take-told : (processor size : ℕ) → c ≡ Take processor size → Told r at (Take processor size)
-  take-told processor size k = subst (Told r at) k told-of
+  take-known : (processor size : ℕ) → c ≡ Take processor size → Known r at (Take processor size)
+  take-known processor size k = subst (Known r at) k known-of
 
-  free-told : (processor address : ℕ) → c ≡ Free processor address → Told r at (Free processor address)
-  free-told processor address k = subst (Told r at) k told-of
+  free-known : (processor address : ℕ) → c ≡ Free processor address → Known r at (Free processor address)
+  free-known processor address k = subst (Known r at) k known-of
 
   -- by kind: a setup is first, a take or a free is not
   pub setup-read : (processors superblocks spare p q : ℕ) → c ≡ Setup processors superblocks spare p q → (length r ≤ 60000) × (at ≡ 0) × (at + 6 ≤ length r)
-  unfolding Told
-  setup-read processors superblocks spare p q k = let t = setup-told processors superblocks spare p q k in (t .0, t .1, t .2)
+  unfolding Known
+  setup-read processors superblocks spare p q k = let t = setup-known processors superblocks spare p q k in (t .0, t .1, t .2)
 
   pub take-read : (processor size : ℕ) → c ≡ Take processor size → (length r ≤ 60000) × (0 < at) × (at + 4 ≤ length r)
-  unfolding Told
-  take-read processor size k = let t = take-told processor size k in (t .0, t .1, t .2)
+  unfolding Known
+  take-read processor size k = let t = take-known processor size k in (t .0, t .1, t .2)
 
   pub free-read : (processor address : ℕ) → c ≡ Free processor address → (length r ≤ 60000) × (0 < at) × (at + 6 ≤ length r)
-  unfolding Told
-  free-read processor address k = let t = free-told processor address k in (t .0, t .1, t .2)
+  unfolding Known
+  free-read processor address k = let t = free-known processor address k in (t .0, t .1, t .2)
 
   -- a record's own refusals are 8 to 11, at offsets up to the longest record's end
   pub refused-read : (number offset : ℕ) → c ≡ Refused number offset → (8 ≤ number) × (number ≤ 11) × (offset ≤ 60000)
-  unfolding Told
-  refused-read number offset k = subst (Told r at) k told-of
+  unfolding Known
+  refused-read number offset k = subst (Known r at) k known-of
 
   -- the numbers of a command fit their types where the record's bytes do
   module _ (bytes : (i : ℕ) → byteAt r i < 256) where
     pub setup-fits : (processors superblocks spare p q : ℕ) → c ≡ Setup processors superblocks spare p q → (processors < 256) × (superblocks < 256) × (spare < 256) × (p < 256) × (q < 256)
-    unfolding Told
+    unfolding Known
     setup-fits processors superblocks spare p q k =
-        let t = setup-told processors superblocks spare p q k in
+        let t = setup-known processors superblocks spare p q k in
         (omega (arith, t, bytes (at + 1)), omega (arith, t, bytes (at + 2)), omega (arith, t, bytes (at + 3)), omega (arith, t, bytes (at + 4)), omega (arith, t, bytes (at + 5)))
 
     pub take-fits : (processor size : ℕ) → c ≡ Take processor size → (processor < 256) × (size < 65536)
-    unfolding Told
+    unfolding Known
     take-fits processor size k =
-        let t = take-told processor size k in
+        let t = take-known processor size k in
         (omega (arith, t, bytes (at + 1)), omega (arith, t, bytes (at + 2), bytes (at + 2 + 1)))
 
     pub free-fits : (processor address : ℕ) → c ≡ Free processor address → (processor < 256) × (address < 4294967296)
-    unfolding Told
+    unfolding Known
     free-fits processor address k =
-        let t = free-told processor address k in
+        let t = free-known processor address k in
         (omega (arith, t, bytes (at + 1)), omega (arith, t, bytes (at + 2), bytes (at + 2 + 1), bytes (at + 2 + 2), bytes (at + 2 + 2 + 1)))
 
 -- ---- the commands that follow

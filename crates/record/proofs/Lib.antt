@@ -1,2 +1,4 @@
-pub mod CommandLaws
 pub mod Cases
+pub mod Table
+pub mod CommandLaws
+pub mod Offsets

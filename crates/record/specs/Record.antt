@@ -1,4 +1,5 @@
 -- "Record and printed key": what stands at a position of a record.
+use mathlib.Core.Path.{_≡_}
 use Prim.Native.Nat.{ℕ, zero, suc, _+_, _*_}
 use mathlib.Core.Bool.{Bool, true, false}
 use mathlib.Core.List.{List, [], _∷_}
@@ -56,6 +57,41 @@ commandAt r at =
     pick (ltb 60000 (length r)) (Refused 11 0)
     (pick (ltb at (length r)) (knownAt r at)
     (pick (eqb at 0) (Refused 10 0) (Refused 9 (length r))))
+
+-- document 01's number for each command: 0 for one that is read, else the refusal's number
+unfoldable pub numberOf : Command → ℕ
+numberOf (Setup processors superblocks spare p q) = 0
+numberOf (Take processor size) = 0
+numberOf (Free processor address) = 0
+numberOf (Refused number offset) = number
+
+-- the byte offset that a refusal carries: "a refusal with its offset"; 0 for a command that is read, which carries none
+unfoldable pub offsetOf : Command → ℕ
+offsetOf (Setup processors superblocks spare p q) = 0
+offsetOf (Take processor size) = 0
+offsetOf (Free processor address) = 0
+offsetOf (Refused number offset) = offset
+
+-- the command byte; a refusal has none
+unfoldable pub commandByte : Command → List ℕ
+commandByte (Setup processors superblocks spare p q) = 0 ∷ []
+commandByte (Take processor size) = 1 ∷ []
+commandByte (Free processor address) = 2 ∷ []
+commandByte (Refused number offset) = []
+
+-- the numbers that a command carries, in the record's order; a refusal carries none beside its number and its offset
+unfoldable pub numbersOf : Command → List ℕ
+numbersOf (Setup processors superblocks spare p q) = processors ∷ superblocks ∷ spare ∷ p ∷ q ∷ []
+numbersOf (Take processor size) = processor ∷ size ∷ []
+numbersOf (Free processor address) = processor ∷ address ∷ []
+numbersOf (Refused number offset) = []
+
+-- a command has the number, the offset, the command byte and the numbers of the command that the rules give
+pub record Told (command rules : Command) : Type 0 where
+  pub number-is : numberOf command ≡ numberOf rules
+  pub offset-is : offsetOf command ≡ offsetOf rules
+  pub byte-is : commandByte command ≡ commandByte rules
+  pub numbers-are : numbersOf command ≡ numbersOf rules
 
 -- the bytes of a command that is read whole; a refusal ends the record
 unfoldable pub sizeOfCommand : Command → ℕ

@@ -12,6 +12,7 @@ ghost use Rattle.record.specs.Record.{
   freeAt,
   knownAt,
   commandAt,
+  Told,
 };
 
 // A setup, a take or a free with its numbers, or a refusal with its offset.
@@ -40,6 +41,7 @@ pub enum Command {
 // The command at a position of a record. There is one for any record and position: past the record's end, a refusal.
 pub fn command_at(bytes: &[u8], at: usize) -> Command
     ensures { λ c. ⌜ c ≡ commandAt (now (bytes .entry)) at ⌝ }
+    ensures told { λ c. ⌜ Told c (commandAt (now (bytes .entry)) at) ⌝ }
 {
     if 60000 < bytes.len() {
         return refused(11, 0);
