@@ -28,6 +28,8 @@ use Rattle.record.specs.Record.{commandAt, sizeOfCommand, isRefused, commandsFr
 use Rattle.record.proofs.CommandLaws.{remaining, commands-start, commands-setup, commands-refused, setup-read, take-read, free-read}
 use Rattle.lines.specs.Lines.{setupLine, takeLine, freeLine, stopLine, finalLines}
 use Rattle.replay.specs.Key.{beforeAll, setupText, textOf, orderAfter, keyOf, storageOf}
+-- the computed cases come first: a wrong definition fails there
+use Rattle.replay.proofs.Cases as cases
 
 -- ---- the calls of a record
 -- the takes and frees among commands, up to their end or stop; a setup is not among those after the first

@@ -21,8 +21,8 @@ use Rattle.calls.specs.Answers.{After, refused}
 use Rattle.calls.specs.Setup.{started, setupOf}
 use Rattle.calls.specs.Take.{takenFrom, takenFromOther, takeOf}
 use Rattle.calls.specs.Free.{cleanedOf, freedAt, freeOf}
-use Rattle.calls.proofs.TakeLaws.{take-cases}
-use Rattle.calls.proofs.FreeLaws.{free-cases}
+use Rattle.calllaws.proofs.TakeLaws.{take-cases}
+use Rattle.calllaws.proofs.FreeLaws.{free-cases}
 
 -- ---- the move rule
 found-kept : (f : Found) (s : State) → passedFound f s .setup ≡ s .setup

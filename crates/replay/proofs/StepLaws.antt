@@ -1,19 +1,18 @@
 -- One command of a replay: what stands and is still to come stays the same. Assumes nothing.
 use mathlib.Core.Path.{_≡_, refl, sym, ap, _∙_, subst}
 use mathlib.Core.Bool.{Bool, true, false}
-use mathlib.Core.List.{List, [], _∷_, _++_, append-assoc}
-use Prim.Native.Nat.{ℕ, _+_, _-_, _*_, _≤_, _<_}
+use mathlib.Core.List.{List, [], _∷_, _++_, append-nil}
+use Prim.Native.Nat.{ℕ, _+_, _-_, _≤_, _<_}
 use native.Mathlib.Nat.{lt-of-not-le}
 use native.Mathlib.Decide.{decLe}
 use native.Mathlib.Omega.{arith}
 use borrow.Author.Tests.{lt-ltb, le-ltb, eq-eqb, ne-eqb}
-use lib.ListN.{length, take}
-use lib.Dec.{T, eqb, ltb}
+use lib.ListN.{length}
+use lib.Dec.{eqb, ltb}
 use Rattle.laws.specs.Sums.{pick}
-use Rattle.laws.proofs.Tests.{not-both}
-use Rattle.text.specs.Text.{Put}
+use Rattle.text.specs.Text.{Pasted, pasted}
+use Rattle.text.proofs.PasteLaws.{paste-append, put-length, put-end-le}
 use Rattle.heap.specs.declared.Setup.{Setup}
-use Rattle.heap.specs.declared.State.{State}
 use Rattle.calls.specs.declared.Answer.{Answer}
 use Rattle.calls.specs.declared.Outcome.{Outcome}
 use Rattle.calls.specs.declared.Outcome.the-variants.{Ready, Address, Moves, Refused}
@@ -28,8 +27,9 @@ use Rattle.record.proofs.CommandLaws.{commandsAt, remaining, remaining-more, re
 use Rattle.lines.specs.Lines.{setupLine, takeLine, freeLine, stopLine}
 use Rattle.replay.specs.declared.Replay.{Replay}
 use Rattle.replay.specs.Key.{from, setupText, textOf, orderAfter}
-use Rattle.replay.specs.Steps.{Total, ahead, total, left, Held, Stepped, nextOf, stopOf, Stopping}
-use Rattle.replay.proofs.SetupKept.{take-kept, free-kept, setup-heaps}
+use Rattle.replay.specs.Steps.{Total, closing, textAhead, orderAhead, total, left, Held, Stepped, nextOf, stopOf, Stopping}
+-- the computed cases come first: a wrong definition fails there
+use Rattle.replay.proofs.Cases as cases
 
 -- ---- of what a call left, the state and the storage count
 text-from : (after : After) (cs : List Command) → textOf after cs ≡ textOf (from (after .answer .state) (after .order)) cs
@@ -69,70 +69,50 @@ module _ (o : Outcome) where
   unfolding numberOf
   number-refused n e = rw e
 
--- ---- a text with the storage
-abbrev both-of : List ℕ → List ℕ → Total
+-- ---- a text in the buffer with the storage
+abbrev both-of : Pasted → List ℕ → Total
 both-of text order = record { text = text; order = order }
 
-ahead-next : (r : List ℕ) (s : State) (at end : ℕ) → ahead r (nextOf r s at end) ≡ remaining r at
-unfolding ahead
-ahead-next r s at end = go (decLe (length r) at)
-  where
-    go : Dec (length r ≤ at) → ahead r (nextOf r s at end) ≡ remaining r at
-    go (yes h) = rw (le-ltb at (length r) h) (sym (remaining-end r at h))
-    go (no f) = rw (lt-ltb at (length r) (lt-of-not-le f)) (sym (remaining-more r at (lt-of-not-le f)))
-
 -- what is to come after a command that left this
+ahead-next : (r : List ℕ) (after : After) (at end : ℕ) → (textAhead r (nextOf r (after .answer .state) at end) (after .order) ≡ textOf after (remaining r at))
+    × (orderAhead r (nextOf r (after .answer .state) at end) (after .order) ≡ orderAfter after (remaining r at))
+unfolding textAhead orderAhead closing textOf orderAfter
+ahead-next r after at end = go (decLe (length r) at)
+  where
+    Next : Type 0
+    Next = (textAhead r (nextOf r (after .answer .state) at end) (after .order) ≡ textOf after (remaining r at))
+        × (orderAhead r (nextOf r (after .answer .state) at end) (after .order) ≡ orderAfter after (remaining r at))
+
+    go : Dec (length r ≤ at) → Next
+    go (yes h) = rw (le-ltb at (length r) h, remaining-end r at h) (refl, refl)
+    go (no f) = rw (lt-ltb at (length r) (lt-of-not-le f), remaining-more r at (lt-of-not-le f)) (sym (text-from after (commandsAt r at)), sym (order-from after (commandsAt r at)))
+
 total-next : (r : List ℕ) (after : After) (at end : ℕ) (text : List ℕ)
-    → total r (nextOf r (after .answer .state) at end) (after .order) text
-    ≡ both-of (take end text ++ textOf after (remaining r at)) (orderAfter after (remaining r at))
+    → total r (nextOf r (after .answer .state) at end) (after .order) text ≡ both-of (pasted text end (textOf after (remaining r at))) (orderAfter after (remaining r at))
 unfolding total
 total-next r after at end text =
-    ap (λ (l : List Command). both-of (take end text ++ textOf (from (after .answer .state) (after .order)) l) (orderAfter (from (after .answer .state) (after .order)) l)) (ahead-next r (after .answer .state) at end)
-    ∙ ap (λ (l : List ℕ). both-of (take end text ++ l) (orderAfter (from (after .answer .state) (after .order)) (remaining r at))) (sym (text-from after (remaining r at)))
-    ∙ ap (both-of (take end text ++ textOf after (remaining r at))) (sym (order-from after (remaining r at)))
+    let next = ahead-next r after at end in
+    ap (λ (l : List ℕ). both-of (pasted text end l) (orderAhead r (nextOf r (after .answer .state) at end) (after .order))) (next .0)
+    ∙ ap (both-of (pasted text end (textOf after (remaining r at)))) (next .1)
 
 module _ (r : List ℕ) (x : Replay) (order out : List ℕ) (held : Held x out) (going : x .going ≡ true) where
-  not-stopped : x .stopped ≡ false
-  not-stopped = go (x .stopped) refl
-    where
-      go : (t : Bool) → x .stopped ≡ t → x .stopped ≡ false
-      go true e = absurd (not-both (x .going) going (held .last e))
-      go false e = e
-
   -- so far this stands and is to come
-  total-now : total r x order out ≡ both-of (take (x .end) out ++ textOf (from (x .state) order) (commandsAt r (x .at))) (orderAfter (from (x .state) order) (commandsAt r (x .at)))
-  unfolding total ahead
-  total-now = rw (not-stopped, going)
+  total-now : total r x order out ≡ both-of (pasted out (x .end) (textOf (from (x .state) order) (commandsAt r (x .at)))) (orderAfter (from (x .state) order) (commandsAt r (x .at)))
+  unfolding total textAhead orderAhead
+  total-now = rw going
 
   left-now : left x ≡ 60001 - x .at
   unfolding left
   left-now = rw going
 
-  ends : x .end ≤ 8 * x .at
-  ends = held .fits not-stopped
-
-  -- a line has room
-  pub line-room : x .end + 64 ≤ length out
-  line-room = omega (arith, ends, held .short, held .big)
-
   -- ---- a command that was read whole, of k bytes, and prints a line
-  module _ (line : List ℕ) (after : After) (k end : ℕ) (text : List ℕ) (put : Put out (x .end) line text end) (few : end ≤ x .end + 8 * k) (some : 4 ≤ k)
-      (inside : x .at + k ≤ length r) (short : length r ≤ 60000) (heaps : after .answer .state .setup .processors ≤ 8) where
+  module _ (line : List ℕ) (after : After) (k end : ℕ) (text : List ℕ) (put : record { end = end; buffer = text } ≡ pasted out (x .end) line) (some : 4 ≤ k)
+      (inside : x .at + k ≤ length r) (short : length r ≤ 60000) where
     abbrev goes-to : Replay
     goes-to = nextOf r (after .answer .state) (x .at + k) end
 
     goes-held : Held goes-to text
-    goes-held =
-        let long = put .long in
-        let big = held .big in
-        record {
-          big = omega arith;
-          short = omega arith;
-          stands = omega (arith, ends);
-          fits = λ (e : false ≡ false). omega (arith, ends);
-          last = λ (e : false ≡ true). absurd (subst T (sym e) tt);
-          heaps = heaps;
-        }
+    goes-held = record { short = omega arith; stands = omega (arith, put-end-le out (x .end) line put, put-length out (x .end) line put) }
 
     goes-fewer : left goes-to < left x
     unfolding left
@@ -153,37 +133,31 @@ module _ (r : List ℕ) (x : Replay) (order out : List ℕ) (held : Held x out) 
         same : total r (nextOf r (after .answer .state) (x .at + k) end) (after .order) text ≡ total r x order out
         same =
             total-next r after (x .at + k) end text
-            ∙ ap (λ (l : List ℕ). both-of (l ++ textOf after rest) (orderAfter after rest)) (put .upto)
-            ∙ ap (λ (l : List ℕ). both-of l (orderAfter after rest)) (append-assoc (take (x .end) out) line (textOf after rest))
-            ∙ ap (λ (l : List ℕ). both-of (take (x .end) out ++ l) (orderAfter after rest)) (sym e)
-            ∙ ap (both-of (take (x .end) out ++ textOf (from (x .state) order) (commandsAt r (x .at)))) (sym f)
+            ∙ ap (λ (z : Pasted). both-of (pasted (z .buffer) (z .end) (textOf after rest)) (orderAfter after rest)) put
+            ∙ ap (λ (z : Pasted). both-of z (orderAfter after rest)) (paste-append out (x .end) line (textOf after rest))
+            ∙ ap (λ (l : List ℕ). both-of (pasted out (x .end) l) (orderAfter after rest)) (sym e)
+            ∙ ap (both-of (pasted out (x .end) (textOf (from (x .state) order) (commandsAt r (x .at))))) (sym f)
             ∙ sym total-now
 
   -- ---- a stop line
   stops : (number offset : ℕ) (y : Replay) (new text : List ℕ) → textOf (from (x .state) order) (commandsAt r (x .at)) ≡ stopLine number offset
       → orderAfter (from (x .state) order) (commandsAt r (x .at)) ≡ new → Stopping x out number offset y text → Stepped r x order out y new text
-  unfolding total left
+  unfolding total textAhead orderAhead closing left
   stops number offset y new text e f s = subst (λ (z : Replay). Stepped r x order out z new text) (sym (s .is)) (record { same = same; held = stays; fewer = fewer })
     where
-      same : both-of (take (y .end) text) new ≡ total r x order out
+      line : List ℕ
+      line = stopLine number offset
+
+      same : both-of (pasted text (y .end) []) new ≡ total r x order out
       same =
-          ap (λ (l : List ℕ). both-of l new) (s .put .upto)
-          ∙ ap (λ (l : List ℕ). both-of (take (x .end) out ++ l) new) (sym e)
-          ∙ ap (both-of (take (x .end) out ++ textOf (from (x .state) order) (commandsAt r (x .at)))) (sym f)
+          ap (λ (z : Pasted). both-of (pasted (z .buffer) (z .end) []) new) (s .put)
+          ∙ ap (λ (z : Pasted). both-of z new) (paste-append out (x .end) line [])
+          ∙ ap (λ (l : List ℕ). both-of (pasted out (x .end) l) new) (append-nil line ∙ sym e)
+          ∙ ap (both-of (pasted out (x .end) (textOf (from (x .state) order) (commandsAt r (x .at))))) (sym f)
           ∙ sym total-now
 
       stays : Held (stopOf x (y .end)) text
-      stays =
-          let long = s .put .long in
-          let big = held .big in
-          record {
-            big = omega arith;
-            short = held .short;
-            stands = omega (arith, ends, s .few, held .short);
-            fits = λ (e : true ≡ false). absurd (subst T e tt);
-            last = λ e. refl;
-            heaps = held .heaps;
-          }
+      stays = record { short = held .short; stands = omega (arith, put-end-le out (x .end) line (s .put), put-length out (x .end) line (s .put)) }
 
       fewer : 0 < left x
       fewer = subst (λ (n : ℕ). 0 < n) (sym left-now) (omega (arith, held .short))
@@ -191,35 +165,31 @@ module _ (r : List ℕ) (x : Replay) (order out : List ℕ) (held : Held x out) 
   -- ---- the commands
   module _ (i size : ℕ) (c : command.Take i size ≡ commandAt r (x .at)) where
     pub take-stepped : (a : Answer) (new : List ℕ) → record { answer = a; order = new } ≡ takeOf (x .state) order i size
-        → (end : ℕ) (text : List ℕ) → Put out (x .end) (takeLine i size (a .outcome)) text end → end ≤ x .end + 29
+        → (end : ℕ) (text : List ℕ) → record { end = end; buffer = text } ≡ pasted out (x .end) (takeLine i size (a .outcome))
         → (y : Replay) → y ≡ nextOf r (a .state) (x .at + 4) end → Stepped r x order out y new text
     unfolding textOf orderAfter
-    take-stepped a new e end text put few y is =
+    take-stepped a new e end text put y is =
         let after : After = record { answer = a; order = new } in
         let rest = remaining r (x .at + 4) in
         let told = take-read r (x .at) (command.Take i size) c i size refl in
         let commands = commands-take r (x .at) (command.Take i size) c i size refl in
-        let numbers : a .state .setup ≡ x .state .setup = ap (λ (z : After). z .answer .state .setup) e ∙ take-kept (x .state) order i size in
         subst (λ (z : Replay). Stepped r x order out z new text) (sym is)
-        (goes-on (takeLine i size (a .outcome)) after 4 end text put (omega arith) (omega arith) (told .2) (told .0)
-        (subst (λ (u : Setup). u .processors ≤ 8) (sym numbers) (held .heaps))
+        (goes-on (takeLine i size (a .outcome)) after 4 end text put (omega arith) (told .2) (told .0)
         (ap (textOf (from (x .state) order)) commands ∙ ap (λ (z : After). takeLine i size (z .answer .outcome) ++ textOf z rest) (sym e))
         (ap (orderAfter (from (x .state) order)) commands ∙ ap (λ (z : After). orderAfter z rest) (sym e)))
 
   module _ (i address : ℕ) (c : command.Free i address ≡ commandAt r (x .at)) where
     pub free-stepped : (a : Answer) (new : List ℕ) → record { answer = a; order = new } ≡ freeOf (x .state) order i address
-        → (end : ℕ) (text : List ℕ) → Put out (x .end) (freeLine i address (a .outcome)) text end → end ≤ x .end + 34
+        → (end : ℕ) (text : List ℕ) → record { end = end; buffer = text } ≡ pasted out (x .end) (freeLine i address (a .outcome))
         → (y : Replay) → y ≡ nextOf r (a .state) (x .at + 6) end → Stepped r x order out y new text
     unfolding textOf orderAfter
-    free-stepped a new e end text put few y is =
+    free-stepped a new e end text put y is =
         let after : After = record { answer = a; order = new } in
         let rest = remaining r (x .at + 6) in
         let told = free-read r (x .at) (command.Free i address) c i address refl in
         let commands = commands-free r (x .at) (command.Free i address) c i address refl in
-        let numbers : a .state .setup ≡ x .state .setup = ap (λ (z : After). z .answer .state .setup) e ∙ free-kept (x .state) order i address in
         subst (λ (z : Replay). Stepped r x order out z new text) (sym is)
-        (goes-on (freeLine i address (a .outcome)) after 6 end text put (omega arith) (omega arith) (told .2) (told .0)
-        (subst (λ (u : Setup). u .processors ≤ 8) (sym numbers) (held .heaps))
+        (goes-on (freeLine i address (a .outcome)) after 6 end text put (omega arith) (told .2) (told .0)
         (ap (textOf (from (x .state) order)) commands ∙ ap (λ (z : After). freeLine i address (z .answer .outcome) ++ textOf z rest) (sym e))
         (ap (orderAfter (from (x .state) order)) commands ∙ ap (λ (z : After). orderAfter z rest) (sym e)))
 
@@ -249,15 +219,14 @@ module _ (r : List ℕ) (x : Replay) (order out : List ℕ) (held : Held x out) 
         ∙ ap (λ (z : After). pick (eqb (numberOf (z .answer .outcome)) 0) (orderAfter z setup-rest) (z .order)) (sym e)
         ∙ ap (λ (m : ℕ). pick (eqb m 0) (orderAfter setup-after setup-rest) new) (sym n)
 
-    pub setup-stepped : number ≡ 0 → (end : ℕ) (text : List ℕ) → Put out (x .end) (setupLine u) text end → end ≤ x .end + 26
+    pub setup-stepped : number ≡ 0 → (end : ℕ) (text : List ℕ) → record { end = end; buffer = text } ≡ pasted out (x .end) (setupLine u)
         → (y : Replay) → y ≡ nextOf r (a .state) (x .at + 6) end → Stepped r x order out y new text
     unfolding setup-after setup-rest
-    setup-stepped zero end text put few y is =
+    setup-stepped zero end text put y is =
         let told = setup-read r (x .at) (command.Setup (u .processors) (u .superblocks) (u .spare) (u .p) (u .q)) c (u .processors) (u .superblocks) (u .spare) (u .p) (u .q) refl in
         let yes : eqb number 0 ≡ true = eq-eqb number 0 zero in
         subst (λ (z : Replay). Stepped r x order out z new text) (sym is)
-        (goes-on (setupLine u) setup-after 6 end text put (omega arith) (omega arith) (told .2) (told .0)
-        (subst (λ (z : After). z .answer .state .setup .processors ≤ 8) (sym e) (setup-heaps u order))
+        (goes-on (setupLine u) setup-after 6 end text put (omega arith) (told .2) (told .0)
         (setup-text ∙ rw yes)
         (setup-order ∙ rw yes))
 

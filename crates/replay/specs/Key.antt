@@ -2,7 +2,7 @@
 use mathlib.Core.Path.{_≡_}
 use mathlib.Core.List.{List, [], _∷_, _++_}
 use Prim.Native.Nat.{ℕ, _≤_, _<_}
-use lib.ListN.{length, take}
+use lib.ListN.{length, take, drop}
 use lib.Dec.{eqb}
 use Rattle.laws.specs.Sums.{pick}
 use Rattle.heap.specs.declared.Setup.{Setup}
@@ -71,13 +71,14 @@ storageOf r order = orderAfter (beforeAll order) (commandsOf r)
 abbrev pub room : ℕ
 room = 524288
 
--- the whole key of record r stands in the first n bytes of the buffer; what lies behind them is left free
-pub record Keyed (r order : List ℕ) (n : ℕ) (left out : List ℕ) : Type 0 where
-  pub text : take n out ≡ keyOf r order
+-- the whole key of record r stands in the first n bytes of the buffer; what lies behind them is as it was
+pub record Keyed (r order out : List ℕ) (n : ℕ) (left new : List ℕ) : Type 0 where
+  pub text : take n new ≡ keyOf r order
   pub count : n ≡ length (keyOf r order)
+  pub behind : drop n new ≡ drop n out
   pub storage : left ≡ storageOf r order
 
 -- what each answer means: the key, wherever the buffer has room for every key; else nothing was changed
 unfoldable pub Answered : List ℕ → List ℕ → List ℕ → Printed → List ℕ → List ℕ → Type 0
-Answered r order out (Text n) left new = (room ≤ length out) × Keyed r order n left new
+Answered r order out (Text n) left new = (room ≤ length out) × Keyed r order out n left new
 Answered r order out NoRoom left new = (length out < room) × (left ≡ order) × (new ≡ out)

@@ -1,13 +1,11 @@
 // The printed key of a record.
 ghost use mathlib.Core.Path.{_≡_};
-ghost use mathlib.Core.Bool.{true, false};
-ghost use Prim.Native.Nat.{_≤_};
-ghost use lib.ListN.{length};
-ghost use Rattle.text.specs.Text.{Put};
+ghost use mathlib.Core.Bool.{true};
+ghost use Rattle.text.specs.Text.{pasted};
 ghost use Rattle.calls.specs.Answers.{numberOf};
 ghost use Rattle.record.specs.Record.{commandAt};
 ghost use Rattle.record.specs.declared.Command.the-variants as command;
-ghost use Rattle.replay.specs.Key.{Answered, room};
+ghost use Rattle.replay.specs.Key.{Answered};
 ghost use Rattle.replay.specs.Steps.{Held, Stepped, Over, Stopping, closing, nextOf};
 use calls::Outcome;
 use heap::Setup;
@@ -48,8 +46,7 @@ pub fn key(bytes: &[u8], order: &mut [u16], out: &mut [u8]) -> Printed
 
 // Every command of the record, up to its end or a stop.
 fn replay_all(bytes: &[u8], order: &mut [u16], out: &mut [u8]) -> Replay
-    requires { ⌜ room ≤ length (now out) ⌝ }
-    ensures { λ y. ⌜ Over (now (bytes .entry)) (now (order .entry)) y (now (order .exit)) (now (out .exit)) ⌝ }
+    ensures { λ y. ⌜ Over (now (bytes .entry)) (now (order .entry)) (now (out .entry)) y (now (order .exit)) (now (out .exit)) ⌝ }
 {
     let s = blocks::no_state();
     let mut x = Replay {
@@ -68,7 +65,7 @@ fn replay_all(bytes: &[u8], order: &mut [u16], out: &mut [u8]) -> Replay
 // The lines at the end of a record that did not stop.
 fn finish(out: &mut [u8], x: Replay) -> usize
     requires { ⌜ Held x (now out) ⌝ }
-    ensures { λ n. ⌜ Put (now (out .entry)) (x .end) (closing x) (now (out .exit)) n ⌝ }
+    ensures { λ n. ⌜ record { end = n; buffer = now (out .exit) } ≡ pasted (now (out .entry)) (x .end) (closing x) ⌝ }
 {
     if x.stopped {
         return x.end;

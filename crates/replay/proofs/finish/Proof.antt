@@ -1,4 +1,4 @@
-use Rattle.replay.proofs.LoopLaws.{final-room, finish-stopped, finish-ended}
+use Rattle.replay.proofs.LoopLaws.{finish-stopped, finish-ended}
 use borrow.Author.Needs.{needs}
 use Rattle.replay.proofs.finish.Statement.{statement}
 use Rattle.replay.proofs.finish.Tie as tie
@@ -7,7 +7,7 @@ returns : tie.Need-returns
 returns c = search finish-stopped
 
 final-lines-requires : tie.Need-final-lines-requires
-final-lines-requires c κs = search final-room
+final-lines-requires c κs = search needs
 
 same-length : tie.Need-same-length
 same-length c = search needs

@@ -1,4 +1,4 @@
-use Rattle.replay.proofs.StepLaws.{line-room, free-stepped}
+use Rattle.replay.proofs.StepLaws.{free-stepped}
 use borrow.Author.Needs.{needs}
 use Rattle.replay.proofs.free_step.Statement.{statement}
 use Rattle.replay.proofs.free_step.Tie as tie
@@ -7,7 +7,7 @@ free-requires : tie.Need-free-requires
 free-requires c κs = search needs
 
 free-line-requires : tie.Need-free-line-requires
-free-line-requires c κs = search line-room
+free-line-requires c κs = search needs
 
 add-next : tie.Need-add-next
 add-next c = search needs

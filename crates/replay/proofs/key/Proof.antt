@@ -1,3 +1,6 @@
+use Prim.Native.Nat.{ℕ, _<_}
+use native.Mathlib.Omega.{arith}
+use Rattle.record.specs.Record.{byteAt}
 use Rattle.replay.proofs.LoopLaws.{key-text, key-no-room}
 use borrow.Author.Needs.{needs}
 use Rattle.replay.proofs.key.Statement.{statement}
@@ -19,7 +22,9 @@ same-length-2 : tie.Need-same-length-2
 same-length-2 c = search needs
 
 returns-2 : tie.Need-returns-2
-returns-2 c = search key-text
+returns-2 c =
+    let bytes : (i : ℕ) → byteAt (c .before .before .before .before .before .before .before .before .before .before .before .before .before .before .before .args .bytes .now) i < 256 = λ i. omega (arith, c .before .before .before .before .before .before .before .before .before .before .before .before .before .before .shared-slice-known .given i) in
+    search (key-text, bytes)
 
 pub key-spec : {M : Type 1} → statement M
 key-spec =

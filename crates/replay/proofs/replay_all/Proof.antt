@@ -7,7 +7,7 @@ use Rattle.replay.proofs.replay_all.Statement.{statement}
 use Rattle.replay.proofs.replay_all.Tie as tie
 
 abbrev Inv-loop : tie.InvT-loop
-Inv-loop bytes order₀ out₀ x₀ order out x = Held x out × (total bytes x order out ≡ allOf bytes order₀) × (length order ≡ length order₀) × (length out ≡ length out₀)
+Inv-loop bytes order₀ out₀ x₀ order out x = Held x out × (total bytes x order out ≡ allOf bytes order₀ out₀) × (length order ≡ length order₀) × (length out ≡ length out₀)
 
 abbrev μ-loop : tie.MeasureT-loop
 μ-loop bytes order₀ out₀ x₀ order out x = left x

@@ -1,4 +1,4 @@
-use Rattle.replay.proofs.StepLaws.{line-room, setup-stepped, setup-stopped}
+use Rattle.replay.proofs.StepLaws.{setup-stepped, setup-stopped}
 use borrow.Author.Needs.{needs}
 use Rattle.replay.proofs.setup_step.Statement.{statement}
 use Rattle.replay.proofs.setup_step.Tie as tie
@@ -22,7 +22,7 @@ returns : tie.Need-returns
 returns c = search setup-stopped
 
 setup-line-requires : tie.Need-setup-line-requires
-setup-line-requires c κs = search line-room
+setup-line-requires c κs = search needs
 
 add-next : tie.Need-add-next
 add-next c = search needs

@@ -1,10 +1,9 @@
-use Rattle.replay.proofs.StepLaws.{line-room}
 use borrow.Author.Needs.{needs}
 use Rattle.replay.proofs.stop_step.Statement.{statement}
 use Rattle.replay.proofs.stop_step.Tie as tie
 
 stop-line-requires : tie.Need-stop-line-requires
-stop-line-requires c κs = search line-room
+stop-line-requires c κs = search needs
 
 same-length : tie.Need-same-length
 same-length c = search needs

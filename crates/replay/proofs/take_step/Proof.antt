@@ -1,4 +1,4 @@
-use Rattle.replay.proofs.StepLaws.{line-room, take-stepped}
+use Rattle.replay.proofs.StepLaws.{take-stepped}
 use borrow.Author.Needs.{needs}
 use Rattle.replay.proofs.take_step.Statement.{statement}
 use Rattle.replay.proofs.take_step.Tie as tie
@@ -7,7 +7,7 @@ take-requires : tie.Need-take-requires
 take-requires c κs = search needs
 
 take-line-requires : tie.Need-take-line-requires
-take-line-requires c κs = search line-room
+take-line-requires c κs = search needs
 
 add-next : tie.Need-add-next
 add-next c = search needs
