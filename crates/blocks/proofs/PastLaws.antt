@@ -11,7 +11,7 @@ use Rattle.marks.proofs.BitLaws.{bit-none}
 use Rattle.marks.proofs.MarkLaws.{of-clear, zero-count}
 use Rattle.heap.specs.declared.Superblock.{Superblock}
 use Rattle.heap.specs.declared.State.{State}
-use Rattle.heap.specs.Table.{blank, superblockAt, withSuperblock, liveIn}
+use Rattle.heap.specs.Table.{blank, superblockAt, withSuperblock, liveIn, isUnused}
 
 -- what stands past the table has no marks
 no-bit : (j : ℕ) → markBit [] j ≡ 0
@@ -30,6 +30,10 @@ module _ (s : State) (k : ℕ) (long : length (s .table) ≡ 64) (h : 64 ≤ k) 
 
   pub past-live : 0 ≡ liveIn (superblockAt s k)
   past-live = sym (ap (λ (b : Superblock). liveIn b) past ∙ zero-count [] (λ j l. no-bit j))
+
+  pub past-used : isUnused (superblockAt s k) ≡ false
+  unfolding isUnused
+  past-used = ap (λ (b : Superblock). isUnused b) past
 
   pub past-mark : (j : ℕ) → false ≡ mark (superblockAt s k .live) j
   past-mark j = sym (ap (λ (b : Superblock). mark (b .live) j) past ∙ of-clear [] j (no-bit j))

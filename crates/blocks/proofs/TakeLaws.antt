@@ -14,8 +14,9 @@ use Rattle.heap.specs.declared.State.{State}
 use Rattle.heap.specs.Table.{superblockAt, withSuperblock, liveIn, marked}
 use Rattle.calls.specs.declared.Answer.{Answer}
 use Rattle.calls.specs.declared.Outcome.the-variants.{Address}
-use Rattle.calls.specs.Answers.{After}
+use Rattle.calls.specs.Answers.{After, Told}
 use Rattle.calls.specs.Take.{adopted, adoptedOrder, nextBlock, addressOf, takenFrom, takenFromOther}
+use Rattle.calllaws.proofs.Yields.{told-by}
 
 -- a block of a 16-bit number starts below 2 ^ 28 in its superblock
 pub offset-le : (class j size : ℕ) → size ≡ sizeOf class → j ≤ 65535 → j * size ≤ 65535 * 2048
@@ -45,21 +46,22 @@ pub marked-is : (s : State) (k j : ℕ) (live : List ℕ) → live ≡ withMark 
 marked-is s k j live e = rw e
 
 -- what superblock k gives
-pub taken-is : (k : ℕ) (s : State) (order : List ℕ) (filled j class address : ℕ) (t : State)
-    → filled ≡ blocksOf (superblockAt s k .class) - liveIn (superblockAt s k)
-    → j ≡ lastFilled order k filled
-    → class ≡ superblockAt s k .class
-    → address ≡ addressOf k class j
-    → t ≡ withSuperblock s k (marked (superblockAt s k) j)
-    → _≡_ {A = After} (record { answer = record { outcome = Address address; state = t }; order = order }) (takenFrom k s order)
-unfolding takenFrom nextBlock
-taken-is k s order filled j class address t ef ej ec ea et = rw (et, ea, ec, ej, ef)
+module _ (k : ℕ) (s : State) (order : List ℕ) (filled j class address : ℕ) (t : State)
+    (ef : filled ≡ blocksOf (superblockAt s k .class) - liveIn (superblockAt s k)) (ej : j ≡ lastFilled order k filled) (ec : class ≡ superblockAt s k .class)
+    (ea : address ≡ addressOf k class j) (et : t ≡ withSuperblock s k (marked (superblockAt s k) j)) where
+  pub taken-is : _≡_ {A = After} (record { answer = record { outcome = Address address; state = t }; order = order }) (takenFrom k s order)
+  unfolding takenFrom nextBlock
+  taken-is = rw (et, ea, ec, ej, ef)
+
+  pub taken-told : Told (Address address) (takenFrom k s order .answer .outcome)
+  taken-told = told-by (record { outcome = Address address; state = t }) order (takenFrom k s order) taken-is
 
 -- what superblock k gives once it came to a heap
-pub taken-other-is : (heap class k : ℕ) (s : State) (order left : List ℕ) (t : State) (r : Answer)
-    → left ≡ adoptedOrder class k (superblockAt s k) order
-    → t ≡ withSuperblock s k (adopted heap class (superblockAt s k))
-    → _≡_ {A = After} (record { answer = r; order = left }) (takenFrom k t left)
-    → _≡_ {A = After} (record { answer = r; order = left }) (takenFromOther heap class k s order)
-unfolding takenFromOther
-taken-other-is heap class k s order left t r eo et e = e ∙ ap₂ (takenFrom k) et eo
+module _ (heap class k : ℕ) (s : State) (order left : List ℕ) (t : State) (r : Answer) (eo : left ≡ adoptedOrder class k (superblockAt s k) order)
+    (et : t ≡ withSuperblock s k (adopted heap class (superblockAt s k))) (e : _≡_ {A = After} (record { answer = r; order = left }) (takenFrom k t left)) where
+  pub taken-other-is : _≡_ {A = After} (record { answer = r; order = left }) (takenFromOther heap class k s order)
+  unfolding takenFromOther
+  taken-other-is = e ∙ ap₂ (takenFrom k) et eo
+
+  pub taken-other-told : Told (r .outcome) (takenFromOther heap class k s order .answer .outcome)
+  taken-other-told = told-by r left (takenFromOther heap class k s order) taken-other-is

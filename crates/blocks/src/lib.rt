@@ -6,7 +6,7 @@ ghost use Prim.Native.Nat.{_-_, _≤_};
 ghost use Rattle.classes.specs.Classes.{blocksOf};
 ghost use Rattle.heap.specs.Table.{superblockAt, withSuperblock, liveIn, marked, noState, newState};
 ghost use Rattle.calls.specs.declared.Outcome.the-variants.{Refused};
-ghost use Rattle.calls.specs.Answers.{isProcessor};
+ghost use Rattle.calls.specs.Answers.{isProcessor, Told};
 ghost use Rattle.calls.specs.Take.{adopted, adoptedOrder, addressOf, takenFrom, takenFromOther};
 ghost use Rattle.calls.specs.Free.{blockOf, astray as isAstray, offBlock, isLiveAt, cleanedOf, returnedOrder};
 use calls::Answer;
@@ -47,8 +47,7 @@ fn live_at(s: State, k: usize) -> u32
         return 0;
     }
     let b = s.table[k];
-    let live = b.live;
-    marks::live_count(live)
+    predicates::live_in(b)
 }
 
 // How many places of its order are filled: n - live.
@@ -96,6 +95,7 @@ fn address_of(k: u8, class: u8, j: u16) -> u32
 // Superblock k gives the block in the last filled place of its order.
 pub fn take_from(s: State, order: &[u16], k: u8) -> Answer
     ensures { λ r. ⌜ record { answer = r; order = now (order .entry) } ≡ takenFrom k s (now (order .entry)) ⌝ }
+    ensures told { λ r. ⌜ Told (r .outcome) (takenFrom k s (now (order .entry)) .answer .outcome) ⌝ }
 {
     let i = k as usize;
     let filled = filled_at(s, i);
@@ -113,14 +113,14 @@ pub fn take_from(s: State, order: &[u16], k: u8) -> Answer
 fn adopt(b: Superblock, heap: u8, class: u8) -> Superblock
     ensures { λ r. ⌜ r ≡ adopted heap class b ⌝ }
 {
-    let live = b.live;
-    if marks::live_count(live) == 0 {
+    if predicates::live_in(b) == 0 {
         return Superblock {
             owner: heap,
             class,
             live: [0u64; 4],
         };
     }
+    let live = b.live;
     Superblock {
         owner: heap,
         class: b.class,
@@ -154,6 +154,7 @@ fn adopt_order(s: State, order: &mut [u16], class: u8, k: u8)
 // Superblock k comes to the heap from place 2, 3 or 4, and gives a block.
 pub fn take_from_other(s: State, order: &mut [u16], heap: u8, class: u8, k: u8) -> Answer
     ensures { λ r. ⌜ record { answer = r; order = now (order .exit) } ≡ takenFromOther heap class k s (now (order .entry)) ⌝ }
+    ensures told { λ r. ⌜ Told (r .outcome) (takenFromOther heap class k s (now (order .entry)) .answer .outcome) ⌝ }
 {
     adopt_order(s, order, class, k);
     let t = adopt_at(s, heap, class, k as usize);
@@ -181,13 +182,11 @@ pub fn astray(s: State, address: u32) -> bool
         return true;
     }
     let k = (address / 4096) as usize;
-    if owner_at(s, k) != 255 {
+    if k >= 64 {
         return false;
     }
-    if class_at(s, k) != 0 {
-        return false;
-    }
-    live_at(s, k) == 0
+    let b = s.table[k];
+    predicates::is_unused(b)
 }
 
 // The block that the address lies in; 0 where its superblock's class has no block size.
@@ -262,13 +261,10 @@ pub fn clean(s: State, address: u32) -> State
 pub fn return_block(s: State, order: &mut [u16], address: u32)
     ensures { λ _. ⌜ now (order .exit) ≡ returnedOrder s (now (order .entry)) address ⌝ }
 {
-    let k = (address / 4096) as usize;
-    let next = k * 256 + filled_at(s, k) as usize;
+    let k = address / 4096;
+    let next = filled_at(s, k as usize);
     let j = block_at(s, address);
-    if next >= order.len() {
-        return;
-    }
-    order[next] = j;
+    order::put_place(order, k, next, j);
 }
 
 // ---- answers
@@ -276,6 +272,7 @@ pub fn return_block(s: State, order: &mut [u16], address: u32)
 // The refusal with its number alone.
 pub fn refuse(s: State, number: u8) -> Answer
     ensures { λ r. ⌜ r ≡ record { outcome = Refused number; state = s } ⌝ }
+    ensures told { λ r. ⌜ Told (r .outcome) (Refused number) ⌝ }
 {
     Answer {
         outcome: Outcome::Refused(number),

@@ -2,8 +2,6 @@
 // serves them all.
 ghost use mathlib.Core.Path.{_≡_};
 ghost use Prim.Native.Nat.{_≤_};
-ghost use Rattle.heap.specs.Table.{liveIn, isUnused};
-ghost use Rattle.heap.specs.Counts.{belongs as belongsTo};
 ghost use Rattle.heap.specs.Choice.{chosenBelow, moreLive, fewerLive, hasFree, emptyInZero, fullest as fullestOf, lowestEmpty, lowestUnused, emptiest as emptiestOf};
 ghost use Rattle.choose.specs.Wants.{wantedBy, betterBy, leads};
 use heap::Found;
@@ -25,57 +23,33 @@ struct Lead {
     block: Superblock,
 }
 
-// How many blocks of a superblock are live.
-pub fn live_in(b: Superblock) -> u32
-    ensures { λ r. ⌜ (r ≡ liveIn b) × (r ≤ 256) ⌝ }
-{
-    let live = b.live;
-    marks::live_count(live)
-}
-
-// A superblock of the heap and class.
-pub fn belongs(b: Superblock, heap: u8, class: u8) -> bool
-    ensures { λ r. ⌜ r ≡ belongsTo heap class b ⌝ }
-{
-    b.owner == heap && b.class == class
-}
-
-// Owner 255, class 0, nothing live.
-pub fn is_unused(b: Superblock) -> bool
-    ensures { λ r. ⌜ r ≡ isUnused b ⌝ }
-{
-    if b.owner == 255 {
-        return b.class == 0 && live_in(b) == 0;
-    }
-    false
-}
-
 // A superblock of the heap and class, with a free block.
 fn has_free(b: Superblock, heap: u8, class: u8) -> bool
     ensures { λ r. ⌜ r ≡ hasFree heap class b ⌝ }
 {
-    belongs(b, heap, class) && live_in(b) < classes::block_count(class) as u32
+    predicates::belongs(b, heap, class)
+        && predicates::live_in(b) < classes::block_count(class) as u32
 }
 
 // A superblock of heap 0 with nothing live.
 fn is_empty(b: Superblock) -> bool
     ensures { λ r. ⌜ r ≡ emptyInZero b ⌝ }
 {
-    b.owner == 0 && live_in(b) == 0
+    b.owner == 0 && predicates::live_in(b) == 0
 }
 
 // b has more live blocks than d.
 fn more_live(b: Superblock, d: Superblock) -> bool
     ensures { λ r. ⌜ r ≡ moreLive b d ⌝ }
 {
-    live_in(d) < live_in(b)
+    predicates::live_in(d) < predicates::live_in(b)
 }
 
 // b has fewer live blocks than d.
 fn fewer_live(b: Superblock, d: Superblock) -> bool
     ensures { λ r. ⌜ r ≡ fewerLive b d ⌝ }
 {
-    live_in(b) < live_in(d)
+    predicates::live_in(b) < predicates::live_in(d)
 }
 
 // The choice may fall on b.
@@ -84,9 +58,9 @@ fn wanted(w: Want, b: Superblock) -> bool
 {
     match w {
         Want::HasFree(heap, class) => has_free(b, heap, class),
-        Want::Belongs(heap, class) => belongs(b, heap, class),
+        Want::Belongs(heap, class) => predicates::belongs(b, heap, class),
         Want::Empty => is_empty(b),
-        Want::Unused => is_unused(b),
+        Want::Unused => predicates::is_unused(b),
     }
 }
 

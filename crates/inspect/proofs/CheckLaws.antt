@@ -2,39 +2,34 @@
 use mathlib.Core.Path.{_≡_, refl, sym, ap, _∙_}
 use mathlib.Core.Bool.{Bool, true, false, not}
 use mathlib.Core.List.{List}
-use Prim.Native.Nat.{ℕ, zero, suc, _+_, _≤_, _<_}
+use Prim.Native.Nat.{ℕ, _+_, _-_, _*_, _≤_, _<_}
 use native.Mathlib.Omega.{arith}
 use borrow.Author.Count.{below-more}
 use borrow.Author.Tests.{not-true, not-false, eqb-true, eq-eqb, ne-eqb, le-leb, lt-leb, lt-ltb, le-ltb}
-use lib.Dec.{T, eqb}
+use lib.Dec.{T, eqb, ltb}
 use Rattle.laws.specs.Sums.{both, either, allBelow}
 use Rattle.laws.proofs.Tests.{T-true, both-no, both-yes}
 use Rattle.laws.proofs.SumLaws.{all-both, all-false, all-true}
 use Rattle.classes.specs.Classes.{blocksOf}
-use Rattle.marks.specs.Marks.{liveCount}
 use Rattle.filled.specs.Filled.{placesGood}
 use Rattle.heap.specs.declared.Superblock.{Superblock}
 use Rattle.heap.specs.declared.Setup.{Setup}
 use Rattle.heap.specs.declared.State.{State}
-use Rattle.heap.specs.Table.{superblockAt, isUnused}
+use Rattle.heap.specs.Table.{superblockAt, liveIn, isUnused}
 use Rattle.heap.specs.Check.{superblockGood, unusedFrom, sparseIfZero, heapsHeld, restGood}
-use Rattle.inspect.specs.Parts.{sparse, aloneGood, eachGood}
+use Rattle.inspect.specs.Parts.{aloneGood, eachGood}
 
 -- a test that a call answered, and that was passed
 pub passed : (a b : Bool) → a ≡ b → not a ≡ false → T b
 passed a b e f = T-true b (sym e ∙ not-false a f)
 
-module _ (u : Setup) (order : List ℕ) (k : ℕ) (b : Superblock) (live : ℕ) (r : Bool) (count : live ≡ liveCount (b .live))
-    (unused : r ≡ both (eqb (b .owner) 255) (both (eqb (b .class) 0) (eqb live 0))) where
-  is-unused : r ≡ isUnused b
-  unfolding isUnused
-  is-unused = unused ∙ ap (λ (n : ℕ). both (eqb (b .owner) 255) (both (eqb (b .class) 0) (eqb n 0))) count
-
+module _ (u : Setup) (order : List ℕ) (k : ℕ) (b : Superblock) (r : Bool) (unused : r ≡ isUnused b) where
   pub alone-unused : r ≡ true → true ≡ aloneGood u order k b
-  unfolding aloneGood superblockGood unusedFrom sparseIfZero
+  unfolding aloneGood superblockGood unusedFrom sparseIfZero isUnused
   alone-unused e =
-      let o : b .owner ≡ 255 = eqb-true (b .owner) 255 (owner (eqb (b .owner) 255) (both (eqb (b .class) 0) (eqb live 0)) (sym unused ∙ e)) in
-      sym (simp (sym is-unused ∙ e, either-yes, ne-eqb (b .owner) 0 (λ (z : b .owner ≡ 0). omega arith)))
+      let is : isUnused b ≡ true = sym unused ∙ e in
+      let o : b .owner ≡ 255 = eqb-true (b .owner) 255 (owner (eqb (b .owner) 255) (both (eqb (b .class) 0) (eqb (liveIn b) 0)) is) in
+      sym (simp (is, either-yes, ne-eqb (b .owner) 0 (λ (z : b .owner ≡ 0). omega arith)))
     where
       owner : (x y : Bool) → both x y ≡ true → x ≡ true
       owner true y q = refl
@@ -46,35 +41,38 @@ module _ (u : Setup) (order : List ℕ) (k : ℕ) (b : Superblock) (live : ℕ) 
 
   module _ (some : r ≡ false) where
     not-unused : isUnused b ≡ false
-    not-unused = sym is-unused ∙ some
+    not-unused = sym unused ∙ some
 
     pub alone-past : u .superblocks ≤ k → false ≡ aloneGood u order k b
-    unfolding aloneGood superblockGood unusedFrom sparseIfZero
+    unfolding aloneGood superblockGood unusedFrom
     alone-past h = sym (simp (not-unused, le-ltb k (u .superblocks) h, both-no))
 
     pub alone-owner : u .processors < b .owner → false ≡ aloneGood u order k b
-    unfolding aloneGood superblockGood unusedFrom sparseIfZero
+    unfolding aloneGood superblockGood
     alone-owner h = sym (simp (not-unused, lt-leb (b .owner) (u .processors) h))
 
     pub alone-class : b .owner ≤ u .processors → 27 ≤ b .class → false ≡ aloneGood u order k b
-    unfolding aloneGood superblockGood unusedFrom sparseIfZero
+    unfolding aloneGood superblockGood
     alone-class o h = sym (simp (not-unused, le-ltb (b .class) 27 h, both-no))
 
-    pub alone-dense : (t : Bool) → t ≡ either (not (eqb (b .owner) 0)) (sparse u live (blocksOf (b .class))) → not t ≡ true → false ≡ aloneGood u order k b
-    unfolding aloneGood sparseIfZero sparse
-    alone-dense t e f = sym (simp (← count, sym e ∙ not-true t f, both-no))
+    pub alone-dense : (t : Bool) → t ≡ sparseIfZero u b → not t ≡ true → false ≡ aloneGood u order k b
+    unfolding aloneGood
+    alone-dense t e f = sym (simp (sym e ∙ not-true t f, both-no))
 
-    pub alone-places : (t g : Bool) → k < u .superblocks → b .owner ≤ u .processors → b .class < 27 → t ≡ either (not (eqb (b .owner) 0)) (sparse u live (blocksOf (b .class))) → not t ≡ false
-        → g ≡ placesGood order (b .live) k (blocksOf (b .class)) → g ≡ aloneGood u order k b
-    unfolding aloneGood superblockGood unusedFrom sparseIfZero sparse
-    alone-places t g below owner class e f p = p ∙ sym (simp (not-unused, lt-ltb k (u .superblocks) below, le-leb (b .owner) (u .processors) owner, lt-ltb (b .class) 27 class, ← count, sym e ∙ not-false t f, both-yes))
+    pub alone-places : (t g : Bool) → k < u .superblocks → b .owner ≤ u .processors → b .class < 27 → t ≡ sparseIfZero u b → not t ≡ false → g ≡ placesGood order (b .live) k (blocksOf (b .class))
+        → g ≡ aloneGood u order k b
+    unfolding aloneGood superblockGood unusedFrom
+    alone-places t g below owner class e f p = p ∙ sym (simp (not-unused, lt-ltb k (u .superblocks) below, le-leb (b .owner) (u .processors) owner, lt-ltb (b .class) 27 class, sym e ∙ not-false t f, both-yes))
 
 -- heap 0's superblocks are sparse
-pub sparse-other : (u : Setup) (owner live class : ℕ) → (owner ≡ 0 → ⊥) → true ≡ either (not (eqb owner 0)) (sparse u live (blocksOf class))
-sparse-other u owner live class f = sym (simp (ne-eqb owner 0 f))
+module _ (u : Setup) (b : Superblock) where
+  pub sparse-other : (b .owner ≡ 0 → ⊥) → true ≡ sparseIfZero u b
+  unfolding sparseIfZero
+  sparse-other f = sym (simp (ne-eqb (b .owner) 0 f))
 
-pub sparse-zero : (u : Setup) (owner live class n : ℕ) (r : Bool) → owner ≡ 0 → n ≡ blocksOf class → r ≡ sparse u live n → r ≡ either (not (eqb owner 0)) (sparse u live (blocksOf class))
-sparse-zero u owner live class n r z e t = t ∙ sym (simp (eq-eqb owner 0 z, ← e))
+  pub sparse-zero : (n live : ℕ) (r : Bool) → b .owner ≡ 0 → n ≡ blocksOf (b .class) → live ≡ liveIn b → r ≡ ltb (u .q * live) ((u .q - u .p) * n) → r ≡ sparseIfZero u b
+  unfolding sparseIfZero
+  sparse-zero n live r z e l t = t ∙ sym (simp (eq-eqb (b .owner) 0 z, ← e, ← l))
 
 -- the loop over the table
 pub each-false : (s : State) (order : List ℕ) (k : ℕ) (r : Bool) → k < 64 → r ≡ aloneGood (s .setup) order k (superblockAt s k) → not r ≡ true → false ≡ eachGood s order

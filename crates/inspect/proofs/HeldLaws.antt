@@ -7,7 +7,7 @@ use native.Mathlib.Nat.{zero-mul}
 use native.Mathlib.Decide.{decLt}
 use native.Mathlib.Omega.{arith}
 use borrow.Author.Count.{below-more}
-use borrow.Author.Tests.{le-leb, lt-leb, lt-ltb, le-ltb, not-true, not-false}
+use borrow.Author.Tests.{le-leb, lt-leb, not-true, not-false}
 use lib.Dec.{T, leb, leb→le}
 use Rattle.laws.specs.Sums.{either, allBelow}
 use Rattle.laws.proofs.Tests.{T-true, T-false, true-T, false-T, both-left, both-right, both-no, either-other}
@@ -18,19 +18,11 @@ use Rattle.heap.specs.declared.State.{State}
 use Rattle.heap.specs.Counts.{total, superblocksOf, blocksIn, liveOf}
 use Rattle.heap.specs.Moves.{bothConditions, mustMove}
 use Rattle.heap.specs.Check.{within, heapsHeld}
+use Rattle.predicates.proofs.RuleLaws.{first-not-met}
 use Rattle.inspect.proofs.CheckLaws.{passed}
-use Rattle.inspect.specs.Parts.{sparse, pairHeld, classHeld, Tallied, heapHeld, nineHeld}
+use Rattle.inspect.specs.Parts.{pairHeld, classHeld, Tallied, heapHeld, nineHeld}
 
--- ---- the two conditions
-module _ (u : Setup) (n a live : ℕ) where
-  pub both-sparse : (r : Bool) → live + u .spare * n < a → r ≡ sparse u live a → r ≡ bothConditions (u .spare) (u .p) (u .q) n a live
-  unfolding bothConditions sparse
-  both-sparse r l e = e ∙ sym (simp (lt-ltb (live + u .spare * n) a l))
-
-  pub both-not : a ≤ live + u .spare * n → false ≡ bothConditions (u .spare) (u .p) (u .q) n a live
-  unfolding bothConditions
-  both-not l = sym (simp (le-ltb (live + u .spare * n) a l))
-
+-- ---- one heap and class
 module _ (u : Setup) (class superblocks live : ℕ) where
   -- without superblocks there is no block
   pub pair-none : superblocks < 1 → true ≡ pairHeld u class superblocks live
@@ -38,7 +30,7 @@ module _ (u : Setup) (class superblocks live : ℕ) where
   pair-none l =
       let z : superblocks ≡ 0 = omega arith in
       let h : superblocks * blocksOf class ≤ live + u .spare * blocksOf class = rw (z, zero-mul) zero-le in
-      ap not (both-not u (blocksOf class) (superblocks * blocksOf class) live h)
+      ap not (first-not-met (u .spare) (u .p) (u .q) (blocksOf class) (superblocks * blocksOf class) live h)
 
   pub pair-some : (n : ℕ) (r : Bool) → n ≡ blocksOf class → r ≡ bothConditions (u .spare) (u .p) (u .q) n (superblocks * n) live → not r ≡ pairHeld u class superblocks live
   unfolding pairHeld
@@ -145,7 +137,7 @@ module _ (s : State) (first : ℕ) (superblocks live : List ℕ) (t : Tallied (s
   nine-not r e f =
       sym (false-T (heapsHeld s) (λ all. T-false _ (sym e ∙ not-true r f) (all-from (heapHeld (s .setup) superblocks live first) 9 (heap-of all))))
 
-pub held-start : (s : State) (h : ℕ) → 1 ≤ h → h ≤ s .setup .processors → h < 0 → T (held s h)
+pub held-start : (s : State) (h : ℕ) → 1 ≤ h → h ≤ s .setup .processors → h < 1 → T (held s h)
 held-start s h low high below = absurd (let z : ⊥ = omega arith in z)
 
 pub held-end : (s : State) (first : ℕ) → s .setup .processors < first → ((h : ℕ) → 1 ≤ h → h ≤ s .setup .processors → h < first → T (held s h)) → true ≡ heapsHeld s

@@ -1,24 +1,34 @@
 -- The setup numbers: the answer at each way out. Assumes nothing.
 use mathlib.Core.Path.{_≡_, sym, _∙_}
 use mathlib.Core.Bool.{Bool, true, false, not}
-use Prim.Native.Nat.{_≤_, _<_}
+use Prim.Native.Nat.{ℕ, _≤_, _<_}
+use native.Mathlib.Omega.{arith}
 use borrow.Author.Tests.{not-true, not-false, le-leb, lt-leb, lt-ltb, le-ltb}
-use Rattle.laws.proofs.Tests.{both-no}
+use lib.Dec.{T, leb, leb→le}
+use Rattle.laws.proofs.Tests.{T-true, T-false, false-T, both-left, both-right, both-make, both-no}
 use Rattle.heap.specs.declared.Setup.{Setup}
 use Rattle.heap.specs.Check.{within, lawful}
 
-module _ (u : Setup) (r : Bool) where
-  pub unlawful-processors : r ≡ within 1 8 (u .processors) → not r ≡ true → false ≡ lawful u
-  unfolding lawful
-  unlawful-processors e f = sym (simp (sym e ∙ not-true r f))
+-- what is outside wider limits is outside these
+outside : (a b m n x : ℕ) (r : Bool) → m ≤ a → b ≤ n → r ≡ within m n x → not r ≡ true → within a b x ≡ false
+outside a b m n x r l h e f =
+    false-T (within a b x) (λ (t : T (within a b x)).
+    let p : a ≤ x = leb→le a x (both-left (leb a x) (leb x b) t) in
+    let q : x ≤ b = leb→le x b (both-right (leb a x) (leb x b) t) in
+    T-false (within m n x) (sym e ∙ not-true r f) (both-make (leb m x) (leb x n) (T-true _ (le-leb m x (omega arith))) (T-true _ (le-leb x n (omega arith)))))
 
-  pub unlawful-superblocks : r ≡ within 1 64 (u .superblocks) → not r ≡ true → false ≡ lawful u
+module _ (u : Setup) (m n : ℕ) (r : Bool) where
+  pub unlawful-processors : m ≤ 1 → 8 ≤ n → r ≡ within m n (u .processors) → not r ≡ true → false ≡ lawful u
   unfolding lawful
-  unlawful-superblocks e f = sym (simp (sym e ∙ not-true r f, both-no))
+  unlawful-processors l h e f = sym (simp (outside 1 8 m n (u .processors) r l h e f))
 
-  pub unlawful-spare : r ≡ within 1 16 (u .spare) → not r ≡ true → false ≡ lawful u
+  pub unlawful-superblocks : m ≤ 1 → 64 ≤ n → r ≡ within m n (u .superblocks) → not r ≡ true → false ≡ lawful u
   unfolding lawful
-  unlawful-spare e f = sym (simp (sym e ∙ not-true r f, both-no))
+  unlawful-superblocks l h e f = sym (simp (outside 1 64 m n (u .superblocks) r l h e f, both-no))
+
+  pub unlawful-spare : m ≤ 1 → 16 ≤ n → r ≡ within m n (u .spare) → not r ≡ true → false ≡ lawful u
+  unfolding lawful
+  unlawful-spare l h e f = sym (simp (outside 1 16 m n (u .spare) r l h e f, both-no))
 
 pub unlawful-p : (u : Setup) → u .p < 1 → false ≡ lawful u
 unfolding lawful

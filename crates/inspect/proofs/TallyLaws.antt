@@ -110,16 +110,16 @@ none-at zero x = refl
 none-at (suc n) zero = refl
 none-at (suc n) (suc x) = none-at n x
 
-pub tally-none : (table : List Superblock) (first : ℕ) (superblocks live : List ℕ) → superblocks ≡ replicate 243 0 → live ≡ replicate 243 0 → Tallied table first 0 superblocks live
-tally-none table first superblocks live p q =
-    record {
-      superblocks-long = ap length p ∙ length-replicate {A = ℕ} 243 0;
-      live-long = ap length q ∙ length-replicate {A = ℕ} 243 0;
-      superblocks-few = λ x. rw p (omega (arith, none-at 243 x));
-      live-few = λ x. rw q (omega (arith, none-at 243 x));
-      superblocks-are = λ j c lj lc. rw p (none-at 243 (j * 27 + c) ∙ sym (sum-zero-is (λ i. oneOf (first + j) c (getD table i blank))));
-      live-are = λ j c lj lc. rw q (none-at 243 (j * 27 + c) ∙ sym (sum-zero-is (λ i. liveIfOf (first + j) c (getD table i blank))));
-    }
+pub tally-none : (table : List Superblock) (first k : ℕ) (superblocks live : List ℕ) → k ≡ 0 → superblocks ≡ replicate 243 0 → live ≡ replicate 243 0 → Tallied table first k superblocks live
+tally-none table first k superblocks live z p q =
+    rw (z, p, q) (record {
+      superblocks-long = length-replicate {A = ℕ} 243 0;
+      live-long = length-replicate {A = ℕ} 243 0;
+      superblocks-few = λ x. omega (arith, none-at 243 x);
+      live-few = λ x. omega (arith, none-at 243 x);
+      superblocks-are = λ j c lj lc. none-at 243 (j * 27 + c) ∙ sym (sum-zero-is (λ i. oneOf (first + j) c (getD table i blank)));
+      live-are = λ j c lj lc. none-at 243 (j * 27 + c) ∙ sym (sum-zero-is (λ i. liveIfOf (first + j) c (getD table i blank)));
+    })
 
 module _ (table : List Superblock) (first k x : ℕ) (superblocks live : List ℕ) (t : Tallied table first k superblocks live)
     (slot : x ≡ slotOf first (getD table k blank .owner) (getD table k blank .class)) where

@@ -15,10 +15,6 @@ use Rattle.heap.specs.Counts.{oneOf, liveIfOf}
 use Rattle.heap.specs.Moves.{bothConditions}
 use Rattle.heap.specs.Check.{within, superblockGood, unusedFrom, sparseIfZero}
 
--- "q × u < (q - p) × a", and "q × live < (q - p) × n"
-unfoldable pub sparse : Setup → ℕ → ℕ → Bool
-sparse u live blocks = ltb (u .q * live) ((u .q - u .p) * blocks)
-
 -- what the check asks of superblock k alone
 unfoldable pub aloneGood : Setup → List ℕ → ℕ → Superblock → Bool
 aloneGood u order k b = both (superblockGood u order k b) (both (unusedFrom (u .superblocks) k b) (sparseIfZero u b))

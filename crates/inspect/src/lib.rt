@@ -2,15 +2,10 @@
 // The rest takes one pass over the table for what is asked of each superblock alone, one that tallies the superblocks and
 // live blocks by heap and class, and one over the tallied numbers for the move rule.
 ghost use mathlib.Core.Path.{_≡_};
-ghost use mathlib.Core.Bool.{not};
-ghost use Prim.Native.Nat.{ℕ, _-_, _*_, _≤_, _<_};
-ghost use lib.Dec.{eqb};
+ghost use Prim.Native.Nat.{ℕ, _≤_, _<_};
 ghost use lib.ListN.{getD};
-ghost use Rattle.laws.specs.Sums.{both, either};
-ghost use Rattle.classes.specs.Classes.{blocksOf};
-ghost use Rattle.heap.specs.Moves.{bothConditions};
-ghost use Rattle.heap.specs.Check.{within, lawful, heapsHeld, restGood};
-ghost use Rattle.inspect.specs.Parts.{sparse, aloneGood, eachGood, pairHeld, slotOf, Tallied, heapHeld, nineHeld};
+ghost use Rattle.heap.specs.Check.{within, lawful, sparseIfZero, heapsHeld, restGood};
+ghost use Rattle.inspect.specs.Parts.{aloneGood, eachGood, pairHeld, slotOf, Tallied, heapHeld, nineHeld};
 use heap::Setup;
 use heap::State;
 use heap::Superblock;
@@ -78,87 +73,38 @@ fn each_good(s: State, order: &[u16]) -> bool
 fn alone_good(setup: Setup, order: &[u16], k: u8, b: Superblock) -> bool
     ensures { λ r. ⌜ r ≡ aloneGood setup (now (order .entry)) k b ⌝ }
 {
-    let owner = b.owner;
-    let class = b.class;
-    let bits = b.live;
-    let live = marks::live_count(bits);
-    if is_unused(owner, class, live) {
+    if predicates::is_unused(b) {
         return true;
     }
     if setup.superblocks <= k {
         return false;
     }
-    if setup.processors < owner {
+    if setup.processors < b.owner {
         return false;
     }
-    if class >= 27 {
+    if b.class >= 27 {
         return false;
     }
-    if !sparse_if_zero(setup, owner, class, live) {
+    if !sparse_if_zero(setup, b) {
         return false;
     }
-    filled::places_good(order, bits, k, class)
-}
-
-// Owner, class and live count are those of an unused superblock.
-fn is_unused(owner: u8, class: u8, live: u32) -> bool
-    ensures { λ r. ⌜ r ≡ both (eqb owner 255) (both (eqb class 0) (eqb live 0)) ⌝ }
-{
-    if owner != 255 {
-        return false;
-    }
-    if class != 0 {
-        return false;
-    }
-    live == 0
+    let live = b.live;
+    filled::places_good(order, live, k, b.class)
 }
 
 // A superblock is not heap 0's, or has few enough live blocks.
-fn sparse_if_zero(setup: Setup, owner: u8, class: u8, live: u32) -> bool
-    requires { ⌜ live ≤ 256 ⌝ }
-    ensures { λ r. ⌜ r ≡ either (not (eqb owner 0)) (sparse setup live (blocksOf class)) ⌝ }
+fn sparse_if_zero(setup: Setup, b: Superblock) -> bool
+    ensures { λ r. ⌜ r ≡ sparseIfZero setup b ⌝ }
 {
-    if owner != 0 {
+    if b.owner != 0 {
         return true;
     }
-    let n = classes::block_count(class) as u32;
-    is_sparse(setup, live, n)
+    let n = classes::block_count(b.class) as u32;
+    let live = predicates::live_in(b);
+    predicates::is_sparse(setup, live, n)
 }
 
 // ---- the move rule
-
-// The second condition of the move rule, which each superblock of heap 0 has to meet as well: q × u < (q - p) × a.
-fn is_sparse(setup: Setup, live: u32, blocks: u32) -> bool
-    requires { ⌜ (live ≤ 16384) × (blocks ≤ 16384) ⌝ }
-    ensures { λ r. ⌜ r ≡ sparse setup live blocks ⌝ }
-{
-    let q = setup.q as u32;
-    let d = difference(setup.q, setup.p);
-    q * live < d * blocks
-}
-
-// q - p, or 0 where p is the larger.
-fn difference(q: u8, p: u8) -> u32
-    ensures { λ r. ⌜ (r ≡ q - p) × (r ≤ 255) ⌝ }
-{
-    if q < p {
-        return 0;
-    }
-    (q - p) as u32
-}
-
-// Both conditions of the move rule, for so many superblocks of n blocks with so many live.
-fn both_conditions(setup: Setup, n: u32, superblocks: u32, live: u32) -> bool
-    requires { ⌜ (n ≤ 256) × (superblocks ≤ 64) × (live ≤ 16384) ⌝ }
-    ensures { λ r. ⌜ r ≡ bothConditions (setup .spare) (setup .p) (setup .q) n (superblocks * n) live ⌝ }
-{
-    let a = superblocks * n;
-    let spare = setup.spare as u32 * n;
-    if live + spare < a {
-        return is_sparse(setup, live, a);
-    }
-    false
-}
 
 // So many superblocks of a class with so many live do not meet both conditions. Where there are none, n is not looked up.
 fn pair_held(setup: Setup, class: u8, superblocks: u32, live: u32) -> bool
@@ -169,7 +115,7 @@ fn pair_held(setup: Setup, class: u8, superblocks: u32, live: u32) -> bool
         return true;
     }
     let n = classes::block_count(class) as u32;
-    !both_conditions(setup, n, superblocks, live)
+    !predicates::both_conditions(setup, n, superblocks * n, live)
 }
 
 // ---- the tally
@@ -211,9 +157,8 @@ fn tally_from(s: State, first: usize) -> Tally
         let b = s.table[k];
         let at = slot(first, b.owner, b.class);
         if at < 243 {
-            let bits = b.live;
             superblocks[at] += 1;
-            live[at] += marks::live_count(bits);
+            live[at] += predicates::live_in(b);
         }
         k += 1;
     }
@@ -253,15 +198,13 @@ fn heap_held(
 }
 
 // The nine heaps of a tally.
-fn nine_held(setup: Setup, t: Tally, first: usize) -> bool
-    requires { ⌜ (first ≤ 255) × ((x : ℕ) → getD (t .superblocks) x 0 ≤ 64) × ((x : ℕ) → getD (t .live) x 0 ≤ 16384) ⌝ }
-    ensures { λ r. ⌜ r ≡ nineHeld setup (t .superblocks) (t .live) first ⌝ }
+fn nine_held(setup: Setup, superblocks: &[u32; 243], live: &[u32; 243], first: usize) -> bool
+    requires { ⌜ (first ≤ 255) × ((x : ℕ) → getD (now superblocks) x 0 ≤ 64) × ((x : ℕ) → getD (now live) x 0 ≤ 16384) ⌝ }
+    ensures { λ r. ⌜ r ≡ nineHeld setup (now (superblocks .entry)) (now (live .entry)) first ⌝ }
 {
-    let superblocks = t.superblocks;
-    let live = t.live;
     let mut j: usize = 0;
     while j < 9 {
-        if !heap_held(setup, &superblocks, &live, first, j) {
+        if !heap_held(setup, superblocks, live, first, j) {
             return false;
         }
         j += 1;
@@ -269,17 +212,19 @@ fn nine_held(setup: Setup, t: Tally, first: usize) -> bool
     true
 }
 
-// No processor heap and class meets both conditions of the move rule. The heaps are tallied nine at a time: a lawful setup has
-// no others than 0 to 8, and one tally serves; any other number of processors is answered by the same rule.
+// No processor heap and class meets both conditions of the move rule. The heaps are tallied nine at a time, from
+// heap 1: a lawful setup has no others than 1 to 8, and one tally serves; any other number of processors is answered by the same rule.
 fn heaps_held(s: State) -> bool
     ensures { λ r. ⌜ r ≡ heapsHeld s ⌝ }
 {
     let setup = s.setup;
     let last = setup.processors as usize;
-    let mut first: usize = 0;
+    let mut first: usize = 1;
     while first <= last {
         let t = tally_from(s, first);
-        if !nine_held(setup, t, first) {
+        let superblocks = t.superblocks;
+        let live = t.live;
+        if !nine_held(setup, &superblocks, &live, first) {
             return false;
         }
         first += 9;

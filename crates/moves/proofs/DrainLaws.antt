@@ -1,8 +1,9 @@
--- Laws of the move rule's code: the test, one superblock passed on, and the loop of the moves. Assumes nothing.
+-- Laws of the move rule's code: one superblock counted, the test, one superblock passed on, and the loop of the moves. Assumes nothing.
 use mathlib.Core.Path.{_≡_, refl, sym, ap, _∙_}
 use mathlib.Core.Bool.{Bool, true, false}
 use mathlib.Core.List.{List}
 use Prim.Native.Nat.{ℕ, suc, _+_, _-_, _*_, _≤_, _<_}
+use native.Mathlib.Nat.{add-zero}
 use native.Mathlib.Omega.{arith}
 use mir.Syntax.{w8}
 use mir.Val.{Fits}
@@ -15,12 +16,30 @@ use Rattle.heap.specs.declared.State.{State}
 use Rattle.heap.specs.declared.Moved.{Moved}
 use Rattle.heap.specs.declared.Found.{Found}
 use Rattle.heap.specs.declared.Found.the-variants.{At, Nothing}
-use Rattle.heap.specs.Table.{superblockAt, ownedBy}
-use Rattle.heap.specs.Counts.{superblocksOf, blocksIn, liveOf}
+use Rattle.heap.specs.Table.{superblockAt, ownedBy, liveIn}
+use Rattle.heap.specs.Counts.{belongs, oneOf, liveIfOf, superblocksOf, blocksIn, liveOf}
 use Rattle.heap.specs.Choice.{emptiest}
 use Rattle.heap.specs.Moves.{bothConditions, mustMove, passed, passedFound, movesFor, moved}
 use Rattle.heap.proofs.CountLaws.{superblocks-le}
 use Rattle.heap.proofs.MoveLaws.{move-takes, moves-stop, moves-go}
+
+-- one superblock more is counted where it belongs to the heap and class, and in no other case
+module _ (h c : ℕ) (b : Superblock) (r : Bool) (e : r ≡ belongs h c b) (n : ℕ) where
+  pub one-counted : r ≡ true → n + 1 ≡ n + oneOf h c b
+  unfolding oneOf
+  one-counted t = rw (← e, t)
+
+  pub live-counted : (live : ℕ) → live ≡ liveIn b → r ≡ true → n + live ≡ n + liveIfOf h c b
+  unfolding liveIfOf
+  live-counted live l t = rw (← e, t, ← l)
+
+  pub one-not-counted : r ≡ false → n ≡ n + oneOf h c b
+  unfolding oneOf
+  one-not-counted f = rw (← e, f) (sym (add-zero n))
+
+  pub live-not-counted : r ≡ false → n ≡ n + liveIfOf h c b
+  unfolding liveIfOf
+  live-not-counted f = rw (← e, f) (sym (add-zero n))
 
 -- the test, from the counts
 pub must-by : (h c : ℕ) (s : State) (n k u : ℕ) (r : Bool) → n ≡ blocksOf c → k ≡ superblocksOf h c s → u ≡ liveOf h c s

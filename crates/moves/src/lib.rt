@@ -1,12 +1,11 @@
 // The move rule: while a processor heap has too few live blocks of a class, its emptiest superblock of the class passes to
 // heap 0.
 ghost use mathlib.Core.Path.{_≡_};
-ghost use Prim.Native.Nat.{_+_, _-_, _≤_, _<_};
+ghost use Prim.Native.Nat.{_+_, _≤_, _<_};
 ghost use Rattle.heap.specs.Counts.{oneOf, liveIfOf, superblocksOf, liveOf};
-ghost use Rattle.heap.specs.Moves.{bothConditions, mustMove, passed, passedFound, moved, settled};
+ghost use Rattle.heap.specs.Moves.{mustMove, passed, passedFound, moved, settled};
 use heap::Found;
 use heap::Moved;
-use heap::Setup;
 use heap::State;
 use heap::Superblock;
 
@@ -21,13 +20,11 @@ fn counted(n: Counts, b: Superblock, heap: u8, class: u8) -> Counts
     requires { ⌜ (n .superblocks < 64) × (n .live ≤ 16128) ⌝ }
     ensures { λ r. ⌜ (r .superblocks ≡ n .superblocks + oneOf heap class b) × (r .live ≡ n .live + liveIfOf heap class b) × (r .superblocks ≤ n .superblocks + 1) × (r .live ≤ n .live + 256) ⌝ }
 {
-    if b.owner == heap {
-        if b.class == class {
-            return Counts {
-                superblocks: n.superblocks + 1,
-                live: n.live + choose::live_in(b),
-            };
-        }
+    if predicates::belongs(b, heap, class) {
+        return Counts {
+            superblocks: n.superblocks + 1,
+            live: n.live + predicates::live_in(b),
+        };
     }
     n
 }
@@ -49,24 +46,6 @@ pub fn count_of(s: State, heap: u8, class: u8) -> Counts
     n
 }
 
-// q - p; 0 where p is above q.
-fn difference(q: u32, p: u32) -> u32
-    ensures { λ r. ⌜ r ≡ q - p ⌝ }
-{
-    if p < q { q - p } else { 0 }
-}
-
-// Both conditions of the move rule, for n blocks in a superblock, a blocks in all and u of them live. They are multiplied
-// out, so that nothing is rounded.
-fn both_conditions(t: Setup, n: u32, a: u32, u: u32) -> bool
-    requires { ⌜ (n ≤ 256) × (a ≤ 16384) × (u ≤ 16384) ⌝ }
-    ensures { λ r. ⌜ r ≡ bothConditions (t .spare) (t .p) (t .q) n a u ⌝ }
-{
-    let q = t.q as u32;
-    let d = difference(q, t.p as u32);
-    u + t.spare as u32 * n < a && q * u < d * a
-}
-
 // The heap and class meet both conditions of the move rule.
 pub fn must_move(s: State, heap: u8, class: u8) -> bool
     ensures { λ r. ⌜ r ≡ mustMove heap class s ⌝ }
@@ -75,7 +54,7 @@ pub fn must_move(s: State, heap: u8, class: u8) -> bool
     let k = count_of(s, heap, class);
     let a = k.superblocks * n;
     let t = s.setup;
-    both_conditions(t, n, a, k.live)
+    predicates::both_conditions(t, n, a, k.live)
 }
 
 // Superblock k passes to heap 0; past the table's end there is none.

@@ -29,7 +29,7 @@ pub fn last_filled(order: &[u16], s: u8, filled: u16) -> u16
 }
 
 // Puts a block in place p of superblock s, where the storage has that place.
-pub fn put_place(order: &mut [u16], s: u8, p: u8, block: u16)
+pub fn put_place(order: &mut [u16], s: u32, p: u16, block: u16)
     ensures { λ _. ⌜ now (order .exit) ≡ withPlace (now (order .entry)) s p block ⌝ }
 {
     let i = s as usize * 256 + p as usize;

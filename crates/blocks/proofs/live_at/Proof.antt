@@ -15,11 +15,11 @@ mul-b c = search needs
 element-copy-out-b : tie.Need-element-copy-out-b
 element-copy-out-b c = search needs
 
-live-count-requires : tie.Need-live-count-requires
-live-count-requires c κs = search needs
+live-in-requires : tie.Need-live-in-requires
+live-in-requires c κs = search needs
 
 returns-2 : tie.Need-returns-2
 returns-2 c = search needs
 
 pub live-at-spec : {M : Type 1} → statement M
-live-at-spec = tie.close (tie.spec returns mul-b element-copy-out-b live-count-requires returns-2)
+live-at-spec = tie.close (tie.spec returns mul-b element-copy-out-b live-in-requires returns-2)

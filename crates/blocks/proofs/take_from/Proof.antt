@@ -1,6 +1,6 @@
 -- `blocks::take_from` meets its contract: the answer and the state are those of the definition, step by step. Assumes nothing.
 use borrow.Author.Needs.{needs}
-use Rattle.blocks.proofs.TakeLaws.{taken-is}
+use Rattle.blocks.proofs.TakeLaws.{taken-is, taken-told}
 use Rattle.blocks.proofs.take_from.Statement.{statement}
 use Rattle.blocks.proofs.take_from.Tie as tie
 
@@ -23,7 +23,7 @@ mark-at-requires : tie.Need-mark-at-requires
 mark-at-requires c κs = search needs
 
 returns : tie.Need-returns
-returns c = search taken-is
+returns c = (search taken-is, search taken-told)
 
 pub take-from-spec : {M : Type 1} → statement M
 take-from-spec =

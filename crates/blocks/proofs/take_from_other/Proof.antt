@@ -1,6 +1,6 @@
 -- `blocks::take_from_other` meets its contract: a take from the superblock that was adopted. Assumes nothing.
 use borrow.Author.Needs.{needs}
-use Rattle.blocks.proofs.TakeLaws.{taken-other-is}
+use Rattle.blocks.proofs.TakeLaws.{taken-other-is, taken-other-told}
 use Rattle.blocks.proofs.take_from_other.Statement.{statement}
 use Rattle.blocks.proofs.take_from_other.Tie as tie
 
@@ -17,7 +17,7 @@ same-length : tie.Need-same-length
 same-length c = search needs
 
 returns : tie.Need-returns
-returns c = search taken-other-is
+returns c = (search taken-other-is, search taken-other-told)
 
 pub take-from-other-spec : {M : Type 1} → statement M
 take-from-other-spec =

@@ -1,7 +1,6 @@
 -- `inspect::each_good` meets its contract. The loop's invariant: the superblocks passed are good. The measure is what is left of the table. Assumes nothing.
 use Prim.Native.Nat.{ℕ, _-_, _≤_, _<_}
 use native.Mathlib.Omega.{arith}
-use borrow.Author.Count.{below-none}
 use borrow.Author.Needs.{needs}
 use lib.Dec.{T}
 use Rattle.heap.specs.Table.{superblockAt}
@@ -17,7 +16,7 @@ abbrev μ-loop : tie.MeasureT-loop
 μ-loop order s setup k₀ k = 64 - k
 
 loop-holds : tie.Need-loop-holds Inv-loop μ-loop
-loop-holds c = (omega arith, below-none _)
+loop-holds c = (omega arith, λ i l. absurd (let z : ⊥ = omega arith in z))
 
 cast-i : tie.Need-cast-i Inv-loop μ-loop
 cast-i c = omega arith

@@ -1,7 +1,6 @@
 -- `inspect::heap_held` meets its contract. The loop's invariant: the classes passed hold. The measure is the classes left. Assumes nothing.
 use Prim.Native.Nat.{ℕ, _-_, _≤_, _<_}
 use native.Mathlib.Omega.{arith}
-use borrow.Author.Count.{below-none}
 use lib.Dec.{T}
 use Rattle.inspect.specs.Parts.{classHeld}
 use Rattle.inspect.proofs.HeldLaws.{heap-zero, heap-past, heap-false, heap-next, heap-true}
@@ -30,7 +29,7 @@ mul-base : tie.Need-mul-base Inv-loop μ-loop
 mul-base c = omega arith
 
 loop-holds : tie.Need-loop-holds Inv-loop μ-loop
-loop-holds c = (omega arith, below-none _)
+loop-holds c = (omega arith, λ i l. absurd (let z : ⊥ = omega arith in z))
 
 cast-at : tie.Need-cast-at Inv-loop μ-loop
 cast-at c = omega arith

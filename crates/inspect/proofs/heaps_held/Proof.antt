@@ -23,7 +23,7 @@ tally-from-requires c κs = omega arith
 
 nine-held-requires : tie.Need-nine-held-requires Inv-loop μ-loop
 nine-held-requires c κs =
-    let t = c .tally-from .ensures in
+    let t = c .before .before .before .before .tally-from .ensures in
     (omega arith, t .superblocks-few, t .live-few)
 
 returns : tie.Need-returns Inv-loop μ-loop
@@ -38,10 +38,10 @@ loop-less c = omega arith
 loop-again : tie.Need-loop-again Inv-loop μ-loop
 loop-again c =
     let n = c .before in
-    let t = n .before .tally-from in
-    let l = n .before .before .before .loop in
-    let s = n .before .before .before .before .before .before .args .s in
-    nine-more s (l .first) (t .result .superblocks) (t .result .live) (t .ensures) (n .nine-held .result) (n .nine-held .ensures) (c .if1 .left) (l .inv)
+    let t = n .before .before .before .before .before in
+    let l = t .before .before .loop in
+    let s = t .before .before .before .before .before .args .s in
+    nine-more s (l .first) (t .tally-from .result .superblocks) (t .tally-from .result .live) (t .tally-from .ensures) (n .nine-held .result) (n .nine-held .ensures) (c .if1 .left) (l .inv)
 
 returns-2 : tie.Need-returns-2 Inv-loop μ-loop
 returns-2 c = search held-end

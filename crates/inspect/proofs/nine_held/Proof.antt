@@ -1,7 +1,6 @@
 -- `inspect::nine_held` meets its contract. The loop's invariant: the heaps passed hold. The measure is the heaps left. Assumes nothing.
 use Prim.Native.Nat.{ℕ, _-_, _≤_, _<_}
 use native.Mathlib.Omega.{arith}
-use borrow.Author.Count.{below-none}
 use lib.Dec.{T}
 use Rattle.inspect.specs.Parts.{heapHeld}
 use Rattle.inspect.proofs.HeldLaws.{nine-false, nine-next, nine-true}
@@ -9,17 +8,17 @@ use Rattle.inspect.proofs.nine_held.Statement.{statement}
 use Rattle.inspect.proofs.nine_held.Tie as tie
 
 abbrev Inv-loop : tie.InvT-loop
-Inv-loop setup first superblocks live j₀ j = (j ≤ 9) × ((i : ℕ) → i < j → T (heapHeld setup superblocks live first i))
+Inv-loop setup superblocks live first j₀ j = (j ≤ 9) × ((i : ℕ) → i < j → T (heapHeld setup superblocks live first i))
 
 abbrev μ-loop : tie.MeasureT-loop
-μ-loop setup first superblocks live j₀ j = 9 - j
+μ-loop setup superblocks live first j₀ j = 9 - j
 
 loop-holds : tie.Need-loop-holds Inv-loop μ-loop
-loop-holds c = (omega arith, below-none _)
+loop-holds c = (omega arith, λ i l. absurd (let z : ⊥ = omega arith in z))
 
 heap-held-requires : tie.Need-heap-held-requires Inv-loop μ-loop
 heap-held-requires c κs =
-    let z = c .before .before .before .before .before .before in
+    let z = c .before .before in
     (z .pre .0, omega arith, z .pre .1, z .pre .2)
 
 returns : tie.Need-returns Inv-loop μ-loop

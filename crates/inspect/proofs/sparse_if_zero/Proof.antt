@@ -13,6 +13,9 @@ block-count-requires c κs = search needs
 cast-n : tie.Need-cast-n
 cast-n c = search needs
 
+live-in-requires : tie.Need-live-in-requires
+live-in-requires c κs = search needs
+
 is-sparse-requires : tie.Need-is-sparse-requires
 is-sparse-requires c κs = search needs
 
@@ -20,4 +23,4 @@ returns-2 : tie.Need-returns-2
 returns-2 c = search sparse-zero
 
 pub sparse-if-zero-spec : {M : Type 1} → statement M
-sparse-if-zero-spec = tie.close (tie.spec returns block-count-requires cast-n is-sparse-requires returns-2)
+sparse-if-zero-spec = tie.close (tie.spec returns block-count-requires cast-n live-in-requires is-sparse-requires returns-2)

@@ -16,7 +16,7 @@ abbrev μ-loop : tie.MeasureT-loop
 μ-loop first s superblocks₀ live₀ k₀ superblocks live k = 64 - k
 
 loop-holds : tie.Need-loop-holds Inv-loop μ-loop
-loop-holds c = (omega arith, tally-none (c .args .t1 .table) (c .args .first) _ _ refl refl)
+loop-holds c = (omega arith, tally-none (c .args .t1 .table) (c .args .first) _ _ _ (omega arith) refl refl)
 
 mul-b : tie.Need-mul-b Inv-loop μ-loop
 mul-b c = omega arith
@@ -39,8 +39,8 @@ add-superblocks c = search superblocks-fit
 array-write-superblocks : tie.Need-array-write-superblocks Inv-loop μ-loop
 array-write-superblocks c = omega arith
 
-live-count-requires : tie.Need-live-count-requires Inv-loop μ-loop
-live-count-requires c κs = search needs
+live-in-requires : tie.Need-live-in-requires Inv-loop μ-loop
+live-in-requires c κs = search needs
 
 mul-live : tie.Need-mul-live Inv-loop μ-loop
 mul-live c = omega arith
@@ -80,7 +80,7 @@ tally-from-spec =
     array-read-superblocks
     add-superblocks
     array-write-superblocks
-    live-count-requires
+    live-in-requires
     mul-live
     array-read-live
     add-live
