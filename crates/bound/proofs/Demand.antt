@@ -20,7 +20,7 @@ use Rattle.calls.specs.Answers.{After}
 use Rattle.calls.specs.Setup.{setupOf}
 use Rattle.bound.specs.Ledger.{Entry, booked}
 use Rattle.bound.specs.Claim.{Step, Linked, Bounded, Claims, raised}
-use Rattle.calls.proofs.SetupLaws.{setup-ready, setup-storage}
+use Rattle.calllaws.proofs.SetupLaws.{setup-ready, setup-storage}
 use Rattle.heap.proofs.CountLaws.{new-owned, new-live-class}
 use Rattle.bound.proofs.LedgerLaws.{met-none, entries-none}
 use Rattle.bound.proofs.LiveLaws.{live-new}

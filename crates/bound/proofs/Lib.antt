@@ -1,3 +1,4 @@
+pub mod ClaimCases
 pub mod LedgerLaws
 pub mod LiveLaws
 pub mod BoundLaws

@@ -17,10 +17,10 @@ use Rattle.calls.specs.Setup.{setupOf}
 use Rattle.calls.specs.Take.{otherPlaces, takenAt, takeOf}
 use Rattle.calls.specs.Free.{astray, offBlock, isLiveAt, freedAt, freeOf}
 use Rattle.calls.specs.Calls.{callOf}
-use Rattle.calls.proofs.Effects.{Passed}
+use Rattle.calllaws.proofs.Effects.{Passed}
 use Rattle.bound.specs.Ledger.{Entry, booked}
 use Rattle.bound.specs.Claim.{Step, Linked, Claims, raised}
-use Rattle.calls.proofs.Checked.{checked-passed}
+use Rattle.calllaws.proofs.Checked.{checked-passed}
 use Rattle.bound.proofs.StepLaws.{Good, next}
 use Rattle.bound.proofs.Demand.{good-start, demand-3}
 

@@ -22,7 +22,7 @@ use Rattle.heap.specs.declared.Setup.{Setup}
 use Rattle.heap.specs.Table.{blank, unused, superblockAt, liveIn, newState}
 use Rattle.heap.specs.Counts.{ownedOfClass, liveOfClass}
 use Rattle.calls.specs.Take.{addressOf}
-use Rattle.calls.proofs.Effects.{TakeEffect, FreeEffect}
+use Rattle.calllaws.proofs.Effects.{TakeEffect, FreeEffect}
 
 -- 1 where a heap owns the superblock for class c and its block j is live, else 0
 unfoldable pub liveFor : ℕ → Superblock → ℕ → ℕ

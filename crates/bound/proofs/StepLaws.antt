@@ -25,11 +25,11 @@ use Rattle.calls.specs.Answers.{After, refused}
 use Rattle.calls.specs.Take.{addressOf, takeOf}
 use Rattle.calls.specs.Free.{superblockOf, homeOf, blockOf, freeOf}
 use Rattle.calls.specs.Calls.{callOf}
-use Rattle.calls.proofs.Effects.{Passed, TakeAccepted, FreeAccepted, TakeEffect, FreeEffect}
+use Rattle.calllaws.proofs.Effects.{Passed, TakeAccepted, FreeAccepted, TakeEffect, FreeEffect}
 use Rattle.bound.specs.Ledger.{Entry, removed, afterTake, afterFree, booked, entriesOf}
 use Rattle.bound.specs.Claim.{Bounded, OwnersKept, raised}
-use Rattle.calls.proofs.TakeLaws.{take-cases, block, take-address, take-effect, take-shape, take-passed}
-use Rattle.calls.proofs.FreeLaws.{free-cases, moves, free-outcome, free-address, free-effect, free-shape, free-passed}
+use Rattle.calllaws.proofs.TakeLaws.{take-cases, block, take-address, take-effect, take-shape, take-passed}
+use Rattle.calllaws.proofs.FreeLaws.{free-cases, moves, free-outcome, free-address, free-effect, free-shape, free-passed}
 use Rattle.bound.proofs.LedgerLaws.{met, met-added, entries-added, met-removed, met-kept, entries-removed}
 use Rattle.bound.proofs.LiveLaws.{liveAt, OneMore, live-off, live-more, take-more, free-more}
 use Rattle.bound.proofs.BoundLaws.{bound-fresh}

@@ -1,14 +1,2 @@
-pub mod Cases
-pub mod Effects
-pub mod Checked
-pub mod SetupLaws
-pub mod SuperblockLaws
-pub mod TakeSteps
-pub mod TakeGiven
-pub mod TakeLaws
-pub mod MovedLaws
-pub mod CleanLaws
-pub mod SettledLaws
-pub mod FreeLaws
-pub mod Refusals
-pub mod Told
+pub mod RuleCases
+pub mod CallCases

@@ -1,12 +1,12 @@
 -- The move rule in cases that tell it from its near misses: the case marked in document 01, "Edges", and those of "Readings that would pass
 -- a hurried eye". By computation. Assumes nothing.
 use mathlib.Core.Path.{_≡_, refl}
-use mathlib.Core.Bool.{true}
+use mathlib.Core.Bool.{true, false}
 use mathlib.Core.List.{List, [], _∷_, _++_, map}
 use Prim.Native.Nat.{ℕ, _-_, _^_}
 use lib.ListN.{length, take, replicate}
 use Rattle.laws.specs.Sums.{sumBelow}
-use Rattle.classes.specs.Classes.{counts, blocksOf}
+use Rattle.classes.specs.Classes.{sizes, counts, sizeOf, blocksOf}
 use Rattle.marks.specs.Marks.{bit, markBit, liveCount}
 use Rattle.heap.specs.declared.Superblock.{Superblock}
 use Rattle.heap.specs.declared.State.{State}
@@ -14,7 +14,7 @@ use Rattle.heap.specs.declared.Moved.{Moved}
 use Rattle.heap.specs.Table.{unused}
 use Rattle.heap.specs.Counts.{total, belongs, oneOf, liveIfOf, superblocksOf, blocksIn, liveOf}
 use Rattle.heap.specs.Choice.{prefer, chosenBelow, fewerLive, emptiest}
-use Rattle.heap.specs.Moves.{bothConditions, mustMove, passed, passedFound, movesFor, moved}
+use Rattle.heap.specs.Moves.{bothConditions, mustMove, passed, passedFound, movesFor, moved, settled}
 
 -- a superblock of heap h and class c, its lowest l blocks live
 abbrev pub holding : ℕ → ℕ → ℕ → Superblock
@@ -88,19 +88,70 @@ full-elsewhere =
     }
 
 abbrev pub cases : List Case
-cases = edge ∷ tails ∷ rounded ∷ first-equal ∷ second-equal ∷ two-spare ∷ empty-elsewhere ∷ full-elsewhere ∷ []
+cases = first-equal ∷ second-equal ∷ two-spare ∷ empty-elsewhere ∷ full-elsewhere ∷ []
 
--- the moves and the owners of the case's superblocks
-abbrev pub found : Case → Moved → ℕ × List ℕ
-found k r = (r .moves, map (λ (b : Superblock). b .owner) (take (length (k .table)) (r .state .table)))
+-- the moves and the owners of the case's superblocks, as the rule leaves them and as they should be
+abbrev pub found : Case → ℕ × List ℕ
+found k =
+    let r : Moved = moved 1 (k .class) (stateOf k) in
+    (r .moves, map (λ (b : Superblock). b .owner) (take (length (k .table)) (r .state .table)))
 
-pub cases-are : map (λ (k : Case). found k (moved 1 (k .class) (stateOf k))) cases ≡ map (λ (k : Case). (k .moves, k .owners)) cases
+abbrev pub expected : Case → ℕ × List ℕ
+expected k = (k .moves, k .owners)
+
+-- in blocks, not in bytes
+pub tails-stay : found tails ≡ expected tails
 unfolding moved movesFor mustMove bothConditions passed passedFound emptiest chosenBelow prefer fewerLive belongs total oneOf liveIfOf superblocksOf blocksIn liveOf
-    sumBelow counts blocksOf bit markBit liveCount
+    sumBelow sizes counts sizeOf blocksOf bit markBit liveCount
+tails-stay = refl
+
+-- compared before it is divided
+pub rounded-moves : found rounded ≡ expected rounded
+unfolding moved movesFor mustMove bothConditions passed passedFound emptiest chosenBelow prefer fewerLive belongs total oneOf liveIfOf superblocksOf blocksIn liveOf
+    sumBelow sizes counts sizeOf blocksOf bit markBit liveCount
+rounded-moves = refl
+
+-- two moves in one free
+pub edge-moves-two : found edge ≡ expected edge
+unfolding moved movesFor mustMove bothConditions passed passedFound emptiest chosenBelow prefer fewerLive belongs total oneOf liveIfOf superblocksOf blocksIn liveOf
+    sumBelow sizes counts sizeOf blocksOf bit markBit liveCount
+edge-moves-two = refl
+
+pub cases-are : map found cases ≡ map expected cases
+unfolding moved movesFor mustMove bothConditions passed passedFound emptiest chosenBelow prefer fewerLive belongs total oneOf liveIfOf superblocksOf blocksIn liveOf
+    sumBelow sizes counts sizeOf blocksOf bit markBit liveCount
 cases-are = refl
 
 -- one move, as in Figure 2 of document 003, is not enough: both conditions still hold after it
 pub edge-again : mustMove 1 16 (passedFound (emptiest 1 16 (stateOf edge)) (stateOf edge)) ≡ true
 unfolding mustMove bothConditions passed passedFound emptiest chosenBelow prefer fewerLive belongs total oneOf liveIfOf superblocksOf blocksIn liveOf
-    sumBelow counts blocksOf bit markBit liveCount
+    sumBelow sizes counts sizeOf blocksOf bit markBit liveCount
 edge-again = refl
+
+-- the two conditions on their own. With K = 2, p/q = 3/7, n = 5, a = 40: 22 + 10 < 40 and 154 < 160, and 161 is not below; with K = 6 the first decides
+pub conditions-are :
+    map (bothConditions 2 3 7 5 40) (22 ∷ 23 ∷ 0 ∷ []) ≡ true ∷ false ∷ true ∷ [] × map (bothConditions 6 3 7 5 40) (9 ∷ 10 ∷ []) ≡ true ∷ false ∷ []
+unfolding bothConditions
+conditions-are = (refl, refl)
+
+-- the whole state after a move: the superblock's owner is 0, its class and marks are as they were, and so is all else
+pub moved-whole :
+    settled 1 16 (stateOf rounded)
+    ≡ record {
+      moves = 1;
+      state = record {
+        setup = record { processors = 2; superblocks = 64; spare = 1; p = 1; q = 4 };
+        table = holding 1 16 8 ∷ holding 0 16 7 ∷ holding 1 16 8 ∷ holding 1 16 7 ∷ holding 1 16 7 ∷ replicate 59 unused;
+      };
+    }
+unfolding settled moved movesFor mustMove bothConditions passed passedFound emptiest chosenBelow prefer fewerLive belongs total oneOf liveIfOf superblocksOf blocksIn liveOf
+    sumBelow sizes counts sizeOf blocksOf bit markBit liveCount
+moved-whole = refl
+
+-- "If the owner is heap 0 the call ends": heap 0's four empty superblocks would meet both conditions
+abbrev pub all-global : State
+all-global = stateOf (record { spare = 1; p = 1; q = 4; class = 16; table = map (holding 0 16) (0 ∷ 0 ∷ 0 ∷ 0 ∷ []); moves = 0; owners = [] })
+
+pub global-stays : settled 0 16 all-global ≡ record { moves = 0; state = all-global }
+unfolding settled
+global-stays = refl

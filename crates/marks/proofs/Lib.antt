@@ -1,3 +1,4 @@
+pub mod BitCases
 pub mod BitLaws
 pub mod MarkLaws
 pub mod NoneLaws

@@ -1,2 +1,4 @@
+pub mod Cases
 pub mod OrderLaws
 pub mod LoopLaws
+pub mod FirstPlaces

@@ -1,0 +1,59 @@
+-- The choices of a superblock in cases that tell them from near misses, by computation. Assumes nothing.
+use mathlib.Core.Path.{_≡_, refl}
+use mathlib.Core.Bool.{Bool, true, false, not}
+use mathlib.Core.List.{List, [], _∷_, _++_, map}
+use Prim.Native.Nat.{ℕ, _^_}
+use lib.ListN.{replicate}
+use Rattle.laws.specs.Sums.{sumBelow}
+use Rattle.classes.specs.Classes.{counts, blocksOf}
+use Rattle.marks.specs.Marks.{bit, markBit, liveCount}
+use Rattle.heap.specs.declared.Superblock.{Superblock}
+use Rattle.heap.specs.declared.State.{State}
+use Rattle.heap.specs.declared.Found.{Found}
+use Rattle.heap.specs.declared.Found.the-variants.{At, Nothing}
+use Rattle.heap.specs.Table.{unused, isUnused}
+use Rattle.heap.specs.Counts.{belongs}
+use Rattle.heap.specs.Choice.{prefer, chosenBelow, moreLive, fewerLive, noBetter, hasFree, emptyInZero, fullest, lowestEmpty, lowestUnused, emptiest, orElse}
+use Rattle.heap.proofs.TableCases.{of}
+
+-- N, and the superblocks: of class 16, with 10 blocks, heap 2 has a full one; heap 1 has 4, 10, 6, 6, 2 and 2 live, in that order.
+-- Heap 0 has one of class 18 with 1 live, then empty ones of classes 17, 16, 16.
+abbrev pub shelf : ℕ → State
+shelf n =
+    record {
+      setup = record { processors = 2; superblocks = n; spare = 1; p = 3; q = 7 };
+      table =
+          of 2 16 1023 ∷ of 1 16 15 ∷ of 1 16 1023 ∷ of 0 18 4 ∷ of 1 16 63 ∷ of 1 16 126 ∷ of 1 17 0 ∷ of 0 17 0 ∷ of 0 16 0 ∷ of 0 16 0 ∷ unused
+          ∷ of 1 16 3 ∷ of 1 16 6 ∷ unused ∷ replicate 49 unused ++ of 2 17 7 ∷ [];
+    }
+
+-- "class c with a free block, most live first, the lower number among equals"; in heap 0 "one with nothing live counts as well"; the last superblock is seen
+pub fullest-are :
+    fullest 1 16 (shelf 64) ∷ fullest 2 16 (shelf 64) ∷ fullest 0 16 (shelf 64) ∷ fullest 0 17 (shelf 64) ∷ fullest 1 17 (shelf 64) ∷ fullest 2 17 (shelf 64) ∷ fullest 1 18 (shelf 64) ∷ []
+    ≡ At 4 ∷ Nothing ∷ At 8 ∷ At 7 ∷ At 6 ∷ At 63 ∷ Nothing ∷ []
+unfolding fullest chosenBelow prefer moreLive hasFree belongs blocksOf counts liveCount sumBelow markBit bit
+fullest-are = refl
+
+-- "heap i's class-c superblock with the fewest live, the lower number among equals"; a full one too
+pub emptiest-are :
+    emptiest 1 16 (shelf 64) ∷ emptiest 2 16 (shelf 64) ∷ emptiest 0 16 (shelf 64) ∷ emptiest 2 17 (shelf 64) ∷ emptiest 2 18 (shelf 64) ∷ []
+    ≡ At 11 ∷ At 0 ∷ At 8 ∷ At 63 ∷ Nothing ∷ []
+unfolding emptiest chosenBelow prefer fewerLive belongs liveCount sumBelow markBit bit
+emptiest-are = refl
+
+-- "heap 0: the lowest-numbered superblock with nothing live, of any class"; another heap's empty one is none
+abbrev pub none-empty : State
+none-empty = record { setup = shelf 64 .setup; table = of 1 16 0 ∷ of 0 17 4 ∷ of 0 16 1 ∷ replicate 61 unused }
+
+pub lowest-empty-are : lowestEmpty (shelf 64) ∷ lowestEmpty none-empty ∷ [] ≡ At 7 ∷ Nothing ∷ []
+unfolding lowestEmpty chosenBelow prefer noBetter emptyInZero liveCount sumBelow markBit bit
+lowest-empty-are = refl
+
+-- "the lowest-numbered unused one of superblocks 0 to N - 1", for N = 14, 11 and 10
+pub lowest-unused-are : map (λ (n : ℕ). lowestUnused (shelf n)) (14 ∷ 11 ∷ 10 ∷ []) ≡ At 10 ∷ At 10 ∷ Nothing ∷ []
+unfolding lowestUnused chosenBelow prefer noBetter isUnused liveCount sumBelow markBit bit
+lowest-unused-are = refl
+
+-- the first that is found
+pub or-else-are : orElse (At 5) (At 3) ∷ orElse Nothing (At 3) ∷ orElse (At 5) Nothing ∷ orElse Nothing Nothing ∷ [] ≡ At 5 ∷ At 3 ∷ At 5 ∷ Nothing ∷ []
+or-else-are = refl
