@@ -6,7 +6,7 @@ use Prim.Native.Nat.{ℕ, _*_, _/_, _≤_, _<_}
 use native.Mathlib.Omega.{arith}
 use lib.ListN.{length}
 use lib.Dec.{leb, eqb}
-use borrow.Author.Tests.{le-leb, lt-leb}
+use borrow.Author.Tests.{le-leb, lt-leb, not-true, not-false}
 use Rattle.laws.specs.Sums.{pick, both}
 use Rattle.classes.specs.Classes.{classOf}
 use Rattle.order.specs.Order.{cleared}
@@ -17,13 +17,15 @@ use Rattle.heap.specs.Table.{noState, newState, superblockAt}
 use Rattle.heap.specs.Choice.{fullest}
 use Rattle.heap.specs.Moves.{settled}
 use Rattle.heap.specs.Check.{within, lawful}
+use Rattle.heap.proofs.Facts.{Shape}
 use Rattle.calls.specs.declared.Answer.{Answer}
 use Rattle.calls.specs.declared.Outcome.the-variants.{Ready, Moves, Refused}
-use Rattle.calls.specs.Answers.{After, refused, checked, isProcessor}
-use Rattle.calls.specs.Setup.{setupOf}
+use Rattle.calls.specs.Answers.{After, Told, Yields, refused, checked, isProcessor}
+use Rattle.calls.specs.Setup.{started, setupOf}
 use Rattle.calls.specs.Take.{otherPlaces, takenAt, takeOf}
 use Rattle.calls.specs.Free.{astray, offBlock, isLiveAt, cleanedOf, returnedOrder, freedAt, freeOf}
-use Rattle.engine.specs.First.{firstRefusal}
+use Rattle.calllaws.proofs.Yields.{take-yields, free-yields, setup-yields, told-by, yields-by}
+use Rattle.engine.specs.First.{setupRefusal, firstRefusal}
 use Rattle.engine.proofs.FirstLaws.{first-refuses, first-passes}
 
 abbrev answered : Answer → List ℕ → After
@@ -32,21 +34,37 @@ answered r order = record { answer = r; order = order }
 refuses : (s : State) (order : List ℕ) (number : ℕ) (r : Answer) → r ≡ record { outcome = Refused number; state = s } → answered r order ≡ refused number s order
 refuses s order number r e = ap (λ (x : Answer). answered x order) e
 
+-- ---- the three clauses of an entry's contract, from the equation
+module _ (s : State) (order : List ℕ) (i n : ℕ) (shape : Shape s) {r : Answer} {out : List ℕ} where
+  pub take-promised : answered r out ≡ takeOf s order i n → (answered r out ≡ takeOf s order i n) × (Told (r .outcome) (takeOf s order i n .answer .outcome) × Yields (r .outcome) (r .state) out)
+  take-promised e = (e, (told-by r out (takeOf s order i n) e, yields-by r out (takeOf s order i n) e (take-yields s order i n shape)))
+
+  pub free-promised : answered r out ≡ freeOf s order i n → (answered r out ≡ freeOf s order i n) × (Told (r .outcome) (freeOf s order i n .answer .outcome) × Yields (r .outcome) (r .state) out)
+  free-promised e = (e, (told-by r out (freeOf s order i n) e, yields-by r out (freeOf s order i n) e (free-yields s order i n shape)))
+
+pub setup-promised : (u : Setup) (order : List ℕ) {r : Answer} {out : List ℕ} → answered r out ≡ setupOf u order
+    → (answered r out ≡ setupOf u order) × (Told (r .outcome) (setupOf u order .answer .outcome) × Yields (r .outcome) (r .state) out)
+setup-promised u order {r = r} {out = out} e = (e, (told-by r out (setupOf u order) e, yields-by r out (setupOf u order) e (setup-yields u order)))
+
 -- ---- a setup
-pub setup-one : (u : Setup) (order : List ℕ) (t : Bool) (st : State) (r : Answer) → t ≡ lawful u → t ≡ false → st ≡ noState → r ≡ record { outcome = Refused 1; state = st }
-    → answered r order ≡ setupOf u order
-unfolding setupOf
-setup-one u order t st r e f g h = ap (λ (x : Answer). answered x order) h ∙ ap (λ (x : State). refused 1 x order) g ∙ rw (← e, f)
+module _ (u : Setup) (order : List ℕ) (first : ℕ) (st : State) (e : first ≡ setupRefusal 1 u order) where
+  pub setup-refused : (r : Answer) → (first ≡ 0 → ⊥) → st ≡ noState → r ≡ record { outcome = Refused first; state = st } → answered r order ≡ setupOf u order
+  unfolding setupRefusal setupOf
+  setup-refused r n g h = refuses st order first r h ∙ ap (λ (x : State). refused first x order) g ∙ go (lawful u) (leb (u .superblocks * 256) (length order)) e
+    where
+      go : (a b : Bool) → first ≡ pick a (pick b 0 12) 1 → refused first noState order ≡ pick a (pick b (started u order) (refused 12 noState order)) (refused 1 noState order)
+      go true true q = absurd (n q)
+      go true false q = ap (λ (x : ℕ). refused x noState order) q
+      go false b q = ap (λ (x : ℕ). refused x noState order) q
 
-pub setup-twelve : (u : Setup) (order : List ℕ) (t : Bool) (st : State) (r : Answer) → t ≡ lawful u → t ≡ true → length order < u .superblocks * 256 → st ≡ noState → r ≡ record { outcome = Refused 12; state = st }
-    → answered r order ≡ setupOf u order
-unfolding setupOf
-setup-twelve u order t st r e f l g h = ap (λ (x : Answer). answered x order) h ∙ ap (λ (x : State). refused 12 x order) g ∙ rw (← e, f, lt-leb (u .superblocks * 256) (length order) l)
-
-pub setup-ready : (u : Setup) (order new : List ℕ) (t : Bool) (st : State) → t ≡ lawful u → t ≡ true → u .superblocks * 256 ≤ length order → new ≡ cleared order (u .superblocks * 256) → st ≡ newState u
-    → answered (record { outcome = Ready; state = st }) new ≡ setupOf u order
-unfolding setupOf
-setup-ready u order new t st e f l g h = rw (← e, f, le-leb (u .superblocks * 256) (length order) l, g, h)
+  pub setup-ready : (new : List ℕ) → first ≡ 0 → new ≡ cleared order (u .superblocks * 256) → st ≡ newState u → answered (record { outcome = Ready; state = st }) new ≡ setupOf u order
+  unfolding setupRefusal setupOf
+  setup-ready new z g h = rw (g, h) (go (lawful u) (leb (u .superblocks * 256) (length order)) (sym z ∙ e))
+    where
+      go : (a b : Bool) → _≡_ {A = ℕ} 0 (pick a (pick b 0 12) 1) → started u order ≡ pick a (pick b (started u order) (refused 12 noState order)) (refused 1 noState order)
+      go true true q = refl
+      go true false q = absurd (omega arith)
+      go false b q = absurd (omega arith)
 
 -- ---- a take
 module _ (s : State) (order : List ℕ) (i size first : ℕ) (e : first ≡ firstRefusal s order) where
@@ -101,8 +119,15 @@ module _ (s : State) (order : List ℕ) (i a first : ℕ) (e : first ≡ firstRe
           unfolding freeOf
           free-served after o h = h ∙ sym (first-passes s order first _ e z ∙ rw (← p, f, ← g, k, ← l, m, ← n, o))
 
-pub free-at-is : (s : State) (order new : List ℕ) (a owner class : ℕ) (t : State) (m : Moved) → owner ≡ superblockAt s (a / 4096) .owner → class ≡ superblockAt s (a / 4096) .class
-    → new ≡ returnedOrder s order a → t ≡ cleanedOf s a → m ≡ settled owner class t
-    → record { answer = record { outcome = Moves (m .moves); state = m .state }; order = new } ≡ freedAt s order a
+pub free-at-is : (s : State) (order new : List ℕ) (a owner class : ℕ) (t : State) (m : Moved) (count : ℕ) (next : State) → owner ≡ superblockAt s (a / 4096) .owner → class ≡ superblockAt s (a / 4096) .class
+    → new ≡ returnedOrder s order a → t ≡ cleanedOf s a → m ≡ settled owner class t → count ≡ m .moves → next ≡ m .state
+    → record { answer = record { outcome = Moves count; state = next }; order = new } ≡ freedAt s order a
 unfolding freedAt
-free-at-is s order new a owner class t m e f g h i = rw (i, h, g, e, f)
+free-at-is s order new a owner class t m count next e f g h i j k = rw (j, k, i, h, g, e, f)
+
+-- ---- how a proof finds which way out it is at
+pub ruleset setup-ways = (setup-refused, setup-ready)
+
+pub ruleset take-ways = (take-first, take-two, take-three-low, take-three-high, take-served, not-true, not-false)
+
+pub ruleset free-ways = (free-first, free-two, free-five, free-six, free-seven, free-served, not-true, not-false)

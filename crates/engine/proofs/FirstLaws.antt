@@ -6,12 +6,13 @@ use Prim.Native.Nat.{ℕ, _*_, _≤_, _<_}
 use native.Mathlib.Omega.{arith}
 use lib.ListN.{length}
 use lib.Dec.{leb, eqb}
-use borrow.Author.Tests.{le-leb, lt-leb}
+use borrow.Author.Tests.{le-leb, lt-leb, not-true, not-false}
 use Rattle.laws.specs.Sums.{pick}
+use Rattle.heap.specs.declared.Setup.{Setup}
 use Rattle.heap.specs.declared.State.{State}
 use Rattle.heap.specs.Check.{lawful, restGood}
 use Rattle.calls.specs.Answers.{After, refused, checked}
-use Rattle.engine.specs.First.{firstRefusal}
+use Rattle.engine.specs.First.{setupRefusal, firstRefusal}
 
 -- a call that the check refuses, in the form that its proof asks
 pub first-refuses : (s : State) (order : List ℕ) (r : ℕ) (next : After) → r ≡ firstRefusal s order → (r ≡ 0 → ⊥) → checked s order next ≡ refused r s order
@@ -35,19 +36,48 @@ first-passes s order r next e z = go (lawful (s .setup)) (leb (s .setup .superbl
     go true false c q = absurd (omega arith)
     go false b c q = absurd (omega arith)
 
--- how each of the check's tests ends, in the form that its proof asks
-pub first-numbers : (s : State) (order : List ℕ) (t : Bool) → t ≡ lawful (s .setup) → t ≡ false → 13 ≡ firstRefusal s order
-unfolding firstRefusal
-first-numbers s order t e f = rw (← e, f)
+-- ---- how each test ends, in the form that its proof asks
+-- those of a setup
+module _ (numbers : ℕ) (u : Setup) (order : List ℕ) (t : Bool) (e : t ≡ lawful u) where
+  pub refusal-numbers : t ≡ false → numbers ≡ setupRefusal numbers u order
+  unfolding setupRefusal
+  refusal-numbers f = rw (← e, f)
 
-pub first-storage : (s : State) (order : List ℕ) (t : Bool) → t ≡ lawful (s .setup) → t ≡ true → length order < s .setup .superblocks * 256 → 12 ≡ firstRefusal s order
-unfolding firstRefusal
-first-storage s order t e f l = rw (← e, f, lt-leb (s .setup .superblocks * 256) (length order) l)
+  pub refusal-storage : t ≡ true → length order < u .superblocks * 256 → 12 ≡ setupRefusal numbers u order
+  unfolding setupRefusal
+  refusal-storage f l = rw (← e, f, lt-leb (u .superblocks * 256) (length order) l)
 
-pub first-rest : (s : State) (order : List ℕ) (t u : Bool) → t ≡ lawful (s .setup) → t ≡ true → s .setup .superblocks * 256 ≤ length order → u ≡ restGood s order → u ≡ false → 13 ≡ firstRefusal s order
-unfolding firstRefusal
-first-rest s order t u e f l g h = rw (← e, f, le-leb (s .setup .superblocks * 256) (length order) l, ← g, h)
+  pub refusal-none : t ≡ true → u .superblocks * 256 ≤ length order → 0 ≡ setupRefusal numbers u order
+  unfolding setupRefusal
+  refusal-none f l = rw (← e, f, le-leb (u .superblocks * 256) (length order) l)
 
-pub first-none : (s : State) (order : List ℕ) (t u : Bool) → t ≡ lawful (s .setup) → t ≡ true → s .setup .superblocks * 256 ≤ length order → u ≡ restGood s order → u ≡ true → 0 ≡ firstRefusal s order
-unfolding firstRefusal
-first-none s order t u e f l g h = rw (← e, f, le-leb (s .setup .superblocks * 256) (length order) l, ← g, h)
+-- and the rest, which are looked at where no setup number and no storage is refused
+module _ (s : State) (order : List ℕ) (r : ℕ) (e : r ≡ setupRefusal 13 (s .setup) order) where
+  pub first-setup : (r ≡ 0 → ⊥) → r ≡ firstRefusal s order
+  unfolding setupRefusal firstRefusal
+  first-setup n = go (lawful (s .setup)) (leb (s .setup .superblocks * 256) (length order)) e
+    where
+      go : (a b : Bool) → r ≡ pick a (pick b 0 12) 13 → r ≡ pick a (pick b (pick (restGood s order) 0 13) 12) 13
+      go true true q = absurd (n q)
+      go true false q = q
+      go false b q = q
+
+  first-past : r ≡ 0 → firstRefusal s order ≡ pick (restGood s order) 0 13
+  unfolding setupRefusal firstRefusal
+  first-past z = go (lawful (s .setup)) (leb (s .setup .superblocks * 256) (length order)) (sym z ∙ e)
+    where
+      go : (a b : Bool) → _≡_ {A = ℕ} 0 (pick a (pick b 0 12) 13) → _≡_ {A = ℕ} (pick a (pick b (pick (restGood s order) 0 13) 12) 13) (pick (restGood s order) 0 13)
+      go true true q = refl
+      go true false q = absurd (omega arith)
+      go false b q = absurd (omega arith)
+
+  pub first-rest : r ≡ 0 → (t : Bool) → t ≡ restGood s order → t ≡ false → 13 ≡ firstRefusal s order
+  first-rest z t g h = rw (first-past z, ← g, h)
+
+  pub first-none : r ≡ 0 → (t : Bool) → t ≡ restGood s order → t ≡ true → 0 ≡ firstRefusal s order
+  first-none z t g h = rw (first-past z, ← g, h)
+
+-- how a proof finds which of them it asks
+pub ruleset setup-tests = (refusal-numbers, refusal-storage, refusal-none, not-true, not-false)
+
+pub ruleset first-tests = (first-setup, first-rest, first-none, not-true, not-false)

@@ -61,3 +61,10 @@ pub other-none : (h c : ℕ) (s : State) (order : List ℕ) (other : Found) (r :
     → record { answer = r; order = order } ≡ takenAt h c s order Nothing (otherPlaces c s)
 unfolding takenAt
 other-none h c s order other r e f g = ap (λ (x : Answer). record { answer = x; order = order }) g ∙ rw (← e, f)
+
+-- how a proof finds which of them it asks
+pub ruleset other-offers = (other-second, other-third, other-fourth)
+
+pub ruleset own-takes = (own-found, own-none)
+
+pub ruleset other-takes = (other-found, other-none)

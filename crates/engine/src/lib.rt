@@ -3,29 +3,43 @@
 ghost use mathlib.Core.Path.{_≡_};
 ghost use Rattle.heap.specs.Choice.{fullest};
 ghost use Rattle.heap.specs.declared.Found.the-variants.{Nothing};
-ghost use Rattle.calls.specs.Answers.{After};
+ghost use Rattle.calls.specs.Answers.{After, Told, Yields};
 ghost use Rattle.calls.specs.Setup.{setupOf};
 ghost use Rattle.calls.specs.Take.{otherPlaces, takenAt, takeOf};
 ghost use Rattle.calls.specs.Free.{freedAt, freeOf};
-ghost use Rattle.engine.specs.First.{firstRefusal};
+ghost use Rattle.engine.specs.First.{setupRefusal, firstRefusal};
 use calls::Answer;
 use calls::Outcome;
 use heap::Found;
 use heap::Setup;
 use heap::State;
 
+// The refusals of a setup: the number given for its numbers, then 12; 0 where neither applies.
+pub fn setup_refusal(numbers: u8, u: Setup, order: &[u16]) -> u8
+    ensures { λ r. ⌜ r ≡ setupRefusal numbers u (now (order .entry)) ⌝ }
+{
+    let lawful = inspect::lawful(u);
+    let places = u.superblocks as usize * 256;
+    if !lawful {
+        return numbers;
+    }
+    if order.len() < places {
+        return 12;
+    }
+    0
+}
+
 // A new state with its first N × 256 order places 0; or refusal 1, then 12.
 pub fn setup(u: Setup, order: &mut [u16]) -> Answer
     ensures { λ r. ⌜ record { answer = r; order = now (order .exit) } ≡ setupOf u (now (order .entry)) ⌝ }
+    ensures told { λ r. ⌜ Told (r .outcome) (setupOf u (now (order .entry)) .answer .outcome) ⌝ }
+    ensures passes { λ r. ⌜ Yields (r .outcome) (r .state) (now (order .exit)) ⌝ }
 {
-    if !inspect::lawful(u) {
-        return blocks::refuse(blocks::no_state(), 1);
+    let first = setup_refusal(1, u, order);
+    if first != 0 {
+        return blocks::refuse(blocks::no_state(), first);
     }
-    let places = u.superblocks as usize * 256;
-    if order.len() < places {
-        return blocks::refuse(blocks::no_state(), 12);
-    }
-    order::clear_order(order, places);
+    order::clear_order(order, u.superblocks as usize * 256);
     let s = blocks::new_state(u);
     Answer {
         outcome: Outcome::Ready,
@@ -37,12 +51,9 @@ pub fn setup(u: Setup, order: &mut [u16]) -> Answer
 fn first_refusal(s: State, order: &[u16]) -> u8
     ensures { λ r. ⌜ r ≡ firstRefusal s (now (order .entry)) ⌝ }
 {
-    let u = s.setup;
-    if !inspect::lawful(u) {
-        return 13;
-    }
-    if order.len() < u.superblocks as usize * 256 {
-        return 12;
+    let first = setup_refusal(13, s.setup, order);
+    if first != 0 {
+        return first;
     }
     if !inspect::rest_good(s, order) {
         return 13;
@@ -53,6 +64,8 @@ fn first_refusal(s: State, order: &[u16]) -> u8
 // The address of a block for the size, in a superblock of the processor's heap; or the first refusal.
 pub fn take(s: State, order: &mut [u16], processor: u8, size: u16) -> Answer
     ensures { λ r. ⌜ record { answer = r; order = now (order .exit) } ≡ takeOf s (now (order .entry)) processor size ⌝ }
+    ensures told { λ r. ⌜ Told (r .outcome) (takeOf s (now (order .entry)) processor size .answer .outcome) ⌝ }
+    ensures passes { λ r. ⌜ Yields (r .outcome) (r .state) (now (order .exit)) ⌝ }
 {
     let first = first_refusal(s, order);
     if first != 0 {
@@ -111,6 +124,8 @@ fn other_places(s: State, class: u8) -> Found
 // The block at the address is free again, and the move rule is followed; or the first refusal.
 pub fn free(s: State, order: &mut [u16], processor: u8, address: u32) -> Answer
     ensures { λ r. ⌜ record { answer = r; order = now (order .exit) } ≡ freeOf s (now (order .entry)) processor address ⌝ }
+    ensures told { λ r. ⌜ Told (r .outcome) (freeOf s (now (order .entry)) processor address .answer .outcome) ⌝ }
+    ensures passes { λ r. ⌜ Yields (r .outcome) (r .state) (now (order .exit)) ⌝ }
 {
     let first = first_refusal(s, order);
     if first != 0 {

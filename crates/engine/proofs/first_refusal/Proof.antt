@@ -1,42 +1,23 @@
-use borrow.Author.Tests.{not-true, not-false}
-use Rattle.engine.proofs.FirstLaws.{first-numbers, first-storage, first-rest, first-none}
+use Rattle.engine.proofs.FirstLaws.{first-tests}
 use borrow.Author.Needs.{needs}
 use Rattle.engine.proofs.first_refusal.Statement.{statement}
 use Rattle.engine.proofs.first_refusal.Tie as tie
 
-lawful-requires : tie.Need-lawful-requires
-lawful-requires c κs = search needs
+setup-refusal-requires : tie.Need-setup-refusal-requires
+setup-refusal-requires c κs = search needs
 
 returns : tie.Need-returns
-returns c = search (first-numbers, not-true, not-false)
-
-cast-if2 : tie.Need-cast-if2
-cast-if2 c = search needs
-
-mul-if2 : tie.Need-mul-if2
-mul-if2 c = search needs
-
-returns-2 : tie.Need-returns-2
-returns-2 c = search (first-storage, not-true, not-false)
+returns c = search first-tests
 
 rest-good-requires : tie.Need-rest-good-requires
 rest-good-requires c κs = search needs
 
-returns-3 : tie.Need-returns-3
-returns-3 c = search (first-rest, not-true, not-false)
+returns-2 : tie.Need-returns-2
+returns-2 c = search first-tests
 
-returns-4 : tie.Need-returns-4
-returns-4 c = search (first-none, not-true, not-false)
+returns-3 : tie.Need-returns-3
+returns-3 c = search first-tests
 
 pub first-refusal-spec : {M : Type 1} → statement M
 first-refusal-spec =
-    tie.close
-    (tie.spec
-    lawful-requires
-    returns
-    cast-if2
-    mul-if2
-    returns-2
-    rest-good-requires
-    returns-3
-    returns-4)
+    tie.close (tie.spec setup-refusal-requires returns rest-good-requires returns-2 returns-3)

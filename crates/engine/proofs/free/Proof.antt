@@ -1,5 +1,5 @@
-use borrow.Author.Tests.{not-true, not-false}
-use Rattle.engine.proofs.EntryLaws.{free-first, free-two, free-five, free-six, free-seven, free-served}
+use Rattle.heap.proofs.Typed.{state-typed}
+use Rattle.engine.proofs.EntryLaws.{free-promised, free-ways}
 use borrow.Author.Needs.{needs}
 use Rattle.engine.proofs.free.Statement.{statement}
 use Rattle.engine.proofs.free.Tie as tie
@@ -14,7 +14,7 @@ same-length : tie.Need-same-length
 same-length c = search needs
 
 returns : tie.Need-returns
-returns c = search (free-first, not-true, not-false)
+returns c = free-promised _ _ _ _ (search state-typed) (search free-ways)
 
 is-processor-requires : tie.Need-is-processor-requires
 is-processor-requires c κs = search needs
@@ -26,7 +26,7 @@ same-length-2 : tie.Need-same-length-2
 same-length-2 c = search needs
 
 returns-2 : tie.Need-returns-2
-returns-2 c = search (free-two, not-true, not-false)
+returns-2 c = free-promised _ _ _ _ (search state-typed) (search free-ways)
 
 astray-requires : tie.Need-astray-requires
 astray-requires c κs = search needs
@@ -38,7 +38,7 @@ same-length-3 : tie.Need-same-length-3
 same-length-3 c = search needs
 
 returns-3 : tie.Need-returns-3
-returns-3 c = search (free-five, not-true, not-false)
+returns-3 c = free-promised _ _ _ _ (search state-typed) (search free-ways)
 
 off-block-requires : tie.Need-off-block-requires
 off-block-requires c κs = search needs
@@ -50,7 +50,7 @@ same-length-4 : tie.Need-same-length-4
 same-length-4 c = search needs
 
 returns-4 : tie.Need-returns-4
-returns-4 c = search (free-six, not-true, not-false)
+returns-4 c = free-promised _ _ _ _ (search state-typed) (search free-ways)
 
 is-live-at-requires : tie.Need-is-live-at-requires
 is-live-at-requires c κs = search needs
@@ -62,7 +62,7 @@ same-length-5 : tie.Need-same-length-5
 same-length-5 c = search needs
 
 returns-5 : tie.Need-returns-5
-returns-5 c = search (free-seven, not-true, not-false)
+returns-5 c = free-promised _ _ _ _ (search state-typed) (search free-ways)
 
 free-at-requires : tie.Need-free-at-requires
 free-at-requires c κs = search needs
@@ -71,7 +71,7 @@ same-length-6 : tie.Need-same-length-6
 same-length-6 c = search needs
 
 returns-6 : tie.Need-returns-6
-returns-6 c = search (free-served, not-true, not-false)
+returns-6 c = free-promised _ _ _ _ (search state-typed) (search free-ways)
 
 pub free-spec : {M : Type 1} → statement M
 free-spec =

@@ -1,4 +1,4 @@
-use Rattle.engine.proofs.PlaceLaws.{other-second, other-third, other-fourth}
+use Rattle.engine.proofs.PlaceLaws.{other-offers}
 use borrow.Author.Needs.{needs}
 use Rattle.engine.proofs.other_places.Statement.{statement}
 use Rattle.engine.proofs.other_places.Tie as tie
@@ -10,7 +10,7 @@ enum-known-second : tie.Need-enum-known-second
 enum-known-second c = search needs
 
 returns : tie.Need-returns
-returns c = search other-second
+returns c = search other-offers
 
 enum-told : tie.Need-enum-told
 enum-told c = search needs
@@ -22,7 +22,7 @@ enum-known-third : tie.Need-enum-known-third
 enum-known-third c = search needs
 
 returns-2 : tie.Need-returns-2
-returns-2 c = search other-third
+returns-2 c = search other-offers
 
 enum-told-2 : tie.Need-enum-told-2
 enum-told-2 c = search needs
@@ -31,7 +31,7 @@ lowest-unused-requires : tie.Need-lowest-unused-requires
 lowest-unused-requires c κs = search needs
 
 returns-3 : tie.Need-returns-3
-returns-3 c = search other-fourth
+returns-3 c = search other-offers
 
 pub other-places-spec : {M : Type 1} → statement M
 other-places-spec =

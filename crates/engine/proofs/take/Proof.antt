@@ -1,5 +1,5 @@
-use borrow.Author.Tests.{not-true, not-false}
-use Rattle.engine.proofs.EntryLaws.{take-first, take-two, take-three-low, take-three-high, take-served}
+use Rattle.heap.proofs.Typed.{state-typed}
+use Rattle.engine.proofs.EntryLaws.{take-promised, take-ways}
 use borrow.Author.Needs.{needs}
 use Rattle.engine.proofs.take.Statement.{statement}
 use Rattle.engine.proofs.take.Tie as tie
@@ -14,7 +14,7 @@ same-length : tie.Need-same-length
 same-length c = search needs
 
 returns : tie.Need-returns
-returns c = search (take-first, not-true, not-false)
+returns c = take-promised _ _ _ _ (search state-typed) (search take-ways)
 
 is-processor-requires : tie.Need-is-processor-requires
 is-processor-requires c κs = search needs
@@ -26,7 +26,7 @@ same-length-2 : tie.Need-same-length-2
 same-length-2 c = search needs
 
 returns-2 : tie.Need-returns-2
-returns-2 c = search (take-two, not-true, not-false)
+returns-2 c = take-promised _ _ _ _ (search state-typed) (search take-ways)
 
 refuse-requires-3 : tie.Need-refuse-requires-3
 refuse-requires-3 c κs = search needs
@@ -35,7 +35,7 @@ same-length-3 : tie.Need-same-length-3
 same-length-3 c = search needs
 
 returns-3 : tie.Need-returns-3
-returns-3 c = search (take-three-low, not-true, not-false)
+returns-3 c = take-promised _ _ _ _ (search state-typed) (search take-ways)
 
 refuse-requires-4 : tie.Need-refuse-requires-4
 refuse-requires-4 c κs = search needs
@@ -44,7 +44,7 @@ same-length-4 : tie.Need-same-length-4
 same-length-4 c = search needs
 
 returns-4 : tie.Need-returns-4
-returns-4 c = search (take-three-high, not-true, not-false)
+returns-4 c = take-promised _ _ _ _ (search state-typed) (search take-ways)
 
 class-of-requires : tie.Need-class-of-requires
 class-of-requires c κs = search needs
@@ -56,7 +56,7 @@ same-length-5 : tie.Need-same-length-5
 same-length-5 c = search needs
 
 returns-5 : tie.Need-returns-5
-returns-5 c = search (take-served, not-true, not-false)
+returns-5 c = take-promised _ _ _ _ (search state-typed) (search take-ways)
 
 pub take-spec : {M : Type 1} → statement M
 take-spec =

@@ -1,4 +1,4 @@
-use Rattle.engine.proofs.PlaceLaws.{own-small, own-found, own-none}
+use Rattle.engine.proofs.PlaceLaws.{own-small, own-takes}
 use borrow.Author.Needs.{needs}
 use Rattle.engine.proofs.take_class.Statement.{statement}
 use Rattle.engine.proofs.take_class.Tie as tie
@@ -25,13 +25,13 @@ same-length : tie.Need-same-length
 same-length c = search needs
 
 returns : tie.Need-returns
-returns c = search own-found
+returns c = search own-takes
 
 same-length-2 : tie.Need-same-length-2
 same-length-2 c = search needs
 
 returns-2 : tie.Need-returns-2
-returns-2 c = search own-none
+returns-2 c = search own-takes
 
 pub take-class-spec : {M : Type 1} → statement M
 take-class-spec =

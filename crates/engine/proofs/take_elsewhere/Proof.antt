@@ -1,4 +1,4 @@
-use Rattle.engine.proofs.PlaceLaws.{other-small, other-found, other-none}
+use Rattle.engine.proofs.PlaceLaws.{other-small, other-takes}
 use borrow.Author.Needs.{needs}
 use Rattle.engine.proofs.take_elsewhere.Statement.{statement}
 use Rattle.engine.proofs.take_elsewhere.Tie as tie
@@ -25,10 +25,10 @@ same-length : tie.Need-same-length
 same-length c = search needs
 
 returns : tie.Need-returns
-returns c = search other-found
+returns c = search other-takes
 
 returns-2 : tie.Need-returns-2
-returns-2 c = search other-none
+returns-2 c = search other-takes
 
 pub take-elsewhere-spec : {M : Type 1} → statement M
 take-elsewhere-spec =
