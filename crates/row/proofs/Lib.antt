@@ -1,3 +1,4 @@
+pub mod StoreCases
 pub mod Lent
 pub mod StoredLaws
 pub mod Thin

@@ -1,4 +1,5 @@
 -- A lent row and a table by value.
+use mathlib.Core.Bool.{Bool}
 use mathlib.Core.List.{List}
 use lib.Dec.{eqb}
 use lib.ListN.{length, replicate}
@@ -10,6 +11,6 @@ use Rattle.heap.specs.Table.{unused}
 abbrev pub loadOf : List Superblock → List Superblock
 loadOf row = pick (eqb (length row) 64) row (replicate 64 unused)
 
--- a row of 64 records with a table stored in it; a row of another length stays
-abbrev pub storeOf : List Superblock → List Superblock → List Superblock
-storeOf row table = pick (eqb (length row) 64) table row
+-- a row of 64 records with an accepted call's table stored in it; a row of another length stays, and so does any row where the call is refused
+abbrev pub storeOf : Bool → List Superblock → List Superblock → List Superblock
+storeOf accepted row table = pick accepted (pick (eqb (length row) 64) table row) row

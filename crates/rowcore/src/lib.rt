@@ -1,12 +1,12 @@
 // A call on a lent row, decided on a table by value: the row's length is a number among the arguments, and the table that is to be
-// stored in the row is handed back. A refused call hands back the table that it was given.
+// stored in the row is handed back, with whether the call was accepted: a refused one stores nothing.
 ghost use mathlib.Core.Path.{_≡_};
 ghost use lib.ListN.{replicate};
 ghost use Rattle.heap.specs.Table.{unused};
-ghost use Rattle.calls.specs.Answers.{After};
+ghost use Rattle.calls.specs.Answers.{After, Told, Yields};
 ghost use Rattle.calls.specs.Calls.{callOf};
-ghost use Rattle.rowrules.specs.Row.{setupOn, callOn};
-ghost use Rattle.rowcore.specs.Tables.{firstOf, refusedBy, answeredBy, leaves};
+ghost use Rattle.rowrules.specs.Row.{stateOf, setupOn, callOn};
+ghost use Rattle.rowcore.specs.Tables.{isAccepted, firstOf, refusedBy, answeredBy, leaves};
 use calls::Answer;
 use calls::Call;
 use calls::Outcome;
@@ -15,10 +15,11 @@ use heap::State;
 use heap::Superblock;
 use rowrules::RowAnswer;
 
-// What is to be stored in the row, and the answer.
+// What is to be stored in the row where the call was accepted, the answer, and whether it was.
 pub struct Called {
     pub table: [Superblock; 64],
     pub answer: RowAnswer,
+    pub accepted: bool,
 }
 
 // A table of unused superblocks.
@@ -33,11 +34,9 @@ pub fn unused_table() -> [Superblock; 64]
 fn first_refusal(numbers: u8, n: usize, order: &[u16], u: Setup) -> u8
     ensures { λ r. ⌜ r ≡ firstOf numbers n (now (order .entry)) u ⌝ }
 {
-    if !inspect::lawful(u) {
-        return numbers;
-    }
-    if order.len() < u.superblocks as usize * 256 {
-        return 12;
+    let first = engine::setup_refusal(numbers, u, order);
+    if first != 0 {
+        return first;
     }
     if n != 64 {
         return 13;
@@ -45,15 +44,30 @@ fn first_refusal(numbers: u8, n: usize, order: &[u16], u: Setup) -> u8
     0
 }
 
+// Whether a call was accepted.
+fn accepted(outcome: Outcome) -> bool
+    ensures { λ r. ⌜ r ≡ isAccepted outcome ⌝ }
+{
+    match outcome {
+        Outcome::Ready => true,
+        Outcome::Address(a) => true,
+        Outcome::Moves(m) => true,
+        Outcome::Refused(number) => number == 0,
+    }
+}
+
 // A refusal, with the setup numbers and the table as they are to be.
 fn refuse(number: u8, u: Setup, table: [Superblock; 64]) -> Called
     ensures { λ r. ⌜ r ≡ refusedBy number u table ⌝ }
 {
-    let answer = RowAnswer {
-        outcome: Outcome::Refused(number),
-        setup: u,
-    };
-    Called { table, answer }
+    let outcome = Outcome::Refused(number);
+    let accepted = accepted(outcome);
+    let answer = RowAnswer { outcome, setup: u };
+    Called {
+        table,
+        answer,
+        accepted,
+    }
 }
 
 // The engine's answer, its state taken apart.
@@ -64,13 +78,21 @@ fn answered(a: Answer) -> Called
     let table = s.table;
     let outcome = a.outcome;
     let setup = s.setup;
+    let accepted = accepted(outcome);
     let answer = RowAnswer { outcome, setup };
-    Called { table, answer }
+    Called {
+        table,
+        answer,
+        accepted,
+    }
 }
 
 // A setup where n records are lent.
 pub fn setup_table(n: usize, table: [Superblock; 64], order: &mut [u16], u: Setup) -> Called
     ensures { λ r. ⌜ leaves r (now (order .exit)) ≡ setupOn n u table (now (order .entry)) ⌝ }
+    ensures accepts { λ r. ⌜ r .accepted ≡ isAccepted (r .answer .outcome) ⌝ }
+    ensures told { λ r. ⌜ Told (r .answer .outcome) (setupOn n u table (now (order .entry)) .outcome) ⌝ }
+    ensures passes { λ r. ⌜ Yields (r .answer .outcome) (stateOf (r .answer .setup) (r .table)) (now (order .exit)) ⌝ }
 {
     let first = first_refusal(1, n, order, u);
     if first != 0 {
@@ -85,6 +107,7 @@ pub fn setup_table(n: usize, table: [Superblock; 64], order: &mut [u16], u: Setu
 // A take or a free on a state.
 fn call_state(s: State, order: &mut [u16], c: Call) -> Answer
     ensures { λ r. ⌜ record { answer = r; order = now (order .exit) } ≡ callOf s (now (order .entry)) c ⌝ }
+    ensures passes { λ r. ⌜ Yields (r .outcome) (r .state) (now (order .exit)) ⌝ }
 {
     match c {
         Call::Take { processor, size } => engine::take(s, order, processor, size),
@@ -95,6 +118,9 @@ fn call_state(s: State, order: &mut [u16], c: Call) -> Answer
 // A take or a free where n records are lent.
 pub fn call_table(n: usize, table: [Superblock; 64], order: &mut [u16], u: Setup, c: Call) -> Called
     ensures { λ r. ⌜ leaves r (now (order .exit)) ≡ callOn n u table (now (order .entry)) c ⌝ }
+    ensures accepts { λ r. ⌜ r .accepted ≡ isAccepted (r .answer .outcome) ⌝ }
+    ensures told { λ r. ⌜ Told (r .answer .outcome) (callOn n u table (now (order .entry)) c .outcome) ⌝ }
+    ensures passes { λ r. ⌜ Yields (r .answer .outcome) (stateOf (r .answer .setup) (r .table)) (now (order .exit)) ⌝ }
 {
     let first = first_refusal(13, n, order, u);
     if first != 0 {

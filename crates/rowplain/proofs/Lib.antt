@@ -1,3 +1,4 @@
+pub mod FrontCases
 pub mod Apart
 pub mod Made
 pub mod MostLaws

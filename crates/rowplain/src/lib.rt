@@ -2,7 +2,8 @@
 ghost use mathlib.Core.Path.{_≡_};
 ghost use Prim.Native.Nat.{_≤_, min};
 ghost use lib.ListN.{take};
-ghost use Rattle.rowrules.specs.Row.{rowSetup, rowCall};
+ghost use Rattle.calls.specs.Answers.{Told, Yields};
+ghost use Rattle.rowrules.specs.Row.{stateOf, rowSetup, rowCall};
 ghost use Rattle.rowplain.specs.Front.{LentAfter, lentAfter};
 use calls::Call;
 use heap::Setup;
@@ -29,6 +30,7 @@ fn at_most(n: usize) -> usize
 fn lend_call(n: usize, records: [Superblock; 65], order: &mut [u16], u: Setup, c: Call) -> Lent
     requires { ⌜ n ≤ 65 ⌝ }
     ensures { λ r. ⌜ record { lent = r; order = now (order .exit) } ≡ lentAfter n records (rowCall u (take n records) (now (order .entry)) c) ⌝ }
+    ensures passes { λ r. ⌜ Yields (r .answer .outcome) (stateOf (r .answer .setup) (take n (r .records))) (now (order .exit)) ⌝ }
 {
     let mut t = records;
     let answer = row::call_row(&mut t[..n], order, u, c);
@@ -44,6 +46,8 @@ pub fn call_by_row(
     c: Call,
 ) -> Lent
     ensures { λ r. ⌜ record { lent = r; order = now (order .exit) } ≡ lentAfter n records (rowCall u (take n records) (now (order .entry)) c) ⌝ }
+    ensures told { λ r. ⌜ Told (r .answer .outcome) (rowCall u (take n records) (now (order .entry)) c .outcome) ⌝ }
+    ensures passes { λ r. ⌜ Yields (r .answer .outcome) (stateOf (r .answer .setup) (take n (r .records))) (now (order .exit)) ⌝ }
 {
     let m = at_most(n);
     lend_call(m, records, order, u, c)
@@ -53,6 +57,7 @@ pub fn call_by_row(
 fn lend_setup(n: usize, records: [Superblock; 65], order: &mut [u16], u: Setup) -> Lent
     requires { ⌜ n ≤ 65 ⌝ }
     ensures { λ r. ⌜ record { lent = r; order = now (order .exit) } ≡ lentAfter n records (rowSetup u (take n records) (now (order .entry))) ⌝ }
+    ensures passes { λ r. ⌜ Yields (r .answer .outcome) (stateOf (r .answer .setup) (take n (r .records))) (now (order .exit)) ⌝ }
 {
     let mut t = records;
     let answer = row::setup_row(&mut t[..n], order, u);
@@ -62,6 +67,8 @@ fn lend_setup(n: usize, records: [Superblock; 65], order: &mut [u16], u: Setup) 
 // A setup on a row of the first n records, of all 65 where n is above.
 pub fn setup_by_row(n: usize, records: [Superblock; 65], order: &mut [u16], u: Setup) -> Lent
     ensures { λ r. ⌜ record { lent = r; order = now (order .exit) } ≡ lentAfter n records (rowSetup u (take n records) (now (order .entry))) ⌝ }
+    ensures told { λ r. ⌜ Told (r .answer .outcome) (rowSetup u (take n records) (now (order .entry)) .outcome) ⌝ }
+    ensures passes { λ r. ⌜ Yields (r .answer .outcome) (stateOf (r .answer .setup) (take n (r .records))) (now (order .exit)) ⌝ }
 {
     let m = at_most(n);
     lend_setup(m, records, order, u)

@@ -24,9 +24,9 @@ use Rattle.calls.specs.Answers.{After, refused}
 use Rattle.calls.specs.Take.{adopted, nextBlock, takenFrom, takenFromOther, takeOf}
 use Rattle.calls.specs.Free.{superblockOf, homeOf, blockOf, cleanedOf, freedAt, freeOf}
 use Rattle.calls.specs.Calls.{callOf}
-use Rattle.calls.proofs.Effects.{Passed, TakeAccepted, FreeAccepted}
-use Rattle.calls.proofs.TakeLaws.{take-cases, take-passed, take-shape}
-use Rattle.calls.proofs.FreeLaws.{free-cases, free-passed, free-shape}
+use Rattle.calllaws.proofs.Effects.{Passed, TakeAccepted, FreeAccepted}
+use Rattle.calllaws.proofs.TakeLaws.{take-cases, take-passed, take-shape}
+use Rattle.calllaws.proofs.FreeLaws.{free-cases, free-passed, free-shape}
 
 -- ---- the moves
 found-long : (f : Found) (s : State) → length (passedFound f s .table) ≡ length (s .table)

@@ -1,3 +1,4 @@
+pub mod RowCases
 pub mod CallCases
 pub mod RowLaws
 pub mod RowDemand

@@ -7,9 +7,10 @@ use Prim.Native.Nat.{ℕ, _*_, _≤_, _<_}
 use native.Mathlib.Omega.{arith}
 use native.Mathlib.Decide.{ℕ-discrete}
 use lib.ListN.{length, length-replicate}
-use lib.Dec.{T, leb}
+use lib.Dec.{T, eqb, leb}
 use borrow.Author.Tests.{eq-eqb, ne-eqb, le-leb, lt-leb, leb-true, leb-false}
-use Rattle.laws.proofs.Tests.{T-true, true-T}
+use Rattle.laws.specs.Sums.{pick}
+use Rattle.laws.proofs.Tests.{T-true, true-T, not-both}
 use Rattle.order.specs.Order.{cleared}
 use Rattle.order.proofs.OrderLaws.{length-cleared}
 use Rattle.heap.specs.declared.Superblock.{Superblock}
@@ -23,14 +24,14 @@ use Rattle.calls.specs.declared.Call.{Call}
 use Rattle.calls.specs.declared.Call.the-variants.{Take, Free}
 use Rattle.calls.specs.declared.Outcome.{Outcome}
 use Rattle.calls.specs.declared.Outcome.the-variants.{Ready, Address, Moves, Refused}
-use Rattle.calls.specs.Answers.{After, checked, numberOf}
+use Rattle.calls.specs.Answers.{After, checked, numberOf, valuesOf, Told}
 use Rattle.calls.specs.Setup.{setupOf}
 use Rattle.calls.specs.Take.{takeOf}
 use Rattle.calls.specs.Free.{freeOf}
 use Rattle.calls.specs.Calls.{callOf}
-use Rattle.calls.proofs.Effects.{Passed}
-use Rattle.calls.proofs.Checked.{checked-numbers, checked-storage}
-use Rattle.calls.proofs.SetupLaws.{setup-accepts as state-setup-accepts}
+use Rattle.calllaws.proofs.Effects.{Passed}
+use Rattle.calllaws.proofs.Checked.{checked-numbers, checked-storage}
+use Rattle.calllaws.proofs.SetupLaws.{setup-accepts as state-setup-accepts}
 use Rattle.rowrules.specs.Row.{RowAfter, stateOf, rowOf, rowRefused, rowStarted, setupOn, callOn, rowSetup, rowCall}
 use Rattle.rowrules.specs.RowClaim.{afterOf}
 use Rattle.rowrules.proofs.CallCases.{Goes, call-cases}
@@ -47,6 +48,10 @@ isReady Ready = 1
 isReady (Address a) = 0
 isReady (Moves m) = 0
 isReady (Refused r) = 0
+
+-- an outcome that is the rules' has their number and values
+pub told-same : (o x : Outcome) → o ≡ x → Told o x
+told-same o x e = record { number-is = ap numberOf e; values-are = ap valuesOf e }
 
 -- ---- the order of a setup's refusals: 1, 12, 13
 module _ (n : ℕ) (u : Setup) (row : List Superblock) (order : List ℕ) where
@@ -65,6 +70,19 @@ module _ (n : ℕ) (u : Setup) (row : List Superblock) (order : List ℕ) where
   pub setup-accepts : lawful u ≡ true → u .superblocks * 256 ≤ length order → n ≡ 64 → setupOn n u row order ≡ rowStarted u order
   unfolding setupOn
   setup-accepts e l f = rw (e, le-leb (u .superblocks * 256) (length order) l, eq-eqb n 64 f)
+
+  -- a row that is not 64 long is not accepted
+  pub setup-not-accepted : (n ≡ 64 → ⊥) → numberOf (setupOn n u row order .outcome) ≡ 0 → ⊥
+  unfolding setupOn numberOf
+  setup-not-accepted f = go (lawful u) (leb (u .superblocks * 256) (length order)) (eqb n 64) (ne-eqb n 64 f)
+    where
+      go : (a b c : Bool) → c ≡ false
+          → numberOf (pick a (pick b (pick c (rowStarted u order) (rowRefused 13 (noState .setup) row order)) (rowRefused 12 (noState .setup) row order)) (rowRefused 1 (noState .setup) row order) .outcome) ≡ 0
+          → ⊥
+      go true true true e z = not-both true refl e
+      go true true false e z = absurd (omega (arith, z))
+      go true false c e z = absurd (omega (arith, z))
+      go false b c e z = absurd (omega (arith, z))
 
 -- ---- the order of the first refusals of a take or a free: 13 for setup numbers, 12, 13 for the row's length
 module _ (n : ℕ) (u : Setup) (row : List Superblock) (order : List ℕ) (call : Call) where
@@ -92,6 +110,18 @@ module _ (n : ℕ) (u : Setup) (row : List Superblock) (order : List ℕ) (call 
       go true true e g = (13, call-length e (leb-true (u .superblocks * 256) (length order) g) f)
       go true false e g = (12, call-storage e (leb-false (u .superblocks * 256) (length order) g))
       go false b e g = (13, call-numbers e)
+
+  pub call-not-accepted : (n ≡ 64 → ⊥) → numberOf (callOn n u row order call .outcome) ≡ 0 → ⊥
+  unfolding callOn numberOf
+  call-not-accepted f = go (lawful u) (leb (u .superblocks * 256) (length order)) (eqb n 64) (ne-eqb n 64 f)
+    where
+      go : (a b c : Bool) → c ≡ false
+          → numberOf (pick a (pick b (pick c (rowOf (callOf (stateOf u row) order call)) (rowRefused 13 u row order)) (rowRefused 12 u row order)) (rowRefused 13 u row order) .outcome) ≡ 0
+          → ⊥
+      go true true true e z = not-both true refl e
+      go true true false e z = absurd (omega (arith, z))
+      go true false c e z = absurd (omega (arith, z))
+      go false b c e z = absurd (omega (arith, z))
 
   -- 64 records are the table of a state, and the call is one on that state
   pub call-64 : n ≡ 64 → callOn n u row order call ≡ rowOf (callOf (stateOf u row) order call)
@@ -133,6 +163,17 @@ module _ (u : Setup) (row : List Superblock) (order : List ℕ) where
           let same : h .0 ≡ r = sym (ap (λ (x : RowAfter). numberOf (x .outcome)) (h .1)) ∙ ap numberOf e in
           h .1 ∙ ap (λ (n : ℕ). rowRefused n (noState .setup) row order) same
       go (inr h) = absurd (let z : _≡_ {A = ℕ} 1 0 = sym (ap (λ (x : RowAfter). isReady (x .outcome)) (h .2)) ∙ ap isReady e in omega arith)
+
+  -- what is stored only where the number is 0 is the row that the rules leave
+  pub setup-kept : (b : Bool) → b ≡ eqb (numberOf (rowSetup u row order .outcome)) 0 → pick b (rowSetup u row order .row) row ≡ rowSetup u row order .row
+  unfolding numberOf
+  setup-kept true e = refl
+  setup-kept false e = go setup-cases
+    where
+      go : ((n : ℕ) × (rowSetup u row order ≡ rowRefused n (noState .setup) row order)) ⊎ (T (lawful u) × (u .superblocks * 256 ≤ length order) × (rowSetup u row order ≡ rowStarted u order))
+          → row ≡ rowSetup u row order .row
+      go (inl h) = sym (ap (λ (x : RowAfter). x .row) (h .1))
+      go (inr h) = absurd (not-both (eqb (numberOf (rowSetup u row order .outcome)) 0) (ap (λ (x : RowAfter). eqb (numberOf (x .outcome)) 0) (h .2)) (sym e))
 
   -- an accepted one writes 64 unused superblocks, whatever stood in the row, and they pass
   pub row-setup-ready : rowSetup u row order .outcome ≡ Ready
@@ -180,6 +221,24 @@ module _ (u : Setup) (row : List Superblock) (order : List ℕ) (call : Call) wh
           let same : h .0 ≡ r = sym (ap (λ (x : RowAfter). numberOf (x .outcome)) (h .1)) ∙ ap numberOf e in
           h .1 ∙ ap (λ (n : ℕ). rowRefused n u row order) same
       go (inr (f, g, s)) = absurd (g .not-refused r (ap (λ (x : RowAfter). x .outcome) (sym s) ∙ e))
+
+  -- what is stored only where the number is 0 is the row that the rules leave
+  pub call-kept : (b : Bool) → b ≡ eqb (numberOf (rowCall u row order call .outcome)) 0 → pick b (rowCall u row order call .row) row ≡ rowCall u row order call .row
+  unfolding numberOf
+  call-kept true e = refl
+  call-kept false e = go row-cases
+    where
+      number-0 : (o : Outcome) → ((r : ℕ) → o ≡ Refused r → ⊥) → numberOf o ≡ 0
+      number-0 Ready f = refl
+      number-0 (Address a) f = refl
+      number-0 (Moves m) f = refl
+      number-0 (Refused r) f = absurd (f r refl)
+
+      go : ((n : ℕ) × (rowCall u row order call ≡ rowRefused n u row order)) ⊎ accepted → row ≡ rowCall u row order call .row
+      go (inl h) = sym (ap (λ (x : RowAfter). x .row) (h .1))
+      go (inr (f, g, s)) =
+          let zero-is : numberOf (rowCall u row order call .outcome) ≡ 0 = ap (λ (x : RowAfter). numberOf (x .outcome)) s ∙ number-0 (callOf (stateOf u row) order call .answer .outcome) (g .not-refused) in
+          absurd (not-both (eqb (numberOf (rowCall u row order call .outcome)) 0) (ap (λ (n : ℕ). eqb n 0) zero-is) (sym e))
 
   -- no call changes the row's length, and an accepted one leaves 64 records
   pub row-long : length (rowCall u row order call .row) ≡ length row

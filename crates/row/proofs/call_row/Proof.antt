@@ -38,17 +38,19 @@ use denote.Triple.Statement.{Contract, Triple}
 use denote.Triple.Call.{calls-at}
 use denote.Triple.Clauses.{ensured, lasts}
 use denote.Triple.Table.{entered, cited}
-use denote.Triple.Walked.{says, Stays, gave-slice, stay-dropped, walkOf, goes-gave-slice, goes-dropped, Walks, ends-at, walked, walk-meets}
+use denote.Triple.Walked.{Stays, gave-slice, stay-dropped, walkOf, goes-gave-slice, goes-dropped, Walks, ends-at, walked, walk-meets}
 use denote.Exit.{yes}
 use Rattle.heap.specs.declared.Superblock.{Superblock}
 use Rattle.heap.specs.declared.Setup.{Setup}
 use Rattle.calls.specs.declared.Call.{Call}
 use Rattle.rowrules.specs.declared.RowAnswer.{RowAnswer}
-use Rattle.rowrules.specs.Row.{rowAfter, callOn, rowCall}
+use Rattle.calls.specs.Answers.{Told, Yields}
+use Rattle.rowrules.specs.Row.{RowAfter, stateOf, rowAfter, callOn, rowCall}
 use Rattle.rowcore.specs.declared.Called.{Called}
-use Rattle.rowcore.specs.Tables.{leaves}
+use Rattle.rowcore.specs.Tables.{isAccepted, leaves}
 use Rattle.row.specs.Whole.{loadOf, storeOf}
-use Rattle.row.proofs.StoredLaws.{call-whole}
+use Rattle.rowrules.proofs.RowLaws.{told-same}
+use Rattle.row.proofs.StoredLaws.{call-whole, call-yields}
 use Rattle.heap.proofs.Superblock as T
 use Rattle.heap.proofs.Setup as S
 use Rattle.heap.proofs.Setup.Laws as S′
@@ -59,7 +61,7 @@ use Rattle.rowrules.proofs.RowAnswer.Laws as N′
 use Rattle.rowcore.proofs.Called as R
 use Rattle.rowcore.proofs.Called.Laws as R′
 use Rattle.row.proofs.Thin.{Load, Store, loaded-of, whole-typed, to-load, goes-load, answer-val, to-store, goes-store}
-use Rattle.row.proofs.Lent.{field-array, SharedOut, shares-out, shared-back}
+use Rattle.row.proofs.Lent.{says-three, field-array, SharedOut, shares-out, shared-back}
 use Rattle.row.proofs.load as load′
 use Rattle.row.proofs.load.Symbol as load-def
 use Rattle.row.proofs.load.Symbol.{name as #load}
@@ -132,11 +134,11 @@ module _ {M : Type 1} (𝓤 : URA M) (H : Heap 𝓤) (A : Atoms 𝓤) (W : Given
   abbrev Says : RowAnswer → List Superblock → List ℕ → Type 0
   Says r zs ws = rowAfter r zs ws ≡ rowCall su ys os ca
 
-  exits : (r : RowAnswer) (w : Val) (zs : List Superblock) (ws : List ℕ) → Is N.the-row r (w ∷ []) → length zs ≡ length ys → length ws ≡ length os → Says r zs ws
+  exits : (r : RowAnswer) (w : Val) (zs : List Superblock) (ws : List ℕ) → Is N.the-row r (w ∷ []) → length zs ≡ length ys → length ws ≡ length os → Says r zs ws → Yields (r .outcome) (stateOf (r .setup) zs) ws
       → ent 𝓤 (⋆ 𝓤 H A ((‵ (flft κ q) ⊛ ‵ ftrue) ∷ ‵ (finally T.the-row γ zs) ∷ (‵ (flft κ₁ q₁) ⊛ ‵ ftrue) ∷ ‵ (finally u16 γ₁ ws) ∷ [])) (Post w)
-  exits r w zs ws g l l₁ e =
+  exits r w zs ws g l l₁ e p =
       qed W ((‵ (flft κ q) ⊛ ‵ ftrue) ∷ ‵ (finally T.the-row γ zs) ∷ (‵ (flft κ₁ q₁) ⊛ ‵ ftrue) ∷ ‵ (finally u16 γ₁ ws) ∷ []) ∵
-      suffices ! _ (ends-at 𝓤 H A f.ended stayed (f.clauses 𝓤 H A mem run) W (((κ, (κ₁, tt)), (q, (q₁, tt)), tt, a, vals), tt) w r (zs, (ws, (tt, (tt, tt)))) (l, (l₁, (tt, (tt, tt))))) $ says ! e $
+      suffices ! _ (ends-at 𝓤 H A f.ended stayed (f.clauses 𝓤 H A mem run) W (((κ, (κ₁, tt)), (q, (q₁, tt)), tt, a, vals), tt) w r (zs, (ws, (tt, (tt, tt)))) (l, (l₁, (tt, (tt, tt))))) $ says-three ! e (told-same (r .outcome) (rowCall su ys os ca .outcome) (ap (λ (z : RowAfter). z .outcome) e)) p $
       split ! $ move ! (0 ∷ 3 ∷ []) $ join ! $ frame ! $
       -- [true; finally zs; finally ws]
       move ! (0 ∷ 1 ∷ []) $ nothing ! $ fjoin ! $ nothing ! $ fjoin ! $ move ! (2 ∷ 0 ∷ []) $ fjoin ! $ move ! (1 ∷ 0 ∷ []) $ fjoin ! $ frame ! $
@@ -171,8 +173,8 @@ module _ {M : Type 1} (𝓤 : URA M) (H : Heap 𝓤) (A : Atoms 𝓤) (W : Given
         -- [`work`'s pre; the row; κ's token; local i at 3 + 2 (14 - i)]
         calls-at ! fm (Work 𝓤 H A mem run) known-work (to-work t u) (and-then ! (load ! (from ! (stop !)) (look ! 21 refl)) (and-then ! (load ! (from ! (stop !)) (look ! 19 refl)) (and-then ! (load ! (from ! (stop !)) (look ! 9 refl)) (and-then ! (load ! (from ! (stop !)) (look ! 25 refl)) (and-then ! (load ! (from ! (stop !)) (look ! 23 refl)) (no-more !)))))) (λ w.
         use1 W (later (some (λ (r : Called). ((‵ (flft κ₁ q₁) ⊛ ‵ ftrue) ⊛ ‵ (R.the-row .own r (w ∷ []))) ⊛ raw (ensured 𝓤 H A work.ended (work.clauses 𝓤 H A mem run) (κ₁, tt) (length ys, (t, (y, (su, (ca, tt))))) tt r)))) (id⊢ 𝓤 _) $ await ! tt $ pick ! (λ r.
-        split ! $ move ! (1 ∷ []) $ use1 W (some (λ (ws : Unit {0} × (Unit {0} × (List ℕ × (Unit {0} × (Unit {0} × Unit {0}))))). ‵ (lasts work.ended (κ₁, tt) (length ys, (t, (y, (su, (ca, tt))))) ws) ⊛ raw (fact 𝓤 (leaves r (ws .1 .1 .0) ≡ callOn (length ys) su t os ca)))) (id⊢ 𝓤 _) $ pick ! (λ ws.
-        split ! $ move ! (1 ∷ []) $ heard ! (leaves r (ws .1 .1 .0) ≡ callOn (length ys) su t os ca) (λ e₁.
+        split ! $ move ! (1 ∷ []) $ use1 W (some (λ (ws : Unit {0} × (Unit {0} × (List ℕ × (Unit {0} × (Unit {0} × Unit {0}))))). ‵ (lasts work.ended (κ₁, tt) (length ys, (t, (y, (su, (ca, tt))))) ws) ⊛ (raw (fact 𝓤 (leaves r (ws .1 .1 .0) ≡ callOn (length ys) su t os ca)) ⊛ (raw (fact 𝓤 (r .accepted ≡ isAccepted (r .answer .outcome))) ⊛ (raw (fact 𝓤 (Told (r .answer .outcome) (callOn (length ys) su t os ca .outcome))) ⊛ raw (fact 𝓤 (Yields (r .answer .outcome) (stateOf (r .answer .setup) (r .table)) (ws .1 .1 .0)))))))) (id⊢ 𝓤 _) $ pick ! (λ ws.
+        split ! $ move ! (1 ∷ []) $ split ! $ heard ! (leaves r (ws .1 .1 .0) ≡ callOn (length ys) su t os ca) (λ e₁. split ! $ heard ! (r .accepted ≡ isAccepted (r .answer .outcome)) (λ e₃. split ! $ drop ! $ heard ! (Yields (r .answer .outcome) (stateOf (r .answer .setup) (r .table)) (ws .1 .1 .0)) (λ e₄.
         fsplit ! $ drop ! $ fsplit ! $ drop ! $ fsplit ! $ fsplit ! $ move ! (1 ∷ []) $ feqL ! (λ l₁′.
         -- [order's last list; …; κ₁'s token and what the result owns; the row; κ's token; local i at 5 + 2 (14 - i)]
         move ! (2 ∷ []) $ split ! $ move ! (1 ∷ []) $ peeks ! R.the-row (Is R.the-row) (shows 𝓤 H A R.the-row) r (w ∷ []) (λ g₁.
@@ -183,10 +185,10 @@ module _ {M : Type 1} (𝓤 : URA M) (H : Heap 𝓤) (A : Atoms 𝓤) (W : Given
         assigns ! (agg ! (and-then ! (load ! (from ! (stop !)) (look ! 6 refl)) (and-then ! (load ! (from ! (fld ! refl (stop !))) (look-in ! 30 (sub ! 1 refl (whole !)))) (no-more !)))) (from ! (stop !)) (init ! 4 refl (tt, (tt, (record { fits = room .0 }, tt)))) $
         move ! (3 ∷ 2 ∷ []) $ use2 W (raw (Store 𝓤 H A mem run .pre (to-store 𝓤 H A W mem run b o ys κ q γ r))) (goes-store 𝓤 H A W mem run b o ys κ q γ r (field-array T.the-type 64 (r .table) _ (LL.owed R.the-type R′.the-laws r _ g₁ .0))) $
         -- [`store`'s pre; κ₁'s token; order's last list; local i at 3 + 2 (14 - i)]
-        calls-at ! fm (Store 𝓤 H A mem run) known-store (to-store 𝓤 H A W mem run b o ys κ q γ r) (and-then ! (load ! (from ! (stop !)) (look ! 3 refl)) (and-then ! (load ! (from ! (fld ! refl (stop !))) (look-in ! 17 (sub ! 0 refl (whole !)))) (no-more !))) (λ w′.
-        use1 W (later (some (λ (r′ : Unit {0}). ((‵ (flft κ q) ⊛ ‵ ftrue) ⊛ ‵ (unit .own r′ (w′ ∷ []))) ⊛ raw (ensured 𝓤 H A store.ended (store.clauses 𝓤 H A mem run) (κ, tt) (x γ, (r .table, tt)) tt r′)))) (id⊢ 𝓤 _) $ await ! tt $ pick ! (λ r′.
-        split ! $ move ! (1 ∷ []) $ use1 W (some (λ (zs : List Superblock × (Unit {0} × Unit {0})). ‵ (lasts store.ended (κ, tt) (x γ, (r .table, tt)) zs) ⊛ raw (fact 𝓤 (zs .0 ≡ storeOf ys (r .table))))) (id⊢ 𝓤 _) $ pick ! (λ zs.
-        split ! $ move ! (1 ∷ []) $ heard ! (zs .0 ≡ storeOf ys (r .table)) (λ e₂. fsplit ! $ fsplit ! $ move ! (1 ∷ []) $ feqL ! (λ l′.
+        calls-at ! fm (Store 𝓤 H A mem run) known-store (to-store 𝓤 H A W mem run b o ys κ q γ r) (and-then ! (load ! (from ! (stop !)) (look ! 3 refl)) (and-then ! (load ! (from ! (fld ! refl (stop !))) (look-in ! 17 (sub ! 0 refl (whole !)))) (and-then ! (load ! (from ! (fld ! refl (stop !))) (look-in ! 17 (sub ! 2 refl (whole !)))) (no-more !)))) (λ w′.
+        use1 W (later (some (λ (r′ : Unit {0}). ((‵ (flft κ q) ⊛ ‵ ftrue) ⊛ ‵ (unit .own r′ (w′ ∷ []))) ⊛ raw (ensured 𝓤 H A store.ended (store.clauses 𝓤 H A mem run) (κ, tt) (x γ, (r .table, (r .accepted, tt))) tt r′)))) (id⊢ 𝓤 _) $ await ! tt $ pick ! (λ r′.
+        split ! $ move ! (1 ∷ []) $ use1 W (some (λ (zs : List Superblock × (Unit {0} × (Unit {0} × Unit {0}))). ‵ (lasts store.ended (κ, tt) (x γ, (r .table, (r .accepted, tt))) zs) ⊛ raw (fact 𝓤 (zs .0 ≡ storeOf (r .accepted) ys (r .table))))) (id⊢ 𝓤 _) $ pick ! (λ zs.
+        split ! $ move ! (1 ∷ []) $ heard ! (zs .0 ≡ storeOf (r .accepted) ys (r .table)) (λ e₂. fsplit ! $ fsplit ! $ move ! (1 ∷ []) $ feqL ! (λ l′.
         -- [row's last list; …; κ's token and what the result owns; κ₁'s token; order's last list; local i at 5 + 2 (14 - i)]
         move ! (2 ∷ []) $ split ! $ move ! (1 ∷ []) $ peeks ! unit (Is unit) (shows 𝓤 H A unit) r′ (w′ ∷ []) (λ g₂. land ! (from ! (stop !)) (init ! 10 refl (nothing-lawful 𝓤 H A W .typed r′ _ g₂ .0)) $
         drop ! $ move ! (2 ∷ []) $ drop ! $
@@ -195,7 +197,7 @@ module _ {M : Type 1} (𝓤 : URA M) (H : Heap 𝓤) (A : Atoms 𝓤) (W : Given
         returns ! (look ! 32 refl) $ forget ! 4 refl $ forget ! 6 refl $ forget ! 8 refl $ forget ! 10 refl $ forget ! 12 refl $ forget ! 14 refl $ forget ! 16 refl $ forget ! 18 refl $ forget ! 20 refl $ forget ! 22 refl $ forget ! 24 refl $ forget ! 26 refl $ forget ! 28 refl $ forget ! 30 refl $ forget ! 32 refl $
         move ! (32 ∷ 33 ∷ []) $ free1 ! $ move ! (30 ∷ 31 ∷ []) $ free1 ! $ move ! (28 ∷ 29 ∷ []) $ free1 ! $ move ! (26 ∷ 27 ∷ []) $ free1 ! $ move ! (24 ∷ 25 ∷ []) $ free1 ! $ move ! (22 ∷ 23 ∷ []) $ free1 ! $ move ! (20 ∷ 21 ∷ []) $ free1 ! $ move ! (18 ∷ 19 ∷ []) $ free1 ! $
         move ! (16 ∷ 17 ∷ []) $ free1 ! $ move ! (14 ∷ 15 ∷ []) $ free1 ! $ move ! (12 ∷ 13 ∷ []) $ free1 ! $ move ! (10 ∷ 11 ∷ []) $ free1 ! $ move ! (8 ∷ 9 ∷ []) $ free1 ! $ move ! (6 ∷ 7 ∷ []) $ free1 ! $ move ! (4 ∷ 5 ∷ []) $ free1 ! $ free0 ! $
-        by ! (exits (r .answer) (answer-val r) (zs .0) (ws .1 .1 .0) (LL.owed R.the-type R′.the-laws r _ g₁ .1 .0) l′ l₁′ (call-whole ys t (zs .0) (ws .1 .1 .0) r e₀ e₂ su os ca e₁)))))))))))))))))))))))))))))))))))
+        by ! (exits (r .answer) (answer-val r) (zs .0) (ws .1 .1 .0) (LL.owed R.the-type R′.the-laws r _ g₁ .1 .0) l′ l₁′ (call-whole ys t (zs .0) (ws .1 .1 .0) r e₀ e₃ e₂ su os ca e₁) (call-yields ys t (zs .0) (ws .1 .1 .0) r e₀ e₃ e₂ su os ca e₁ e₄)))))))))))))))))))))))))))))))))))))
 
 module _ {M : Type 1} (𝓤 : URA M) (H : Heap 𝓤) (A : Atoms 𝓤) (W : Given 𝓤 H A) (mem : Memory → SProp 𝓤) (run : Routine → Fun 𝓤) where
   row-walks : (C : Calls 𝓤 H) (Λ : Loops 𝓤 H) → FmC 𝓤 H (W .laws) C → Triple 𝓤 (C #load) (Load 𝓤 H A mem run) → Triple 𝓤 (C #work) (Work 𝓤 H A mem run) → Triple 𝓤 (C #store) (Store 𝓤 H A mem run)

@@ -19,13 +19,13 @@ same-length : tie.Need-same-length
 same-length c = search needs
 
 returns : tie.Need-returns
-returns c = search call-take
+returns c = (search call-take, c .before .before .take .ensures .1 .1)
 
 same-length-2 : tie.Need-same-length-2
 same-length-2 c = search needs
 
 returns-2 : tie.Need-returns-2
-returns-2 c = search call-free
+returns-2 c = (search call-free, c .before .before .free .ensures .1 .1)
 
 pub call-state-spec : {M : Type 1} → statement M
 call-state-spec =

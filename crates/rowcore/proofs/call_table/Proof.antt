@@ -1,4 +1,4 @@
-use Rattle.rowcore.proofs.TableLaws.{call-refused, call-answered}
+use Rattle.rowcore.proofs.TableLaws.{call-refused, call-answered, gives, refused-accepts, answer-accepts, refused-yields, answer-yields}
 use borrow.Author.Needs.{needs}
 use Rattle.rowcore.proofs.call_table.Statement.{statement}
 use Rattle.rowcore.proofs.call_table.Tie as tie
@@ -13,7 +13,7 @@ same-length : tie.Need-same-length
 same-length c = search needs
 
 returns : tie.Need-returns
-returns c = search call-refused
+returns c = gives _ _ _ (search call-refused) (search refused-accepts) (search refused-yields)
 
 call-state-requires : tie.Need-call-state-requires
 call-state-requires c κs = search needs
@@ -25,7 +25,7 @@ same-length-2 : tie.Need-same-length-2
 same-length-2 c = search needs
 
 returns-2 : tie.Need-returns-2
-returns-2 c = search call-answered
+returns-2 c = gives _ _ _ (search call-answered) (search answer-accepts) (answer-yields _ _ _ (c .before .before .before .call-state .ensures .1) (c .answered .ensures))
 
 pub call-table-spec : {M : Type 1} → statement M
 call-table-spec =

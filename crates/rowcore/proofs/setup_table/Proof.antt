@@ -1,4 +1,4 @@
-use Rattle.rowcore.proofs.TableLaws.{setup-refused, setup-answered}
+use Rattle.rowcore.proofs.TableLaws.{setup-refused, setup-answered, gives, refused-accepts, answer-accepts, refused-yields, answer-yields}
 use borrow.Author.Needs.{needs}
 use Rattle.rowcore.proofs.setup_table.Statement.{statement}
 use Rattle.rowcore.proofs.setup_table.Tie as tie
@@ -16,7 +16,7 @@ same-length : tie.Need-same-length
 same-length c = search needs
 
 returns : tie.Need-returns
-returns c = search setup-refused
+returns c = gives _ _ _ (search setup-refused) (search refused-accepts) (search refused-yields)
 
 setup-requires : tie.Need-setup-requires
 setup-requires c κs = search needs
@@ -28,7 +28,7 @@ same-length-2 : tie.Need-same-length-2
 same-length-2 c = search needs
 
 returns-2 : tie.Need-returns-2
-returns-2 c = search setup-answered
+returns-2 c = gives _ _ _ (search setup-answered) (search answer-accepts) (answer-yields _ _ _ (c .before .before .before .setup .ensures .1 .1) (c .answered .ensures))
 
 pub setup-table-spec : {M : Type 1} → statement M
 setup-table-spec =

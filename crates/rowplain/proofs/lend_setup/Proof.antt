@@ -41,12 +41,13 @@ use denote.Triple.Statement.{Contract, Triple}
 use denote.Triple.Call.{calls-at}
 use denote.Triple.Clauses.{ensured, lasts}
 use denote.Triple.Table.{entered, cited}
-use denote.Triple.Walked.{says, needs, Stays, gave-slice, stay-dropped, walkOf, goes-gave-slice, goes-dropped, Walks, ends-at, walked, walk-meets}
+use denote.Triple.Walked.{needs, Stays, gave-slice, stay-dropped, walkOf, goes-gave-slice, goes-dropped, Walks, ends-at, walked, walk-meets}
 use denote.Exit.{yes}
 use Rattle.heap.specs.declared.Superblock.{Superblock}
 use Rattle.heap.specs.declared.Setup.{Setup}
 use Rattle.rowrules.specs.declared.RowAnswer.{RowAnswer}
-use Rattle.rowrules.specs.Row.{rowAfter, rowSetup}
+use Rattle.calls.specs.Answers.{Told, Yields}
+use Rattle.rowrules.specs.Row.{stateOf, rowAfter, rowSetup}
 use Rattle.rowplain.specs.declared.Lent.{Lent}
 use Rattle.rowplain.specs.Front.{lentAfter}
 use Rattle.heap.proofs.Superblock as T
@@ -57,7 +58,8 @@ use Rattle.rowrules.proofs.RowAnswer as N
 use Rattle.rowrules.proofs.RowAnswer.Laws as N′
 use Rattle.rowplain.proofs.Lent as R
 use Rattle.rowplain.proofs.Lent.Laws as R′
-use Rattle.row.proofs.Lent.{local-out, local-in}
+use Rattle.rowplain.proofs.MostLaws.{lent-yields}
+use Rattle.row.proofs.Lent.{says-two, local-out, local-in}
 use Rattle.rowplain.proofs.Made.{Whole, Slice, counts, long, lent-long, lent-room, made, mach, records-spelled, answer-spelled, made-is, whole-typed}
 use Rattle.rowplain.proofs.Apart.{cells-apart, cells-joined}
 use Rattle.row.proofs.setup_row as setup-row
@@ -108,11 +110,11 @@ module _ {M : Type 1} (𝓤 : URA M) (H : Heap 𝓤) (A : Atoms 𝓤) (W : Given
   abbrev others : List Superblock
   others = after n t
 
-  exits : (r : Lent) (ws : List ℕ) → Is R.the-row r (mach r ∷ []) → length ws ≡ length os → record { lent = r; order = ws } ≡ lentAfter n t (rowSetup su lent os)
+  exits : (r : Lent) (ws : List ℕ) → Is R.the-row r (mach r ∷ []) → length ws ≡ length os → record { lent = r; order = ws } ≡ lentAfter n t (rowSetup su lent os) → Yields (r .answer .outcome) (stateOf (r .answer .setup) (take n (r .records))) ws
       → ent 𝓤 (⋆ 𝓤 H A ((‵ (flft κ q) ⊛ ‵ ftrue) ∷ ‵ (finally u16 γ ws) ∷ [])) (Post (mach r))
-  exits r ws g l e =
+  exits r ws g l e p =
       qed W ((‵ (flft κ q) ⊛ ‵ ftrue) ∷ ‵ (finally u16 γ ws) ∷ []) ∵
-      suffices ! _ (ends-at 𝓤 H A f.ended stayed (f.clauses 𝓤 H A at-mem run) W (((κ, tt), (q, tt), tt, a, vals), tt) (mach r) r (tt, (tt, (ws, (tt, tt)))) (tt, (tt, (l, (tt, tt))))) $ says ! e $ frame ! $
+      suffices ! _ (ends-at 𝓤 H A f.ended stayed (f.clauses 𝓤 H A at-mem run) W (((κ, tt), (q, tt), tt, a, vals), tt) (mach r) r (tt, (tt, (ws, (tt, tt)))) (tt, (tt, (l, (tt, tt))))) $ says-two ! e p $ frame ! $
       nothing ! $ nothing ! $ fjoin ! $ move ! (1 ∷ 0 ∷ []) $ fjoin ! $ nothing ! $ fjoin ! $ nothing ! $ fjoin ! $ frame ! $ owned ! R.the-row (Is R.the-row) (LL.makes R.the-type R′.the-plain 𝓤 H A) r _ g $ done !
 
   -- the row, at the local's place p
@@ -160,8 +162,8 @@ module _ {M : Type 1} (𝓤 : URA M) (H : Heap 𝓤) (A : Atoms 𝓤) (W : Given
         -- [`setup_row`'s pre; the lender's part; the others; local i at 3 + 2 (11 - i), and from _4 down one less]
         calls-at ! fm (SetupRow 𝓤 H A at-mem run) known (to-row l₅ ν δ) (and-then ! (load ! (from ! (stop !)) (look ! 9 refl)) (and-then ! (load ! (from ! (stop !)) (look ! 5 refl)) (and-then ! (load ! (from ! (stop !)) (look ! 16 refl)) (no-more !)))) (λ w.
         use1 W (later (some (λ (r : RowAnswer). ((‵ (flft (ν ∷ []) fullShare) ⊛ (‵ (flft κ q) ⊛ ‵ ftrue)) ⊛ ‵ (N.the-row .own r (w ∷ []))) ⊛ raw (ensured 𝓤 H A setup-row.ended (setup-row.clauses 𝓤 H A at-mem run) (ν ∷ [], (κ, tt)) (x l₅ δ, (y, (su, tt))) tt r)))) (id⊢ 𝓤 _) $ await ! tt $ pick ! (λ r.
-        split ! $ move ! (1 ∷ []) $ use1 W (some (λ (zs : List Superblock × (List ℕ × (Unit {0} × Unit {0}))). ‵ (lasts setup-row.ended (ν ∷ [], (κ, tt)) (x l₅ δ, (y, (su, tt))) zs) ⊛ raw (fact 𝓤 (rowAfter r (zs .0) (zs .1 .0) ≡ rowSetup su lent os)))) (id⊢ 𝓤 _) $ pick ! (λ zs.
-        split ! $ move ! (1 ∷ []) $ heard ! (rowAfter r (zs .0) (zs .1 .0) ≡ rowSetup su lent os) (λ e.
+        split ! $ move ! (1 ∷ []) $ use1 W (some (λ (zs : List Superblock × (List ℕ × (Unit {0} × Unit {0}))). ‵ (lasts setup-row.ended (ν ∷ [], (κ, tt)) (x l₅ δ, (y, (su, tt))) zs) ⊛ (raw (fact 𝓤 (rowAfter r (zs .0) (zs .1 .0) ≡ rowSetup su lent os)) ⊛ (raw (fact 𝓤 (Told (r .outcome) (rowSetup su lent os .outcome))) ⊛ raw (fact 𝓤 (Yields (r .outcome) (stateOf (r .setup) (zs .0)) (zs .1 .0))))))) (id⊢ 𝓤 _) $ pick ! (λ zs.
+        split ! $ move ! (1 ∷ []) $ split ! $ heard ! (rowAfter r (zs .0) (zs .1 .0) ≡ rowSetup su lent os) (λ e. split ! $ drop ! $ heard ! (Yields (r .outcome) (stateOf (r .setup) (zs .0)) (zs .1 .0)) (λ e₁.
         fsplit ! $ fsplit ! $ move ! (1 ∷ []) $ feqL ! (λ l. move ! (1 ∷ []) $ fsplit ! $ fsplit ! $ move ! (1 ∷ []) $ feqL ! (λ l₁′. move ! (1 ∷ []) $ drop ! $
         -- [order's last list; row's last list; the tokens and what the result owns; the lender's part; the others; local i at 5 + 2 (11 - i)]
         move ! (2 ∷ []) $ split ! $ move ! (1 ∷ []) $ peeks ! N.the-row (Is N.the-row) (shows 𝓤 H A N.the-row) r (w ∷ []) (λ g. land ! (from ! (stop !)) (init ! 16 refl (LL.lawful N.the-type N′.the-laws 𝓤 H A W .typed r _ g .0)) $ rewrite ! 16 (λ (u : Val). ‵ (fat fullShare N′.mir l₆ 0 u)) (ap only (answer-spelled (zs .0 ++ others) r w g)) refl $
@@ -180,7 +182,7 @@ module _ {M : Type 1} (𝓤 : URA M) (H : Heap 𝓤) (A : Atoms 𝓤) (W : Given
         returns ! (look ! 24 refl) $ forget ! 0 refl $ forget ! 3 refl $ forget ! 5 refl $ forget ! 7 refl $ forget ! 9 refl $ forget ! 11 refl $ forget ! 13 refl $ forget ! 16 refl $ forget ! 18 refl $ forget ! 20 refl $ forget ! 22 refl $ forget ! 24 refl $
         move ! (24 ∷ 25 ∷ []) $ free1 ! $ move ! (22 ∷ 23 ∷ []) $ free1 ! $ move ! (20 ∷ 21 ∷ []) $ free1 ! $ move ! (18 ∷ 19 ∷ []) $ free1 ! $ move ! (16 ∷ 17 ∷ []) $ free1 ! $ move ! (0 ∷ 15 ∷ []) $ free1 ! $
         move ! (12 ∷ 13 ∷ []) $ free1 ! $ move ! (10 ∷ 11 ∷ []) $ free1 ! $ move ! (8 ∷ 9 ∷ []) $ free1 ! $ move ! (6 ∷ 7 ∷ []) $ free1 ! $ move ! (4 ∷ 5 ∷ []) $ free1 ! $ move ! (2 ∷ 3 ∷ []) $ free1 ! $ free0 ! $
-        by ! (exits (made (zs .0 ++ others) r) (zs .1 .0) (made-is (zs .0 ++ others) r u w g₁ g) l₁′ (ap (lentAfter n t) e)))))))))))))))))))))))))
+        by ! (exits (made (zs .0 ++ others) r) (zs .1 .0) (made-is (zs .0 ++ others) r u w g₁ g) l₁′ (ap (lentAfter n t) e) (lent-yields n (zs .0) others r (zs .1 .0) (l ∙ lent-long n t small is) e₁))))))))))))))))))))))))))
 
 module _ {M : Type 1} (𝓤 : URA M) (H : Heap 𝓤) (A : Atoms 𝓤) (W : Given 𝓤 H A) (mem : Memory → SProp 𝓤) (run : Routine → Fun 𝓤) where
   walks : (C : Calls 𝓤 H) (Λ : Loops 𝓤 H) → FmC 𝓤 H (W .laws) C → Triple 𝓤 (C #setup-row) (SetupRow 𝓤 H A mem run) → Walks 𝓤 H A f.ended stayed (WpFn 𝓤 H C Λ code.function) (f.clauses 𝓤 H A mem run)

@@ -1,0 +1,13 @@
+use Rattle.rowcore.proofs.TableLaws.{refused-made}
+use borrow.Author.Needs.{needs}
+use Rattle.rowcore.proofs.refuse.Statement.{statement}
+use Rattle.rowcore.proofs.refuse.Tie as tie
+
+accepted-requires : tie.Need-accepted-requires
+accepted-requires c κs = search needs
+
+returns : tie.Need-returns
+returns c = search refused-made
+
+pub refuse-spec : {M : Type 1} → statement M
+refuse-spec = tie.close (tie.spec accepted-requires returns)
