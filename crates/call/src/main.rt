@@ -1,7 +1,7 @@
 // One call of the engine on a state handed in, by value or as a lent row, read from standard input; the outcome, the next state and
 // the order places that changed go to standard output (docs/FORMATS.md, "One call").
 ghost use mathlib.Core.Path.{_≡_};
-ghost use Prim.Native.Nat.{_+_, _≤_};
+ghost use Prim.Native.Nat.{_+_, _-_, _^_, _≤_, _<_};
 ghost use lib.ListN.{length};
 ghost use lib.ListN.{length as lengthOf};
 ghost use Rattle.io.specs.Counts.{Counts};
@@ -13,12 +13,22 @@ use heap::Setup;
 use heap::State;
 use heap::Superblock;
 use rowplain::Lent;
+use stream::Input;
 
-// An input that the program takes has at most 36191 bytes, so that one cut off by the buffer's end is bad in any case.
+// The longest input that the program takes has 36193 bytes: a free on a lent row, with 17000 places (2 + 11 + 64 × 34 + 4 + 2 × 17000).
+// The buffer has one byte more, so that an input that it cuts off is bad in any case.
 fn main() {
-    let mut input = io::large_buffer();
-    let n = io::read_full(0, &mut input);
+    let mut input = [0u8; 36194];
+    let read = stream::read_input(b"call", &mut input);
+    let Input::Bytes(n) = read else {
+        return;
+    };
     reply_any(&input[..n]);
+}
+
+// Whether standard output took all bytes. A caller prints no more where it did not, so that a failure is told once.
+fn write(bytes: &[u8]) -> bool {
+    stream::write_output(b"call", bytes)
 }
 
 // Byte 3 and a length come before a call on a lent row.
@@ -35,12 +45,12 @@ fn reply_any(bytes: &[u8]) {
 // Input that is not of the form, or that lends more places than the program has, calls nothing.
 fn reply(bytes: &[u8]) {
     if !callform::well_formed(bytes) {
-        io::write_all(1, b"bad input\n");
+        write(b"bad input\n");
         return;
     }
     let lent = callform::places_lent(bytes);
     if lent > 17000 {
-        io::write_all(1, b"bad input\n");
+        write(b"bad input\n");
         return;
     }
     make_call(bytes, lent);
@@ -63,9 +73,9 @@ fn call_on(bytes: &[u8], order: &mut [u16], before: &mut [u16])
     callform::load_places(bytes, from, order);
     callform::load_places(bytes, from, before);
     let a = answer_to(bytes, order);
-    print_answer(a);
-    print_changes(before, order);
-    io::write_all(1, b"end\n");
+    if print_answer(a) {
+        print_rest(before, order);
+    }
 }
 
 fn answer_to(bytes: &[u8], order: &mut [u16]) -> Answer {
@@ -90,16 +100,16 @@ fn answer_to(bytes: &[u8], order: &mut [u16]) -> Answer {
 
 fn reply_row(length: u8, bytes: &[u8]) {
     if length > 65 {
-        io::write_all(1, b"bad input\n");
+        write(b"bad input\n");
         return;
     }
     if !callform::well_formed(bytes) {
-        io::write_all(1, b"bad input\n");
+        write(b"bad input\n");
         return;
     }
     let lent = callform::places_lent(bytes);
     if lent > 17000 {
-        io::write_all(1, b"bad input\n");
+        write(b"bad input\n");
         return;
     }
     make_row_call(length as usize, bytes, lent);
@@ -120,9 +130,9 @@ fn row_call_on(length: usize, bytes: &[u8], order: &mut [u16], before: &mut [u16
     callform::load_places(bytes, from, order);
     callform::load_places(bytes, from, before);
     let l = row_answer_to(length, bytes, order);
-    print_lent(length, l);
-    print_changes(before, order);
-    io::write_all(1, b"end\n");
+    if print_lent(length, l) {
+        print_rest(before, order);
+    }
 }
 
 fn row_answer_to(length: usize, bytes: &[u8], order: &mut [u16]) -> Lent {
@@ -163,73 +173,93 @@ fn records_of(s: State) -> [Superblock; 65] {
     records
 }
 
-fn print_lent(length: usize, l: Lent)
+fn print_lent(length: usize, l: Lent) -> bool
     requires { ⌜ length ≤ 65 ⌝ }
 {
     let a = l.answer;
     let outcome = a.outcome;
-    print_outcome(outcome);
+    if !print_outcome(outcome) {
+        return false;
+    }
     let u = a.setup;
-    print_setup(u);
+    if !print_setup(u) {
+        return false;
+    }
     let mut k = 0;
     while k < length {
         let b = l.records[k];
-        print_superblock(k, b);
+        if !print_superblock(k, b) {
+            return false;
+        }
         k += 1;
     }
+    true
 }
 
-// ---- printed lines
+// ---- printed lines; each function answers whether they were all written
 
 // The outcome, the setup, and each superblock that differs from an unused one.
-fn print_answer(a: Answer) {
+fn print_answer(a: Answer) -> bool {
     let outcome = a.outcome;
     let s = a.state;
-    print_outcome(outcome);
+    if !print_outcome(outcome) {
+        return false;
+    }
     let u = s.setup;
-    print_setup(u);
+    if !print_setup(u) {
+        return false;
+    }
     let mut k = 0;
     while k < 64 {
         let b = s.table[k];
-        print_superblock(k, b);
+        if !print_superblock(k, b) {
+            return false;
+        }
         k += 1;
     }
+    true
 }
 
-fn print_outcome(outcome: Outcome) {
+fn print_outcome(outcome: Outcome) -> bool {
     match outcome {
-        Outcome::Ready => {
-            io::write_all(1, b"ready\n");
-        }
+        Outcome::Ready => write(b"ready\n"),
         Outcome::Address(address) => print_number(b"at ", address as u64),
         Outcome::Moves(moves) => print_number(b"moved ", moves as u64),
         Outcome::Refused(number) => print_number(b"refused ", number as u64),
     }
 }
 
-fn print_number(label: &[u8], n: u64)
+fn print_number(label: &[u8], n: u64) -> bool
     requires { ⌜ length (now label) ≤ 8 ⌝ }
 {
     let mut line = [0u8; 32];
     let a = put_field(&mut line, 0, label, n);
     let end = put_end(&mut line, a);
-    io::write_all(1, &line[..end]);
+    write(&line[..end])
 }
 
-fn print_setup(u: Setup) {
+fn print_setup(u: Setup) -> bool {
     let mut line = [0u8; 128];
     let a = put_field(&mut line, 0, b"setup ", u.processors as u64);
     let b = put_field(&mut line, a, b" ", u.superblocks as u64);
     let c = put_field(&mut line, b, b" ", u.spare as u64);
-    let d = put_field(&mut line, c, b" ", u.p as u64);
-    let e = put_field(&mut line, d, b" ", u.q as u64);
-    let end = put_end(&mut line, e);
-    io::write_all(1, &line[..end]);
+    let d = put_fraction(&mut line, c, u.p, u.q);
+    let end = put_end(&mut line, d);
+    write(&line[..end])
 }
 
-fn print_superblock(k: usize, b: Superblock) {
-    if choose::is_unused(b) {
-        return;
+// The fraction's two numbers; the place after them.
+fn put_fraction(out: &mut [u8], at: usize, p: u8, q: u8) -> usize
+    requires { ⌜ at + 42 ≤ length (now out) ⌝ }
+    ensures { λ r. ⌜ r ≤ at + 42 ⌝ }
+{
+    let next = put_field(out, at, b" ", p as u64);
+    put_field(out, next, b" ", q as u64)
+}
+
+fn print_superblock(k: usize, b: Superblock) -> bool {
+    if predicates::is_unused(b) {
+        return true;
     }
     let live = b.live;
     let mut line = [0u8; 192];
@@ -238,31 +268,43 @@ fn print_superblock(k: usize, b: Superblock) {
     let class = put_field(&mut line, owner, b" class ", b.class as u64);
     let marks = put_marks(&mut line, class, live);
     let end = put_end(&mut line, marks);
-    io::write_all(1, &line[..end]);
+    write(&line[..end])
+}
+
+// The places that changed, and the last line.
+fn print_rest(before: &[u16], after: &[u16])
+    requires { ⌜ length (now before) ≡ length (now after) ⌝ }
+{
+    if print_changes(before, after) {
+        write(b"end\n");
+    }
 }
 
 // Each place that changed, with its new value.
-fn print_changes(before: &[u16], after: &[u16])
+fn print_changes(before: &[u16], after: &[u16]) -> bool
     requires { ⌜ length (now before) ≡ length (now after) ⌝ }
 {
     let mut i = 0;
     while i < after.len() {
         let old = before[i];
         let new = after[i];
-        print_change(i, old, new);
+        if !print_change(i, old, new) {
+            return false;
+        }
         i += 1;
     }
+    true
 }
 
-fn print_change(i: usize, old: u16, new: u16) {
+fn print_change(i: usize, old: u16, new: u16) -> bool {
     if old == new {
-        return;
+        return true;
     }
     let mut line = [0u8; 64];
     let place = put_field(&mut line, 0, b"place ", i as u64);
     let value = put_field(&mut line, place, b" ", new as u64);
     let end = put_end(&mut line, value);
-    io::write_all(1, &line[..end]);
+    write(&line[..end])
 }
 
 // The four numbers of live marks; the place after them.
@@ -276,10 +318,10 @@ fn put_marks(out: &mut [u8], at: usize, live: [u64; 4]) -> usize
     put_field(out, third, b" ", live[3])
 }
 
-// A word and a number after it, of at most 20 digits; the place after them.
+// A word and a number after it, of at most 20 digits; the place after them. So many digits are put that they hold the number.
 fn put_field(out: &mut [u8], at: usize, label: &[u8], n: u64) -> usize
     requires { ⌜ at + length (now label) + 20 ≤ length (now out) ⌝ }
-    ensures { λ r. ⌜ r ≤ at + length (now (label .entry)) + 20 ⌝ }
+    ensures { λ r. ⌜ (r ≤ at + length (now (label .entry)) + 20) × (n < 10 ^ (r - (at + length (now (label .entry))))) ⌝ }
 {
     let mut digits = [0u8; 20];
     let k = io::decimal(n, &mut digits);
@@ -290,7 +332,7 @@ fn put_field(out: &mut [u8], at: usize, label: &[u8], n: u64) -> usize
 // The end of a line; the place after it.
 fn put_end(out: &mut [u8], at: usize) -> usize
     requires { ⌜ at + 1 ≤ length (now out) ⌝ }
-    ensures { λ r. ⌜ Counts r (now (out .exit)) ⌝ }
+    ensures { λ r. ⌜ Counts r (now (out .exit)) × (r ≡ at + 1) ⌝ }
 {
     text::put_text(out, at, b"\n")
 }

@@ -1,13 +1,22 @@
-// Reads one record from standard input and prints its key.
+// Reads one record from standard input and prints its key. A record that cannot be read whole has no key.
 ghost use Rattle.io.specs.Counts.{Counts};
+use stream::Input;
 
 // A record is at most 60000 bytes: one byte more is enough to know that it is too long, and the rest is not read.
 fn main() {
     let mut input = [0u8; 60001];
+    let read = stream::read_input(b"key", &mut input);
+    let Input::Bytes(n) = read else {
+        return;
+    };
+    print_key(&input[..n]);
+}
+
+// The program's own order storage, and room for any key.
+fn print_key(record: &[u8]) {
     let mut storage = [0u16; 16384];
     let mut text = [0u8; 524288];
-    let n = io::read_full(0, &mut input);
-    let printed = replay::key(&input[..n], &mut storage, &mut text);
+    let printed = replay::key(record, &mut storage, &mut text);
     match printed {
         replay::Printed::Text(end) => print(&text, end),
         replay::Printed::NoRoom => {}
@@ -17,5 +26,5 @@ fn main() {
 fn print(text: &[u8], end: usize)
     requires { ⌜ Counts end (now text) ⌝ }
 {
-    io::write_all(1, &text[..end]);
+    stream::write_output(b"key", &text[..end]);
 }

