@@ -13,6 +13,7 @@ use heap::Setup;
 use heap::State;
 use heap::Superblock;
 use rowplain::Lent;
+use rowrules::RowAnswer;
 use stream::Input;
 
 // The longest input that the program takes has 36193 bytes: a free on a lent row, with 17000 places (2 + 11 + 64 × 34 + 4 + 2 × 17000).
@@ -173,6 +174,19 @@ fn records_of(s: State) -> [Superblock; 65] {
     records
 }
 
+// ---- printed lines; each function answers whether they were all written
+
+// A state handed back is printed as a row of its 64 superblocks.
+fn print_answer(a: Answer) -> bool {
+    let outcome = a.outcome;
+    let s = a.state;
+    let setup = s.setup;
+    let records = records_of(s);
+    let answer = RowAnswer { outcome, setup };
+    print_lent(64, Lent { records, answer })
+}
+
+// The outcome, the setup, and each of the first records that differs from an unused one.
 fn print_lent(length: usize, l: Lent) -> bool
     requires { ⌜ length ≤ 65 ⌝ }
 {
@@ -188,30 +202,6 @@ fn print_lent(length: usize, l: Lent) -> bool
     let mut k = 0;
     while k < length {
         let b = l.records[k];
-        if !print_superblock(k, b) {
-            return false;
-        }
-        k += 1;
-    }
-    true
-}
-
-// ---- printed lines; each function answers whether they were all written
-
-// The outcome, the setup, and each superblock that differs from an unused one.
-fn print_answer(a: Answer) -> bool {
-    let outcome = a.outcome;
-    let s = a.state;
-    if !print_outcome(outcome) {
-        return false;
-    }
-    let u = s.setup;
-    if !print_setup(u) {
-        return false;
-    }
-    let mut k = 0;
-    while k < 64 {
-        let b = s.table[k];
         if !print_superblock(k, b) {
             return false;
         }
