@@ -5,9 +5,7 @@ use Prim.Native.Nat.{ℕ}
 use Rattle.text.specs.Text.{pasted, letters, decimal}
 use Rattle.calls.specs.declared.Outcome.{Outcome}
 use Rattle.calls.specs.declared.Outcome.the-variants.{Ready, Address, Moves, Refused}
-use Rattle.lines.specs.Lines.{field, result}
--- the computed cases come first: a wrong definition fails there
-use Rattle.lines.proofs.Cases as cases
+use Rattle.linerules.specs.Lines.{field, result}
 
 module _ (l₀ : List ℕ) {l : List ℕ} (at : ℕ) {r : ℕ} where
   -- the text put is this word

@@ -10,7 +10,7 @@ use Rattle.text.specs.Text.{pasted, letters}
 use Rattle.text.proofs.PasteLaws.{then-pasted}
 use Rattle.heap.specs.declared.State.{State}
 use Rattle.heap.specs.Counts.{superblocksOf, liveOf}
-use Rattle.lines.specs.Lines.{heapLine, heapLineIf, classLines, heapLines, finalLines}
+use Rattle.linerules.specs.Lines.{heapLine, heapLineIf, classLines, heapLines, finalLines}
 
 module _ (l₀ : List ℕ) {l : List ℕ} (at : ℕ) {r : ℕ} (s : State) where
   -- a heap and class without a superblock has no line

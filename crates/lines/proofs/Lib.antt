@@ -1,4 +1,2 @@
-pub mod Cases
 pub mod FieldLaws
 pub mod FinalLaws
-pub mod LengthLaws

@@ -8,7 +8,7 @@ ghost use mathlib.Core.Path.{_≡_};
 ghost use mathlib.Core.List.{_++_};
 ghost use Prim.Native.Nat.{_≤_};
 ghost use Rattle.text.specs.Text.{decimal, pasted};
-ghost use Rattle.lines.specs.Lines.{
+ghost use Rattle.linerules.specs.Lines.{
   setupLine,
   result,
   takeLine,

@@ -18,7 +18,7 @@ use Rattle.calls.specs.Setup.{setupOf}
 use Rattle.calls.specs.Take.{otherPlaces, adopted, adoptedOrder, nextBlock, addressOf, takenFrom, takenFromOther, takenAt, takeOf}
 use Rattle.record.specs.Record.{whole, setupAt, notFirst, takeAt, freeAt, knownAt, commandAt, sizeOfCommand, isRefused, commandsFrom, commandsOf}
 use Rattle.text.specs.Text.{letters, digits, decimal}
-use Rattle.lines.specs.Lines.{setupLine, result, takeLine, freeLine, stopLine, heapLine, heapLineIf, classLines, heapLines, finalLines}
+use Rattle.linerules.specs.Lines.{setupLine, result, takeLine, freeLine, stopLine, heapLine, heapLineIf, classLines, heapLines, finalLines}
 use Rattle.replay.specs.Key.{setupText, textOf, orderAfter, keyOf, storageOf}
 
 -- P = 1, N = 1, K = 1, p/q = 1/2; a take of 2048 bytes, one by processor 0, an unknown byte

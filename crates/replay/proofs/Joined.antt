@@ -26,7 +26,7 @@ use Rattle.record.specs.declared.Command.{Command}
 use Rattle.record.specs.declared.Command.the-variants as command
 use Rattle.record.specs.Record.{commandAt, sizeOfCommand, isRefused, commandsFrom, commandsOf}
 use Rattle.record.proofs.CommandLaws.{remaining, commands-start, commands-setup, commands-refused, setup-read, take-read, free-read}
-use Rattle.lines.specs.Lines.{setupLine, takeLine, freeLine, stopLine, finalLines}
+use Rattle.linerules.specs.Lines.{setupLine, takeLine, freeLine, stopLine, finalLines}
 use Rattle.replay.specs.Key.{beforeAll, setupText, textOf, orderAfter, keyOf, storageOf}
 -- the computed cases come first: a wrong definition fails there
 use Rattle.replay.proofs.Cases as cases

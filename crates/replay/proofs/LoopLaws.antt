@@ -10,7 +10,7 @@ use Rattle.text.proofs.PasteLaws.{paste-nothing, put-end, put-upto, put-behind}
 use Rattle.heap.specs.declared.State.{State}
 use Rattle.heap.specs.Table.{noState}
 use Rattle.record.specs.Record.{byteAt, commandsOf}
-use Rattle.lines.specs.Lines.{finalLines}
+use Rattle.linerules.specs.Lines.{finalLines}
 use Rattle.replay.specs.declared.Replay.{Replay}
 use Rattle.replay.specs.declared.Printed.{Printed}
 use Rattle.replay.specs.declared.Printed.the-variants.{Text, NoRoom}

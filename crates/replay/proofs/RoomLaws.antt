@@ -28,8 +28,8 @@ use Rattle.record.specs.Record.{byteAt, commandAt, sizeOfCommand, isRefused, co
 use Rattle.record.proofs.CommandLaws.{setup-fits, take-fits}
 use Rattle.record.proofs.Offsets.{bytesIn, bytes-most}
 use Rattle.text.proofs.DigitLaws.{decimal-le, decimal-byte, decimal-short}
-use Rattle.lines.specs.Lines.{result, takeLine, freeLine, stopLine}
-use Rattle.lines.proofs.LengthLaws.{setup-length, final-length}
+use Rattle.linerules.specs.Lines.{result, takeLine, freeLine, stopLine}
+use Rattle.linerules.proofs.LengthLaws.{setup-length, final-length}
 use Rattle.replay.specs.Key.{beforeAll, setupText, textOf, keyOf, room}
 use Rattle.replay.proofs.SetupKept.{take-kept, free-kept, setup-heaps}
 -- the computed cases come first: a wrong definition fails there

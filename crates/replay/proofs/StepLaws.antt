@@ -24,7 +24,7 @@ use Rattle.record.specs.declared.Command.{Command}
 use Rattle.record.specs.declared.Command.the-variants as command
 use Rattle.record.specs.Record.{commandAt}
 use Rattle.record.proofs.CommandLaws.{commandsAt, remaining, remaining-more, remaining-end, commands-refused, commands-setup, commands-take, commands-free, setup-read, take-read, free-read}
-use Rattle.lines.specs.Lines.{setupLine, takeLine, freeLine, stopLine}
+use Rattle.linerules.specs.Lines.{setupLine, takeLine, freeLine, stopLine}
 use Rattle.replay.specs.declared.Replay.{Replay}
 use Rattle.replay.specs.Key.{from, setupText, textOf, orderAfter}
 use Rattle.replay.specs.Steps.{Total, closing, textAhead, orderAhead, total, left, Held, Stepped, nextOf, stopOf, Stopping}

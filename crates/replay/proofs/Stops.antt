@@ -16,7 +16,7 @@ use Rattle.record.specs.declared.Command.{Command}
 use Rattle.record.specs.declared.Command.the-variants as command
 use Rattle.record.specs.Record.{commandsOf}
 use Rattle.text.specs.Text.{letters, digits, decimal}
-use Rattle.lines.specs.Lines.{stopLine}
+use Rattle.linerules.specs.Lines.{stopLine}
 use Rattle.replay.specs.Key.{beforeAll, setupText, textOf, keyOf}
 -- the computed cases come first: a wrong definition fails there
 use Rattle.replay.proofs.Cases as cases

@@ -25,7 +25,7 @@ use Rattle.record.specs.declared.Command.{Command}
 use Rattle.record.specs.declared.Command.the-variants as command
 use Rattle.record.specs.Record.{whole, setupAt, notFirst, takeAt, freeAt, knownAt, commandAt, sizeOfCommand, isRefused, commandsFrom, commandsOf}
 use Rattle.text.specs.Text.{letters, digits, decimal}
-use Rattle.lines.specs.Lines.{setupLine, result, takeLine, freeLine, heapLine, heapLineIf, classLines, heapLines, finalLines}
+use Rattle.linerules.specs.Lines.{setupLine, result, takeLine, freeLine, heapLine, heapLineIf, classLines, heapLines, finalLines}
 use Rattle.replay.specs.Key.{keyOf}
 use Rattle.replay.proofs.Joined.{callsIn, stepsIn, lastOf, callLine, stepLines, ending, joined}
 

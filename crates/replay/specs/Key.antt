@@ -17,7 +17,7 @@ use Rattle.calls.specs.Free.{freeOf}
 use Rattle.record.specs.declared.Command.{Command}
 use Rattle.record.specs.declared.Command.the-variants as command
 use Rattle.record.specs.Record.{commandsOf}
-use Rattle.lines.specs.Lines.{setupLine, takeLine, freeLine, stopLine, finalLines}
+use Rattle.linerules.specs.Lines.{setupLine, takeLine, freeLine, stopLine, finalLines}
 use Rattle.replay.specs.declared.Printed.{Printed}
 use Rattle.replay.specs.declared.Printed.the-variants.{Text, NoRoom}
 

@@ -9,7 +9,7 @@ use Rattle.laws.specs.Sums.{pick}
 use Rattle.text.specs.Text.{Pasted, pasted}
 use Rattle.heap.specs.declared.State.{State}
 use Rattle.record.specs.Record.{commandsFrom}
-use Rattle.lines.specs.Lines.{stopLine, finalLines}
+use Rattle.linerules.specs.Lines.{stopLine, finalLines}
 use Rattle.replay.specs.declared.Replay.{Replay}
 use Rattle.replay.specs.Key.{from, textOf, orderAfter, keyOf, storageOf}
 

@@ -6,7 +6,7 @@ use lib.ListN.{length}
 use borrow.Author.Needs.{needs}
 use Rattle.text.specs.Text.{pasted}
 use Rattle.text.proofs.PasteLaws.{then-pasted, nothing-more}
-use Rattle.lines.specs.Lines.{classLines}
+use Rattle.linerules.specs.Lines.{classLines}
 use Rattle.lines.proofs.FinalLaws.{classes-none, classes-again, classes-all}
 use Rattle.lines.proofs.class_lines.Statement.{statement}
 use Rattle.lines.proofs.class_lines.Tie as tie

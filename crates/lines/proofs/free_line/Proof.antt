@@ -4,7 +4,7 @@ use mathlib.Core.Path.{refl}
 use Rattle.text.specs.Text.{letters}
 use Rattle.text.proofs.PasteLaws.{then-pasted}
 use Rattle.lines.proofs.FieldLaws.{word-put, place-put, field-put}
-use Rattle.lines.specs.Lines.{freeLine}
+use Rattle.linerules.specs.Lines.{freeLine}
 use borrow.Author.Needs.{needs}
 use Rattle.lines.proofs.free_line.Statement.{statement}
 use Rattle.lines.proofs.free_line.Tie as tie

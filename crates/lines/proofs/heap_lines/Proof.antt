@@ -6,7 +6,7 @@ use lib.ListN.{length}
 use borrow.Author.Needs.{needs}
 use Rattle.text.specs.Text.{pasted}
 use Rattle.text.proofs.PasteLaws.{then-pasted, nothing-more}
-use Rattle.lines.specs.Lines.{heapLines}
+use Rattle.linerules.specs.Lines.{heapLines}
 use Rattle.lines.proofs.FinalLaws.{heaps-none, heaps-again, heaps-all}
 use Rattle.lines.proofs.heap_lines.Statement.{statement}
 use Rattle.lines.proofs.heap_lines.Tie as tie

@@ -4,7 +4,7 @@ use mathlib.Core.Path.{refl}
 use Rattle.text.specs.Text.{letters}
 use Rattle.text.proofs.PasteLaws.{then-pasted}
 use Rattle.lines.proofs.FieldLaws.{word-put, field-put}
-use Rattle.lines.specs.Lines.{takeLine}
+use Rattle.linerules.specs.Lines.{takeLine}
 use borrow.Author.Needs.{needs}
 use Rattle.lines.proofs.take_line.Statement.{statement}
 use Rattle.lines.proofs.take_line.Tie as tie

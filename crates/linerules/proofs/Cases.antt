@@ -12,7 +12,7 @@ use Rattle.heap.specs.declared.State.{State}
 use Rattle.heap.specs.Table.{unused}
 use Rattle.heap.specs.Counts.{total, belongs, oneOf, liveIfOf, superblocksOf, liveOf}
 use Rattle.calls.specs.declared.Outcome.the-variants.{Address, Moves, Refused}
-use Rattle.lines.specs.Lines.{setupLine, result, takeLine, freeLine, stopLine, heapLine, heapLineIf, classLines, heapLines, finalLines}
+use Rattle.linerules.specs.Lines.{setupLine, result, takeLine, freeLine, stopLine, heapLine, heapLineIf, classLines, heapLines, finalLines}
 
 -- ---- the whole case
 setup-printed : setupLine (record { processors = 1; superblocks = 2; spare = 1; p = 1; q = 4 }) ≡ letters "setup 1 2 1 1 4\n"
