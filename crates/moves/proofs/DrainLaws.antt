@@ -1,6 +1,6 @@
 -- Laws of the move rule's code: one superblock counted, the test, one superblock passed on, and the loop of the moves. Assumes nothing.
 use mathlib.Core.Path.{_≡_, refl, sym, ap, _∙_}
-use mathlib.Core.Bool.{Bool, true, false}
+use mathlib.Core.Bool.{Bool, true, false, _&&_}
 use mathlib.Core.List.{List}
 use Prim.Native.Nat.{ℕ, suc, _+_, _-_, _*_, _≤_, _<_}
 use native.Mathlib.Nat.{add-zero}
@@ -73,6 +73,11 @@ draining-fits h c s t m d = omega (arith, superblocks-le h c s)
 
 pub draining-end : (h c : ℕ) (s t : State) (m : ℕ) (must : Bool) → Draining h c s t m → must ≡ mustMove h c t → must ≡ false → _≡_ {A = Moved} (record { moves = m; state = t }) (moved h c s)
 draining-end h c s t m must d e f = sym (moves-stop (64 - m) h c m t (sym e ∙ f)) ∙ d .rest
+
+-- the first of two tests that both hold; so a loop that asks more than the rule still makes the rule's moves, and only ends too early
+pub first-holds : (must more : Bool) → (must && more) ≡ true → must ≡ true
+first-holds true more e = refl
+first-holds false more e = e
 
 -- one move: a superblock less, and the state that it leaves
 module _ (h c : ℕ) (t next : State) (must : Bool) (found : Found) (long : length (t .table) ≡ 64) (pos : 0 < h) (asked : must ≡ mustMove h c t) (holds : must ≡ true)

@@ -2,7 +2,7 @@
 use borrow.Author.Needs.{needs}
 use Rattle.laws.proofs.Replaced.{length-mapped}
 use Rattle.heap.specs.Counts.{superblocksOf}
-use Rattle.moves.proofs.DrainLaws.{Draining, draining-start, draining-fits, draining-end, draining-less, draining-again}
+use Rattle.moves.proofs.DrainLaws.{Draining, draining-start, draining-fits, draining-end, draining-less, draining-again, first-holds}
 use Rattle.moves.proofs.drain.Statement.{statement}
 use Rattle.moves.proofs.drain.Tie as tie
 
@@ -28,10 +28,10 @@ add-moves : tie.Need-add-moves Inv-loop μ-loop
 add-moves c = search draining-fits
 
 loop-less : tie.Need-loop-less Inv-loop μ-loop
-loop-less c = search draining-less
+loop-less c = search (draining-less, first-holds)
 
 loop-again : tie.Need-loop-again Inv-loop μ-loop
-loop-again c = search draining-again
+loop-again c = search (draining-again, first-holds)
 
 returns : tie.Need-returns Inv-loop μ-loop
 returns c = search draining-end
