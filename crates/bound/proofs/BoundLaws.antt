@@ -8,15 +8,15 @@ use native.Mathlib.Omega.{arith}
 use borrow.Author.Tests.{ltb-false}
 use lib.Dec.{T, ltb}
 use Rattle.laws.specs.Sums.{both, sumBelow}
-use Rattle.laws.proofs.SumLaws.{sum-each-le, sum-scale, sum-bound}
+use Rattle.laws.proofs.SumLaws.{sum-le-of-terms-le, sum-scale, sum-le-mul}
 use Rattle.laws.proofs.Counting.{sum-add}
 use Rattle.classes.specs.Classes.{blocksOf}
 use Rattle.heap.specs.declared.State.{State}
-use Rattle.heap.specs.Counts.{superblocksOf, blocksIn, liveOf, ownedOf, liveOfClass}
+use Rattle.heap.specs.Counts.{superblocksOf, blocksIn, liveOf, superblocksOfClass, liveOfClass}
 use Rattle.heap.specs.Moves.{bothConditions, mustMove}
-use Rattle.heap.proofs.Facts.{Sound}
-use Rattle.heap.proofs.CountLaws.{owned-by-heaps, live-by-heaps}
-use Rattle.heap.proofs.Sound.{owned-is}
+use Rattle.heaplaws.proofs.StateFacts.{Sound}
+use Rattle.heaplaws.proofs.CountLaws.{owned-is-sum-over-heaps, live-of-heaps-le-live-of-class}
+use Rattle.heaplaws.proofs.StateCheckLaws.{owned-of-owner}
 
 -- ---- one heap
 few-spare : (d q a u w : ℕ) → d ≤ q → a ≤ u + w → d * a ≤ q * u + d * w
@@ -26,9 +26,9 @@ few-spare d q a u w h l =
     omega arith
 
 -- where the two conditions of the move rule are not both met, a heap has few blocks for those live
-held-gives : (spare p q n a u : ℕ) → (T (bothConditions spare p q n a u) → ⊥) → (q - p) * a ≤ q * u + (q - p) * (spare * n)
+blocks-bound-of-not-both-conditions : (spare p q n a u : ℕ) → (T (bothConditions spare p q n a u) → ⊥) → (q - p) * a ≤ q * u + (q - p) * (spare * n)
 unfolding bothConditions
-held-gives spare p q n a u f = go (ltb (u + spare * n) a) (ltb (q * u) ((q - p) * a)) refl refl f
+blocks-bound-of-not-both-conditions spare p q n a u f = go (ltb (u + spare * n) a) (ltb (q * u) ((q - p) * a)) refl refl f
   where
     go : (x y : Bool) → ltb (u + spare * n) a ≡ x → ltb (q * u) ((q - p) * a) ≡ y → (T (both x y) → ⊥) → (q - p) * a ≤ q * u + (q - p) * (spare * n)
     go true true e g h = absurd (h tt)
@@ -37,21 +37,21 @@ held-gives spare p q n a u f = go (ltb (u + spare * n) a) (ltb (q * u) ((q - p) 
 
 -- ---- all processor heaps
 -- a bound on each heap, added up
-sum-heaps : (d n q w p : ℕ) (m v : ℕ → ℕ) → ((i : ℕ) → i < p → d * n * m i ≤ q * v i + w) → d * n * sumBelow m p ≤ q * sumBelow v p + p * w
-sum-heaps d n q w p m v h =
-    let each : sumBelow (λ i. d * n * m i) p ≤ sumBelow (λ i. q * v i + w) p = sum-each-le (λ i. d * n * m i) (λ i. q * v i + w) p h in
+sum-of-heap-bounds : (d n q w p : ℕ) (m v : ℕ → ℕ) → ((i : ℕ) → i < p → d * n * m i ≤ q * v i + w) → d * n * sumBelow m p ≤ q * sumBelow v p + p * w
+sum-of-heap-bounds d n q w p m v h =
+    let each : sumBelow (λ i. d * n * m i) p ≤ sumBelow (λ i. q * v i + w) p = sum-le-of-terms-le (λ i. d * n * m i) (λ i. q * v i + w) p h in
     let a = sum-scale (d * n) m p in
     let b = sum-add (λ i. q * v i) (λ i. w) p in
     let e = sum-scale q v p in
-    let f : sumBelow (λ i. w) p ≤ p * w = sum-bound (λ i. w) w p (λ i l. le-refl w) in
+    let f : sumBelow (λ i. w) p ≤ p * w = sum-le-mul (λ i. w) w p (λ i l. le-refl w) in
     chain (d * n * sumBelow m p) (sumBelow (λ i. d * n * m i) p) (sumBelow (λ i. q * v i + w) p) (sumBelow (λ i. q * v i) p) (sumBelow (λ i. w) p) (q * sumBelow v p) (p * w) a each b e f
   where
     chain : (x y z g k l r : ℕ) → y ≡ x → y ≤ z → z ≡ g + k → g ≡ l → k ≤ r → x ≤ l + r
     chain x y z g k l r a b e f h = omega arith
 
 -- in the words of the claim
-in-claim : (d n q k p a m u l : ℕ) → a ≡ m → u ≤ l → d * n * m ≤ q * u + p * (d * (k * n)) → d * n * a ≤ q * l + d * p * k * n
-in-claim d n q k p a m u l e h b =
+bound-in-claim-form : (d n q k p a m u l : ℕ) → a ≡ m → u ≤ l → d * n * m ≤ q * u + p * (d * (k * n)) → d * n * a ≤ q * l + d * p * k * n
+bound-in-claim-form d n q k p a m u l e h b =
     let x : d * n * a ≡ d * n * m = ap (λ (y : ℕ). d * n * y) e in
     let y : q * u ≤ q * l = mul-le-mul-left q h in
     omega arith
@@ -62,7 +62,7 @@ module _ (s : State) (order : List ℕ) (sound : Sound s order) (c : ℕ) (known
   unfolding mustMove blocksIn
   heap-bound i l =
       regroup (s .setup .q - s .setup .p) (superblocksOf (suc i) c s) (blocksOf c) (s .setup .q * liveOf (suc i) c s + (s .setup .q - s .setup .p) * (s .setup .spare * blocksOf c))
-      (held-gives (s .setup .spare) (s .setup .p) (s .setup .q) (blocksOf c) (blocksIn (suc i) c s) (liveOf (suc i) c s) (sound .held (suc i) c (omega arith) l known))
+      (blocks-bound-of-not-both-conditions (s .setup .spare) (s .setup .p) (s .setup .q) (blocksOf c) (blocksIn (suc i) c s) (liveOf (suc i) c s) (sound .invariant (suc i) c (omega arith) l known))
     where
       regroup : (d m n r : ℕ) → d * (m * n) ≤ r → d * n * m ≤ r
       regroup d m n r h = omega arith
@@ -71,14 +71,14 @@ module _ (s : State) (order : List ℕ) (sound : Sound s order) (c : ℕ) (known
   few-processors = let h = sound .numbers .processors-high in omega arith
 
   -- where heap 0 has none of the class, the class's superblocks are few for its live blocks
-  pub bound-fresh : superblocksOf 0 c s ≡ 0
-      → (s .setup .q - s .setup .p) * blocksOf c * ownedOf c s ≤ s .setup .q * liveOfClass c s + (s .setup .q - s .setup .p) * s .setup .processors * s .setup .spare * blocksOf c
-  bound-fresh none =
-      in-claim (s .setup .q - s .setup .p) (blocksOf c) (s .setup .q) (s .setup .spare) (s .setup .processors)
-      (ownedOf c s) (sumBelow (λ i. superblocksOf (suc i) c s) (s .setup .processors)) (sumBelow (λ i. liveOf (suc i) c s) (s .setup .processors)) (liveOfClass c s)
-      (owned-by-heaps (s .setup .processors) c s few-processors (λ k l f. owned-is s order sound k l f .owner) ∙ no-zero (superblocksOf 0 c s) (sumBelow (λ i. superblocksOf (suc i) c s) (s .setup .processors)) none)
-      (live-by-heaps (s .setup .processors) c s few-processors)
-      (sum-heaps (s .setup .q - s .setup .p) (blocksOf c) (s .setup .q) ((s .setup .q - s .setup .p) * (s .setup .spare * blocksOf c)) (s .setup .processors)
+  pub bound-of-none-in-global : superblocksOf 0 c s ≡ 0
+      → (s .setup .q - s .setup .p) * blocksOf c * superblocksOfClass c s ≤ s .setup .q * liveOfClass c s + (s .setup .q - s .setup .p) * s .setup .processors * s .setup .spare * blocksOf c
+  bound-of-none-in-global none =
+      bound-in-claim-form (s .setup .q - s .setup .p) (blocksOf c) (s .setup .q) (s .setup .spare) (s .setup .processors)
+      (superblocksOfClass c s) (sumBelow (λ i. superblocksOf (suc i) c s) (s .setup .processors)) (sumBelow (λ i. liveOf (suc i) c s) (s .setup .processors)) (liveOfClass c s)
+      (owned-is-sum-over-heaps (s .setup .processors) c s few-processors (λ k l f. owned-of-owner s order sound k l f .owner) ∙ no-zero (superblocksOf 0 c s) (sumBelow (λ i. superblocksOf (suc i) c s) (s .setup .processors)) none)
+      (live-of-heaps-le-live-of-class (s .setup .processors) c s few-processors)
+      (sum-of-heap-bounds (s .setup .q - s .setup .p) (blocksOf c) (s .setup .q) ((s .setup .q - s .setup .p) * (s .setup .spare * blocksOf c)) (s .setup .processors)
       (λ i. superblocksOf (suc i) c s) (λ i. liveOf (suc i) c s) heap-bound)
     where
       no-zero : (z m : ℕ) → z ≡ 0 → z + m ≡ m

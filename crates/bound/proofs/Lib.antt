@@ -1,8 +1,8 @@
 pub mod ClaimCases
 pub mod LedgerLaws
-pub mod LiveLaws
+pub mod LiveAtLaws
 pub mod BoundLaws
-pub mod StepLaws
-pub mod Demand
-pub mod ListLaws
-pub mod Examples
+pub mod CallInvariantLaws
+pub mod Demand3
+pub mod CallListLaws
+pub mod CallListCases

@@ -34,9 +34,9 @@ afterFree a ledger (Moves m) = removed a ledger
 afterFree a ledger (Refused r) = ledger
 
 -- "A block is live when an accepted take answered its address and no accepted call has freed that address since."
-unfoldable pub booked : List Entry → Call → Outcome → List Entry
-booked ledger (Take processor size) outcome = afterTake size ledger outcome
-booked ledger (Free processor address) outcome = afterFree address ledger outcome
+unfoldable pub ledgerAfter : List Entry → Call → Outcome → List Entry
+ledgerAfter ledger (Take processor size) outcome = afterTake size ledger outcome
+ledgerAfter ledger (Free processor address) outcome = afterFree address ledger outcome
 
 -- the live blocks of class c
 unfoldable pub entriesOf : ℕ → List Entry → ℕ

@@ -1,1 +1,1 @@
-pub mod DigitLaws
+pub mod DigitCountLaws

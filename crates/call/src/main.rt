@@ -5,19 +5,19 @@ ghost use Prim.Native.Nat.{_+_, _-_, _^_, _≤_, _<_};
 ghost use lib.ListN.{length};
 ghost use lib.ListN.{length as lengthOf};
 ghost use Rattle.io.specs.Counts.{Counts};
-use callform::Asked;
+use callform::Request;
 use calls::Answer;
 use calls::Call;
 use calls::Outcome;
 use heap::Setup;
 use heap::State;
 use heap::Superblock;
-use rowplain::Lent;
+use rowplain::RecordsAnswer;
 use rowrules::RowAnswer;
 use stream::Input;
 
 // The longest input that the program takes has 36193 bytes: a free on a lent row, with 17000 places (2 + 11 + 64 × 34 + 4 + 2 × 17000).
-// The buffer has one byte more, so that an input that it cuts off is bad in any case.
+// The buffer has one byte more, so that an input that it truncates is bad in any case.
 fn main() {
     let mut input = [0u8; 36194];
     let read = stream::read_input(b"call", &mut input);
@@ -27,7 +27,7 @@ fn main() {
     reply_any(&input[..n]);
 }
 
-// Whether standard output took all bytes. A caller prints no more where it did not, so that a failure is told once.
+// Whether standard output took all bytes. A caller prints no more where it did not, so that a failure is reported once.
 fn write(bytes: &[u8]) -> bool {
     stream::write_output(b"call", bytes)
 }
@@ -49,7 +49,7 @@ fn reply(bytes: &[u8]) {
         write(b"bad input\n");
         return;
     }
-    let lent = callform::places_lent(bytes);
+    let lent = callform::place_count(bytes);
     if lent > 17000 {
         write(b"bad input\n");
         return;
@@ -66,13 +66,13 @@ fn make_call(bytes: &[u8], lent: usize)
     call_on(bytes, &mut storage[0..lent], &mut copy[0..lent]);
 }
 
-// The call, on order places as the input has them; a copy of these tells which of them changed.
+// The call, on order places as the input has them; a copy of these shows which of them changed.
 fn call_on(bytes: &[u8], order: &mut [u16], before: &mut [u16])
     requires { ⌜ length (now order) ≡ length (now before) ⌝ }
 {
-    let from = callform::places_from(bytes);
-    callform::load_places(bytes, from, order);
-    callform::load_places(bytes, from, before);
+    let from = callform::places_offset(bytes);
+    callload::load_places(bytes, from, order);
+    callload::load_places(bytes, from, before);
     let a = answer_to(bytes, order);
     if print_answer(a) {
         print_rest(before, order);
@@ -82,16 +82,16 @@ fn call_on(bytes: &[u8], order: &mut [u16], before: &mut [u16])
 fn answer_to(bytes: &[u8], order: &mut [u16]) -> Answer {
     let asked = callform::call_in(bytes);
     match asked {
-        Asked::Setup => {
+        Request::Setup => {
             let u = callform::setup_in(bytes);
             engine::setup(u, order)
         }
-        Asked::Take { processor, size } => {
-            let s = callform::state_at(bytes, callform::table_from(bytes));
+        Request::Take { processor, size } => {
+            let s = callload::state_at(bytes, callform::table_offset(bytes));
             engine::take(s, order, processor, size)
         }
-        Asked::Free { processor, address } => {
-            let s = callform::state_at(bytes, callform::table_from(bytes));
+        Request::Free { processor, address } => {
+            let s = callload::state_at(bytes, callform::table_offset(bytes));
             engine::free(s, order, processor, address)
         }
     }
@@ -108,7 +108,7 @@ fn reply_row(length: u8, bytes: &[u8]) {
         write(b"bad input\n");
         return;
     }
-    let lent = callform::places_lent(bytes);
+    let lent = callform::place_count(bytes);
     if lent > 17000 {
         write(b"bad input\n");
         return;
@@ -127,26 +127,26 @@ fn make_row_call(length: usize, bytes: &[u8], lent: usize)
 fn row_call_on(length: usize, bytes: &[u8], order: &mut [u16], before: &mut [u16])
     requires { ⌜ (length ≤ 65) × (lengthOf (now order) ≡ lengthOf (now before)) ⌝ }
 {
-    let from = callform::places_from(bytes);
-    callform::load_places(bytes, from, order);
-    callform::load_places(bytes, from, before);
+    let from = callform::places_offset(bytes);
+    callload::load_places(bytes, from, order);
+    callload::load_places(bytes, from, before);
     let l = row_answer_to(length, bytes, order);
-    if print_lent(length, l) {
+    if print_records(length, l) {
         print_rest(before, order);
     }
 }
 
-fn row_answer_to(length: usize, bytes: &[u8], order: &mut [u16]) -> Lent {
+fn row_answer_to(length: usize, bytes: &[u8], order: &mut [u16]) -> RecordsAnswer {
     let asked = callform::call_in(bytes);
     let u = callform::setup_in(bytes);
     match asked {
-        Asked::Setup => rowplain::setup_by_row(length, other_records(), order, u),
-        Asked::Take { processor, size } => {
-            let records = records_of(callform::state_at(bytes, callform::table_from(bytes)));
+        Request::Setup => rowplain::setup_by_row(length, other_records(), order, u),
+        Request::Take { processor, size } => {
+            let records = records_of(callload::state_at(bytes, callform::table_offset(bytes)));
             rowplain::call_by_row(length, records, order, u, Call::Take { processor, size })
         }
-        Asked::Free { processor, address } => {
-            let records = records_of(callform::state_at(bytes, callform::table_from(bytes)));
+        Request::Free { processor, address } => {
+            let records = records_of(callload::state_at(bytes, callform::table_offset(bytes)));
             rowplain::call_by_row(length, records, order, u, Call::Free { processor, address })
         }
     }
@@ -183,11 +183,11 @@ fn print_answer(a: Answer) -> bool {
     let setup = s.setup;
     let records = records_of(s);
     let answer = RowAnswer { outcome, setup };
-    print_lent(64, Lent { records, answer })
+    print_records(64, RecordsAnswer { records, answer })
 }
 
 // The outcome, the setup, and each of the first records that differs from an unused one.
-fn print_lent(length: usize, l: Lent) -> bool
+fn print_records(length: usize, l: RecordsAnswer) -> bool
     requires { ⌜ length ≤ 65 ⌝ }
 {
     let a = l.answer;

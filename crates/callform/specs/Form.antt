@@ -2,75 +2,63 @@
 use Prim.Native.Nat.{ℕ, zero, suc, _+_, _*_}
 use mathlib.Core.Bool.{Bool}
 use mathlib.Core.List.{List, [], _∷_, _++_}
-use lib.ListN.{length, getD}
+use lib.ListN.{length}
 use lib.Dec.{eqb, leb}
 use Rattle.laws.specs.Sums.{pick, both}
+use Rattle.littleendian.specs.Bytes.{byteAt, twoAt, fourAt, eightAt}
 use Rattle.heap.specs.declared.Superblock.{Superblock}
 use Rattle.heap.specs.declared.Setup.{Setup}
 use Rattle.heap.specs.declared.State.{State}
-use Rattle.callform.specs.declared.Asked.{Asked}
-use Rattle.callform.specs.declared.Asked.the-variants.{Setup as SetupAsked, Take, Free}
+use Rattle.callform.specs.declared.Request.{Request}
+use Rattle.callform.specs.declared.Request.the-variants as request
 
 -- f 0, f 1, .., f (n - 1)
 unfoldable pub listed : {A : Type 0} → (ℕ → A) → ℕ → List A
 listed f zero = []
 listed f (suc n) = listed f n ++ (f n ∷ [])
 
--- ---- numbers i bytes after a position: "Numbers of several bytes have the low byte first."
-abbrev pub byteIn : List ℕ → ℕ → ℕ → ℕ
-byteIn b at i = getD b (at + i) 0
-
-abbrev pub twoIn : List ℕ → ℕ → ℕ → ℕ
-twoIn b at i = byteIn b at i + 256 * byteIn b at (i + 1)
-
-abbrev pub fourIn : List ℕ → ℕ → ℕ → ℕ
-fourIn b at i = twoIn b at i + 65536 * twoIn b at (i + 2)
-
-abbrev pub eightIn : List ℕ → ℕ → ℕ → ℕ
-eightIn b at i = fourIn b at i + 4294967296 * fourIn b at (i + 4)
-
 -- ---- the call
 -- byte 0: 0 setup, 1 take, else a free, which has its numbers from byte 6 on as a take has
-unfoldable pub callIn : List ℕ → Asked
+unfoldable pub callIn : List ℕ → Request
 callIn b =
-    pick (eqb (byteIn b 0 0) 0) SetupAsked
-    (pick (eqb (byteIn b 0 0) 1) (Take (byteIn b 0 6) (twoIn b 0 7)) (Free (byteIn b 0 6) (fourIn b 0 7)))
+    pick (eqb (byteAt b 0) 0) request.Setup
+    (pick (eqb (byteAt b 0) 1) (request.Take (byteAt b 6) (twoAt b 7)) (request.Free (byteAt b 6) (fourAt b 7)))
 
 -- ---- the state
 -- P, N, K, p, q in bytes 1 to 5
 unfoldable pub setupIn : List ℕ → Setup
-setupIn b = record { processors = byteIn b 0 1; superblocks = byteIn b 0 2; spare = byteIn b 0 3; p = byteIn b 0 4; q = byteIn b 0 5 }
+setupIn b = record { processors = byteAt b 1; superblocks = byteAt b 2; spare = byteAt b 3; p = byteAt b 4; q = byteAt b 5 }
 
 -- 34 bytes: owner, class, live marks in four 8-byte numbers
-unfoldable pub superblockIn : List ℕ → ℕ → ℕ → Superblock
-superblockIn b at i =
+unfoldable pub superblockIn : List ℕ → ℕ → Superblock
+superblockIn b at =
     record {
-      owner = byteIn b at i;
-      class = byteIn b at (i + 1);
-      live = eightIn b at (i + 2) ∷ eightIn b at (i + 10) ∷ eightIn b at (i + 18) ∷ eightIn b at (i + 26) ∷ [];
+      owner = byteAt b at;
+      class = byteAt b (at + 1);
+      live = eightAt b (at + 2) ∷ eightAt b (at + 10) ∷ eightAt b (at + 18) ∷ eightAt b (at + 26) ∷ [];
     }
 
 -- the setup numbers with superblocks 0 to 63, which begin at a position
 unfoldable pub stateIn : List ℕ → ℕ → State
-stateIn b at = record { setup = setupIn b; table = listed (λ k. superblockIn b at (34 * k)) 64 }
+stateIn b at = record { setup = setupIn b; table = listed (λ k. superblockIn b (at + 34 * k)) 64 }
 
 -- where the superblocks of a take or a free begin
-unfoldable pub tableFrom : List ℕ → ℕ
-tableFrom b = pick (eqb (byteIn b 0 0) 1) 9 11
+unfoldable pub tableOffset : List ℕ → ℕ
+tableOffset b = pick (eqb (byteAt b 0) 1) 9 11
 
 -- ---- the order places
 -- where they begin: after the setup numbers, or the superblocks, and the four bytes of L
-unfoldable pub placesFrom : List ℕ → ℕ
-placesFrom b = pick (eqb (byteIn b 0 0) 0) 10 (tableFrom b + (64 * 34 + 4))
+unfoldable pub placesOffset : List ℕ → ℕ
+placesOffset b = pick (eqb (byteAt b 0) 0) 10 (tableOffset b + (64 * 34 + 4))
 
 -- L, the number of order places lent
-unfoldable pub placesLent : List ℕ → ℕ
-placesLent b = pick (eqb (byteIn b 0 0) 0) (fourIn b 0 6) (fourIn b (tableFrom b) (64 * 34))
+unfoldable pub placeCount : List ℕ → ℕ
+placeCount b = pick (eqb (byteAt b 0) 0) (fourAt b 6) (fourAt b (tableOffset b + 64 * 34))
 
 -- the first n places, of two bytes each, from a position on
 unfoldable pub placesIn : List ℕ → ℕ → ℕ → List ℕ
-placesIn b at n = listed (λ i. twoIn b at (2 * i)) n
+placesIn b at n = listed (λ i. twoAt b (at + 2 * i)) n
 
 -- a known call, and just the bytes that it has
 unfoldable pub wellFormed : List ℕ → Bool
-wellFormed b = both (leb (byteIn b 0 0) 2) (eqb (length b) (placesFrom b + 2 * placesLent b))
+wellFormed b = both (leb (byteAt b 0) 2) (eqb (length b) (placesOffset b + 2 * placeCount b))

@@ -7,7 +7,7 @@ use lib.ListN.{length}
 use lib.Dec.{leb}
 use Rattle.laws.specs.Sums.{pick}
 use Rattle.heap.specs.declared.State.{State}
-use Rattle.heap.specs.Check.{within, lawful, restGood, passes}
+use Rattle.heap.specs.Check.{within, withinLimits, restValid, passes}
 use Rattle.calls.specs.declared.Answer.{Answer}
 use Rattle.calls.specs.declared.Outcome.{Outcome}
 use Rattle.calls.specs.declared.Outcome.the-variants.{Ready, Address, Moves, Refused}
@@ -32,28 +32,29 @@ valuesOf (Moves m) = m ∷ []
 valuesOf (Refused r) = []
 
 -- an outcome has the number and the values of the outcome that the rules give
-pub record Told (outcome rules : Outcome) : Type 0 where
+pub record HasNumberAndValuesOf (outcome rules : Outcome) : Type 0 where
   pub number-is : numberOf outcome ≡ numberOf rules
   pub values-are : valuesOf outcome ≡ valuesOf rules
 
 -- "An accepted call yields a state that passes."
-abbrev pub Yields : Outcome → State → List ℕ → Type 0
-Yields outcome s order = numberOf outcome ≡ 0 → passes s order ≡ true
+abbrev pub PassesIfAccepted : Outcome → State → List ℕ → Type 0
+PassesIfAccepted outcome s order = numberOf outcome ≡ 0 → passes s order ≡ true
 
 -- "changes neither state nor storage"
 abbrev pub refused : ℕ → State → List ℕ → After
 refused r s order = record { answer = record { outcome = Refused r; state = s }; order = order }
 
--- "Take or free: 13 for setup numbers, 12, the rest of 13", then what follows
+-- "Take or free: 13 for setup numbers, 12, the rest of 13", then what follows; refusal 12 (bench word: storage): "fewer than N × 256 order
+-- places lent"; refusal 13 (bench word: state): "the state fails its check"
 unfoldable pub checked : State → List ℕ → After → After
 checked s order next =
-    pick (lawful (s .setup))
+    pick (withinLimits (s .setup))
     (pick (leb (s .setup .superblocks * 256) (length order))
-    (pick (restGood s order) next
+    (pick (restValid s order) next
     (refused 13 s order))
     (refused 12 s order))
     (refused 13 s order)
 
--- refusal 2, processor: "0 or above P"
+-- refusal 2 (bench word: processor): "0 or above P"
 unfoldable pub isProcessor : State → ℕ → Bool
 isProcessor s i = within 1 (s .setup .processors) i

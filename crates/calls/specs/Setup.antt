@@ -7,18 +7,18 @@ use Rattle.laws.specs.Sums.{pick}
 use Rattle.order.specs.Order.{cleared}
 use Rattle.heap.specs.declared.Setup.{Setup}
 use Rattle.heap.specs.Table.{noState, newState}
-use Rattle.heap.specs.Check.{lawful}
+use Rattle.heap.specs.Check.{withinLimits}
 use Rattle.calls.specs.Answers.{After, refused}
 use Rattle.calls.specs.declared.Outcome.the-variants.{Ready}
 
 -- "A new setup has every superblock unused .. and sets the first N × 256 places of the order storage to 0."
-abbrev pub started : Setup → List ℕ → After
-started u order = record { answer = record { outcome = Ready; state = newState u }; order = cleared order (u .superblocks * 256) }
+abbrev pub acceptedSetup : Setup → List ℕ → After
+acceptedSetup u order = record { answer = record { outcome = Ready; state = newState u }; order = cleared order (u .superblocks * 256) }
 
--- "setup 1, 12"; "A refused setup hands back five zeros and 64 unused superblocks"
+-- "setup 1, 12"; refusal 1 (bench word: setup): "a setup number outside its limits"; "A refused setup hands back five zeros and 64 unused superblocks"
 unfoldable pub setupOf : Setup → List ℕ → After
 setupOf u order =
-    pick (lawful u)
-    (pick (leb (u .superblocks * 256) (length order)) (started u order)
+    pick (withinLimits u)
+    (pick (leb (u .superblocks * 256) (length order)) (acceptedSetup u order)
     (refused 12 noState order))
     (refused 1 noState order)

@@ -11,7 +11,7 @@ use Rattle.heap.specs.declared.Superblock.{Superblock}
 use Rattle.heap.specs.declared.State.{State}
 use Rattle.heap.specs.declared.Found.{Found}
 use Rattle.heap.specs.declared.Found.the-variants.{At, Nothing}
-use Rattle.heap.specs.Table.{superblockAt, withSuperblock, liveIn, ownedBy, marked}
+use Rattle.heap.specs.Table.{superblockAt, withSuperblock, liveIn, withOwner, withMarkAt}
 use Rattle.heap.specs.Choice.{fullest, lowestEmpty, lowestUnused, orElse}
 use Rattle.heap.specs.Check.{within}
 use Rattle.calls.specs.Answers.{After, refused, checked, isProcessor}
@@ -22,17 +22,17 @@ use Rattle.calls.specs.declared.Outcome.the-variants.{Address}
 unfoldable pub otherPlaces : ℕ → State → Found
 otherPlaces c s = orElse (fullest 0 c s) (orElse (lowestEmpty s) (lowestUnused s))
 
--- "To renew a superblock for class c: set its class, clear its marks", here as heap i's
-abbrev pub fresh : ℕ → ℕ → Superblock
-fresh i c = record { owner = i; class = c; live = noMarks }
+-- "To renew a superblock for class c: set its class, clear its marks", here as heap i's. "Renew" is document 01's term for reinitializing
+abbrev pub renewedFor : ℕ → ℕ → Superblock
+renewedFor i c = record { owner = i; class = c; live = noMarks }
 
 -- "From places 2 to 4 it becomes owned by heap i. A superblock with nothing live is renewed for c"
-unfoldable pub adopted : ℕ → ℕ → Superblock → Superblock
-adopted i c b = pick (eqb (liveIn b) 0) (fresh i c) (ownedBy i b)
+unfoldable pub acquired : ℕ → ℕ → Superblock → Superblock
+acquired i c b = pick (eqb (liveIn b) 0) (renewedFor i c) (withOwner i b)
 
 -- "and put n - 1 - j in place j for j below n"
-unfoldable pub adoptedOrder : ℕ → ℕ → Superblock → List ℕ → List ℕ
-adoptedOrder c k b order = pick (eqb (liveIn b) 0) (renewed order k (blocksOf c)) order
+unfoldable pub acquiredOrder : ℕ → ℕ → Superblock → List ℕ → List ℕ
+acquiredOrder c k b order = pick (eqb (liveIn b) 0) (renewed order k (blocksOf c)) order
 
 -- the block in the last filled place of superblock k's order
 unfoldable pub nextBlock : State → List ℕ → ℕ → ℕ
@@ -48,26 +48,30 @@ takenFrom k s order =
     record {
       answer = record {
         outcome = Address (addressOf k (superblockAt s k .class) (nextBlock s order k));
-        state = withSuperblock s k (marked (superblockAt s k) (nextBlock s order k));
+        state = withSuperblock s k (withMarkAt (superblockAt s k) (nextBlock s order k));
       };
       order = order;
     }
 
--- superblock k comes to heap i from place 2, 3 or 4, and gives the block
+-- heap i acquires superblock k from place 2, 3 or 4, and the block is taken from it
 unfoldable pub takenFromOther : ℕ → ℕ → ℕ → State → List ℕ → After
 takenFromOther i c k s order =
-    takenFrom k (withSuperblock s k (adopted i c (superblockAt s k))) (adoptedOrder c k (superblockAt s k) order)
+    takenFrom k (withSuperblock s k (acquired i c (superblockAt s k))) (acquiredOrder c k (superblockAt s k) order)
 
--- "The superblock is the first that one of these four places offers"; refusal 4: "none of the four places offers a superblock"
+-- "The superblock is the first that one of these four places offers"; refusal 4 (bench word: dry):
+-- "none of the four places offers a superblock"
 unfoldable pub takenAt : ℕ → ℕ → State → List ℕ → Found → Found → After
 takenAt i c s order (At k) other = takenFrom k s order
 takenAt i c s order Nothing (At k) = takenFromOther i c k s order
 takenAt i c s order Nothing Nothing = refused 4 s order
 
--- "then take 2, 3, 4"; refusal 3: size "0 or above 2048"
-unfoldable pub takeOf : State → List ℕ → ℕ → ℕ → After
-takeOf s order i size =
-    checked s order
-    (pick (not (isProcessor s i)) (refused 2 s order)
+-- a take behind the check, on any state: "then take 2, 3, 4"; refusal 3 (bench word: size): "0 or above 2048"
+unfoldable pub takeUnchecked : State → List ℕ → ℕ → ℕ → After
+takeUnchecked s order i size =
+    pick (not (isProcessor s i)) (refused 2 s order)
     (pick (not (within 1 2048 size)) (refused 3 s order)
-    (takenAt i (classOf size) s order (fullest i (classOf size) s) (otherPlaces (classOf size) s))))
+    (takenAt i (classOf size) s order (fullest i (classOf size) s) (otherPlaces (classOf size) s)))
+
+-- "Take or free: 13 for setup numbers, 12, the rest of 13; then take 2, 3, 4"
+unfoldable pub takeOf : State → List ℕ → ℕ → ℕ → After
+takeOf s order i size = checked s order (takeUnchecked s order i size)

@@ -1,6 +1,6 @@
 pub mod Cases
-pub mod ClassTest
-pub mod FirstLaws
-pub mod TableLaws
+pub mod ClassFormula
+pub mod FirstAtLeastLaws
+pub mod ClassTableLaws
 pub mod ClassLaws
-pub mod AddressLaws
+pub mod OffsetLaws

@@ -86,7 +86,7 @@ pub fn block_count(class: u8) -> u16
 }
 
 // The smallest class that holds a size; 27 where none does. From size 33 on each doubling has four classes, so the
-// position k of the top bit of size - 1 tells the doubling, and the two bits below it which of the four.
+// position k of the top bit of size - 1 is the doubling, and the two bits below it which of the four.
 pub fn class_of(size: u16) -> u8
     ensures { λ r. ⌜ r ≡ classOf size ⌝ }
 {

@@ -1,3 +1,2 @@
-pub mod FirstLaws
-pub mod PlaceLaws
+pub mod FirstRefusalLaws
 pub mod EntryLaws

@@ -13,13 +13,13 @@ use Rattle.heap.specs.declared.Found.{Found}
 use Rattle.heap.specs.declared.Found.the-variants.{At, Nothing}
 use Rattle.heap.specs.Table.{unused, isUnused}
 use Rattle.heap.specs.Counts.{belongs}
-use Rattle.heap.specs.Choice.{prefer, chosenBelow, moreLive, fewerLive, noBetter, hasFree, emptyInZero, fullest, lowestEmpty, lowestUnused, emptiest, orElse}
+use Rattle.heap.specs.Choice.{prefer, chosenBelow, moreLive, fewerLive, neverPreferred, hasFree, emptyInGlobal, fullest, lowestEmpty, lowestUnused, emptiest, orElse}
 use Rattle.heap.proofs.TableCases.{of}
 
 -- N, and the superblocks: of class 16, with 10 blocks, heap 2 has a full one; heap 1 has 4, 10, 6, 6, 2 and 2 live, in that order.
 -- Heap 0 has one of class 18 with 1 live, then empty ones of classes 17, 16, 16.
-abbrev pub shelf : ℕ → State
-shelf n =
+abbrev pub choice-state : ℕ → State
+choice-state n =
     record {
       setup = record { processors = 2; superblocks = n; spare = 1; p = 3; q = 7 };
       table =
@@ -28,32 +28,32 @@ shelf n =
     }
 
 -- "class c with a free block, most live first, the lower number among equals"; in heap 0 "one with nothing live counts as well"; the last superblock is seen
-pub fullest-are :
-    fullest 1 16 (shelf 64) ∷ fullest 2 16 (shelf 64) ∷ fullest 0 16 (shelf 64) ∷ fullest 0 17 (shelf 64) ∷ fullest 1 17 (shelf 64) ∷ fullest 2 17 (shelf 64) ∷ fullest 1 18 (shelf 64) ∷ []
+pub fullest-cases :
+    fullest 1 16 (choice-state 64) ∷ fullest 2 16 (choice-state 64) ∷ fullest 0 16 (choice-state 64) ∷ fullest 0 17 (choice-state 64) ∷ fullest 1 17 (choice-state 64) ∷ fullest 2 17 (choice-state 64) ∷ fullest 1 18 (choice-state 64) ∷ []
     ≡ At 4 ∷ Nothing ∷ At 8 ∷ At 7 ∷ At 6 ∷ At 63 ∷ Nothing ∷ []
 unfolding fullest chosenBelow prefer moreLive hasFree belongs blocksOf counts liveCount sumBelow markBit bit
-fullest-are = refl
+fullest-cases = refl
 
 -- "heap i's class-c superblock with the fewest live, the lower number among equals"; a full one too
-pub emptiest-are :
-    emptiest 1 16 (shelf 64) ∷ emptiest 2 16 (shelf 64) ∷ emptiest 0 16 (shelf 64) ∷ emptiest 2 17 (shelf 64) ∷ emptiest 2 18 (shelf 64) ∷ []
+pub emptiest-cases :
+    emptiest 1 16 (choice-state 64) ∷ emptiest 2 16 (choice-state 64) ∷ emptiest 0 16 (choice-state 64) ∷ emptiest 2 17 (choice-state 64) ∷ emptiest 2 18 (choice-state 64) ∷ []
     ≡ At 11 ∷ At 0 ∷ At 8 ∷ At 63 ∷ Nothing ∷ []
 unfolding emptiest chosenBelow prefer fewerLive belongs liveCount sumBelow markBit bit
-emptiest-are = refl
+emptiest-cases = refl
 
 -- "heap 0: the lowest-numbered superblock with nothing live, of any class"; another heap's empty one is none
-abbrev pub none-empty : State
-none-empty = record { setup = shelf 64 .setup; table = of 1 16 0 ∷ of 0 17 4 ∷ of 0 16 1 ∷ replicate 61 unused }
+abbrev pub none-empty-in-global : State
+none-empty-in-global = record { setup = choice-state 64 .setup; table = of 1 16 0 ∷ of 0 17 4 ∷ of 0 16 1 ∷ replicate 61 unused }
 
-pub lowest-empty-are : lowestEmpty (shelf 64) ∷ lowestEmpty none-empty ∷ [] ≡ At 7 ∷ Nothing ∷ []
-unfolding lowestEmpty chosenBelow prefer noBetter emptyInZero liveCount sumBelow markBit bit
-lowest-empty-are = refl
+pub lowest-empty-cases : lowestEmpty (choice-state 64) ∷ lowestEmpty none-empty-in-global ∷ [] ≡ At 7 ∷ Nothing ∷ []
+unfolding lowestEmpty chosenBelow prefer neverPreferred emptyInGlobal liveCount sumBelow markBit bit
+lowest-empty-cases = refl
 
 -- "the lowest-numbered unused one of superblocks 0 to N - 1", for N = 14, 11 and 10
-pub lowest-unused-are : map (λ (n : ℕ). lowestUnused (shelf n)) (14 ∷ 11 ∷ 10 ∷ []) ≡ At 10 ∷ At 10 ∷ Nothing ∷ []
-unfolding lowestUnused chosenBelow prefer noBetter isUnused liveCount sumBelow markBit bit
-lowest-unused-are = refl
+pub lowest-unused-cases : map (λ (n : ℕ). lowestUnused (choice-state n)) (14 ∷ 11 ∷ 10 ∷ []) ≡ At 10 ∷ At 10 ∷ Nothing ∷ []
+unfolding lowestUnused chosenBelow prefer neverPreferred isUnused liveCount sumBelow markBit bit
+lowest-unused-cases = refl
 
 -- the first that is found
-pub or-else-are : orElse (At 5) (At 3) ∷ orElse Nothing (At 3) ∷ orElse (At 5) Nothing ∷ orElse Nothing Nothing ∷ [] ≡ At 5 ∷ At 3 ∷ At 5 ∷ Nothing ∷ []
-or-else-are = refl
+pub or-else-cases : orElse (At 5) (At 3) ∷ orElse Nothing (At 3) ∷ orElse (At 5) Nothing ∷ orElse Nothing Nothing ∷ [] ≡ At 5 ∷ At 3 ∷ At 5 ∷ Nothing ∷ []
+or-else-cases = refl

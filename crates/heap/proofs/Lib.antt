@@ -2,10 +2,3 @@ pub mod TableCases
 pub mod ChoiceCases
 pub mod MoveCases
 pub mod CheckCases
-pub mod Facts
-pub mod ChoiceLaws
-pub mod CountLaws
-pub mod Sound
-pub mod MoveLaws
-pub mod Typed
-pub mod StorageLaws

@@ -10,76 +10,76 @@ use Rattle.marks.specs.Marks.{bit, markBit, withMark, withoutMark, liveCount}
 use Rattle.heap.specs.declared.Superblock.{Superblock}
 use Rattle.heap.specs.declared.Setup.{Setup}
 use Rattle.heap.specs.declared.State.{State}
-use Rattle.heap.specs.Table.{unused, withSuperblock, liveIn, isUnused, ownedBy, marked, unmarked, noState, newState}
-use Rattle.heap.specs.Counts.{total, belongs, ownedOfClass, oneOf, liveIfOf, superblocksOf, blocksIn, liveOf, ownedOf, liveOfClass, ownersChanged}
+use Rattle.heap.specs.Table.{unused, withSuperblock, liveIn, isUnused, withOwner, withMarkAt, withoutMarkAt, noState, newState}
+use Rattle.heap.specs.Counts.{total, belongs, isOwnedOfClass, oneIfBelongs, liveIfBelongs, superblocksOf, blocksIn, liveOf, superblocksOfClass, liveOfClass, ownersChanged}
 
 -- a superblock of heap h and class c with these marks in the first of its four numbers
 abbrev pub of : ℕ → ℕ → ℕ → Superblock
 of h c marks = record { owner = h; class = c; live = marks ∷ 0 ∷ 0 ∷ 0 ∷ [] }
 
 -- P = 2, N = 5, K = 1, p = 3, q = 7
-abbrev pub numbers : Setup
-numbers = record { processors = 2; superblocks = 5; spare = 1; p = 3; q = 7 }
+abbrev pub small-setup : Setup
+small-setup = record { processors = 2; superblocks = 5; spare = 1; p = 3; q = 7 }
 
 -- "unused (owner 255, class 0, nothing live)"
-pub unused-are :
+pub is-unused-cases :
     map isUnused (of 255 0 0 ∷ of 255 1 0 ∷ of 255 0 4 ∷ of 0 0 0 ∷ of 254 0 0 ∷ of 1 0 0 ∷ []) ≡ true ∷ false ∷ false ∷ false ∷ false ∷ false ∷ []
 unfolding isUnused liveCount sumBelow markBit bit
-unused-are = refl
+is-unused-cases = refl
 
 -- "A refused setup hands back five zeros and 64 unused superblocks", "A new setup has every superblock unused"
-pub no-state-is :
+pub no-state-case :
     noState
     ≡ record {
       setup = record { processors = 0; superblocks = 0; spare = 0; p = 0; q = 0 };
       table = replicate 64 (record { owner = 255; class = 0; live = 0 ∷ 0 ∷ 0 ∷ 0 ∷ [] });
     }
-no-state-is = refl
+no-state-case = refl
 
-pub new-state-is :
-    newState numbers
+pub new-state-case :
+    newState small-setup
     ≡ record {
       setup = record { processors = 2; superblocks = 5; spare = 1; p = 3; q = 7 };
       table = replicate 64 (record { owner = 255; class = 0; live = 0 ∷ 0 ∷ 0 ∷ 0 ∷ [] });
     }
-new-state-is = refl
+new-state-case = refl
 
 -- one superblock changed: its owner, block 70 live, block 2 no longer live, and nothing else
-pub changed-are :
-    ownedBy 3 (of 1 17 13) ∷ marked (of 1 17 13) 70 ∷ unmarked (of 1 17 13) 2 ∷ []
+pub superblock-change-cases :
+    withOwner 3 (of 1 17 13) ∷ withMarkAt (of 1 17 13) 70 ∷ withoutMarkAt (of 1 17 13) 2 ∷ []
     ≡ record { owner = 3; class = 17; live = 13 ∷ 0 ∷ 0 ∷ 0 ∷ [] } ∷ record { owner = 1; class = 17; live = 13 ∷ 64 ∷ 0 ∷ 0 ∷ [] }
     ∷ record { owner = 1; class = 17; live = 9 ∷ 0 ∷ 0 ∷ 0 ∷ [] } ∷ []
 unfolding withMark withoutMark
-changed-are = refl
+superblock-change-cases = refl
 
 -- ---- counts: superblocks 0 to 6 and 63 are in use; heap 1 has three of class 16, with 3, 0 and 7 blocks live
-abbrev pub used : State
-used =
+abbrev pub counted-state : State
+counted-state =
     record {
-      setup = numbers;
+      setup = small-setup;
       table = of 1 16 7 ∷ of 2 16 31 ∷ of 0 16 0 ∷ of 1 17 15 ∷ unused ∷ of 1 16 0 ∷ of 2 17 511 ∷ replicate 56 unused ++ of 1 16 127 ∷ [];
     }
 
 -- heap and class: superblocks, blocks, live blocks
-abbrev pub by-heap : List (ℕ × ℕ × ℕ × ℕ × ℕ)
-by-heap = (1, 16, 3, 30, 10) ∷ (2, 16, 1, 10, 5) ∷ (0, 16, 1, 10, 0) ∷ (1, 17, 1, 9, 4) ∷ (2, 17, 1, 9, 9) ∷ (0, 17, 0, 0, 0) ∷ []
+abbrev pub counts-by-heap : List (ℕ × ℕ × ℕ × ℕ × ℕ)
+counts-by-heap = (1, 16, 3, 30, 10) ∷ (2, 16, 1, 10, 5) ∷ (0, 16, 1, 10, 0) ∷ (1, 17, 1, 9, 4) ∷ (2, 17, 1, 9, 9) ∷ (0, 17, 0, 0, 0) ∷ []
 
-pub by-heap-are : map (λ (r : ℕ × ℕ × ℕ × ℕ × ℕ). (r .0, r .1, superblocksOf (r .0) (r .1) used, blocksIn (r .0) (r .1) used, liveOf (r .0) (r .1) used)) by-heap ≡ by-heap
-unfolding superblocksOf blocksIn liveOf total oneOf liveIfOf belongs blocksOf counts liveCount sumBelow markBit bit
-by-heap-are = refl
+pub counts-by-heap-cases : map (λ (r : ℕ × ℕ × ℕ × ℕ × ℕ). (r .0, r .1, superblocksOf (r .0) (r .1) counted-state, blocksIn (r .0) (r .1) counted-state, liveOf (r .0) (r .1) counted-state)) counts-by-heap ≡ counts-by-heap
+unfolding superblocksOf blocksIn liveOf total oneIfBelongs liveIfBelongs belongs blocksOf counts liveCount sumBelow markBit bit
+counts-by-heap-cases = refl
 
 -- a class: "the superblocks of this class that any heap owns .., empty ones too", and their live blocks; an unused superblock is of no class
-abbrev pub by-class : List (ℕ × ℕ × ℕ)
-by-class = (16, 5, 15) ∷ (17, 2, 13) ∷ (0, 0, 0) ∷ []
+abbrev pub counts-by-class : List (ℕ × ℕ × ℕ)
+counts-by-class = (16, 5, 15) ∷ (17, 2, 13) ∷ (0, 0, 0) ∷ []
 
-pub by-class-are : map (λ (r : ℕ × ℕ × ℕ). (r .0, ownedOf (r .0) used, liveOfClass (r .0) used)) by-class ≡ by-class
-unfolding ownedOf liveOfClass total ownedOfClass liveCount sumBelow markBit bit
-by-class-are = refl
+pub counts-by-class-cases : map (λ (r : ℕ × ℕ × ℕ). (r .0, superblocksOfClass (r .0) counted-state, liveOfClass (r .0) counted-state)) counts-by-class ≡ counts-by-class
+unfolding superblocksOfClass liveOfClass total isOwnedOfClass liveCount sumBelow markBit bit
+counts-by-class-cases = refl
 
 -- superblocks 0 and 63 have other owners; superblock 3 other marks, and 5 another class; 4 has come into use
-pub owners-changed-are :
-    map (ownersChanged used)
-    (used ∷ withSuperblock (withSuperblock used 63 (of 2 16 127)) 0 (of 0 16 7) ∷ withSuperblock (withSuperblock used 3 (of 1 17 1)) 5 (of 1 3 0) ∷ withSuperblock used 4 (of 1 0 0) ∷ [])
+pub owners-changed-cases :
+    map (ownersChanged counted-state)
+    (counted-state ∷ withSuperblock (withSuperblock counted-state 63 (of 2 16 127)) 0 (of 0 16 7) ∷ withSuperblock (withSuperblock counted-state 3 (of 1 17 1)) 5 (of 1 3 0) ∷ withSuperblock counted-state 4 (of 1 0 0) ∷ [])
     ≡ 0 ∷ 2 ∷ 0 ∷ 1 ∷ []
 unfolding ownersChanged sumBelow
-owners-changed-are = refl
+owners-changed-cases = refl

@@ -5,7 +5,7 @@ use mathlib.Core.List.{List}
 use lib.Dec.{eqb, leb, ltb}
 use Rattle.laws.specs.Sums.{both, either, allBelow}
 use Rattle.classes.specs.Classes.{blocksOf}
-use Rattle.filled.specs.Filled.{placesGood}
+use Rattle.ordercheck.specs.FilledPlaces.{placesValid}
 use Rattle.heap.specs.declared.Superblock.{Superblock}
 use Rattle.heap.specs.declared.Setup.{Setup}
 use Rattle.heap.specs.declared.State.{State}
@@ -17,8 +17,8 @@ abbrev pub within : ℕ → ℕ → ℕ → Bool
 within a b x = both (leb a x) (leb x b)
 
 -- "P 1 to 8, N 1 to 64, K 1 to 16, p 1 to q - 1, q 2 to 8"
-unfoldable pub lawful : Setup → Bool
-lawful u =
+unfoldable pub withinLimits : Setup → Bool
+withinLimits u =
     both (within 1 8 (u .processors))
     (both (within 1 64 (u .superblocks))
     (both (within 1 16 (u .spare))
@@ -27,30 +27,30 @@ lawful u =
 
 -- "each superblock unused as above, or of owner 0 to P and class 0 to 26; no mark at n or above; in an owned superblock the
 -- filled order places hold each unmarked block below n just once"
-unfoldable pub superblockGood : Setup → List ℕ → ℕ → Superblock → Bool
-superblockGood u order k b =
-    either (isUnused b) (both (leb (b .owner) (u .processors)) (both (ltb (b .class) 27) (placesGood order (b .live) k (blocksOf (b .class)))))
+unfoldable pub superblockValid : Setup → List ℕ → ℕ → Superblock → Bool
+superblockValid u order k b =
+    either (isUnused b) (both (leb (b .owner) (u .processors)) (both (ltb (b .class) 27) (placesValid order (b .live) k (blocksOf (b .class)))))
 
 -- "superblocks from N on unused"
 unfoldable pub unusedFrom : ℕ → ℕ → Superblock → Bool
 unusedFrom n k b = either (ltb k n) (isUnused b)
 
--- "no processor heap and class meets both conditions of the move rule"
-unfoldable pub heapsHeld : State → Bool
-heapsHeld s = allBelow (λ i. allBelow (λ c. not (mustMove (suc i) c s)) 27) (s .setup .processors)
+-- the emptiness invariant of the processor heaps: "no processor heap and class meets both conditions of the move rule"
+unfoldable pub emptinessInvariant : State → Bool
+emptinessInvariant s = allBelow (λ i. allBelow (λ c. not (mustMove (suc i) c s)) 27) (s .setup .processors)
 
 -- "each superblock of heap 0 has q × live < (q - p) × n"
-unfoldable pub sparseIfZero : Setup → Superblock → Bool
-sparseIfZero u b = either (not (eqb (b .owner) 0)) (ltb (u .q * liveIn b) ((u .q - u .p) * blocksOf (b .class)))
+unfoldable pub sparseIfGlobal : Setup → Superblock → Bool
+sparseIfGlobal u b = either (not (eqb (b .owner) 0)) (ltb (u .q * liveIn b) ((u .q - u .p) * blocksOf (b .class)))
 
 -- all but the setup numbers
-unfoldable pub restGood : State → List ℕ → Bool
-restGood s order =
-    both (allBelow (λ k. superblockGood (s .setup) order k (superblockAt s k)) 64)
+unfoldable pub restValid : State → List ℕ → Bool
+restValid s order =
+    both (allBelow (λ k. superblockValid (s .setup) order k (superblockAt s k)) 64)
     (both (allBelow (λ k. unusedFrom (s .setup .superblocks) k (superblockAt s k)) 64)
-    (both (heapsHeld s)
-    (allBelow (λ k. sparseIfZero (s .setup) (superblockAt s k)) 64)))
+    (both (emptinessInvariant s)
+    (allBelow (λ k. sparseIfGlobal (s .setup) (superblockAt s k)) 64)))
 
 -- the whole check
 unfoldable pub passes : State → List ℕ → Bool
-passes s order = both (lawful (s .setup)) (restGood s order)
+passes s order = both (withinLimits (s .setup)) (restValid s order)

@@ -1,4 +1,4 @@
--- The choice of one superblock among those that are wanted.
+-- The choice of one superblock among those that meet the criterion.
 use Prim.Native.Nat.{ℕ, zero, suc}
 use mathlib.Core.Bool.{Bool, true, false}
 use mathlib.Core.List.{List}
@@ -13,12 +13,12 @@ use Rattle.heap.specs.declared.Found.the-variants.{At, Nothing}
 use Rattle.heap.specs.Table.{blank, liveIn, isUnused}
 use Rattle.heap.specs.Counts.{belongs}
 
--- the one found so far, or superblock k where it is wanted and there is none yet or it is better
+-- the one found so far; or superblock k, which meets the criterion, where there is none yet or it is preferred
 unfoldable pub prefer : (Superblock → Superblock → Bool) → List Superblock → Found → ℕ → Found
 prefer better table Nothing k = At k
 prefer better table (At m) k = pick (better (getD table k blank) (getD table m blank)) (At k) (At m)
 
--- of the superblocks below n that are wanted, the best; the lower number among equals
+-- of the superblocks below n that meet the criterion, the best; the lower number among equals
 unfoldable pub chosenBelow : (Superblock → Bool) → (Superblock → Superblock → Bool) → List Superblock → ℕ → Found
 chosenBelow wanted better table zero = Nothing
 chosenBelow wanted better table (suc k) =
@@ -32,17 +32,17 @@ moreLive b d = ltb (liveIn d) (liveIn b)
 unfoldable pub fewerLive : Superblock → Superblock → Bool
 fewerLive b d = ltb (liveIn b) (liveIn d)
 
--- "the lowest-numbered": none is better than another
-unfoldable pub noBetter : Superblock → Superblock → Bool
-noBetter b d = false
+-- "the lowest-numbered": none is preferred to another
+unfoldable pub neverPreferred : Superblock → Superblock → Bool
+neverPreferred b d = false
 
 -- "class c with a free block", in heap h
 unfoldable pub hasFree : ℕ → ℕ → Superblock → Bool
 hasFree h c b = both (belongs h c b) (ltb (liveIn b) (blocksOf c))
 
 -- "nothing live, of any class", in heap 0
-unfoldable pub emptyInZero : Superblock → Bool
-emptyInZero b = both (eqb (b .owner) 0) (eqb (liveIn b) 0)
+unfoldable pub emptyInGlobal : Superblock → Bool
+emptyInGlobal b = both (eqb (b .owner) 0) (eqb (liveIn b) 0)
 
 -- places 1 (h the processor's heap) and 2 (h = 0) of a take
 unfoldable pub fullest : ℕ → ℕ → State → Found
@@ -50,11 +50,11 @@ fullest h c s = chosenBelow (hasFree h c) moreLive (s .table) 64
 
 -- place 3
 unfoldable pub lowestEmpty : State → Found
-lowestEmpty s = chosenBelow emptyInZero noBetter (s .table) 64
+lowestEmpty s = chosenBelow emptyInGlobal neverPreferred (s .table) 64
 
 -- place 4
 unfoldable pub lowestUnused : State → Found
-lowestUnused s = chosenBelow isUnused noBetter (s .table) (s .setup .superblocks)
+lowestUnused s = chosenBelow isUnused neverPreferred (s .table) (s .setup .superblocks)
 
 -- "heap i's class-c superblock with the fewest live, the lower number among equals"
 unfoldable pub emptiest : ℕ → ℕ → State → Found

@@ -19,19 +19,19 @@ unfoldable pub belongs : ℕ → ℕ → Superblock → Bool
 belongs h c b = both (eqb (b .owner) h) (eqb (b .class) c)
 
 -- a superblock of class c that any heap owns
-unfoldable pub ownedOfClass : ℕ → Superblock → Bool
-ownedOfClass c b = both (not (eqb (b .owner) 255)) (eqb (b .class) c)
+unfoldable pub isOwnedOfClass : ℕ → Superblock → Bool
+isOwnedOfClass c b = both (not (eqb (b .owner) 255)) (eqb (b .class) c)
 
 -- 1 for a superblock of heap h and class c; its live blocks
-unfoldable pub oneOf : ℕ → ℕ → Superblock → ℕ
-oneOf h c b = one (belongs h c b)
+unfoldable pub oneIfBelongs : ℕ → ℕ → Superblock → ℕ
+oneIfBelongs h c b = one (belongs h c b)
 
-unfoldable pub liveIfOf : ℕ → ℕ → Superblock → ℕ
-liveIfOf h c b = pick (belongs h c b) (liveIn b) 0
+unfoldable pub liveIfBelongs : ℕ → ℕ → Superblock → ℕ
+liveIfBelongs h c b = pick (belongs h c b) (liveIn b) 0
 
 -- the superblocks of heap h and class c
 unfoldable pub superblocksOf : ℕ → ℕ → State → ℕ
-superblocksOf h c s = total (oneOf h c) (s .table)
+superblocksOf h c s = total (oneIfBelongs h c) (s .table)
 
 -- "a be the blocks (live or not) in heap i's superblocks of class c"
 unfoldable pub blocksIn : ℕ → ℕ → State → ℕ
@@ -39,15 +39,15 @@ blocksIn h c s = superblocksOf h c s * blocksOf c
 
 -- "and u those live"
 unfoldable pub liveOf : ℕ → ℕ → State → ℕ
-liveOf h c s = total (liveIfOf h c) (s .table)
+liveOf h c s = total (liveIfBelongs h c) (s .table)
 
 -- "A counts the superblocks of this class that any heap owns in the state .., empty ones too"
-unfoldable pub ownedOf : ℕ → State → ℕ
-ownedOf c s = total (λ b. one (ownedOfClass c b)) (s .table)
+unfoldable pub superblocksOfClass : ℕ → State → ℕ
+superblocksOfClass c s = total (λ b. one (isOwnedOfClass c b)) (s .table)
 
 -- the live blocks of a class, in all heaps
 unfoldable pub liveOfClass : ℕ → State → ℕ
-liveOfClass c s = total (λ b. pick (ownedOfClass c b) (liveIn b) 0) (s .table)
+liveOfClass c s = total (λ b. pick (isOwnedOfClass c b) (liveIn b) 0) (s .table)
 
 -- the superblocks whose owners differ between two states: "A superblock is moved by a free when its owners before and after it differ."
 unfoldable pub ownersChanged : State → State → ℕ

@@ -1,4 +1,4 @@
--- The move rule.
+-- The move rule, which restores a heap's emptiness invariant: superblocks pass to the global heap, heap 0, while both conditions hold.
 use Prim.Native.Nat.{ℕ, zero, suc, _+_, _-_, _*_}
 use mathlib.Core.Bool.{Bool}
 use lib.Dec.{eqb, ltb}
@@ -8,7 +8,7 @@ use Rattle.heap.specs.declared.State.{State}
 use Rattle.heap.specs.declared.Found.{Found}
 use Rattle.heap.specs.declared.Found.the-variants.{At, Nothing}
 use Rattle.heap.specs.declared.Moved.{Moved}
-use Rattle.heap.specs.Table.{superblockAt, withSuperblock, ownedBy}
+use Rattle.heap.specs.Table.{superblockAt, withSuperblock, withOwner}
 use Rattle.heap.specs.Counts.{blocksIn, liveOf}
 use Rattle.heap.specs.Choice.{emptiest}
 
@@ -16,29 +16,29 @@ use Rattle.heap.specs.Choice.{emptiest}
 unfoldable pub bothConditions : (spare p q n a u : ℕ) → Bool
 bothConditions spare p q n a u = both (ltb (u + spare * n) a) (ltb (q * u) ((q - p) * a))
 
--- heap h and class c meet both conditions of the move rule
+-- heap h and class c meet both conditions of the move rule: its emptiness invariant is broken
 unfoldable pub mustMove : ℕ → ℕ → State → Bool
 mustMove h c s = bothConditions (s .setup .spare) (s .setup .p) (s .setup .q) (blocksOf c) (blocksIn h c s) (liveOf h c s)
 
 -- superblock k passes to heap 0
-unfoldable pub passed : ℕ → State → State
-passed k s = withSuperblock s k (ownedBy 0 (superblockAt s k))
+unfoldable pub transferred : ℕ → State → State
+transferred k s = withSuperblock s k (withOwner 0 (superblockAt s k))
 
--- the emptiest superblock passes to heap 0
-unfoldable pub passedFound : Found → State → State
-passedFound (At k) s = passed k s
-passedFound Nothing s = s
+-- the superblock that was found, if any, passes to heap 0
+unfoldable pub foundTransferred : Found → State → State
+foundTransferred (At k) s = transferred k s
+foundTransferred Nothing s = s
 
 -- the moves while both conditions are met, at most as many as the first number, after m moves
-unfoldable pub movesFor : ℕ → ℕ → ℕ → ℕ → State → Moved
-movesFor zero h c m s = record { moves = m; state = s }
-movesFor (suc k) h c m s = pick (mustMove h c s) (movesFor k h c (m + 1) (passedFound (emptiest h c s) s)) (record { moves = m; state = s })
+unfoldable pub transfersUpTo : ℕ → ℕ → ℕ → ℕ → State → Moved
+transfersUpTo zero h c m s = record { moves = m; state = s }
+transfersUpTo (suc k) h c m s = pick (mustMove h c s) (transfersUpTo k h c (m + 1) (foundTransferred (emptiest h c s) s)) (record { moves = m; state = s })
 
 -- "While u + K × n < a and q × u < (q - p) × a, heap i's class-c superblock with the fewest live .. passes to heap 0."
 -- 64 turns are enough, since a heap has no more superblocks.
-unfoldable pub moved : ℕ → ℕ → State → Moved
-moved h c s = movesFor 64 h c 0 s
+unfoldable pub excessTransferred : ℕ → ℕ → State → Moved
+excessTransferred h c s = transfersUpTo 64 h c 0 s
 
 -- "If the owner is heap 0 the call ends." Else the moves, for the owner and the class.
-unfoldable pub settled : ℕ → ℕ → State → Moved
-settled h c s = pick (eqb h 0) (record { moves = 0; state = s }) (moved h c s)
+unfoldable pub invariantRestored : ℕ → ℕ → State → Moved
+invariantRestored h c s = pick (eqb h 0) (record { moves = 0; state = s }) (excessTransferred h c s)

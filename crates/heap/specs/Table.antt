@@ -35,15 +35,15 @@ unfoldable pub isUnused : Superblock → Bool
 isUnused b = both (eqb (b .owner) 255) (both (eqb (b .class) 0) (eqb (liveIn b) 0))
 
 -- the superblock passes to heap h
-abbrev pub ownedBy : ℕ → Superblock → Superblock
-ownedBy h b = record { owner = h; class = b .class; live = b .live }
+abbrev pub withOwner : ℕ → Superblock → Superblock
+withOwner h b = record { owner = h; class = b .class; live = b .live }
 
 -- block j becomes live, or is no longer live
-abbrev pub marked : Superblock → ℕ → Superblock
-marked b j = record { owner = b .owner; class = b .class; live = withMark (b .live) j }
+abbrev pub withMarkAt : Superblock → ℕ → Superblock
+withMarkAt b j = record { owner = b .owner; class = b .class; live = withMark (b .live) j }
 
-abbrev pub unmarked : Superblock → ℕ → Superblock
-unmarked b j = record { owner = b .owner; class = b .class; live = withoutMark (b .live) j }
+abbrev pub withoutMarkAt : Superblock → ℕ → Superblock
+withoutMarkAt b j = record { owner = b .owner; class = b .class; live = withoutMark (b .live) j }
 
 -- five zeros and 64 unused superblocks: what a refused setup hands back
 abbrev pub noState : State

@@ -1,5 +1,6 @@
 // Reads one record from standard input and prints its key. A record that cannot be read whole has no key.
 ghost use Rattle.io.specs.Counts.{Counts};
+use keyrules::Printed;
 use stream::Input;
 
 // A record is at most 60000 bytes: one byte more is enough to know that it is too long, and the rest is not read.
@@ -18,8 +19,8 @@ fn print_key(record: &[u8]) {
     let mut text = [0u8; 524288];
     let printed = replay::key(record, &mut storage, &mut text);
     match printed {
-        replay::Printed::Text(end) => print(&text, end),
-        replay::Printed::NoRoom => {}
+        Printed::Text(end) => print(&text, end),
+        Printed::NoRoom => {}
     }
 }
 

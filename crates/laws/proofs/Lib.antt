@@ -1,6 +1,8 @@
-pub mod Tests
-pub mod Orders
+pub mod TestLaws
+pub mod Inequalities
 pub mod Range
 pub mod SumLaws
 pub mod Counting
-pub mod Replaced
+pub mod ReplacedElement
+pub mod Decides
+pub mod FieldArrays

@@ -7,16 +7,16 @@ use native.Mathlib.Nat.{eq-or-lt-of-le}
 use native.Mathlib.Omega.{arith}
 use lib.Dec.{T}
 use Rattle.laws.specs.Sums.{both}
-use Rattle.laws.proofs.Tests.{both-left, both-right}
+use Rattle.laws.proofs.TestLaws.{both-left, both-right}
 
 -- f passes at a, a + 1, .., n numbers in all
 abbrev pub every : (ℕ → Bool) → ℕ → ℕ → Bool
 every f a zero = true
 every f a (suc n) = both (f a) (every f (suc a) n)
 
-pub inside : (f : ℕ → Bool) (a n : ℕ) → T (every f a n) → (s : ℕ) → a ≤ s → s < a + n → T (f s)
-inside f a zero t s l h = absurd (omega arith)
-inside f a (suc n) t s l h =
+pub every-at : (f : ℕ → Bool) (a n : ℕ) → T (every f a n) → (s : ℕ) → a ≤ s → s < a + n → T (f s)
+every-at f a zero t s l h = absurd (omega arith)
+every-at f a (suc n) t s l h =
     ⊎-elim (λ (e : a ≡ s). subst (λ (m : ℕ). T (f m)) e (both-left (f a) (every f (suc a) n) t))
-    (λ (g : a < s). inside f (suc a) n (both-right (f a) (every f (suc a) n) t) s g (omega arith))
+    (λ (g : a < s). every-at f (suc a) n (both-right (f a) (every f (suc a) n) t) s g (omega arith))
     (eq-or-lt-of-le l)

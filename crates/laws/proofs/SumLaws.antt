@@ -8,42 +8,42 @@ use native.Mathlib.Numerals.{add-one}
 use native.Mathlib.Omega.{arith}
 use lib.Dec.{T}
 use Rattle.laws.specs.Sums.{both, sumBelow, allBelow}
-use Rattle.laws.proofs.Tests.{both-left, both-right, both-make, T-true, true-T, false-T, T-false}
+use Rattle.laws.proofs.TestLaws.{both-left, both-right, both-make, T-of-true, true-of-T, false-of-not-T, not-T-of-false}
 
 -- ---- one number more, in the forms that a loop's proof asks
-pub sum-zero-is : (f : ℕ → ℕ) → sumBelow f 0 ≡ 0
+pub sum-below-zero : (f : ℕ → ℕ) → sumBelow f 0 ≡ 0
 unfolding sumBelow
-sum-zero-is f = refl
+sum-below-zero f = refl
 
-pub sum-step : (f : ℕ → ℕ) (n : ℕ) → sumBelow f (n + 1) ≡ sumBelow f n + f n
+pub sum-below-suc : (f : ℕ → ℕ) (n : ℕ) → sumBelow f (n + 1) ≡ sumBelow f n + f n
 unfolding sumBelow
-sum-step f n = rw add-one
+sum-below-suc f n = rw add-one
 
-pub sum-again : (f : ℕ → ℕ) (k a r : ℕ) → a ≡ sumBelow f k → r ≡ a + f k → r ≡ sumBelow f (k + 1)
-sum-again f k a r e g = g ∙ ap (λ (x : ℕ). x + f k) e ∙ sym (sum-step f k)
+pub sum-loop-step : (f : ℕ → ℕ) (k a r : ℕ) → a ≡ sumBelow f k → r ≡ a + f k → r ≡ sumBelow f (k + 1)
+sum-loop-step f k a r e g = g ∙ ap (λ (x : ℕ). x + f k) e ∙ sym (sum-below-suc f k)
 
-pub sum-end : (f : ℕ → ℕ) (k n a : ℕ) → a ≡ sumBelow f k → k ≤ n → n ≤ k → a ≡ sumBelow f n
-sum-end f k n a e h g = e ∙ ap (sumBelow f) (le-antisymm h g)
+pub sum-loop-end : (f : ℕ → ℕ) (k n a : ℕ) → a ≡ sumBelow f k → k ≤ n → n ≤ k → a ≡ sumBelow f n
+sum-loop-end f k n a e h g = e ∙ ap (sumBelow f) (le-antisymm h g)
 
-pub all-zero-is : (p : ℕ → Bool) → allBelow p 0 ≡ true
+pub all-below-zero : (p : ℕ → Bool) → allBelow p 0 ≡ true
 unfolding allBelow
-all-zero-is p = refl
+all-below-zero p = refl
 
-pub all-step : (p : ℕ → Bool) (n : ℕ) → allBelow p (n + 1) ≡ both (allBelow p n) (p n)
+pub all-below-suc : (p : ℕ → Bool) (n : ℕ) → allBelow p (n + 1) ≡ both (allBelow p n) (p n)
 unfolding allBelow
-all-step p n = rw add-one
+all-below-suc p n = rw add-one
 
-pub all-again : (p : ℕ → Bool) (n : ℕ) (ok r x : Bool) → ok ≡ allBelow p n → x ≡ p n → r ≡ both ok x → r ≡ allBelow p (n + 1)
-all-again p n ok r x e f g = rw (all-step, ← e, ← f) g
+pub all-loop-step : (p : ℕ → Bool) (n : ℕ) (ok r x : Bool) → ok ≡ allBelow p n → x ≡ p n → r ≡ both ok x → r ≡ allBelow p (n + 1)
+all-loop-step p n ok r x e f g = rw (all-below-suc, ← e, ← f) g
 
-pub all-end : (p : ℕ → Bool) (i n : ℕ) (ok : Bool) → ok ≡ allBelow p i → i ≤ n → n ≤ i → ok ≡ allBelow p n
-all-end p i n ok e h g = e ∙ ap (allBelow p) (le-antisymm h g)
+pub all-loop-end : (p : ℕ → Bool) (i n : ℕ) (ok : Bool) → ok ≡ allBelow p i → i ≤ n → n ≤ i → ok ≡ allBelow p n
+all-loop-end p i n ok e h g = e ∙ ap (allBelow p) (le-antisymm h g)
 
 -- ---- sums
-pub sum-same : (f g : ℕ → ℕ) (n : ℕ) → ((k : ℕ) → k < n → f k ≡ g k) → sumBelow f n ≡ sumBelow g n
+pub sum-cong : (f g : ℕ → ℕ) (n : ℕ) → ((k : ℕ) → k < n → f k ≡ g k) → sumBelow f n ≡ sumBelow g n
 unfolding sumBelow
-sum-same f g zero h = refl
-sum-same f g (suc n) h = ap₂ (λ (x y : ℕ). x + y) (sum-same f g n (λ k l. h k (omega arith))) (h n (lt-suc-self n))
+sum-cong f g zero h = refl
+sum-cong f g (suc n) h = ap₂ (λ (x y : ℕ). x + y) (sum-cong f g n (λ k l. h k (omega arith))) (h n (lt-suc-self n))
 
 pub sum-split : (f : ℕ → ℕ) (a b : ℕ) → sumBelow f (a + b) ≡ sumBelow f a + sumBelow (λ k. f (a + k)) b
 unfolding sumBelow
@@ -53,14 +53,14 @@ sum-split f a (suc b) =
     ap (sumBelow f) (add-suc a b) ∙ omega arith
 
 -- one term more by one
-pub sum-more : (f g : ℕ → ℕ) (n j : ℕ) → j < n → ((k : ℕ) → (k ≡ j → ⊥) → g k ≡ f k) → g j ≡ suc (f j) → sumBelow g n ≡ suc (sumBelow f n)
+pub sum-suc-of-term-suc : (f g : ℕ → ℕ) (n j : ℕ) → j < n → ((k : ℕ) → (k ≡ j → ⊥) → g k ≡ f k) → g j ≡ suc (f j) → sumBelow g n ≡ suc (sumBelow f n)
 unfolding sumBelow
-sum-more f g zero j l other here = absurd (not-suc-le-zero l)
-sum-more f g (suc n) j l other here = go (sum-more f g n j) (eq-or-lt-of-le (le-of-suc-le-suc l))
+sum-suc-of-term-suc f g zero j l other here = absurd (not-suc-le-zero l)
+sum-suc-of-term-suc f g (suc n) j l other here = go (sum-suc-of-term-suc f g n j) (eq-or-lt-of-le (le-of-suc-le-suc l))
   where
     go : (j < n → ((k : ℕ) → (k ≡ j → ⊥) → g k ≡ f k) → g j ≡ suc (f j) → sumBelow g n ≡ suc (sumBelow f n)) → (j ≡ n) ⊎ (j < n) → sumBelow g n + g n ≡ suc (sumBelow f n + f n)
     go ih (inl e) =
-        let s : sumBelow g n ≡ sumBelow f n = sum-same g f n (λ k lk. other k (λ q. lt-irrefl n (subst (λ (m : ℕ). m < n) (q ∙ e) lk))) in
+        let s : sumBelow g n ≡ sumBelow f n = sum-cong g f n (λ k lk. other k (λ q. lt-irrefl n (subst (λ (m : ℕ). m < n) (q ∙ e) lk))) in
         let h : g n ≡ suc (f n) = subst (λ (m : ℕ). g m ≡ suc (f m)) e here in
         omega arith
     go ih (inr q) =
@@ -68,35 +68,35 @@ sum-more f g (suc n) j l other here = go (sum-more f g n j) (eq-or-lt-of-le (le-
         let h : g n ≡ f n = other n (λ r. lt-irrefl n (subst (λ (m : ℕ). m < n) (sym r) q)) in
         omega arith
 
-pub sum-none : (f : ℕ → ℕ) (n : ℕ) → ((k : ℕ) → k < n → f k ≡ 0) → sumBelow f n ≡ 0
+pub sum-of-zeros : (f : ℕ → ℕ) (n : ℕ) → ((k : ℕ) → k < n → f k ≡ 0) → sumBelow f n ≡ 0
 unfolding sumBelow
-sum-none f zero h = refl
-sum-none f (suc n) h = ap₂ (λ (x y : ℕ). x + y) (sum-none f n (λ k l. h k (omega arith))) (h n (lt-suc-self n))
+sum-of-zeros f zero h = refl
+sum-of-zeros f (suc n) h = ap₂ (λ (x y : ℕ). x + y) (sum-of-zeros f n (λ k l. h k (omega arith))) (h n (lt-suc-self n))
 
 -- terms that are each at most another's have a sum at most the other's
-pub sum-each-le : (f g : ℕ → ℕ) (n : ℕ) → ((k : ℕ) → k < n → f k ≤ g k) → sumBelow f n ≤ sumBelow g n
+pub sum-le-of-terms-le : (f g : ℕ → ℕ) (n : ℕ) → ((k : ℕ) → k < n → f k ≤ g k) → sumBelow f n ≤ sumBelow g n
 unfolding sumBelow
-sum-each-le f g zero h = zero-le
-sum-each-le f g (suc n) h =
-    let e = sum-each-le f g n (λ k l. h k (omega arith)) in
+sum-le-of-terms-le f g zero h = zero-le
+sum-le-of-terms-le f g (suc n) h =
+    let e = sum-le-of-terms-le f g n (λ k l. h k (omega arith)) in
     let t = h n (lt-suc-self n) in
     omega arith
 
-pub sum-bound : (f : ℕ → ℕ) (m n : ℕ) → ((k : ℕ) → k < n → f k ≤ m) → sumBelow f n ≤ n * m
+pub sum-le-mul : (f : ℕ → ℕ) (m n : ℕ) → ((k : ℕ) → k < n → f k ≤ m) → sumBelow f n ≤ n * m
 unfolding sumBelow
-sum-bound f m zero h = zero-le
-sum-bound f m (suc n) h =
-    let e = sum-bound f m n (λ k l. h k (omega arith)) in
+sum-le-mul f m zero h = zero-le
+sum-le-mul f m (suc n) h =
+    let e = sum-le-mul f m n (λ k l. h k (omega arith)) in
     let t = h n (lt-suc-self n) in
     omega arith
 
 -- a term is at most the sum
-pub sum-term-le : (f : ℕ → ℕ) (n k : ℕ) → k < n → f k ≤ sumBelow f n
+pub term-le-sum : (f : ℕ → ℕ) (n k : ℕ) → k < n → f k ≤ sumBelow f n
 unfolding sumBelow
-sum-term-le f zero k l = absurd (not-suc-le-zero l)
-sum-term-le f (suc n) k l =
+term-le-sum f zero k l = absurd (not-suc-le-zero l)
+term-le-sum f (suc n) k l =
     ⊎-elim (λ (e : k ≡ n). let q : f k ≡ f n = ap f e in omega arith)
-    (λ (q : k < n). let r = sum-term-le f n k q in omega arith)
+    (λ (q : k < n). let r = term-le-sum f n k q in omega arith)
     (eq-or-lt-of-le (le-of-suc-le-suc l))
 
 pub sum-scale : (c : ℕ) (f : ℕ → ℕ) (n : ℕ) → sumBelow (λ k. c * f k) n ≡ c * sumBelow f n
@@ -105,10 +105,10 @@ sum-scale c f zero = sym (mul-zero c)
 sum-scale c f (suc n) = let e = sum-scale c f n in omega arith
 
 -- a sum that is not 0 has a term that is not 0
-pub sum-pos : (f : ℕ → ℕ) (n : ℕ) → 0 < sumBelow f n → (j : ℕ) × (j < n) × (0 < f j)
+pub pos-term-of-pos-sum : (f : ℕ → ℕ) (n : ℕ) → 0 < sumBelow f n → (j : ℕ) × (j < n) × (0 < f j)
 unfolding sumBelow
-sum-pos f zero h = absurd (let z : ⊥ = omega arith in z)
-sum-pos f (suc n) h = go (sum-pos f n) (eq-zero-or-pos (f n))
+pos-term-of-pos-sum f zero h = absurd (let z : ⊥ = omega arith in z)
+pos-term-of-pos-sum f (suc n) h = go (pos-term-of-pos-sum f n) (eq-zero-or-pos (f n))
   where
     go : (0 < sumBelow f n → (j : ℕ) × (j < n) × (0 < f j)) → (f n ≡ 0) ⊎ (0 < f n) → (j : ℕ) × (j < suc n) × (0 < f j)
     go rest (inl e) = let r = rest (omega arith) in (r .0, omega arith, r .2)
@@ -123,15 +123,15 @@ all-at p (suc n) t k l =
     (λ (q : k < n). all-at p n (both-left (allBelow p n) (p n) t) k q)
     (eq-or-lt-of-le (le-of-suc-le-suc l))
 
-pub all-from : (p : ℕ → Bool) (n : ℕ) → ((k : ℕ) → k < n → T (p k)) → T (allBelow p n)
+pub all-of-each : (p : ℕ → Bool) (n : ℕ) → ((k : ℕ) → k < n → T (p k)) → T (allBelow p n)
 unfolding allBelow
-all-from p zero h = tt
-all-from p (suc n) h = both-make (allBelow p n) (p n) (all-from p n (λ k l. h k (omega arith))) (h n (lt-suc-self n))
+all-of-each p zero h = tt
+all-of-each p (suc n) h = both-make (allBelow p n) (p n) (all-of-each p n (λ k l. h k (omega arith))) (h n (lt-suc-self n))
 
-pub all-same : (p r : ℕ → Bool) (n : ℕ) → ((k : ℕ) → k < n → p k ≡ r k) → allBelow p n ≡ allBelow r n
+pub all-cong : (p r : ℕ → Bool) (n : ℕ) → ((k : ℕ) → k < n → p k ≡ r k) → allBelow p n ≡ allBelow r n
 unfolding allBelow
-all-same p r zero h = refl
-all-same p r (suc n) h = ap₂ both (all-same p r n (λ k l. h k (omega arith))) (h n (lt-suc-self n))
+all-cong p r zero h = refl
+all-cong p r (suc n) h = ap₂ both (all-cong p r n (λ k l. h k (omega arith))) (h n (lt-suc-self n))
 
 -- two tests of each number are one
 pub all-both : (p r : ℕ → Bool) (n : ℕ) → allBelow (λ k. both (p k) (r k)) n ≡ both (allBelow p n) (allBelow r n)
@@ -147,7 +147,7 @@ all-both p r (suc n) = ap (λ (t : Bool). both t (both (p n) (r n))) (all-both p
 
 -- how a loop that tests each number below n ends
 pub all-false : (p : ℕ → Bool) (n k : ℕ) → k < n → p k ≡ false → false ≡ allBelow p n
-all-false p n k l e = sym (false-T (allBelow p n) (λ t. T-false (p k) e (all-at p n t k l)))
+all-false p n k l e = sym (false-of-not-T (allBelow p n) (λ t. not-T-of-false (p k) e (all-at p n t k l)))
 
 pub all-true : (p : ℕ → Bool) (n : ℕ) → ((k : ℕ) → k < n → T (p k)) → true ≡ allBelow p n
-all-true p n h = sym (true-T (allBelow p n) (all-from p n h))
+all-true p n h = sym (true-of-T (allBelow p n) (all-of-each p n h))

@@ -1,2 +1,2 @@
-pub mod Cases
-pub mod LengthLaws
+pub mod LineCases
+pub mod LineLengthLaws

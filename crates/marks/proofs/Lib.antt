@@ -1,4 +1,4 @@
-pub mod BitCases
+pub mod MarkCases
 pub mod BitLaws
 pub mod MarkLaws
-pub mod NoneLaws
+pub mod NoMarkFromLaws

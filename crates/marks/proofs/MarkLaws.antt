@@ -12,58 +12,58 @@ use lib.Dec.{eqb}
 use lib.Bits.{bitOr, bitAnd, or-zero-r, and-zero-r}
 use lib.Count.{ones}
 use Rattle.laws.specs.Sums.{one, sumBelow}
-use Rattle.laws.proofs.Tests.{one-same, one-other}
-use Rattle.laws.proofs.SumLaws.{sum-same, sum-split, sum-more, sum-none, sum-pos, sum-term-le}
-use Rattle.laws.proofs.Counting.{sum-le}
-use Rattle.marks.specs.Marks.{bit, markBit, mark, withMark, withoutMark, liveCount, noMarks}
-use Rattle.marks.proofs.BitLaws.{bit-lt, bit-or, bit-and, bit-pow, bit-hole, bit-none, ones-sum}
+use Rattle.laws.proofs.TestLaws.{one-of-equal, one-of-different}
+use Rattle.laws.proofs.SumLaws.{sum-cong, sum-split, sum-suc-of-term-suc, sum-of-zeros, pos-term-of-pos-sum, term-le-sum}
+use Rattle.laws.proofs.Counting.{sum-le-of-terms-le-one}
+use Rattle.marks.specs.Marks.{bit, markBit, isMarked, withMark, withoutMark, liveCount, noMarks}
+use Rattle.marks.proofs.BitLaws.{bit-lt-two, bit-or, bit-and, bit-pow, bit-of-all-but-one, bit-of-zero, ones-is-sum-of-bits}
 
 -- ---- one mark
-pub mark-lt : (l : List ℕ) (j : ℕ) → markBit l j < 2
+pub mark-bit-lt-two : (l : List ℕ) (j : ℕ) → markBit l j < 2
 unfolding markBit
-mark-lt l j = bit-lt (getD l (j / 64) 0) (j % 64)
+mark-bit-lt-two l j = bit-lt-two (getD l (j / 64) 0) (j % 64)
 
-pub set-of : (l : List ℕ) (j : ℕ) → mark l j ≡ true → markBit l j ≡ 1
-unfolding mark
-set-of l j e = eqb-true (markBit l j) 1 e
+pub mark-bit-one-of-mark : (l : List ℕ) (j : ℕ) → isMarked l j ≡ true → markBit l j ≡ 1
+unfolding isMarked
+mark-bit-one-of-mark l j e = eqb-true (markBit l j) 1 e
 
-pub clear-of : (l : List ℕ) (j : ℕ) → mark l j ≡ false → markBit l j ≡ 0
-unfolding mark
-clear-of l j e = go (eqb-false (markBit l j) 1 e)
+pub mark-bit-zero-of-no-mark : (l : List ℕ) (j : ℕ) → isMarked l j ≡ false → markBit l j ≡ 0
+unfolding isMarked
+mark-bit-zero-of-no-mark l j e = go (eqb-false (markBit l j) 1 e)
   where
     go : (markBit l j ≡ 1 → ⊥) → markBit l j ≡ 0
-    go f = omega (arith, mark-lt l j)
+    go f = omega (arith, mark-bit-lt-two l j)
 
-pub of-set : (l : List ℕ) (j : ℕ) → markBit l j ≡ 1 → mark l j ≡ true
-unfolding mark
-of-set l j e = eq-eqb (markBit l j) 1 e
+pub mark-of-mark-bit-one : (l : List ℕ) (j : ℕ) → markBit l j ≡ 1 → isMarked l j ≡ true
+unfolding isMarked
+mark-of-mark-bit-one l j e = eq-eqb (markBit l j) 1 e
 
-pub of-clear : (l : List ℕ) (j : ℕ) → markBit l j ≡ 0 → mark l j ≡ false
-unfolding mark
-of-clear l j e = ne-eqb (markBit l j) 1 (λ (q : markBit l j ≡ 1). omega arith)
+pub no-mark-of-mark-bit-zero : (l : List ℕ) (j : ℕ) → markBit l j ≡ 0 → isMarked l j ≡ false
+unfolding isMarked
+no-mark-of-mark-bit-zero l j e = ne-eqb (markBit l j) 1 (λ (q : markBit l j ≡ 1). omega arith)
 
 -- no block has a number of 256 or above
-pub mark-past : (l : List ℕ) (j : ℕ) → length l ≡ 4 → 256 ≤ j → markBit l j ≡ 0
+pub mark-bit-past-256 : (l : List ℕ) (j : ℕ) → length l ≡ 4 → 256 ≤ j → markBit l j ≡ 0
 unfolding markBit
-mark-past l j long h = ap (λ (x : ℕ). bit x (j % 64)) (List·getD-eq-default l 0 {n = j / 64} (omega arith)) ∙ bit-none (j % 64)
+mark-bit-past-256 l j long h = ap (λ (x : ℕ). bit x (j % 64)) (List·getD-eq-default l 0 {n = j / 64} (omega arith)) ∙ bit-of-zero (j % 64)
 
 -- ---- lengths
-pub length-with : (l : List ℕ) (j : ℕ) → length (withMark l j) ≡ length l
+pub length-with-mark : (l : List ℕ) (j : ℕ) → length (withMark l j) ≡ length l
 unfolding withMark
-length-with l j = length-set l (j / 64) (bitOr (getD l (j / 64) 0) (2 ^ (j % 64)))
+length-with-mark l j = length-set l (j / 64) (bitOr (getD l (j / 64) 0) (2 ^ (j % 64)))
 
-pub length-without : (l : List ℕ) (j : ℕ) → length (withoutMark l j) ≡ length l
+pub length-without-mark : (l : List ℕ) (j : ℕ) → length (withoutMark l j) ≡ length l
 unfolding withoutMark
-length-without l j = length-set l (j / 64) (bitAnd (getD l (j / 64) 0) (2 ^ 64 - 1 - 2 ^ (j % 64)))
+length-without-mark l j = length-set l (j / 64) (bitAnd (getD l (j / 64) 0) (2 ^ 64 - 1 - 2 ^ (j % 64)))
 
 -- ---- one mark set or cleared
-pub with-past : (l : List ℕ) (j : ℕ) → length l ≡ 4 → 256 ≤ j → withMark l j ≡ l
+pub with-mark-past-256 : (l : List ℕ) (j : ℕ) → length l ≡ 4 → 256 ≤ j → withMark l j ≡ l
 unfolding withMark
-with-past l j long h = set-out l (j / 64) (bitOr (getD l (j / 64) 0) (2 ^ (j % 64))) (omega arith)
+with-mark-past-256 l j long h = set-out l (j / 64) (bitOr (getD l (j / 64) 0) (2 ^ (j % 64))) (omega arith)
 
-pub without-past : (l : List ℕ) (j : ℕ) → length l ≡ 4 → 256 ≤ j → withoutMark l j ≡ l
+pub without-mark-past-256 : (l : List ℕ) (j : ℕ) → length l ≡ 4 → 256 ≤ j → withoutMark l j ≡ l
 unfolding withoutMark
-without-past l j long h = set-out l (j / 64) (bitAnd (getD l (j / 64) 0) (2 ^ 64 - 1 - 2 ^ (j % 64))) (omega arith)
+without-mark-past-256 l j long h = set-out l (j / 64) (bitAnd (getD l (j / 64) 0) (2 ^ 64 - 1 - 2 ^ (j % 64))) (omega arith)
 
 -- bit k of word m, after word i became v, is as it was where v has that bit of word i
 word-kept : (l : List ℕ) (i v m k : ℕ) → (m ≡ i → bit v k ≡ bit (getD l i 0) k) → bit (getD (set l i v) m 0) k ≡ bit (getD l m 0) k
@@ -90,81 +90,81 @@ and-one (suc (suc x)) h = absurd (omega arith)
 
 module _ (l : List ℕ) (j k : ℕ) (other : k ≡ j → ⊥) where
   other-bit : k / 64 ≡ j / 64 → one (eqb (j % 64) (k % 64)) ≡ 0
-  other-bit e = one-other (j % 64) (k % 64) (λ (q : j % 64 ≡ k % 64). other (omega arith))
+  other-bit e = one-of-different (j % 64) (k % 64) (λ (q : j % 64 ≡ k % 64). other (omega arith))
 
-  pub with-other : markBit (withMark l j) k ≡ markBit l k
+  pub with-mark-other : markBit (withMark l j) k ≡ markBit l k
   unfolding markBit withMark
-  with-other =
+  with-mark-other =
       let w : ℕ = getD l (j / 64) 0 in
       word-kept l (j / 64) (bitOr w (2 ^ (j % 64))) (k / 64) (k % 64) (λ (e : k / 64 ≡ j / 64).
       bit-or w (2 ^ (j % 64)) (k % 64)
       ∙ ap (bitOr (bit w (k % 64))) (bit-pow (j % 64) (k % 64) (omega arith) (omega arith) ∙ other-bit e)
       ∙ or-zero-r (bit w (k % 64)))
 
-  pub without-other : markBit (withoutMark l j) k ≡ markBit l k
+  pub without-mark-other : markBit (withoutMark l j) k ≡ markBit l k
   unfolding markBit withoutMark
-  without-other =
+  without-mark-other =
       let w : ℕ = getD l (j / 64) 0 in
       let m : ℕ = 2 ^ 64 - 1 - 2 ^ (j % 64) in
       word-kept l (j / 64) (bitAnd w m) (k / 64) (k % 64) (λ (e : k / 64 ≡ j / 64).
       bit-and w m (k % 64)
-      ∙ ap (bitAnd (bit w (k % 64))) (bit-hole (j % 64) (k % 64) (omega arith) (omega arith) ∙ ap (λ (x : ℕ). 1 - x) (other-bit e))
-      ∙ and-one (bit w (k % 64)) (bit-lt w (k % 64)))
+      ∙ ap (bitAnd (bit w (k % 64))) (bit-of-all-but-one (j % 64) (k % 64) (omega arith) (omega arith) ∙ ap (λ (x : ℕ). 1 - x) (other-bit e))
+      ∙ and-one (bit w (k % 64)) (bit-lt-two w (k % 64)))
 
 module _ (l : List ℕ) (j : ℕ) (long : length l ≡ 4) (below : j < 256) where
   in-range : j / 64 < length l
   in-range = omega arith
 
-  pub with-same : markBit (withMark l j) j ≡ 1
+  pub with-mark-same : markBit (withMark l j) j ≡ 1
   unfolding markBit withMark
-  with-same =
+  with-mark-same =
       let w : ℕ = getD l (j / 64) 0 in
       ap (λ (x : ℕ). bit x (j % 64)) (getD-set-same l (j / 64) (bitOr w (2 ^ (j % 64))) 0 in-range)
       ∙ bit-or w (2 ^ (j % 64)) (j % 64)
-      ∙ ap (bitOr (bit w (j % 64))) (bit-pow (j % 64) (j % 64) (omega arith) (omega arith) ∙ one-same (j % 64))
-      ∙ or-one (bit w (j % 64)) (bit-lt w (j % 64))
+      ∙ ap (bitOr (bit w (j % 64))) (bit-pow (j % 64) (j % 64) (omega arith) (omega arith) ∙ one-of-equal (j % 64))
+      ∙ or-one (bit w (j % 64)) (bit-lt-two w (j % 64))
 
-  pub without-same : markBit (withoutMark l j) j ≡ 0
+  pub without-mark-same : markBit (withoutMark l j) j ≡ 0
   unfolding markBit withoutMark
-  without-same =
+  without-mark-same =
       let w : ℕ = getD l (j / 64) 0 in
       let m : ℕ = 2 ^ 64 - 1 - 2 ^ (j % 64) in
       ap (λ (x : ℕ). bit x (j % 64)) (getD-set-same l (j / 64) (bitAnd w m) 0 in-range)
       ∙ bit-and w m (j % 64)
-      ∙ ap (bitAnd (bit w (j % 64))) (bit-hole (j % 64) (j % 64) (omega arith) (omega arith) ∙ ap (λ (x : ℕ). 1 - x) (one-same (j % 64)))
+      ∙ ap (bitAnd (bit w (j % 64))) (bit-of-all-but-one (j % 64) (j % 64) (omega arith) (omega arith) ∙ ap (λ (x : ℕ). 1 - x) (one-of-equal (j % 64)))
       ∙ and-zero-r (bit w (j % 64))
 
   -- a block taken is one more live block, a block freed one less
-  pub count-with : markBit l j ≡ 0 → liveCount (withMark l j) ≡ suc (liveCount l)
+  pub live-count-with-mark : markBit l j ≡ 0 → liveCount (withMark l j) ≡ suc (liveCount l)
   unfolding liveCount
-  count-with e = sum-more (markBit l) (markBit (withMark l j)) 256 j below (λ k n. with-other l j k n) (with-same ∙ ap suc (sym e))
+  live-count-with-mark e = sum-suc-of-term-suc (markBit l) (markBit (withMark l j)) 256 j below (λ k n. with-mark-other l j k n) (with-mark-same ∙ ap suc (sym e))
 
-  pub count-without : markBit l j ≡ 1 → liveCount l ≡ suc (liveCount (withoutMark l j))
+  pub live-count-without-mark : markBit l j ≡ 1 → liveCount l ≡ suc (liveCount (withoutMark l j))
   unfolding liveCount
-  count-without e = sum-more (markBit (withoutMark l j)) (markBit l) 256 j below (λ k n. sym (without-other l j k n)) (e ∙ ap suc (sym without-same))
+  live-count-without-mark e = sum-suc-of-term-suc (markBit (withoutMark l j)) (markBit l) 256 j below (λ k n. sym (without-mark-other l j k n)) (e ∙ ap suc (sym without-mark-same))
 
 -- ---- the live count
-pub count-le : (l : List ℕ) → liveCount l ≤ 256
+pub live-count-le-256 : (l : List ℕ) → liveCount l ≤ 256
 unfolding liveCount
-count-le l = sum-le (markBit l) 256 (λ k h. omega (arith, mark-lt l k))
+live-count-le-256 l = sum-le-of-terms-le-one (markBit l) 256 (λ k h. omega (arith, mark-bit-lt-two l k))
 
 -- nothing is live just where no mark is set
-pub count-zero : (l : List ℕ) → liveCount l ≡ 0 → (j : ℕ) → j < 256 → markBit l j ≡ 0
+pub marks-clear-of-live-count-zero : (l : List ℕ) → liveCount l ≡ 0 → (j : ℕ) → j < 256 → markBit l j ≡ 0
 unfolding liveCount
-count-zero l e j h = omega (arith, sum-term-le (markBit l) 256 j h)
+marks-clear-of-live-count-zero l e j h = omega (arith, term-le-sum (markBit l) 256 j h)
 
-pub zero-count : (l : List ℕ) → ((j : ℕ) → j < 256 → markBit l j ≡ 0) → liveCount l ≡ 0
+pub live-count-zero-of-marks-clear : (l : List ℕ) → ((j : ℕ) → j < 256 → markBit l j ≡ 0) → liveCount l ≡ 0
 unfolding liveCount
-zero-count l z = sum-none (markBit l) 256 z
+live-count-zero-of-marks-clear l z = sum-of-zeros (markBit l) 256 z
 
-pub count-pos : (l : List ℕ) → 0 < liveCount l → (j : ℕ) × (j < 256) × (markBit l j ≡ 1)
+pub mark-set-of-live-count-pos : (l : List ℕ) → 0 < liveCount l → (j : ℕ) × (j < 256) × (markBit l j ≡ 1)
 unfolding liveCount
-count-pos l h = let f = sum-pos (markBit l) 256 h in (f .0, f .1, omega (arith, mark-lt l (f .0), f .2))
+mark-set-of-live-count-pos l h = let f = pos-term-of-pos-sum (markBit l) 256 h in (f .0, f .1, omega (arith, mark-bit-lt-two l (f .0), f .2))
 
 -- the ones of the four numbers are the set marks
-pub word-bits : (l : List ℕ) (i k : ℕ) → k < 64 → bit (getD l i 0) k ≡ markBit l (i * 64 + k)
+pub bit-of-word-is-mark-bit : (l : List ℕ) (i k : ℕ) → k < 64 → bit (getD l i 0) k ≡ markBit l (i * 64 + k)
 unfolding markBit
-word-bits l i k h = ap₂ (λ (a b : ℕ). bit (getD l a 0) b) (div-is i k h) (mod-is i k h)
+bit-of-word-is-mark-bit l i k h = ap₂ (λ (a b : ℕ). bit (getD l a 0) b) (div-is i k h) (mod-is i k h)
   where
     div-is : (i k : ℕ) → k < 64 → i ≡ (i * 64 + k) / 64
     div-is i k h = omega arith
@@ -173,11 +173,11 @@ word-bits l i k h = ap₂ (λ (a b : ℕ). bit (getD l a 0) b) (div-is i k h) (m
     mod-is i k h = omega arith
 
 word-sum : (l : List ℕ) (i : ℕ) → getD l i 0 < 2 ^ 64 → ones (getD l i 0) ≡ sumBelow (λ k. markBit l (i * 64 + k)) 64
-word-sum l i h = ones-sum 64 (getD l i 0) h ∙ sum-same (bit (getD l i 0)) (λ k. markBit l (i * 64 + k)) 64 (λ k lk. word-bits l i k lk)
+word-sum l i h = ones-is-sum-of-bits 64 (getD l i 0) h ∙ sum-cong (bit (getD l i 0)) (λ k. markBit l (i * 64 + k)) 64 (λ k lk. bit-of-word-is-mark-bit l i k lk)
 
-pub count-is : (l : List ℕ) → ((i : ℕ) → getD l i 0 < 2 ^ 64) → ones (getD l 0 0) + ones (getD l 1 0) + ones (getD l 2 0) + ones (getD l 3 0) ≡ liveCount l
+pub live-count-is-ones-of-words : (l : List ℕ) → ((i : ℕ) → getD l i 0 < 2 ^ 64) → ones (getD l 0 0) + ones (getD l 1 0) + ones (getD l 2 0) + ones (getD l 3 0) ≡ liveCount l
 unfolding liveCount
-count-is l h =
+live-count-is-ones-of-words l h =
     let a = word-sum l 0 (h 0) in
     let b = word-sum l 1 (h 1) in
     let c = word-sum l 2 (h 2) in
@@ -185,20 +185,20 @@ count-is l h =
     let p = sum-split (markBit l) 64 64 in
     let q = sum-split (markBit l) 128 64 in
     let r = sum-split (markBit l) 192 64 in
-    let s = sum-same (markBit l) (λ k. markBit l (0 * 64 + k)) 64 (λ k lk. ap (markBit l) (omega arith)) in
+    let s = sum-cong (markBit l) (λ k. markBit l (0 * 64 + k)) 64 (λ k lk. ap (markBit l) (omega arith)) in
     omega arith
 
 -- ---- no marks at all
-noMarks-word : (i : ℕ) → getD noMarks i 0 ≡ 0
-noMarks-word zero = refl
-noMarks-word (suc zero) = refl
-noMarks-word (suc (suc zero)) = refl
-noMarks-word (suc (suc (suc zero))) = refl
-noMarks-word (suc (suc (suc (suc i)))) = refl
+word-of-no-marks : (i : ℕ) → getD noMarks i 0 ≡ 0
+word-of-no-marks zero = refl
+word-of-no-marks (suc zero) = refl
+word-of-no-marks (suc (suc zero)) = refl
+word-of-no-marks (suc (suc (suc zero))) = refl
+word-of-no-marks (suc (suc (suc (suc i)))) = refl
 
-pub noMarks-bit : (j : ℕ) → markBit noMarks j ≡ 0
+pub mark-bit-of-no-marks : (j : ℕ) → markBit noMarks j ≡ 0
 unfolding markBit
-noMarks-bit j = ap (λ (x : ℕ). bit x (j % 64)) (noMarks-word (j / 64)) ∙ bit-none (j % 64)
+mark-bit-of-no-marks j = ap (λ (x : ℕ). bit x (j % 64)) (word-of-no-marks (j / 64)) ∙ bit-of-zero (j % 64)
 
-pub noMarks-count : liveCount noMarks ≡ 0
-noMarks-count = zero-count noMarks (λ j h. noMarks-bit j)
+pub live-count-of-no-marks : liveCount noMarks ≡ 0
+live-count-of-no-marks = live-count-zero-of-marks-clear noMarks (λ j h. mark-bit-of-no-marks j)

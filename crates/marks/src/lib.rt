@@ -2,11 +2,11 @@
 // Each function is total: no block has a number of 256 or above, so such a number is not live, and setting or clearing it changes nothing.
 ghost use mathlib.Core.Path.{_≡_};
 ghost use Prim.Native.Nat.{_≤_, _-_, _/_, _^_};
-ghost use Rattle.marks.specs.Marks.{mark, withMark, withoutMark, liveCount, noneFrom};
+ghost use Rattle.marks.specs.Marks.{isMarked, withMark, withoutMark, liveCount, noMarkFrom};
 
 // Block j is live.
 pub fn is_live(live: [u64; 4], j: usize) -> bool
-    ensures { λ r. ⌜ r ≡ mark live j ⌝ }
+    ensures { λ r. ⌜ r ≡ isMarked live j ⌝ }
 {
     if 256 <= j {
         return false;
@@ -55,8 +55,8 @@ pub fn live_count(live: [u64; 4]) -> u32
 }
 
 // No block from n on is live: of each number, nothing is left of the bits that stand for those blocks.
-pub fn none_from(live: [u64; 4], n: usize) -> bool
-    ensures { λ r. ⌜ r ≡ noneFrom live n ⌝ }
+pub fn no_mark_from(live: [u64; 4], n: usize) -> bool
+    ensures { λ r. ⌜ r ≡ noMarkFrom live n ⌝ }
 {
     let a = tail(live[0], n, 0);
     let b = tail(live[1], n, 64);

@@ -1,1 +1,1 @@
-pub mod DrainLaws
+pub mod TransferLoopLaws

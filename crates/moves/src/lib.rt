@@ -2,8 +2,8 @@
 // heap 0.
 ghost use mathlib.Core.Path.{_≡_};
 ghost use Prim.Native.Nat.{_+_, _≤_, _<_};
-ghost use Rattle.heap.specs.Counts.{oneOf, liveIfOf, superblocksOf, liveOf};
-ghost use Rattle.heap.specs.Moves.{mustMove, passed, passedFound, moved, settled};
+ghost use Rattle.heap.specs.Counts.{oneIfBelongs, liveIfBelongs, superblocksOf, liveOf};
+ghost use Rattle.heap.specs.Moves.{mustMove, transferred, foundTransferred, excessTransferred, invariantRestored};
 use heap::Found;
 use heap::Moved;
 use heap::State;
@@ -18,7 +18,7 @@ pub struct Counts {
 // The counts with superblock b added, where it is of the heap and class.
 fn counted(n: Counts, b: Superblock, heap: u8, class: u8) -> Counts
     requires { ⌜ (n .superblocks < 64) × (n .live ≤ 16128) ⌝ }
-    ensures { λ r. ⌜ (r .superblocks ≡ n .superblocks + oneOf heap class b) × (r .live ≡ n .live + liveIfOf heap class b) × (r .superblocks ≤ n .superblocks + 1) × (r .live ≤ n .live + 256) ⌝ }
+    ensures { λ r. ⌜ (r .superblocks ≡ n .superblocks + oneIfBelongs heap class b) × (r .live ≡ n .live + liveIfBelongs heap class b) × (r .superblocks ≤ n .superblocks + 1) × (r .live ≤ n .live + 256) ⌝ }
 {
     if predicates::belongs(b, heap, class) {
         return Counts {
@@ -58,8 +58,8 @@ pub fn must_move(s: State, heap: u8, class: u8) -> bool
 }
 
 // Superblock k passes to heap 0; past the table's end there is none.
-fn give(s: State, k: usize) -> State
-    ensures { λ r. ⌜ r ≡ passed k s ⌝ }
+fn transfer(s: State, k: usize) -> State
+    ensures { λ r. ⌜ r ≡ transferred k s ⌝ }
 {
     if 64 <= k {
         return s;
@@ -70,36 +70,36 @@ fn give(s: State, k: usize) -> State
 }
 
 // The superblock that was found passes to heap 0.
-fn give_found(s: State, found: Found) -> State
-    ensures { λ r. ⌜ r ≡ passedFound found s ⌝ }
+fn transfer_found(s: State, found: Found) -> State
+    ensures { λ r. ⌜ r ≡ foundTransferred found s ⌝ }
 {
     match found {
-        Found::At(k) => give(s, k),
+        Found::At(k) => transfer(s, k),
         Found::Nothing => s,
     }
 }
 
 // The moves of a processor heap and class: as many as the rule asks, not one.
-fn drain(s: State, heap: u8, class: u8) -> Moved
+fn transfer_excess(s: State, heap: u8, class: u8) -> Moved
     requires { ⌜ 0 < heap ⌝ }
-    ensures { λ r. ⌜ r ≡ moved heap class s ⌝ }
+    ensures { λ r. ⌜ r ≡ excessTransferred heap class s ⌝ }
 {
     let mut t = s;
     let mut moves: u8 = 0;
     while must_move(t, heap, class) {
-        let found = choose::emptiest(t, heap, class);
-        t = give_found(t, found);
+        let found = choice::emptiest(t, heap, class);
+        t = transfer_found(t, found);
         moves += 1;
     }
     Moved { moves, state: t }
 }
 
 // The moves after a free in the heap and class; none where the heap is heap 0.
-pub fn settle(s: State, heap: u8, class: u8) -> Moved
-    ensures { λ r. ⌜ r ≡ settled heap class s ⌝ }
+pub fn restore_invariant(s: State, heap: u8, class: u8) -> Moved
+    ensures { λ r. ⌜ r ≡ invariantRestored heap class s ⌝ }
 {
     if heap == 0 {
         return Moved { moves: 0, state: s };
     }
-    drain(s, heap, class)
+    transfer_excess(s, heap, class)
 }

@@ -8,7 +8,7 @@ use native.Mathlib.Omega.{arith}
 use lib.ListN.{length, getD, take, drop, length-take, length-drop}
 use lib.Seq.{length-take-le, take-all, getD-take, getD-drop, getD-set-same, getD-set-other, ext-getD}
 use Rattle.order.specs.Order.{place, withPlace, renewed, cleared}
-use Rattle.order.proofs.OrderLaws.{length-renewed, renewed-in, renewed-below, renewed-above, length-with-place, length-cleared, cleared-in}
+use Rattle.order.proofs.OrderLaws.{length-renewed, renewed-place, renewed-index-below, renewed-index-above, length-with-place, length-cleared, cleared-index-below}
 
 -- both storages have the first n places, and hold the same there
 pub record SameFirst (n : ℕ) (x y : List ℕ) : Type 0 where
@@ -16,14 +16,14 @@ pub record SameFirst (n : ℕ) (x y : List ℕ) : Type 0 where
   pub also-long : n ≤ length y
   pub same : (i : ℕ) → i < n → getD x i 0 ≡ getD y i 0
 
-pub first-taken : (n : ℕ) (x y : List ℕ) → SameFirst n x y → take n x ≡ take n y
-first-taken n x y h =
+pub take-equal-of-same-first : (n : ℕ) (x y : List ℕ) → SameFirst n x y → take n x ≡ take n y
+take-equal-of-same-first n x y h =
     ext-getD 0 (take n x) (take n y) (length-take-le n x (h .long) ∙ sym (length-take-le n y (h .also-long)))
     (λ i l. let g : i < n = omega (arith, length-take-le n x (h .long)) in getD-take n x i 0 g ∙ h .same i g ∙ sym (getD-take n y i 0 g))
 
 -- two storages with the same first part are one and shorter than n, or have the n places and hold the same there
-pub first-cases : (n : ℕ) (x y : List ℕ) → take n x ≡ take n y → (x ≡ y) ⊎ SameFirst n x y
-first-cases n x y e = go (decLt (length x) n)
+pub same-first-of-take-equal : (n : ℕ) (x y : List ℕ) → take n x ≡ take n y → (x ≡ y) ⊎ SameFirst n x y
+same-first-of-take-equal n x y e = go (decLt (length x) n)
   where
     lengths : min n (length x) ≡ min n (length y)
     lengths = sym (length-take n x) ∙ ap length e ∙ length-take n y
@@ -34,28 +34,28 @@ first-cases n x y e = go (decLt (length x) n)
         let q = lengths in
         inr (record { long = omega arith; also-long = omega arith; same = λ i l. sym (getD-take n x i 0 l) ∙ ap (λ (z : List ℕ). getD z i 0) e ∙ getD-take n y i 0 l })
 
-pub rest-dropped : (n : ℕ) (x y : List ℕ) → length x ≡ length y → ((i : ℕ) → n ≤ i → getD x i 0 ≡ getD y i 0) → drop n x ≡ drop n y
-rest-dropped n x y long h =
+pub drop-equal-of-same-rest : (n : ℕ) (x y : List ℕ) → length x ≡ length y → ((i : ℕ) → n ≤ i → getD x i 0 ≡ getD y i 0) → drop n x ≡ drop n y
+drop-equal-of-same-rest n x y long h =
     ext-getD 0 (drop n x) (drop n y) (length-drop n x ∙ ap (λ (m : ℕ). m - n) long ∙ sym (length-drop n y))
     (λ i l. getD-drop n x i 0 ∙ h (n + i) (omega arith) ∙ sym (getD-drop n y i 0))
 
 -- a renewed superblock's places, by their numbers in the storage
-pub renewed-index : (l : List ℕ) (s n i : ℕ) → n ≤ 256 → s * 256 + n ≤ length l → s * 256 ≤ i → i < s * 256 + n → getD (renewed l s n) i 0 ≡ n - 1 - (i - s * 256)
+pub renewed-at-index : (l : List ℕ) (s n i : ℕ) → n ≤ 256 → s * 256 + n ≤ length l → s * 256 ≤ i → i < s * 256 + n → getD (renewed l s n) i 0 ≡ n - 1 - (i - s * 256)
 unfolding place
-renewed-index l s n i small fits low high =
-    subst (λ (j : ℕ). getD (renewed l s n) j 0 ≡ n - 1 - (i - s * 256)) (there low) (renewed-in l s n (i - s * 256) small fits (omega arith))
+renewed-at-index l s n i small fits low high =
+    subst (λ (j : ℕ). getD (renewed l s n) j 0 ≡ n - 1 - (i - s * 256)) (there low) (renewed-place l s n (i - s * 256) small fits (omega arith))
   where
     there : s * 256 ≤ i → s * 256 + (i - s * 256) ≡ i
     there h = omega arith
 
 module _ (n : ℕ) (x y : List ℕ) (h : SameFirst n x y) where
-  pub place-agrees : (s p : ℕ) → s * 256 + p < n → place x s p ≡ place y s p
+  pub same-first-place : (s p : ℕ) → s * 256 + p < n → place x s p ≡ place y s p
   unfolding place
-  place-agrees s p l = h .same (s * 256 + p) l
+  same-first-place s p l = h .same (s * 256 + p) l
 
   -- superblock s renewed in both
-  pub renewed-agree : (s m : ℕ) → m ≤ 256 → s * 256 + m ≤ n → SameFirst n (renewed x s m) (renewed y s m)
-  renewed-agree s m small fits =
+  pub same-first-renewed : (s m : ℕ) → m ≤ 256 → s * 256 + m ≤ n → SameFirst n (renewed x s m) (renewed y s m)
+  same-first-renewed s m small fits =
       record {
         long = omega (arith, length-renewed x s m, h .long);
         also-long = omega (arith, length-renewed y s m, h .also-long);
@@ -63,16 +63,16 @@ module _ (n : ℕ) (x y : List ℕ) (h : SameFirst n x y) where
       }
     where
       go : (i : ℕ) → i < n → Dec (i < s * 256) → Dec (s * 256 + m ≤ i) → getD (renewed x s m) i 0 ≡ getD (renewed y s m) i 0
-      go i l (yes q) d = renewed-below x s m i q ∙ h .same i l ∙ sym (renewed-below y s m i q)
-      go i l (no f) (yes q) = renewed-above x s m i q ∙ h .same i l ∙ sym (renewed-above y s m i q)
+      go i l (yes q) d = renewed-index-below x s m i q ∙ h .same i l ∙ sym (renewed-index-below y s m i q)
+      go i l (no f) (yes q) = renewed-index-above x s m i q ∙ h .same i l ∙ sym (renewed-index-above y s m i q)
       go i l (no f) (no g) =
-          renewed-index x s m i small (omega (arith, h .long)) (omega arith) (omega arith)
-          ∙ sym (renewed-index y s m i small (omega (arith, h .also-long)) (omega arith) (omega arith))
+          renewed-at-index x s m i small (omega (arith, h .long)) (omega arith) (omega arith)
+          ∙ sym (renewed-at-index y s m i small (omega (arith, h .also-long)) (omega arith) (omega arith))
 
   -- one place written in both
-  pub written-agree : (s p b : ℕ) → SameFirst n (withPlace x s p b) (withPlace y s p b)
+  pub same-first-with-place : (s p b : ℕ) → SameFirst n (withPlace x s p b) (withPlace y s p b)
   unfolding withPlace
-  written-agree s p b =
+  same-first-with-place s p b =
       record {
         long = omega (arith, length-with-place x s p b, h .long);
         also-long = omega (arith, length-with-place y s p b, h .also-long);
@@ -88,9 +88,9 @@ module _ (n : ℕ) (x y : List ℕ) (h : SameFirst n x y) where
       go i l (no f) = getD-set-other x (s * 256 + p) i b 0 f ∙ h .same i l ∙ sym (getD-set-other y (s * 256 + p) i b 0 f)
 
   -- the first n places cleared in both
-  pub cleared-agree : SameFirst n (cleared x n) (cleared y n)
-  cleared-agree = record {
+  pub same-first-cleared : SameFirst n (cleared x n) (cleared y n)
+  same-first-cleared = record {
     long = omega (arith, length-cleared x n, h .long);
     also-long = omega (arith, length-cleared y n, h .also-long);
-    same = λ i l. cleared-in x n i l ∙ sym (cleared-in y n i l);
+    same = λ i l. cleared-index-below x n i l ∙ sym (cleared-index-below y n i l);
   }

@@ -8,26 +8,26 @@ use native.Mathlib.Numerals.{add-one}
 use native.Mathlib.Omega.{arith}
 use lib.ListN.{length, take, drop, set, replicate, drop-of-length-le}
 use lib.Seq.{paste, paste-suc, take-all}
-use Rattle.order.specs.Order.{down, laid, renewed, cleared}
-use Rattle.order.proofs.OrderLaws.{length-down, getD-down, renewed-is}
+use Rattle.order.specs.Order.{descending, withRenewedPlaces, renewed, cleared}
+use Rattle.order.proofs.OrderLaws.{length-descending, getD-descending, renewed-is-with-renewed-places}
 
--- renewal: the first j numbers of down n are pasted in; a turn pastes one more
-pub renew-turn : (d : List ℕ) (at n j : ℕ) → at + n ≤ length d → j < n → set (paste d at (down n) j) (at + j) (n - 1 - j) ≡ paste d at (down n) (j + 1)
-renew-turn d at n j h l =
-    ap (set (paste d at (down n) j) (at + j)) (sym (getD-down n j l))
-    ∙ paste-suc d at (down n) j 0 (omega arith) (omega (arith, length-down n))
-    ∙ ap (paste d at (down n)) (sym (add-one j))
+-- renewal: the first j numbers of descending n are pasted in; a turn pastes one more
+pub renew-loop-step : (d : List ℕ) (at n j : ℕ) → at + n ≤ length d → j < n → set (paste d at (descending n) j) (at + j) (n - 1 - j) ≡ paste d at (descending n) (j + 1)
+renew-loop-step d at n j h l =
+    ap (set (paste d at (descending n) j) (at + j)) (sym (getD-descending n j l))
+    ∙ paste-suc d at (descending n) j 0 (omega arith) (omega (arith, length-descending n))
+    ∙ ap (paste d at (descending n)) (sym (add-one j))
 
-pub renew-end : (l : List ℕ) (s n : ℕ) → n ≤ 256 → s * 256 + n ≤ length l → paste l (s * 256) (down n) n ≡ renewed l s n
-unfolding laid
-renew-end l s n small fits =
-    ap (λ (x : List ℕ). take (s * 256) l ++ x ++ drop (s * 256 + n) l) (take-all n (down n) (le-of-eq (length-down n)))
-    ∙ sym (renewed-is l s n small fits)
+pub renew-loop-end : (l : List ℕ) (s n : ℕ) → n ≤ 256 → s * 256 + n ≤ length l → paste l (s * 256) (descending n) n ≡ renewed l s n
+unfolding withRenewedPlaces
+renew-loop-end l s n small fits =
+    ap (λ (x : List ℕ). take (s * 256) l ++ x ++ drop (s * 256 + n) l) (take-all n (descending n) (le-of-eq (length-descending n)))
+    ∙ sym (renewed-is-with-renewed-places l s n small fits)
 
 -- clearing: the loop runs to the lesser of n and the length, past which nothing is left to drop
-pub clear-end : (l : List ℕ) (n m : ℕ) → m ≡ min n (length l) → replicate m 0 ++ drop m l ≡ cleared l n
+pub clear-loop-end : (l : List ℕ) (n m : ℕ) → m ≡ min n (length l) → replicate m 0 ++ drop m l ≡ cleared l n
 unfolding cleared
-clear-end l n m e = ap (λ (k : ℕ). replicate k 0 ++ drop k l) e ∙ ap (λ (x : List ℕ). replicate (min n (length l)) 0 ++ x) (go (decLt n (length l)))
+clear-loop-end l n m e = ap (λ (k : ℕ). replicate k 0 ++ drop k l) e ∙ ap (λ (x : List ℕ). replicate (min n (length l)) 0 ++ x) (go (decLt n (length l)))
   where
     go : Dec (n < length l) → drop (min n (length l)) l ≡ drop n l
     go (yes q) = let k : min n (length l) ≡ n = omega arith in rw k

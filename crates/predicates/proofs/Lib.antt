@@ -1,1 +1,1 @@
-pub mod RuleLaws
+pub mod MoveRuleLaws

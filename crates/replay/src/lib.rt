@@ -3,23 +3,18 @@ ghost use mathlib.Core.Path.{_≡_};
 ghost use mathlib.Core.Bool.{true};
 ghost use Rattle.text.specs.Text.{pasted};
 ghost use Rattle.calls.specs.Answers.{numberOf};
-ghost use Rattle.record.specs.Record.{commandAt};
-ghost use Rattle.record.specs.declared.Command.the-variants as command;
-ghost use Rattle.replay.specs.Key.{Answered};
-ghost use Rattle.replay.specs.Steps.{Held, Stepped, Over, Stopping, closing, nextOf};
+ghost use Rattle.commands.specs.Record.{commandAt};
+ghost use Rattle.commands.specs.declared.Command.the-variants as command;
+ghost use Rattle.keyrules.specs.Key.{KeyOrNoRoom};
+ghost use Rattle.replay.specs.Steps.{InBounds, Stepped, Finished, Stopped, closingLines, nextOf};
 use calls::Outcome;
+use commands::Command;
 use heap::Setup;
 use heap::State;
-use record::Command;
+use keyrules::Printed;
 
 // Bytes that hold the key of any record.
 pub const ROOM: usize = 524288;
-
-// The number of bytes of the key, or that too few bytes were lent for it.
-pub enum Printed {
-    Text(usize),
-    NoRoom,
-}
 
 // Where the replay of a record stands: the state, the position in the record, the end of the text, and whether it goes on, or has
 // printed its stop line.
@@ -34,7 +29,7 @@ struct Replay {
 // Prints the key of the record into the first bytes of `out`, with the order storage that is lent. Where `out` has not ROOM bytes
 // nothing is changed.
 pub fn key(bytes: &[u8], order: &mut [u16], out: &mut [u8]) -> Printed
-    ensures { λ r. ⌜ Answered (now (bytes .entry)) (now (order .entry)) (now (out .entry)) r (now (order .exit)) (now (out .exit)) ⌝ }
+    ensures { λ r. ⌜ KeyOrNoRoom (now (bytes .entry)) (now (order .entry)) (now (out .entry)) r (now (order .exit)) (now (out .exit)) ⌝ }
 {
     if out.len() < ROOM {
         return Printed::NoRoom;
@@ -46,9 +41,9 @@ pub fn key(bytes: &[u8], order: &mut [u16], out: &mut [u8]) -> Printed
 
 // Every command of the record, up to its end or a stop.
 fn replay_all(bytes: &[u8], order: &mut [u16], out: &mut [u8]) -> Replay
-    ensures { λ y. ⌜ Over (now (bytes .entry)) (now (order .entry)) (now (out .entry)) y (now (order .exit)) (now (out .exit)) ⌝ }
+    ensures { λ y. ⌜ Finished (now (bytes .entry)) (now (order .entry)) (now (out .entry)) y (now (order .exit)) (now (out .exit)) ⌝ }
 {
-    let s = blocks::no_state();
+    let s = table::no_state();
     let mut x = Replay {
         state: s,
         at: 0,
@@ -64,22 +59,22 @@ fn replay_all(bytes: &[u8], order: &mut [u16], out: &mut [u8]) -> Replay
 
 // The lines at the end of a record that did not stop.
 fn finish(out: &mut [u8], x: Replay) -> usize
-    requires { ⌜ Held x (now out) ⌝ }
-    ensures { λ n. ⌜ record { end = n; buffer = now (out .exit) } ≡ pasted (now (out .entry)) (x .end) (closing x) ⌝ }
+    requires { ⌜ InBounds x (now out) ⌝ }
+    ensures { λ n. ⌜ record { end = n; buffer = now (out .exit) } ≡ pasted (now (out .entry)) (x .end) (closingLines x) ⌝ }
 {
     if x.stopped {
         return x.end;
     }
     let s = x.state;
-    lines::final_lines(out, x.end, s)
+    finallines::final_lines(out, x.end, s)
 }
 
 // The command at the position.
 fn step(bytes: &[u8], order: &mut [u16], out: &mut [u8], x: Replay) -> Replay
-    requires { ⌜ Held x (now out) × (x .going ≡ true) ⌝ }
+    requires { ⌜ InBounds x (now out) × (x .going ≡ true) ⌝ }
     ensures { λ y. ⌜ Stepped (now (bytes .entry)) x (now (order .entry)) (now (out .entry)) y (now (order .exit)) (now (out .exit)) ⌝ }
 {
-    let command = record::command_at(bytes, x.at);
+    let command = decoder::command_at(bytes, x.at);
     match command {
         Command::Setup {
             processors,
@@ -108,7 +103,7 @@ fn step(bytes: &[u8], order: &mut [u16], out: &mut [u8], x: Replay) -> Replay
 
 // A setup, whose refusal stops the record.
 fn setup_step(bytes: &[u8], order: &mut [u16], out: &mut [u8], x: Replay, u: Setup) -> Replay
-    requires { ⌜ Held x (now out) × (x .going ≡ true) × (command.Setup (u .processors) (u .superblocks) (u .spare) (u .p) (u .q) ≡ commandAt (now bytes) (x .at)) ⌝ }
+    requires { ⌜ InBounds x (now out) × (x .going ≡ true) × (command.Setup (u .processors) (u .superblocks) (u .spare) (u .p) (u .q) ≡ commandAt (now bytes) (x .at)) ⌝ }
     ensures { λ y. ⌜ Stepped (now (bytes .entry)) x (now (order .entry)) (now (out .entry)) y (now (order .exit)) (now (out .exit)) ⌝ }
 {
     let a = engine::setup(u, order);
@@ -131,7 +126,7 @@ fn take_step(
     processor: u8,
     size: u16,
 ) -> Replay
-    requires { ⌜ Held x (now out) × (x .going ≡ true) × (command.Take processor size ≡ commandAt (now bytes) (x .at)) ⌝ }
+    requires { ⌜ InBounds x (now out) × (x .going ≡ true) × (command.Take processor size ≡ commandAt (now bytes) (x .at)) ⌝ }
     ensures { λ y. ⌜ Stepped (now (bytes .entry)) x (now (order .entry)) (now (out .entry)) y (now (order .exit)) (now (out .exit)) ⌝ }
 {
     let s = x.state;
@@ -151,7 +146,7 @@ fn free_step(
     processor: u8,
     address: u32,
 ) -> Replay
-    requires { ⌜ Held x (now out) × (x .going ≡ true) × (command.Free processor address ≡ commandAt (now bytes) (x .at)) ⌝ }
+    requires { ⌜ InBounds x (now out) × (x .going ≡ true) × (command.Free processor address ≡ commandAt (now bytes) (x .at)) ⌝ }
     ensures { λ y. ⌜ Stepped (now (bytes .entry)) x (now (order .entry)) (now (out .entry)) y (now (order .exit)) (now (out .exit)) ⌝ }
 {
     let s = x.state;
@@ -164,8 +159,8 @@ fn free_step(
 
 // The stop line, after which nothing is read or printed.
 fn stop_step(out: &mut [u8], x: Replay, number: u8, offset: u32) -> Replay
-    requires { ⌜ Held x (now out) × (x .going ≡ true) ⌝ }
-    ensures { λ y. ⌜ Stopping x (now (out .entry)) number offset y (now (out .exit)) ⌝ }
+    requires { ⌜ InBounds x (now out) × (x .going ≡ true) ⌝ }
+    ensures { λ y. ⌜ Stopped x (now (out .entry)) number offset y (now (out .exit)) ⌝ }
 {
     let end = lines::stop_line(out, x.end, number, offset);
     let s = x.state;

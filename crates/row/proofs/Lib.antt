@@ -1,4 +1,4 @@
-pub mod StoreCases
-pub mod Lent
-pub mod StoredLaws
-pub mod Thin
+pub mod LoadStoreCases
+pub mod WalkLaws
+pub mod LoadStoreLaws
+pub mod LoadStoreContracts

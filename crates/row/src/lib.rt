@@ -1,9 +1,9 @@
 // The table of superblocks lent as a row of records and edited there. The functions are thin: covered functions decide, on a table by
 // value, and these carry the records.
 ghost use mathlib.Core.Path.{_≡_};
-ghost use Rattle.calls.specs.Answers.{Told, Yields};
+ghost use Rattle.calls.specs.Answers.{HasNumberAndValuesOf, PassesIfAccepted};
 ghost use Rattle.rowrules.specs.Row.{stateOf, rowAfter, rowSetup, rowCall};
-ghost use Rattle.row.specs.Whole.{loadOf, storeOf};
+ghost use Rattle.row.specs.LoadStore.{loadOf, storeOf};
 use calls::Call;
 use heap::Setup;
 use heap::Superblock;
@@ -42,8 +42,8 @@ pub fn store(row: &mut [Superblock], t: [Superblock; 64], accepted: bool)
 // A take or a free on the row, whatever its length. A refused one writes no record.
 pub fn call_row(row: &mut [Superblock], order: &mut [u16], u: Setup, c: Call) -> RowAnswer
     ensures { λ r. ⌜ rowAfter r (now (row .exit)) (now (order .exit)) ≡ rowCall u (now (row .entry)) (now (order .entry)) c ⌝ }
-    ensures told { λ r. ⌜ Told (r .outcome) (rowCall u (now (row .entry)) (now (order .entry)) c .outcome) ⌝ }
-    ensures passes { λ r. ⌜ Yields (r .outcome) (stateOf (r .setup) (now (row .exit))) (now (order .exit)) ⌝ }
+    ensures number_and_values { λ r. ⌜ HasNumberAndValuesOf (r .outcome) (rowCall u (now (row .entry)) (now (order .entry)) c .outcome) ⌝ }
+    ensures passes { λ r. ⌜ PassesIfAccepted (r .outcome) (stateOf (r .setup) (now (row .exit))) (now (order .exit)) ⌝ }
 {
     let n = row.len();
     let t = load(row);
@@ -55,8 +55,8 @@ pub fn call_row(row: &mut [Superblock], order: &mut [u16], u: Setup, c: Call) ->
 // A setup on the row, whatever its length. A refused one writes no record.
 pub fn setup_row(row: &mut [Superblock], order: &mut [u16], u: Setup) -> RowAnswer
     ensures { λ r. ⌜ rowAfter r (now (row .exit)) (now (order .exit)) ≡ rowSetup u (now (row .entry)) (now (order .entry)) ⌝ }
-    ensures told { λ r. ⌜ Told (r .outcome) (rowSetup u (now (row .entry)) (now (order .entry)) .outcome) ⌝ }
-    ensures passes { λ r. ⌜ Yields (r .outcome) (stateOf (r .setup) (now (row .exit))) (now (order .exit)) ⌝ }
+    ensures number_and_values { λ r. ⌜ HasNumberAndValuesOf (r .outcome) (rowSetup u (now (row .entry)) (now (order .entry)) .outcome) ⌝ }
+    ensures passes { λ r. ⌜ PassesIfAccepted (r .outcome) (stateOf (r .setup) (now (row .exit))) (now (order .exit)) ⌝ }
 {
     let n = row.len();
     let t = load(row);

@@ -10,25 +10,25 @@ use Rattle.calls.specs.declared.Answer.{Answer}
 use Rattle.calls.specs.declared.Outcome.{Outcome}
 use Rattle.calls.specs.declared.Outcome.the-variants.{Refused}
 use Rattle.calls.specs.Answers.{numberOf}
-use Rattle.engine.specs.First.{setupRefusal}
+use Rattle.engine.specs.FirstRefusal.{setupRefusal}
 use Rattle.rowrules.specs.Row.{RowAfter, rowAfter}
-use Rattle.rowcore.specs.declared.Called.{Called}
+use Rattle.rowcore.specs.declared.TableCall.{TableCall}
 
 -- whether a call was accepted, by its outcome's number
 abbrev pub isAccepted : Outcome → Bool
 isAccepted outcome = eqb (numberOf outcome) 0
 
 -- what is left, the table being what is stored in a row of 64 records
-abbrev pub leaves : Called → List ℕ → RowAfter
-leaves r order = rowAfter (r .answer) (r .table) order
+abbrev pub rowAfterCall : TableCall → List ℕ → RowAfter
+rowAfterCall r order = rowAfter (r .answer) (r .table) order
 
 -- a setup's refusals, the number for its numbers and then 12, then 13 for the row's length; 0 where none applies
-unfoldable pub firstOf : ℕ → ℕ → List ℕ → Setup → ℕ
-firstOf numbers n order u = pick (eqb (setupRefusal numbers u order) 0) (pick (eqb n 64) 0 13) (setupRefusal numbers u order)
+unfoldable pub rowFirstRefusal : ℕ → ℕ → List ℕ → Setup → ℕ
+rowFirstRefusal numbers n order u = pick (eqb (setupRefusal numbers u order) 0) (pick (eqb n 64) 0 13) (setupRefusal numbers u order)
 
 -- "A refusal carries its number alone"
-abbrev pub refusedBy : ℕ → Setup → List Superblock → Called
-refusedBy r u table = record { table = table; answer = record { outcome = Refused r; setup = u }; accepted = isAccepted (Refused r) }
+abbrev pub refusedCall : ℕ → Setup → List Superblock → TableCall
+refusedCall r u table = record { table = table; answer = record { outcome = Refused r; setup = u }; accepted = isAccepted (Refused r) }
 
-abbrev pub answeredBy : Answer → Called
-answeredBy a = record { table = a .state .table; answer = record { outcome = a .outcome; setup = a .state .setup }; accepted = isAccepted (a .outcome) }
+abbrev pub answeredCall : Answer → TableCall
+answeredCall a = record { table = a .state .table; answer = record { outcome = a .outcome; setup = a .state .setup }; accepted = isAccepted (a .outcome) }

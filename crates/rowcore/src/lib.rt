@@ -3,10 +3,10 @@
 ghost use mathlib.Core.Path.{_≡_};
 ghost use lib.ListN.{replicate};
 ghost use Rattle.heap.specs.Table.{unused};
-ghost use Rattle.calls.specs.Answers.{After, Told, Yields};
+ghost use Rattle.calls.specs.Answers.{After, HasNumberAndValuesOf, PassesIfAccepted};
 ghost use Rattle.calls.specs.Calls.{callOf};
 ghost use Rattle.rowrules.specs.Row.{stateOf, setupOn, callOn};
-ghost use Rattle.rowcore.specs.Tables.{isAccepted, firstOf, refusedBy, answeredBy, leaves};
+ghost use Rattle.rowcore.specs.Tables.{isAccepted, rowFirstRefusal, refusedCall, answeredCall, rowAfterCall};
 use calls::Answer;
 use calls::Call;
 use calls::Outcome;
@@ -16,7 +16,7 @@ use heap::Superblock;
 use rowrules::RowAnswer;
 
 // What is to be stored in the row where the call was accepted, the answer, and whether it was.
-pub struct Called {
+pub struct TableCall {
     pub table: [Superblock; 64],
     pub answer: RowAnswer,
     pub accepted: bool,
@@ -26,13 +26,13 @@ pub struct Called {
 pub fn unused_table() -> [Superblock; 64]
     ensures { λ r. ⌜ r ≡ replicate 64 unused ⌝ }
 {
-    let s = blocks::no_state();
+    let s = table::no_state();
     s.table
 }
 
 // The refusals before any superblock is looked at: setup numbers, 12, 13 for the row's length; 0 where none applies.
 fn first_refusal(numbers: u8, n: usize, order: &[u16], u: Setup) -> u8
-    ensures { λ r. ⌜ r ≡ firstOf numbers n (now (order .entry)) u ⌝ }
+    ensures { λ r. ⌜ r ≡ rowFirstRefusal numbers n (now (order .entry)) u ⌝ }
 {
     let first = engine::setup_refusal(numbers, u, order);
     if first != 0 {
@@ -57,13 +57,13 @@ fn accepted(outcome: Outcome) -> bool
 }
 
 // A refusal, with the setup numbers and the table as they are to be.
-fn refuse(number: u8, u: Setup, table: [Superblock; 64]) -> Called
-    ensures { λ r. ⌜ r ≡ refusedBy number u table ⌝ }
+fn refuse(number: u8, u: Setup, table: [Superblock; 64]) -> TableCall
+    ensures { λ r. ⌜ r ≡ refusedCall number u table ⌝ }
 {
     let outcome = Outcome::Refused(number);
     let accepted = accepted(outcome);
     let answer = RowAnswer { outcome, setup: u };
-    Called {
+    TableCall {
         table,
         answer,
         accepted,
@@ -71,8 +71,8 @@ fn refuse(number: u8, u: Setup, table: [Superblock; 64]) -> Called
 }
 
 // The engine's answer, its state taken apart.
-fn answered(a: Answer) -> Called
-    ensures { λ r. ⌜ r ≡ answeredBy a ⌝ }
+fn answered(a: Answer) -> TableCall
+    ensures { λ r. ⌜ r ≡ answeredCall a ⌝ }
 {
     let s = a.state;
     let table = s.table;
@@ -80,7 +80,7 @@ fn answered(a: Answer) -> Called
     let setup = s.setup;
     let accepted = accepted(outcome);
     let answer = RowAnswer { outcome, setup };
-    Called {
+    TableCall {
         table,
         answer,
         accepted,
@@ -88,15 +88,15 @@ fn answered(a: Answer) -> Called
 }
 
 // A setup where n records are lent.
-pub fn setup_table(n: usize, table: [Superblock; 64], order: &mut [u16], u: Setup) -> Called
-    ensures { λ r. ⌜ leaves r (now (order .exit)) ≡ setupOn n u table (now (order .entry)) ⌝ }
+pub fn setup_table(n: usize, table: [Superblock; 64], order: &mut [u16], u: Setup) -> TableCall
+    ensures { λ r. ⌜ rowAfterCall r (now (order .exit)) ≡ setupOn n u table (now (order .entry)) ⌝ }
     ensures accepts { λ r. ⌜ r .accepted ≡ isAccepted (r .answer .outcome) ⌝ }
-    ensures told { λ r. ⌜ Told (r .answer .outcome) (setupOn n u table (now (order .entry)) .outcome) ⌝ }
-    ensures passes { λ r. ⌜ Yields (r .answer .outcome) (stateOf (r .answer .setup) (r .table)) (now (order .exit)) ⌝ }
+    ensures number_and_values { λ r. ⌜ HasNumberAndValuesOf (r .answer .outcome) (setupOn n u table (now (order .entry)) .outcome) ⌝ }
+    ensures passes { λ r. ⌜ PassesIfAccepted (r .answer .outcome) (stateOf (r .answer .setup) (r .table)) (now (order .exit)) ⌝ }
 {
     let first = first_refusal(1, n, order, u);
     if first != 0 {
-        let none = blocks::no_state();
+        let none = table::no_state();
         let zeros = none.setup;
         return refuse(first, zeros, table);
     }
@@ -107,7 +107,7 @@ pub fn setup_table(n: usize, table: [Superblock; 64], order: &mut [u16], u: Setu
 // A take or a free on a state.
 fn call_state(s: State, order: &mut [u16], c: Call) -> Answer
     ensures { λ r. ⌜ record { answer = r; order = now (order .exit) } ≡ callOf s (now (order .entry)) c ⌝ }
-    ensures passes { λ r. ⌜ Yields (r .outcome) (r .state) (now (order .exit)) ⌝ }
+    ensures passes { λ r. ⌜ PassesIfAccepted (r .outcome) (r .state) (now (order .exit)) ⌝ }
 {
     match c {
         Call::Take { processor, size } => engine::take(s, order, processor, size),
@@ -116,11 +116,17 @@ fn call_state(s: State, order: &mut [u16], c: Call) -> Answer
 }
 
 // A take or a free where n records are lent.
-pub fn call_table(n: usize, table: [Superblock; 64], order: &mut [u16], u: Setup, c: Call) -> Called
-    ensures { λ r. ⌜ leaves r (now (order .exit)) ≡ callOn n u table (now (order .entry)) c ⌝ }
+pub fn call_table(
+    n: usize,
+    table: [Superblock; 64],
+    order: &mut [u16],
+    u: Setup,
+    c: Call,
+) -> TableCall
+    ensures { λ r. ⌜ rowAfterCall r (now (order .exit)) ≡ callOn n u table (now (order .entry)) c ⌝ }
     ensures accepts { λ r. ⌜ r .accepted ≡ isAccepted (r .answer .outcome) ⌝ }
-    ensures told { λ r. ⌜ Told (r .answer .outcome) (callOn n u table (now (order .entry)) c .outcome) ⌝ }
-    ensures passes { λ r. ⌜ Yields (r .answer .outcome) (stateOf (r .answer .setup) (r .table)) (now (order .exit)) ⌝ }
+    ensures number_and_values { λ r. ⌜ HasNumberAndValuesOf (r .answer .outcome) (callOn n u table (now (order .entry)) c .outcome) ⌝ }
+    ensures passes { λ r. ⌜ PassesIfAccepted (r .answer .outcome) (stateOf (r .answer .setup) (r .table)) (now (order .exit)) ⌝ }
 {
     let first = first_refusal(13, n, order, u);
     if first != 0 {

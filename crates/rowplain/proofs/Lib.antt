@@ -1,4 +1,4 @@
-pub mod FrontCases
-pub mod Apart
-pub mod Made
-pub mod MostLaws
+pub mod RecordsAfterCases
+pub mod SplitCells
+pub mod RecordsAnswerLaws
+pub mod AtMostLaws

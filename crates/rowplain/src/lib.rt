@@ -2,16 +2,16 @@
 ghost use mathlib.Core.Path.{_≡_};
 ghost use Prim.Native.Nat.{_≤_, min};
 ghost use lib.ListN.{take};
-ghost use Rattle.calls.specs.Answers.{Told, Yields};
+ghost use Rattle.calls.specs.Answers.{HasNumberAndValuesOf, PassesIfAccepted};
 ghost use Rattle.rowrules.specs.Row.{stateOf, rowSetup, rowCall};
-ghost use Rattle.rowplain.specs.Front.{LentAfter, lentAfter};
+ghost use Rattle.rowplain.specs.Borrowed.{RecordsAfter, recordsAfter};
 use calls::Call;
 use heap::Setup;
 use heap::Superblock;
 use rowrules::RowAnswer;
 
 // The records as the call left them, and its answer.
-pub struct Lent {
+pub struct RecordsAnswer {
     pub records: [Superblock; 65],
     pub answer: RowAnswer,
 }
@@ -27,14 +27,20 @@ fn at_most(n: usize) -> usize
 }
 
 // A take or a free on a row of the first n records.
-fn lend_call(n: usize, records: [Superblock; 65], order: &mut [u16], u: Setup, c: Call) -> Lent
+fn borrow_call(
+    n: usize,
+    records: [Superblock; 65],
+    order: &mut [u16],
+    u: Setup,
+    c: Call,
+) -> RecordsAnswer
     requires { ⌜ n ≤ 65 ⌝ }
-    ensures { λ r. ⌜ record { lent = r; order = now (order .exit) } ≡ lentAfter n records (rowCall u (take n records) (now (order .entry)) c) ⌝ }
-    ensures passes { λ r. ⌜ Yields (r .answer .outcome) (stateOf (r .answer .setup) (take n (r .records))) (now (order .exit)) ⌝ }
+    ensures { λ r. ⌜ record { returned = r; order = now (order .exit) } ≡ recordsAfter n records (rowCall u (take n records) (now (order .entry)) c) ⌝ }
+    ensures passes { λ r. ⌜ PassesIfAccepted (r .answer .outcome) (stateOf (r .answer .setup) (take n (r .records))) (now (order .exit)) ⌝ }
 {
     let mut t = records;
     let answer = row::call_row(&mut t[..n], order, u, c);
-    Lent { records: t, answer }
+    RecordsAnswer { records: t, answer }
 }
 
 // A take or a free on a row of the first n records, of all 65 where n is above.
@@ -44,32 +50,37 @@ pub fn call_by_row(
     order: &mut [u16],
     u: Setup,
     c: Call,
-) -> Lent
-    ensures { λ r. ⌜ record { lent = r; order = now (order .exit) } ≡ lentAfter n records (rowCall u (take n records) (now (order .entry)) c) ⌝ }
-    ensures told { λ r. ⌜ Told (r .answer .outcome) (rowCall u (take n records) (now (order .entry)) c .outcome) ⌝ }
-    ensures passes { λ r. ⌜ Yields (r .answer .outcome) (stateOf (r .answer .setup) (take n (r .records))) (now (order .exit)) ⌝ }
+) -> RecordsAnswer
+    ensures { λ r. ⌜ record { returned = r; order = now (order .exit) } ≡ recordsAfter n records (rowCall u (take n records) (now (order .entry)) c) ⌝ }
+    ensures number_and_values { λ r. ⌜ HasNumberAndValuesOf (r .answer .outcome) (rowCall u (take n records) (now (order .entry)) c .outcome) ⌝ }
+    ensures passes { λ r. ⌜ PassesIfAccepted (r .answer .outcome) (stateOf (r .answer .setup) (take n (r .records))) (now (order .exit)) ⌝ }
 {
     let m = at_most(n);
-    lend_call(m, records, order, u, c)
+    borrow_call(m, records, order, u, c)
 }
 
 // A setup on a row of the first n records.
-fn lend_setup(n: usize, records: [Superblock; 65], order: &mut [u16], u: Setup) -> Lent
+fn borrow_setup(n: usize, records: [Superblock; 65], order: &mut [u16], u: Setup) -> RecordsAnswer
     requires { ⌜ n ≤ 65 ⌝ }
-    ensures { λ r. ⌜ record { lent = r; order = now (order .exit) } ≡ lentAfter n records (rowSetup u (take n records) (now (order .entry))) ⌝ }
-    ensures passes { λ r. ⌜ Yields (r .answer .outcome) (stateOf (r .answer .setup) (take n (r .records))) (now (order .exit)) ⌝ }
+    ensures { λ r. ⌜ record { returned = r; order = now (order .exit) } ≡ recordsAfter n records (rowSetup u (take n records) (now (order .entry))) ⌝ }
+    ensures passes { λ r. ⌜ PassesIfAccepted (r .answer .outcome) (stateOf (r .answer .setup) (take n (r .records))) (now (order .exit)) ⌝ }
 {
     let mut t = records;
     let answer = row::setup_row(&mut t[..n], order, u);
-    Lent { records: t, answer }
+    RecordsAnswer { records: t, answer }
 }
 
 // A setup on a row of the first n records, of all 65 where n is above.
-pub fn setup_by_row(n: usize, records: [Superblock; 65], order: &mut [u16], u: Setup) -> Lent
-    ensures { λ r. ⌜ record { lent = r; order = now (order .exit) } ≡ lentAfter n records (rowSetup u (take n records) (now (order .entry))) ⌝ }
-    ensures told { λ r. ⌜ Told (r .answer .outcome) (rowSetup u (take n records) (now (order .entry)) .outcome) ⌝ }
-    ensures passes { λ r. ⌜ Yields (r .answer .outcome) (stateOf (r .answer .setup) (take n (r .records))) (now (order .exit)) ⌝ }
+pub fn setup_by_row(
+    n: usize,
+    records: [Superblock; 65],
+    order: &mut [u16],
+    u: Setup,
+) -> RecordsAnswer
+    ensures { λ r. ⌜ record { returned = r; order = now (order .exit) } ≡ recordsAfter n records (rowSetup u (take n records) (now (order .entry))) ⌝ }
+    ensures number_and_values { λ r. ⌜ HasNumberAndValuesOf (r .answer .outcome) (rowSetup u (take n records) (now (order .entry)) .outcome) ⌝ }
+    ensures passes { λ r. ⌜ PassesIfAccepted (r .answer .outcome) (stateOf (r .answer .setup) (take n (r .records))) (now (order .exit)) ⌝ }
 {
     let m = at_most(n);
-    lend_setup(m, records, order, u)
+    borrow_setup(m, records, order, u)
 }

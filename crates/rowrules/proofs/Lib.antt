@@ -1,4 +1,4 @@
 pub mod RowCases
-pub mod CallCases
+pub mod CallAcceptedLaws
 pub mod RowLaws
-pub mod RowDemand
+pub mod RowDemand3

@@ -10,7 +10,7 @@ use Rattle.heap.specs.declared.Superblock.{Superblock}
 use Rattle.heap.specs.declared.Setup.{Setup}
 use Rattle.heap.specs.declared.State.{State}
 use Rattle.heap.specs.Table.{unused, noState}
-use Rattle.heap.specs.Check.{lawful}
+use Rattle.heap.specs.Check.{withinLimits}
 use Rattle.calls.specs.declared.Call.{Call}
 use Rattle.calls.specs.declared.Outcome.{Outcome}
 use Rattle.calls.specs.declared.Outcome.the-variants.{Ready, Refused}
@@ -34,24 +34,24 @@ abbrev pub stateOf : Setup → List Superblock → State
 stateOf u row = record { setup = u; table = row }
 
 -- what a call on that state leaves, its table read as the row
-abbrev pub rowOf : After → RowAfter
-rowOf a = record { outcome = a .answer .outcome; setup = a .answer .state .setup; row = a .answer .state .table; order = a .order }
+abbrev pub asRowAfter : After → RowAfter
+asRowAfter a = record { outcome = a .answer .outcome; setup = a .answer .state .setup; row = a .answer .state .table; order = a .order }
 
 -- "A refusal carries its number alone .. and changes neither state nor storage"
 abbrev pub rowRefused : ℕ → Setup → List Superblock → List ℕ → RowAfter
 rowRefused r u row order = record { outcome = Refused r; setup = u; row = row; order = order }
 
 -- "an accepted setup writes them all": 64 unused superblocks, and the first N × 256 order places 0
-abbrev pub rowStarted : Setup → List ℕ → RowAfter
-rowStarted u order = record { outcome = Ready; setup = u; row = replicate 64 unused; order = cleared order (u .superblocks * 256) }
+abbrev pub rowAcceptedSetup : Setup → List ℕ → RowAfter
+rowAcceptedSetup u order = record { outcome = Ready; setup = u; row = replicate 64 unused; order = cleared order (u .superblocks * 256) }
 
 -- A setup where n records are lent: "setup 1, 12, then 13 for a lent row that is not 64 long (its contents are not checked ..)". "A
 -- refused setup hands back five zeros ..; a lent row it does not write."
 unfoldable pub setupOn : ℕ → Setup → List Superblock → List ℕ → RowAfter
 setupOn n u row order =
-    pick (lawful u)
+    pick (withinLimits u)
     (pick (leb (u .superblocks * 256) (length order))
-    (pick (eqb n 64) (rowStarted u order)
+    (pick (eqb n 64) (rowAcceptedSetup u order)
     (rowRefused 13 (noState .setup) row order))
     (rowRefused 12 (noState .setup) row order))
     (rowRefused 1 (noState .setup) row order)
@@ -60,16 +60,17 @@ setupOn n u row order =
 -- long". What else is checked, and the call's own refusals, are those of the state.
 unfoldable pub callOn : ℕ → Setup → List Superblock → List ℕ → Call → RowAfter
 callOn n u row order call =
-    pick (lawful u)
+    pick (withinLimits u)
     (pick (leb (u .superblocks * 256) (length order))
-    (pick (eqb n 64) (rowOf (callOf (stateOf u row) order call))
+    (pick (eqb n 64) (asRowAfter (callOf (stateOf u row) order call))
     (rowRefused 13 u row order))
     (rowRefused 12 u row order))
     (rowRefused 13 u row order)
 
--- a setup, and a take or a free, on a lent row
+-- a setup on a lent row
 abbrev pub rowSetup : Setup → List Superblock → List ℕ → RowAfter
 rowSetup u row order = setupOn (length row) u row order
 
+-- a take or a free on a lent row
 abbrev pub rowCall : Setup → List Superblock → List ℕ → Call → RowAfter
 rowCall u row order call = callOn (length row) u row order call

@@ -22,12 +22,12 @@ RowLinked before (step ∷ steps) =
     (step .after ≡ rowCall (before .setup) (before .row) (before .order) (step .call)) × RowLinked (step .after) steps
 
 -- what a call on a row left, its row read as a state's table
-abbrev pub afterOf : RowAfter → After
-afterOf a = record { answer = record { outcome = a .outcome; state = stateOf (a .setup) (a .row) }; order = a .order }
+abbrev pub asAfter : RowAfter → After
+asAfter a = record { answer = record { outcome = a .outcome; state = stateOf (a .setup) (a .row) }; order = a .order }
 
 abbrev pub stepOf : RowStep → Step
-stepOf step = record { call = step .call; after = afterOf (step .after) }
+stepOf step = record { call = step .call; after = asAfter (step .after) }
 
 -- The claim of a list, word for word that of a list of calls on states: superblocks and owners are counted in the row.
 abbrev pub RowClaims : Setup → RowAfter → List Entry → (ℕ → ℕ) → List RowStep → Type 0
-RowClaims u before ledger most steps = Claims u (afterOf before) ledger most (map stepOf steps)
+RowClaims u before ledger peak steps = Claims u (asAfter before) ledger peak (map stepOf steps)

@@ -7,9 +7,9 @@ use Rattle.stream.specs.declared.Input.{Input}
 use Rattle.stream.specs.declared.Input.the-variants.{Bytes, Failed}
 
 -- the bytes read are counted within the buffer; a failed read has no count
-abbrev pub Held : Input → List ℕ → Type 0
-Held (Bytes n) buf = Counts n buf
-Held Failed buf = Unit {0}
+abbrev pub WithinBuffer : Input → List ℕ → Type 0
+WithinBuffer (Bytes n) buf = Counts n buf
+WithinBuffer Failed buf = Unit {0}
 
 -- what a read's answer means for a buffer of so many bytes: a negative one is a failure, another is how many bytes came, none at the
 -- end of the input

@@ -3,7 +3,7 @@ ghost use mathlib.Core.Path.{_≡_};
 ghost use mathlib.Core.Bool.{true};
 ghost use lib.ListN.{length};
 ghost use Rattle.io.specs.Counts.{Counts};
-ghost use Rattle.stream.specs.Stream.{Held, inputOf};
+ghost use Rattle.stream.specs.Stream.{WithinBuffer, inputOf};
 
 // So many bytes stand at the start of a buffer, or a read failed.
 pub enum Input {
@@ -13,12 +13,12 @@ pub enum Input {
 
 // Standard input up to its end, or as much as buf holds. Where a read fails, a line in the program's name says so.
 pub fn read_input(program: &[u8], buf: &mut [u8]) -> Input
-    ensures { λ r. ⌜ Held r (now (buf .exit)) ⌝ }
+    ensures { λ r. ⌜ WithinBuffer r (now (buf .exit)) ⌝ }
 {
     let input = read_whole(libc::STDIN_FILENO, buf);
     match input {
         Input::Bytes(_) => {}
-        Input::Failed => tell(program, b": reading standard input failed\n"),
+        Input::Failed => report_failure(program, b": reading standard input failed\n"),
     }
     input
 }
@@ -29,21 +29,21 @@ pub fn write_output(program: &[u8], bytes: &[u8]) -> bool
 {
     let n = write_whole(libc::STDOUT_FILENO, bytes);
     if n < bytes.len() {
-        tell(program, b": writing standard output failed\n");
+        report_failure(program, b": writing standard output failed\n");
         return false;
     }
     true
 }
 
-// A line on standard error. Where that fails too, there is nobody left to tell.
-fn tell(program: &[u8], line: &[u8]) {
+// A line on standard error. Where that fails too, it cannot be reported.
+fn report_failure(program: &[u8], line: &[u8]) {
     write_whole(libc::STDERR_FILENO, program);
     write_whole(libc::STDERR_FILENO, line);
 }
 
 // Reads until buf is full, the input ends or a read fails.
 fn read_whole(fd: i32, buf: &mut [u8]) -> Input
-    ensures { λ r. ⌜ Held r (now (buf .exit)) ⌝ }
+    ensures { λ r. ⌜ WithinBuffer r (now (buf .exit)) ⌝ }
 {
     let mut done = 0;
     while done < buf.len() {
@@ -61,15 +61,15 @@ fn read_whole(fd: i32, buf: &mut [u8]) -> Input
 
 // One read; no bytes at the end of the input.
 fn read_some(fd: i32, buf: &mut [u8]) -> Input
-    ensures { λ r. ⌜ Held r (now (buf .exit)) ⌝ }
+    ensures { λ r. ⌜ WithinBuffer r (now (buf .exit)) ⌝ }
 {
-    told(libc::read(fd, buf), buf)
+    input_of(libc::read(fd, buf), buf)
 }
 
 // What a read answered of buf. A read that a signal interrupts before it moved a byte counts as failed.
-fn told(got: isize, buf: &[u8]) -> Input
+fn input_of(got: isize, buf: &[u8]) -> Input
     ensures { λ r. ⌜ r ≡ inputOf got (length (now (buf .entry))) ⌝ }
-    ensures { λ r. ⌜ Held r (now (buf .entry)) ⌝ }
+    ensures { λ r. ⌜ WithinBuffer r (now (buf .entry)) ⌝ }
 {
     if got >= 0 {
         return Input::Bytes(io::count(got, buf));

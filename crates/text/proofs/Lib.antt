@@ -1,3 +1,3 @@
-pub mod Cases
+pub mod TextCases
 pub mod PasteLaws
 pub mod DigitLaws

@@ -5,14 +5,14 @@ use crate::outcome::Refusal;
 use crate::size_class::SIZE_CLASSES;
 use crate::state::{Setup, State, Superblock, GLOBAL_HEAP, ORDER_PLACES};
 
-/// Most processors of a lawful setup.
+/// Most processors of a setup within limits.
 const MOST_PROCESSORS: usize = 8;
 
 /// Live and all blocks of each heap and class.
 type UsageTable = [[Usage; SIZE_CLASSES.len()]; MOST_PROCESSORS + 1];
 
 /// Whether the five setup numbers are within their limits.
-pub fn setup_is_lawful(setup: &Setup) -> bool {
+pub fn setup_within_limits(setup: &Setup) -> bool {
     (1..=8).contains(&setup.processors)
         && (1..=64).contains(&setup.superblocks)
         && (1..=16).contains(&setup.spare)
@@ -22,8 +22,8 @@ pub fn setup_is_lawful(setup: &Setup) -> bool {
 }
 
 /// Checks the numbers asked for and the storage given to a setup.
-pub(crate) fn check_asked(asked: &Setup, order: &[u16]) -> Result<(), Refusal> {
-    if !setup_is_lawful(asked) {
+pub(crate) fn check_setup(asked: &Setup, order: &[u16]) -> Result<(), Refusal> {
+    if !setup_within_limits(asked) {
         return Err(Refusal::Setup);
     }
     check_storage(asked, order)
@@ -31,7 +31,7 @@ pub(crate) fn check_asked(asked: &Setup, order: &[u16]) -> Result<(), Refusal> {
 
 /// Checks the setup numbers and storage given to a take or free.
 pub(crate) fn check_numbers_and_storage(setup: &Setup, order: &[u16]) -> Result<(), Refusal> {
-    if !setup_is_lawful(setup) {
+    if !setup_within_limits(setup) {
         return Err(Refusal::State);
     }
     check_storage(setup, order)

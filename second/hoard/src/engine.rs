@@ -1,6 +1,6 @@
 //! The three calls: setup, take and free.
 
-use crate::check::{check_asked, check_handed_in};
+use crate::check::{check_handed_in, check_setup};
 use crate::outcome::{Answer, Outcome, Refusal};
 use crate::size_class::{class_of_size, SizeClass, SIZE_CLASSES, SUPERBLOCK_BYTES};
 use crate::state::{Setup, State, Superblock, GLOBAL_HEAP, ORDER_PLACES, UNUSED_OWNER};
@@ -30,16 +30,16 @@ struct Offer {
 
 /// Sets up: every superblock unused, the order places of the setup all 0.
 pub fn setup(asked: Setup, order: &mut [u16]) -> Answer {
-    if let Err(refusal) = check_asked(&asked, order) {
+    if let Err(refusal) = check_setup(&asked, order) {
         return Answer {
             outcome: Outcome::Refused(refusal),
-            state: State::fresh(Setup::default()),
+            state: State::new(Setup::default()),
         };
     }
     order[..asked.order_places()].fill(0);
     Answer {
         outcome: Outcome::Ready,
-        state: State::fresh(asked),
+        state: State::new(asked),
     }
 }
 
@@ -79,7 +79,7 @@ fn take_block(
     check_handed_in(state, order)?;
     check_processor(state, processor)?;
     let class = class_of_size(size).ok_or(Refusal::Size)?;
-    let offer = find_superblock(state, processor, class).ok_or(Refusal::Dry)?;
+    let offer = find_superblock(state, processor, class).ok_or(Refusal::NoSuperblock)?;
 
     let superblock = &mut state.superblocks[offer.number];
     let places = places_of(order, offer.number);
@@ -115,7 +115,7 @@ fn free_block(
     if owner == GLOBAL_HEAP {
         return Ok(0);
     }
-    Ok(give_up_superblocks(state, owner, class))
+    Ok(transfer_excess(state, owner, class))
 }
 
 fn check_processor(state: &State, processor: u8) -> Result<(), Refusal> {
@@ -187,17 +187,17 @@ pub fn renew(superblock: &mut Superblock, class: u8, places: &mut [u16]) {
 fn find_block(state: &State, address: u32) -> Result<(usize, u32), Refusal> {
     let number = (address / SUPERBLOCK_BYTES) as usize;
     if number >= usize::from(state.setup.superblocks) {
-        return Err(Refusal::Astray);
+        return Err(Refusal::UnmappedAddress);
     }
     let superblock = &state.superblocks[number];
     if superblock.owner == UNUSED_OWNER {
-        return Err(Refusal::Astray);
+        return Err(Refusal::UnmappedAddress);
     }
     let class = superblock.size_class();
     let offset = address % SUPERBLOCK_BYTES;
     let block = offset / class.block_size;
     if !offset.is_multiple_of(class.block_size) || block >= class.blocks {
-        return Err(Refusal::OffBlock);
+        return Err(Refusal::MisalignedAddress);
     }
     if !superblock.is_live(block) {
         return Err(Refusal::NotLive);
@@ -212,7 +212,7 @@ fn places_of(order: &mut [u16], number: usize) -> &mut [u16] {
 
 /// Moves the emptiest superblock of a heap and class to the global heap, again
 /// and again while the heap is over the threshold. Returns the number moved.
-fn give_up_superblocks(state: &mut State, heap: u8, class: u8) -> u32 {
+fn transfer_excess(state: &mut State, heap: u8, class: u8) -> u32 {
     let mut moves = 0;
     while heap_is_over_threshold(state, heap, class) {
         let Some(number) = emptiest(state, heap, class) else {

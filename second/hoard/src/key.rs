@@ -28,12 +28,12 @@ pub fn key(record: &[u8]) -> Vec<u8> {
 fn print_commands(record: &[u8], text: &mut String) -> Result<State, Stop> {
     if record.len() > LONGEST_RECORD {
         return Err(Stop {
-            refusal: Refusal::Long,
+            refusal: Refusal::RecordTooLong,
             offset: 0,
         });
     }
     let mut order = vec![0; SUPERBLOCKS * ORDER_PLACES];
-    let mut state = State::fresh(Setup::default());
+    let mut state = State::new(Setup::default());
     let mut offset = 0;
     loop {
         let (command, next_offset) = decode(record, offset)?;

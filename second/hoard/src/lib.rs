@@ -18,7 +18,7 @@ mod row;
 mod size_class;
 mod state;
 
-pub use check::{check_handed_in, setup_is_lawful};
+pub use check::{check_handed_in, setup_within_limits};
 pub use engine::{free, over_emptiness_threshold, renew, setup, take, Usage};
 pub use key::key;
 pub use outcome::{Answer, Outcome, Refusal, RowAnswer};

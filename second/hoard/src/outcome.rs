@@ -12,21 +12,21 @@ pub enum Refusal {
     /// Size 0 or above 2048.
     Size = 3,
     /// No place offers a superblock.
-    Dry = 4,
+    NoSuperblock = 4,
     /// Address past the superblocks, or in an unused one.
-    Astray = 5,
+    UnmappedAddress = 5,
     /// Address that is not the start of a block.
-    OffBlock = 6,
+    MisalignedAddress = 6,
     /// The block is not live.
     NotLive = 7,
     /// Unknown command byte.
-    Command = 8,
+    UnknownCommand = 8,
     /// The record ends inside a command.
-    Cut = 9,
+    TruncatedCommand = 9,
     /// A command in the wrong place, or no byte at all.
-    Place = 10,
+    MisplacedCommand = 10,
     /// Record above its longest length.
-    Long = 11,
+    RecordTooLong = 11,
     /// Too few order places lent.
     Storage = 12,
     /// The state fails its check.

@@ -26,17 +26,17 @@ pub struct Stop {
 }
 
 /// The command at `offset` and the offset after it. Refusals in order: unknown
-/// command byte, command in the wrong place (or no byte at all), cut command.
+/// command byte, command in the wrong place (or no byte at all), truncated command.
 pub fn decode(record: &[u8], offset: usize) -> Result<(Command, usize), Stop> {
     let stop = |refusal| Stop { refusal, offset };
-    let byte = *record.get(offset).ok_or(stop(Refusal::Place))?;
+    let byte = *record.get(offset).ok_or(stop(Refusal::MisplacedCommand))?;
     if byte > FREE_BYTE {
-        return Err(stop(Refusal::Command));
+        return Err(stop(Refusal::UnknownCommand));
     }
     let is_setup = byte == SETUP_BYTE;
     let is_first = offset == 0;
     if is_setup != is_first {
-        return Err(stop(Refusal::Place));
+        return Err(stop(Refusal::MisplacedCommand));
     }
     read_command(record, offset)
 }
@@ -45,7 +45,7 @@ pub fn decode(record: &[u8], offset: usize) -> Result<(Command, usize), Stop> {
 pub fn read_command(record: &[u8], offset: usize) -> Result<(Command, usize), Stop> {
     let stop = |refusal| Stop { refusal, offset };
     let bytes = &record[offset..];
-    let (&byte, fields) = bytes.split_first().ok_or(stop(Refusal::Cut))?;
+    let (&byte, fields) = bytes.split_first().ok_or(stop(Refusal::TruncatedCommand))?;
     let (command, length) = match (byte, fields) {
         (SETUP_BYTE, &[p_count, n, k, p, q, ..]) => (
             Command::Setup(Setup::from_numbers([p_count, n, k, p, q])),
@@ -59,8 +59,8 @@ pub fn read_command(record: &[u8], offset: usize) -> Result<(Command, usize), St
             let address = u32::from_le_bytes([a, b, c, d]);
             (Command::Free { processor, address }, 6)
         }
-        (SETUP_BYTE | TAKE_BYTE | FREE_BYTE, _) => return Err(stop(Refusal::Cut)),
-        _ => return Err(stop(Refusal::Command)),
+        (SETUP_BYTE | TAKE_BYTE | FREE_BYTE, _) => return Err(stop(Refusal::TruncatedCommand)),
+        _ => return Err(stop(Refusal::UnknownCommand)),
     };
     Ok((command, offset + length))
 }

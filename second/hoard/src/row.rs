@@ -1,7 +1,7 @@
 //! The three calls on a lent row: the superblocks are records that the caller
 //! lends, in a row of any length, and an accepted call edits them there.
 
-use crate::check::{check_asked, check_numbers_and_storage};
+use crate::check::{check_numbers_and_storage, check_setup};
 use crate::engine::{free, setup, take};
 use crate::outcome::{Answer, Outcome, Refusal, RowAnswer};
 use crate::state::{Setup, State, Superblock, SUPERBLOCKS};
@@ -10,7 +10,7 @@ use crate::state::{Setup, State, Superblock, SUPERBLOCKS};
 /// long. What the row holds is not checked; an accepted setup writes every
 /// record as unused. A refused one hands back five zeros and writes nothing.
 pub fn setup_row(asked: Setup, row: &mut [Superblock], order: &mut [u16]) -> RowAnswer {
-    let refusal = match check_asked(&asked, order) {
+    let refusal = match check_setup(&asked, order) {
         Err(refusal) => Some(refusal),
         Ok(()) if row.len() != SUPERBLOCKS => Some(Refusal::State),
         Ok(()) => None,
@@ -34,7 +34,7 @@ pub fn take_row(
     size: u16,
     order: &mut [u16],
 ) -> RowAnswer {
-    match lent_state(numbers, row, order) {
+    match borrowed_state(numbers, row, order) {
         Ok(state) => write_back(take(&state, processor, size, order), row),
         Err(refusal) => refused(numbers, refusal),
     }
@@ -49,7 +49,7 @@ pub fn free_row(
     address: u32,
     order: &mut [u16],
 ) -> RowAnswer {
-    match lent_state(numbers, row, order) {
+    match borrowed_state(numbers, row, order) {
         Ok(state) => write_back(free(&state, processor, address, order), row),
         Err(refusal) => refused(numbers, refusal),
     }
@@ -57,7 +57,7 @@ pub fn free_row(
 
 /// The state in a row, if setup numbers, storage and the row's length pass. The
 /// superblocks are checked by the call on that state.
-fn lent_state(numbers: Setup, row: &[Superblock], order: &[u16]) -> Result<State, Refusal> {
+fn borrowed_state(numbers: Setup, row: &[Superblock], order: &[u16]) -> Result<State, Refusal> {
     check_numbers_and_storage(&numbers, order)?;
     let superblocks = row.try_into().map_err(|_| Refusal::State)?;
     Ok(State {

@@ -112,7 +112,7 @@ pub struct State {
 
 impl State {
     /// A state with every superblock unused.
-    pub fn fresh(setup: Setup) -> State {
+    pub fn new(setup: Setup) -> State {
         State {
             setup,
             superblocks: [Superblock::UNUSED; SUPERBLOCKS],

@@ -17,7 +17,7 @@ fn own(state: &mut State, order: &mut [u16], number: usize, owner: u8, class: u8
 
 /// A state of six superblocks of class 16 with 7, 7, 7, 8, 8, 8 live.
 fn on_the_threshold() -> (State, Vec<u16>) {
-    let mut state = State::fresh(numbers(1, 6, 1, 1, 4));
+    let mut state = State::new(numbers(1, 6, 1, 1, 4));
     let mut order = vec![0; 6 * ORDER_PLACES];
     for (number, live) in [7, 7, 7, 8, 8, 8].into_iter().enumerate() {
         own(&mut state, &mut order, number, 1, 16, live);
@@ -50,7 +50,7 @@ fn setup_clears_its_places_and_no_more() {
     let mut order = vec![7; 3 * ORDER_PLACES];
     let answer = setup(numbers(1, 2, 1, 1, 2), &mut order);
     assert_eq!(answer.outcome, Outcome::Ready);
-    assert_eq!(answer.state, State::fresh(numbers(1, 2, 1, 1, 2)));
+    assert_eq!(answer.state, State::new(numbers(1, 2, 1, 1, 2)));
     assert!(order[..2 * ORDER_PLACES].iter().all(|&place| place == 0));
     assert!(order[2 * ORDER_PLACES..].iter().all(|&place| place == 7));
 }
@@ -81,7 +81,7 @@ fn setup_limits() {
     for asked in past {
         let answer = setup(Setup::from_numbers(asked), &mut order);
         assert_eq!(refused(&answer), 1, "{asked:?}");
-        assert_eq!(answer.state, State::fresh(Setup::default()));
+        assert_eq!(answer.state, State::new(Setup::default()));
     }
 }
 
@@ -96,7 +96,7 @@ fn refused_setup_changes_no_place() {
 
 #[test]
 fn storage_of_just_n_times_256_places_is_enough() {
-    let state = State::fresh(numbers(1, 2, 1, 1, 2));
+    let state = State::new(numbers(1, 2, 1, 1, 2));
     let mut order = vec![9; 2 * ORDER_PLACES];
     assert_eq!(take(&state, 1, 16, &mut order).outcome, Outcome::At(0));
     let mut short = vec![9; 2 * ORDER_PLACES - 1];
@@ -106,7 +106,7 @@ fn storage_of_just_n_times_256_places_is_enough() {
 
 #[test]
 fn renewal_writes_n_places_and_a_take_no_other() {
-    let state = State::fresh(numbers(1, 1, 1, 1, 2));
+    let state = State::new(numbers(1, 1, 1, 1, 2));
     let mut order = vec![9; ORDER_PLACES];
     let answer = take(&state, 1, 384, &mut order);
     assert_eq!(answer.outcome, Outcome::At(0));

@@ -55,7 +55,7 @@ fn records_are_read_up_to_60000_bytes() {
 }
 
 #[test]
-fn a_record_cut_at_any_byte_stops_there_or_ends() {
+fn a_record_truncated_at_any_byte_stops_there_or_ends() {
     let hex = fs::read_to_string(cases().join("whole-case.hex")).unwrap();
     let record = record_of(&hex);
     for end in 0..record.len() {
@@ -67,6 +67,6 @@ fn a_record_cut_at_any_byte_stops_there_or_ends() {
             Some(start) => format!("stopped 9 at {start}\n"),
             None => unreachable!(),
         };
-        assert!(key.ends_with(&last), "cut at {end}: {key}");
+        assert!(key.ends_with(&last), "truncated at {end}: {key}");
     }
 }

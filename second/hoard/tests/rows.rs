@@ -25,7 +25,7 @@ fn refused(answer: &RowAnswer) -> u8 {
 
 /// Two superblocks, the first of heap 1 and class 26 with block 0 live.
 fn sound() -> (State, Vec<u16>) {
-    let mut state = State::fresh(numbers(1, 2, 1, 1, 4));
+    let mut state = State::new(numbers(1, 2, 1, 1, 4));
     let mut order = vec![7; 2 * ORDER_PLACES];
     state.superblocks[0].owner = 1;
     renew(&mut state.superblocks[0], 26, &mut order);
@@ -73,9 +73,9 @@ fn setup_numbers_before_storage_before_length() {
     let asked = numbers(1, 2, 1, 1, 4);
     let places = asked.order_places();
     for length in LENGTHS {
-        for unlawful in [[0, 2, 1, 1, 4], [1, 65, 1, 1, 4], [1, 2, 1, 4, 4], [0; 5]] {
+        for out_of_limits in [[0, 2, 1, 1, 4], [1, 65, 1, 1, 4], [1, 2, 1, 4, 4], [0; 5]] {
             for places in [0, places - 1, places, 65 * ORDER_PLACES] {
-                setup_is_refused(Setup::from_numbers(unlawful), length, places, 1);
+                setup_is_refused(Setup::from_numbers(out_of_limits), length, places, 1);
             }
         }
         for short in [0, 1, places - 1] {
@@ -105,10 +105,10 @@ fn accepted_setup_writes_the_whole_row() {
 fn state_numbers_before_storage_before_length() {
     let (sound, order) = sound();
     for length in LENGTHS {
-        // Unlawful numbers are 13 whatever the storage.
-        for unlawful in [[0, 2, 1, 1, 4], [1, 65, 1, 1, 4], [1, 2, 1, 4, 4], [0; 5]] {
+        // Numbers outside their limits are 13 whatever the storage.
+        for out_of_limits in [[0, 2, 1, 1, 4], [1, 65, 1, 1, 4], [1, 2, 1, 4, 4], [0; 5]] {
             let state = State {
-                setup: Setup::from_numbers(unlawful),
+                setup: Setup::from_numbers(out_of_limits),
                 ..sound.clone()
             };
             for places in [0, 1, order.len() - 1, order.len()] {
@@ -166,19 +166,19 @@ fn own_refusals_on_a_row_of_64() {
 }
 
 #[test]
-fn dry_on_a_row() {
+fn no_superblock_left_on_a_row() {
     let numbers = numbers(1, 1, 1, 1, 4);
     let (mut row, mut order) = (vec![ODD; 64], vec![7; ORDER_PLACES]);
     setup_row(numbers, &mut row, &mut order);
     let taken = take_row(numbers, &mut row, 1, 2048, &mut order);
     assert_eq!(taken.outcome, Outcome::At(0));
     let before = (row.clone(), order.clone());
-    let dry = take_row(numbers, &mut row, 1, 16, &mut order);
-    assert_eq!((refused(&dry), dry.setup), (4, numbers));
+    let answer = take_row(numbers, &mut row, 1, 16, &mut order);
+    assert_eq!((refused(&answer), answer.setup), (4, numbers));
     assert_eq!((row, order), before);
 }
 
-/// Heaps filled until they are dry and drained again: on a row as on states.
+/// Heaps filled until no superblock is left and emptied again: on a row as on states.
 #[test]
 fn calls_on_a_row_are_those_on_a_state() {
     let numbers = numbers(2, 8, 1, 1, 4);

@@ -90,7 +90,7 @@ pub fn read_input(bytes: &[u8]) -> Option<CallInput> {
     let mut bytes = Bytes(bytes);
     let [kind] = bytes.next()?;
     let setup = Setup::from_numbers(bytes.next()?);
-    let mut state = State::fresh(setup);
+    let mut state = State::new(setup);
     let call = match kind {
         SETUP_BYTE => Command::Setup(setup),
         TAKE_BYTE => Command::Take {

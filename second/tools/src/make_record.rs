@@ -13,16 +13,16 @@ use crate::xorshift::Xorshift;
 pub enum Kind {
     /// Any setup, takes and frees of any size and processor, a few wrong ones.
     Uniform,
-    /// A heap and class filled and drained around its emptiness threshold.
+    /// A heap and class filled and mostly freed around its emptiness threshold.
     Threshold,
-    /// Few superblocks, so often dry.
+    /// Few superblocks, so that often none is left.
     Small,
     /// Eight processors and all classes.
     Many,
     /// As long as a record may be: 60000 bytes.
-    Long,
-    /// A sound record cut at any byte.
-    Cut,
+    Longest,
+    /// A valid record truncated at any byte.
+    Truncated,
     /// Random bytes, random commands, or a sound record with damaged bytes.
     Garbage,
     /// Sizes, addresses, processors and setups at and past each limit.
@@ -35,8 +35,8 @@ pub const KINDS: [(&str, Kind); 8] = [
     ("threshold", Kind::Threshold),
     ("small", Kind::Small),
     ("many", Kind::Many),
-    ("long", Kind::Long),
-    ("cut", Kind::Cut),
+    ("longest", Kind::Longest),
+    ("truncated", Kind::Truncated),
     ("garbage", Kind::Garbage),
     ("edges", Kind::Edges),
 ];
@@ -46,7 +46,7 @@ pub fn kind_of_name(name: &str) -> Option<Kind> {
     KINDS.iter().find(|kind| kind.0 == name).map(|kind| kind.1)
 }
 
-/// Makes a record of `length` calls or so (a long one has its own length).
+/// Makes a record of `length` calls or so (a longest one has its own length).
 pub fn make_record(kind: Kind, seed: u64, length: usize) -> Vec<u8> {
     let random = &mut Xorshift::new(kind as u64 + 1, seed);
     match kind {
@@ -54,8 +54,8 @@ pub fn make_record(kind: Kind, seed: u64, length: usize) -> Vec<u8> {
         Kind::Threshold => threshold(random, length).record,
         Kind::Small => small(random, length).record,
         Kind::Many => many(random, length).record,
-        Kind::Long => long(random),
-        Kind::Cut => cut(random, length),
+        Kind::Longest => longest(random),
+        Kind::Truncated => truncated(random, length),
         Kind::Garbage => garbage(random, length),
         Kind::Edges => edges(random, length).record,
     }
@@ -71,8 +71,8 @@ pub fn any_run(random: &mut Xorshift, length: usize) -> Run {
     }
 }
 
-/// A lawful setup with at most so many processors and superblocks.
-pub fn lawful_setup(random: &mut Xorshift, most_processors: u8, most_superblocks: u8) -> Setup {
+/// A setup within limits with at most so many processors and superblocks.
+pub fn setup_in_limits(random: &mut Xorshift, most_processors: u8, most_superblocks: u8) -> Setup {
     let q = random.byte_between(2, 8);
     Setup {
         processors: random.byte_between(1, most_processors),
@@ -109,7 +109,7 @@ pub fn odd_call(random: &mut Xorshift, run: &mut Run) {
     }
 }
 
-/// An address that is likely to be astray, off-block or not live.
+/// An address that is likely to be unmapped, misaligned or not live.
 fn odd_address(random: &mut Xorshift, run: &Run) -> u32 {
     let end = u32::from(run.state.setup.superblocks) * SUPERBLOCK_BYTES;
     let near = run.any_live(random).unwrap_or(0);
@@ -141,7 +141,7 @@ fn mixed_call(random: &mut Xorshift, run: &mut Run, takes: u32, classes: (u8, u8
 }
 
 fn uniform(random: &mut Xorshift, length: usize) -> Run {
-    let mut run = Run::new(lawful_setup(random, 8, 64));
+    let mut run = Run::new(setup_in_limits(random, 8, 64));
     let takes = random.between(40, 75);
     while run.calls < length && run.has_room() {
         mixed_call(random, &mut run, takes, (0, 26));
@@ -150,7 +150,7 @@ fn uniform(random: &mut Xorshift, length: usize) -> Run {
 }
 
 fn small(random: &mut Xorshift, length: usize) -> Run {
-    let mut run = Run::new(lawful_setup(random, 3, 4));
+    let mut run = Run::new(setup_in_limits(random, 3, 4));
     let takes = random.between(45, 65);
     while run.calls < length && run.has_room() {
         mixed_call(random, &mut run, takes, (16, 26));
@@ -162,7 +162,7 @@ fn many(random: &mut Xorshift, length: usize) -> Run {
     let setup = Setup {
         processors: 8,
         superblocks: random.byte_between(40, 64),
-        ..lawful_setup(random, 8, 64)
+        ..setup_in_limits(random, 8, 64)
     };
     let mut run = Run::new(setup);
     while run.calls < length && run.has_room() {
@@ -177,7 +177,7 @@ fn many(random: &mut Xorshift, length: usize) -> Run {
     run
 }
 
-/// Fills a heap and class, then drains it below its threshold, again and again.
+/// Fills a heap and class, then frees most of it, below its threshold, again and again.
 fn threshold(random: &mut Xorshift, length: usize) -> Run {
     let q = random.pick(&[8, 8, 8, 7, 5, 4, 3, 2]);
     let setup = Setup {
@@ -193,7 +193,7 @@ fn threshold(random: &mut Xorshift, length: usize) -> Run {
         let heap = random.byte_between(1, setup.processors);
         let class = random.pick(&classes);
         fill(random, &mut run, heap, class, length);
-        drain(random, &mut run, heap, class, length);
+        free_most(random, &mut run, heap, class, length);
     }
     run
 }
@@ -210,7 +210,7 @@ fn fill(random: &mut Xorshift, run: &mut Run, heap: u8, class: u8, length: usize
 
 /// Frees most blocks of a heap and class. Freeing from the fullest keeps the
 /// superblocks level, so that one free may move several of them.
-fn drain(random: &mut Xorshift, run: &mut Run, heap: u8, class: u8, length: usize) {
+fn free_most(random: &mut Xorshift, run: &mut Run, heap: u8, class: u8, length: usize) {
     let from = random.pick(&[PickFrom::Emptiest, PickFrom::Fullest, PickFrom::Any]);
     let left = random.below(8) as usize;
     while run.calls < length && run.has_room() && run.live.len() > left {
@@ -227,8 +227,8 @@ fn drain(random: &mut Xorshift, run: &mut Run, heap: u8, class: u8, length: usiz
 
 /// A record of 60000 bytes: calls until 6, 8 or 10 bytes are left, then the one
 /// or two commands that fill these.
-fn long(random: &mut Xorshift) -> Vec<u8> {
-    let mut run = Run::new(lawful_setup(random, 8, 64));
+fn longest(random: &mut Xorshift) -> Vec<u8> {
+    let mut run = Run::new(setup_in_limits(random, 8, 64));
     let takes = random.between(48, 60);
     let lowest = random.pick(&[0, 8, 16]);
     while run.record.len() + 12 <= LONGEST_RECORD {
@@ -245,7 +245,7 @@ fn long(random: &mut Xorshift) -> Vec<u8> {
     run.record
 }
 
-fn cut(random: &mut Xorshift, length: usize) -> Vec<u8> {
+fn truncated(random: &mut Xorshift, length: usize) -> Vec<u8> {
     let mut record = any_run(random, length).record;
     let end = random.below(record.len() as u32 + 1);
     record.truncate(end as usize);
@@ -262,7 +262,7 @@ fn garbage(random: &mut Xorshift, length: usize) -> Vec<u8> {
 
 /// A setup and commands with random numbers, a stray command byte now and then.
 fn random_commands(random: &mut Xorshift, length: usize) -> Vec<u8> {
-    let setup = lawful_setup(random, 8, 64);
+    let setup = setup_in_limits(random, 8, 64);
     let mut record = Vec::new();
     write_command(&mut record, &Command::Setup(setup));
     for _ in 0..length {

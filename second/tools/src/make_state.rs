@@ -7,7 +7,7 @@ use hoard::{
 };
 
 use crate::call_form::{write_input, CallInput, MOST_PLACES};
-use crate::make_record::{any_run, edge_setup, lawful_setup};
+use crate::make_record::{any_run, edge_setup, setup_in_limits};
 use crate::row_form::{write_row_input, RowInput, MOST_RECORDS, ROW_BYTE};
 use crate::table::{any_call, live_addresses, most_live_of_global, Table};
 use crate::xorshift::Xorshift;
@@ -21,7 +21,7 @@ pub enum Kind {
     Built,
     /// A state built without regard to the check.
     Loose,
-    /// A setup call, lawful or not, with any storage.
+    /// A setup call, within limits or not, with any storage.
     SetupCall,
     /// A setup number of the state outside its limits.
     SetupNumber,
@@ -46,11 +46,11 @@ pub enum Kind {
     /// A processor heap and class that just meets both conditions of the move rule.
     MoveRule,
     /// The same with one more live block: sound, and a free from it moves.
-    MoveEdge,
+    MoveRuleLimit,
     /// A global superblock with just too many live blocks.
     GlobalFull,
     /// The same with one fewer: sound.
-    GlobalEdge,
+    GlobalLimit,
     /// One order place fewer than N x 256.
     StorageShort,
     /// Just N x 256 order places.
@@ -87,9 +87,9 @@ pub const KINDS: [(&str, Kind); 26] = [
     ("order-marked", Kind::OrderMarked),
     ("beyond", Kind::Beyond),
     ("move-rule", Kind::MoveRule),
-    ("move-edge", Kind::MoveEdge),
+    ("move-rule-limit", Kind::MoveRuleLimit),
     ("global-full", Kind::GlobalFull),
-    ("global-edge", Kind::GlobalEdge),
+    ("global-limit", Kind::GlobalLimit),
     ("storage-short", Kind::StorageShort),
     ("storage-exact", Kind::StorageExact),
     ("storage-long", Kind::StorageLong),
@@ -104,8 +104,8 @@ pub const KINDS: [(&str, Kind); 26] = [
 const SOUND_KINDS: [Kind; 6] = [
     Kind::Replayed,
     Kind::Built,
-    Kind::MoveEdge,
-    Kind::GlobalEdge,
+    Kind::MoveRuleLimit,
+    Kind::GlobalLimit,
     Kind::StorageExact,
     Kind::StorageLong,
 ];
@@ -201,7 +201,7 @@ fn make_input(kind: Kind, random: &mut Xorshift) -> CallInput {
         Kind::Loose => loose(random),
         Kind::SetupCall => setup_call(random),
         Kind::MoveRule => around_threshold(random, 0),
-        Kind::MoveEdge => around_threshold(random, 1),
+        Kind::MoveRuleLimit => around_threshold(random, 1),
         Kind::StorageShort | Kind::StorageExact | Kind::StorageLong | Kind::StorageEmpty => {
             with_storage(kind, random)
         }
@@ -247,27 +247,27 @@ fn scatter(random: &mut Xorshift, setup: Setup, count: u8) -> Table {
 }
 
 fn built(random: &mut Xorshift) -> CallInput {
-    let setup = lawful_setup(random, 8, 64);
+    let setup = setup_in_limits(random, 8, 64);
     let mut table = scatter(random, setup, setup.superblocks);
-    table.settle();
+    table.restore_invariants();
     table.with_call(random)
 }
 
 fn loose(random: &mut Xorshift) -> CallInput {
-    let setup = lawful_setup(random, 8, 64);
+    let setup = setup_in_limits(random, 8, 64);
     scatter(random, setup, setup.superblocks).with_call(random)
 }
 
-/// A sound state or a lawful setup, with storage of the length that the kind names.
+/// A sound state or a setup within limits, with storage of the length that the kind names.
 fn with_storage(kind: Kind, random: &mut Xorshift) -> CallInput {
     let mut input = match random.below(3) {
         0 => replayed(random),
         1 => built(random),
         _ => {
-            let setup = lawful_setup(random, 8, 64);
+            let setup = setup_in_limits(random, 8, 64);
             CallInput {
                 call: Command::Setup(setup),
-                state: State::fresh(setup),
+                state: State::new(setup),
                 order: Vec::new(),
             }
         }
@@ -287,7 +287,7 @@ fn with_storage(kind: Kind, random: &mut Xorshift) -> CallInput {
 fn setup_call(random: &mut Xorshift) -> CallInput {
     let setup = match random.below(2) {
         0 => edge_setup(random),
-        _ => lawful_setup(random, 8, 64),
+        _ => setup_in_limits(random, 8, 64),
     };
     let needed = setup.order_places() as u32;
     let length = match random.below(4) {
@@ -298,7 +298,7 @@ fn setup_call(random: &mut Xorshift) -> CallInput {
     let order = (0..length).map(|_| random.below(4) as u16).collect();
     CallInput {
         call: Command::Setup(setup),
-        state: State::fresh(setup),
+        state: State::new(setup),
         order,
     }
 }
@@ -306,7 +306,7 @@ fn setup_call(random: &mut Xorshift) -> CallInput {
 /// A sound state with superblock 0 owned, partly live, of class 1 to 23, and the
 /// last superblock of the setup unused. The setup leaves some of the 64 out.
 fn owned_and_unused(random: &mut Xorshift) -> Table {
-    let mut setup = lawful_setup(random, 8, 60);
+    let mut setup = setup_in_limits(random, 8, 60);
     setup.superblocks = setup.superblocks.max(2);
     let mut table = scatter(random, setup, setup.superblocks - 1);
     let class = random.byte_between(1, 23);
@@ -314,7 +314,7 @@ fn owned_and_unused(random: &mut Xorshift) -> Table {
     let owner = random.byte_between(1, setup.processors);
     let live = random.between(1, blocks - 2);
     table.own(0, owner, class, live, random);
-    table.settle();
+    table.restore_invariants();
     table
 }
 
@@ -331,7 +331,7 @@ fn damaged(kind: Kind, random: &mut Xorshift) -> CallInput {
         Kind::OrderTwice | Kind::OrderRange | Kind::OrderMarked => {
             break_order(kind, random, &mut table)
         }
-        Kind::GlobalFull | Kind::GlobalEdge => around_global_limit(kind, random, &mut table),
+        Kind::GlobalFull | Kind::GlobalLimit => around_global_limit(kind, random, &mut table),
         Kind::Beyond => own_beyond(random, &mut table),
         _ => break_unused(kind, random, &mut table),
     }
@@ -445,7 +445,7 @@ fn address_to_free(random: &mut Xorshift, state: &State) -> u32 {
 
 /// Any setup and class, and more superblocks than a heap may keep free.
 fn any_threshold(random: &mut Xorshift) -> (Setup, u8, u32) {
-    let mut setup = lawful_setup(random, 8, 64);
+    let mut setup = setup_in_limits(random, 8, 64);
     setup.superblocks = random.byte_between(setup.spare + 1, 64);
     let count = random.byte_between(setup.spare + 1, setup.superblocks);
     (setup, random.byte_between(0, 26), count.into())
@@ -462,7 +462,7 @@ fn tight_threshold(random: &mut Xorshift) -> (Setup, u8, u32) {
         spare: 1,
         p: 8 - (blocks % 8) as u8,
         q: 8,
-        ..lawful_setup(random, 8, 64)
+        ..setup_in_limits(random, 8, 64)
     };
     let count = random.between(12, u32::from(setup.superblocks));
     (setup, class, count)

@@ -57,7 +57,7 @@ pub fn to_text(record: &[u8]) -> Result<String, ByteError> {
         let (command, next_offset) = read_command(record, offset).map_err(|stop| ByteError {
             offset,
             message: match stop.refusal {
-                Refusal::Command => format!("unknown command byte {:02x}", record[offset]),
+                Refusal::UnknownCommand => format!("unknown command byte {:02x}", record[offset]),
                 _ => "the record ends inside this command".to_string(),
             },
         })?;

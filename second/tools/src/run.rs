@@ -26,7 +26,7 @@ pub enum PickFrom {
 }
 
 impl Run {
-    /// Starts a record with a setup, lawful or not.
+    /// Starts a record with a setup, within limits or not.
     pub fn new(setup: Setup) -> Run {
         let mut record = Vec::new();
         write_command(&mut record, &Command::Setup(setup));

@@ -20,7 +20,7 @@ impl Table {
     pub fn new(setup: Setup, random: &mut Xorshift) -> Table {
         let places = SUPERBLOCKS * ORDER_PLACES;
         Table {
-            state: State::fresh(setup),
+            state: State::new(setup),
             order: (0..places).map(|_| random.word() as u16).collect(),
         }
     }
@@ -45,8 +45,8 @@ impl Table {
     }
 
     /// Brings the owners within the state check: too full superblocks of the
-    /// global heap go to heap 1, then each heap gives up what it must.
-    pub fn settle(&mut self) {
+    /// global heap go to heap 1, then each heap transfers its excess.
+    pub fn restore_invariants(&mut self) {
         let setup = self.state.setup;
         for superblock in &mut self.state.superblocks {
             if superblock.owner == GLOBAL_HEAP
@@ -58,7 +58,7 @@ impl Table {
         for heap in 1..=setup.processors {
             for class in 0..SIZE_CLASSES.len() as u8 {
                 while self.is_over_threshold(heap, class) {
-                    self.give_up_emptiest(heap, class);
+                    self.transfer_emptiest(heap, class);
                 }
             }
         }
@@ -75,7 +75,7 @@ impl Table {
         over_emptiness_threshold(&self.state.setup, class, &usage)
     }
 
-    fn give_up_emptiest(&mut self, heap: u8, class: u8) {
+    fn transfer_emptiest(&mut self, heap: u8, class: u8) {
         self.state
             .superblocks
             .iter_mut()
@@ -104,8 +104,8 @@ pub fn most_live_of_global(setup: &Setup, class: u8) -> u32 {
     ((q - p) * SIZE_CLASSES[usize::from(class)].blocks).div_ceil(q) - 1
 }
 
-/// A take or free for a state, mostly with a lawful processor and size and a
-/// live address.
+/// A take or free for a state, mostly with a processor and size within limits
+/// and a live address.
 pub fn any_call(random: &mut Xorshift, state: &State) -> Command {
     let processors = state.setup.processors;
     let processor = match random.below(12) {

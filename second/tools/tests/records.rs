@@ -17,7 +17,7 @@ fn the_same_seed_gives_the_same_record() {
 #[test]
 fn long_records_have_60000_bytes() {
     for seed in 0..3 {
-        let record = make_record(Kind::Long, seed, 0);
+        let record = make_record(Kind::Longest, seed, 0);
         assert_eq!(record.len(), 60000);
         assert!(hoard::key(&record).ends_with(b"\nend\n"));
     }
@@ -56,7 +56,7 @@ fn kinds_do_what_they_are_for() {
         );
     }
     assert!(edges.contains("stopped 1 at 0\n"));
-    let broken = key_of(Kind::Cut, 60) + &key_of(Kind::Garbage, 60);
+    let broken = key_of(Kind::Truncated, 60) + &key_of(Kind::Garbage, 60);
     for refusal in [8, 9, 10] {
         assert!(
             broken.contains(&format!("stopped {refusal} at ")),
@@ -113,7 +113,7 @@ fn owners_changed(before: &State, after: &State) -> u32 {
 /// Runs a record and checks the bound, the moves and the state after each call.
 fn check_run(record: &[u8]) {
     let mut order = vec![0; SUPERBLOCKS * ORDER_PLACES];
-    let mut state = State::fresh(Setup::default());
+    let mut state = State::new(Setup::default());
     let mut ledger = Ledger {
         classes: HashMap::new(),
         live: [0; 27],

@@ -10,7 +10,7 @@ use tools::row_form::{read_row_input, run_row_call, write_row_input, FILLER};
 const KINDS: [Kind; 2] = [Kind::Row, Kind::RowDamaged];
 const SEEDS: std::ops::Range<u64> = 0..400;
 
-/// A lawful setup on a row, with 256 places of which the last is 5.
+/// A setup within limits on a row, with 256 places of which the last is 5.
 fn setup_bytes(length: u8) -> Vec<u8> {
     let mut bytes = vec![3, length, 0, 1, 1, 1, 1, 2];
     bytes.extend(256u32.to_le_bytes());
@@ -49,11 +49,11 @@ fn printed_form_of_a_setup() {
             format!("refused 13\nsetup 0 0 0 0 0\n{lines}end\n")
         );
     }
-    let mut unlawful = setup_bytes(2);
-    unlawful[3] = 0;
+    let mut out_of_limits = setup_bytes(2);
+    out_of_limits[3] = 0;
     let lines = filler_lines(0..2);
     assert_eq!(
-        answer_bytes(&unlawful),
+        answer_bytes(&out_of_limits),
         format!("refused 1\nsetup 0 0 0 0 0\n{lines}end\n")
     );
 }
@@ -129,7 +129,7 @@ fn rows_against_states() {
             assert_eq!(on_row.setup, answer.state.setup);
             assert_eq!(row_order, order);
         } else {
-            let lawful = hoard::setup_is_lawful(&input.state.setup);
+            let lawful = hoard::setup_within_limits(&input.state.setup);
             let is_setup = matches!(input.call, Command::Setup(_));
             let refusal = match (lawful, is_setup) {
                 (false, true) => hoard::Refusal::Setup,

@@ -39,8 +39,8 @@ fn sound_states_are_not() {
     let sound = [
         Kind::Replayed,
         Kind::Built,
-        Kind::MoveEdge,
-        Kind::GlobalEdge,
+        Kind::MoveRuleLimit,
+        Kind::GlobalLimit,
         Kind::StorageExact,
         Kind::StorageLong,
     ];
@@ -77,8 +77,8 @@ fn spoiled_bytes_are_bad_input() {
 }
 
 #[test]
-fn frees_at_the_edge_move_up_to_eight() {
-    let moves = |seed| first_line(Kind::MoveEdge, seed);
+fn frees_at_the_threshold_move_up_to_eight() {
+    let moves = |seed| first_line(Kind::MoveRuleLimit, seed);
     let lines: Vec<String> = (0..2000).map(moves).collect();
     for moves in 1..=8 {
         assert!(lines.contains(&format!("moved {moves}")), "{moves} moves");

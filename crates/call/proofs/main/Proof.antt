@@ -1,5 +1,5 @@
 -- `call::main` is safe and ends: the bytes read lie in the buffer. Assumes nothing.
-use Rattle.stream.proofs.Laws.{bytes-within, bytes-counted}
+use Rattle.stream.proofs.InputLaws.{input-bytes-within-buffer, input-bytes-counted}
 use borrow.Author.Needs.{needs}
 use Rattle.call.proofs.main.Statement.{statement}
 use Rattle.call.proofs.main.Tie as tie
@@ -23,10 +23,10 @@ returns : tie.Need-returns
 returns c = search needs
 
 array-share-prefix-input : tie.Need-array-share-prefix-input
-array-share-prefix-input c = search (needs, bytes-within, bytes-counted)
+array-share-prefix-input c = search (needs, input-bytes-within-buffer, input-bytes-counted)
 
 slice-aggregate-reply-any : tie.Need-slice-aggregate-reply-any
-slice-aggregate-reply-any c = search (needs, bytes-within, bytes-counted)
+slice-aggregate-reply-any c = search (needs, input-bytes-within-buffer, input-bytes-counted)
 
 reply-any-requires : tie.Need-reply-any-requires
 reply-any-requires c κs = search needs

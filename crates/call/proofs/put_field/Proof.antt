@@ -1,5 +1,5 @@
 -- `call::put_field` meets its contract: a number has at most 20 digits. Assumes nothing.
-use Rattle.call.proofs.DigitLaws.{digits-few}
+use Rattle.call.proofs.DigitCountLaws.{fewest-digits-le-20}
 use mathlib.Core.Path.{_≡_, subst}
 use Prim.Native.Nat.{ℕ, _+_, _-_, _^_, _≤_, _<_}
 use lib.ListN.{length}
@@ -33,7 +33,7 @@ returns c =
     let p₁ = c .before .before .before .before .before .before .before .put-text in
     let d = c .before .before .before .before .before .before .before .before .before .decimal in
     let z = c .before .before .before .before .before .before .before .before .before .before .before .before .before in
-    let h : d .result ≤ 20 = digits-few (z .args .n) (d .result) (z .fits .n .fits) (d .ensures .1 .0) in
+    let h : d .result ≤ 20 = fewest-digits-le-20 (z .args .n) (d .result) (z .fits .n .fits) (d .ensures .1 .0) in
     let e₁ = put-end _ _ _ (p₁ .ensures) (omega arith) in
     let e₂ = put-end _ _ _ (p₂ .ensures) (omega arith) in
     let k : d .result ≡ p₂ .result - (z .args .at + length (z .args .label .now)) = omega arith in

@@ -1,20 +1,20 @@
 -- `callform::well_formed` meets its contract. Assumes nothing.
-use Rattle.callform.proofs.FormLaws.{formed-unknown, formed-known}
+use Rattle.callform.proofs.FormLaws.{well-formed-false-of-unknown, well-formed-is-length-test}
 use borrow.Author.Needs.{needs}
 use Rattle.callform.proofs.well_formed.Statement.{statement}
 use Rattle.callform.proofs.well_formed.Tie as tie
 
-byte-in-requires : tie.Need-byte-in-requires
-byte-in-requires c κs = search needs
+byte-at-requires : tie.Need-byte-at-requires
+byte-at-requires c κs = search needs
 
 returns : tie.Need-returns
-returns c = search formed-unknown
+returns c = search well-formed-false-of-unknown
 
-places-from-requires : tie.Need-places-from-requires
-places-from-requires c κs = search needs
+places-offset-requires : tie.Need-places-offset-requires
+places-offset-requires c κs = search needs
 
-places-lent-requires : tie.Need-places-lent-requires
-places-lent-requires c κs = search needs
+place-count-requires : tie.Need-place-count-requires
+place-count-requires c κs = search needs
 
 mul-result : tie.Need-mul-result
 mul-result c = search needs
@@ -23,16 +23,16 @@ add-result : tie.Need-add-result
 add-result c = search needs
 
 returns-2 : tie.Need-returns-2
-returns-2 c = search formed-known
+returns-2 c = search well-formed-is-length-test
 
 pub well-formed-spec : {M : Type 1} → statement M
 well-formed-spec =
     tie.close
     (tie.spec
-    byte-in-requires
+    byte-at-requires
     returns
-    places-from-requires
-    places-lent-requires
+    places-offset-requires
+    place-count-requires
     mul-result
     add-result
     returns-2)

@@ -1,4 +1,5 @@
-use Rattle.engine.proofs.EntryLaws.{setup-promised, setup-ways}
+-- `engine::setup` meets its contract. Assumes nothing.
+use Rattle.engine.proofs.EntryLaws.{setup-clauses, setup-outcomes}
 use borrow.Author.Needs.{needs}
 use Rattle.engine.proofs.setup.Statement.{statement}
 use Rattle.engine.proofs.setup.Tie as tie
@@ -16,7 +17,7 @@ same-length : tie.Need-same-length
 same-length c = search needs
 
 returns : tie.Need-returns
-returns c = setup-promised _ _ (search setup-ways)
+returns c = setup-clauses _ _ (search setup-outcomes)
 
 cast-clear-order : tie.Need-cast-clear-order
 cast-clear-order c = search needs
@@ -34,7 +35,7 @@ same-length-2 : tie.Need-same-length-2
 same-length-2 c = search needs
 
 returns-2 : tie.Need-returns-2
-returns-2 c = setup-promised _ _ (search setup-ways)
+returns-2 c = setup-clauses _ _ (search setup-outcomes)
 
 pub setup-spec : {M : Type 1} → statement M
 setup-spec =

@@ -1,10 +1,11 @@
-use Rattle.engine.proofs.FirstLaws.{setup-tests}
+-- `engine::setup_refusal` meets its contract. Assumes nothing.
+use Rattle.engine.proofs.FirstRefusalLaws.{setup-refusal-rules}
 use borrow.Author.Needs.{needs}
 use Rattle.engine.proofs.setup_refusal.Statement.{statement}
 use Rattle.engine.proofs.setup_refusal.Tie as tie
 
-lawful-requires : tie.Need-lawful-requires
-lawful-requires c κs = search needs
+within-limits-requires : tie.Need-within-limits-requires
+within-limits-requires c κs = search needs
 
 cast-places : tie.Need-cast-places
 cast-places c = search needs
@@ -13,14 +14,14 @@ mul-places : tie.Need-mul-places
 mul-places c = search needs
 
 returns : tie.Need-returns
-returns c = search setup-tests
+returns c = search setup-refusal-rules
 
 returns-2 : tie.Need-returns-2
-returns-2 c = search setup-tests
+returns-2 c = search setup-refusal-rules
 
 returns-3 : tie.Need-returns-3
-returns-3 c = search setup-tests
+returns-3 c = search setup-refusal-rules
 
 pub setup-refusal-spec : {M : Type 1} → statement M
 setup-refusal-spec =
-    tie.close (tie.spec lawful-requires cast-places mul-places returns returns-2 returns-3)
+    tie.close (tie.spec within-limits-requires cast-places mul-places returns returns-2 returns-3)

@@ -1,5 +1,5 @@
 -- `key::main` is safe and ends: the bytes read lie in the buffer. Assumes nothing.
-use Rattle.stream.proofs.Laws.{bytes-within, bytes-counted}
+use Rattle.stream.proofs.InputLaws.{input-bytes-within-buffer, input-bytes-counted}
 use borrow.Author.Needs.{needs}
 use Rattle.key.proofs.main.Statement.{statement}
 use Rattle.key.proofs.main.Tie as tie
@@ -23,10 +23,10 @@ returns : tie.Need-returns
 returns c = search needs
 
 array-share-prefix-input : tie.Need-array-share-prefix-input
-array-share-prefix-input c = search (needs, bytes-within, bytes-counted)
+array-share-prefix-input c = search (needs, input-bytes-within-buffer, input-bytes-counted)
 
 slice-aggregate-print-key : tie.Need-slice-aggregate-print-key
-slice-aggregate-print-key c = search (needs, bytes-within, bytes-counted)
+slice-aggregate-print-key c = search (needs, input-bytes-within-buffer, input-bytes-counted)
 
 print-key-requires : tie.Need-print-key-requires
 print-key-requires c κs = search needs

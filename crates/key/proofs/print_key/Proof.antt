@@ -1,5 +1,5 @@
 -- `key::print_key` is safe and ends: the key's bytes lie in the buffer. Assumes nothing.
-use Rattle.replay.proofs.LoopLaws.{text-counted, text-within}
+use Rattle.keylaws.proofs.KeyOrNoRoomLaws.{key-text-counted, key-text-within-buffer}
 use borrow.Author.Needs.{needs}
 use Rattle.key.proofs.print_key.Statement.{statement}
 use Rattle.key.proofs.print_key.Tie as tie
@@ -20,7 +20,7 @@ slice-aggregate-print : tie.Need-slice-aggregate-print
 slice-aggregate-print c = search needs
 
 print-requires : tie.Need-print-requires
-print-requires c κs = search (text-within, text-counted)
+print-requires c κs = search (key-text-within-buffer, key-text-counted)
 
 enum-told : tie.Need-enum-told
 enum-told c = search needs

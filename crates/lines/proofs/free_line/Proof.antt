@@ -2,8 +2,8 @@
 use native.Mathlib.Omega.{arith}
 use mathlib.Core.Path.{refl}
 use Rattle.text.specs.Text.{letters}
-use Rattle.text.proofs.PasteLaws.{then-pasted}
-use Rattle.lines.proofs.FieldLaws.{word-put, place-put, field-put}
+use Rattle.text.proofs.PasteLaws.{paste-then-paste}
+use Rattle.fields.proofs.FieldLaws.{place-put, field-put, put-then-last-field}
 use Rattle.linerules.specs.Lines.{freeLine}
 use borrow.Author.Needs.{needs}
 use Rattle.lines.proofs.free_line.Statement.{statement}
@@ -15,20 +15,11 @@ slice-aggregate-put-byte c = search needs
 put-byte-requires : tie.Need-put-byte-requires
 put-byte-requires c κs = search needs
 
-slice-aggregate-put-field : tie.Need-slice-aggregate-put-field
-slice-aggregate-put-field c = search needs
+put-next-requires : tie.Need-put-next-requires
+put-next-requires c κs = search needs
 
-put-field-requires : tie.Need-put-field-requires
-put-field-requires c κs = search needs
-
-put-result-requires : tie.Need-put-result-requires
-put-result-requires c κs = search needs
-
-slice-aggregate-put-text : tie.Need-slice-aggregate-put-text
-slice-aggregate-put-text c = search needs
-
-put-text-requires : tie.Need-put-text-requires
-put-text-requires c κs = search needs
+put-result-end-requires : tie.Need-put-result-end-requires
+put-result-end-requires c κs = search needs
 
 same-length : tie.Need-same-length
 same-length c = search needs
@@ -36,16 +27,13 @@ same-length c = search needs
 returns : tie.Need-returns
 unfolding freeLine
 returns c =
-    let d₄ = c .before .before in
-    let d₃ = d₄ .before .before .before .before .before in
+    let d₃ = c .before .before in
     let d₂ = d₃ .before .before .before .before in
-    let d₁ = d₂ .before .before .before .before .before in
+    let d₁ = d₂ .before .before .before .before in
     let a = d₁ .before .before .before .before .args in
     let p₁ = field-put _ _ _ _ (d₁ .put-byte .ensures) (letters "free ") (a .processor) refl (omega arith) in
-    let p₂ = place-put _ _ _ (field-put _ _ _ _ (d₂ .put-field .ensures) (letters " ") (a .address) refl (omega arith)) (d₁ .put-byte .result) (omega arith) in
-    let p₃ = d₃ .put-result .ensures in
-    let p₄ = word-put _ _ _ (d₄ .put-text .ensures) (letters "\n") refl in
-    then-pasted _ _ _ _ (then-pasted _ _ _ _ (then-pasted _ _ _ _ p₁ p₂) p₃) p₄
+    let p₂ = place-put _ _ _ (d₂ .put-next .ensures) (d₁ .put-byte .result) (omega arith) in
+    put-then-last-field _ _ _ _ _ (paste-then-paste _ _ _ _ p₁ p₂) (d₃ .put-result-end .ensures)
 
 pub free-line-spec : {M : Type 1} → statement M
 free-line-spec =
@@ -53,10 +41,7 @@ free-line-spec =
     (tie.spec
     slice-aggregate-put-byte
     put-byte-requires
-    slice-aggregate-put-field
-    put-field-requires
-    put-result-requires
-    slice-aggregate-put-text
-    put-text-requires
+    put-next-requires
+    put-result-end-requires
     same-length
     returns)

@@ -2,8 +2,8 @@
 use native.Mathlib.Omega.{arith}
 use mathlib.Core.Path.{refl}
 use Rattle.text.specs.Text.{letters}
-use Rattle.text.proofs.PasteLaws.{then-pasted}
-use Rattle.lines.proofs.FieldLaws.{word-put, field-put}
+use Rattle.text.proofs.PasteLaws.{paste-then-paste}
+use Rattle.fields.proofs.FieldLaws.{word-put, field-put}
 use Rattle.linerules.specs.Lines.{setupLine}
 use borrow.Author.Needs.{needs}
 use Rattle.lines.proofs.setup_line.Statement.{statement}
@@ -15,29 +15,17 @@ slice-aggregate-put-byte c = search needs
 put-byte-requires : tie.Need-put-byte-requires
 put-byte-requires c κs = search needs
 
-slice-aggregate-put-byte-2 : tie.Need-slice-aggregate-put-byte-2
-slice-aggregate-put-byte-2 c = search needs
+put-next-byte-requires : tie.Need-put-next-byte-requires
+put-next-byte-requires c κs = search needs
 
-put-byte-requires-2 : tie.Need-put-byte-requires-2
-put-byte-requires-2 c κs = search needs
+put-next-byte-requires-2 : tie.Need-put-next-byte-requires-2
+put-next-byte-requires-2 c κs = search needs
 
-slice-aggregate-put-byte-3 : tie.Need-slice-aggregate-put-byte-3
-slice-aggregate-put-byte-3 c = search needs
+put-next-byte-requires-3 : tie.Need-put-next-byte-requires-3
+put-next-byte-requires-3 c κs = search needs
 
-put-byte-requires-3 : tie.Need-put-byte-requires-3
-put-byte-requires-3 c κs = search needs
-
-slice-aggregate-put-byte-4 : tie.Need-slice-aggregate-put-byte-4
-slice-aggregate-put-byte-4 c = search needs
-
-put-byte-requires-4 : tie.Need-put-byte-requires-4
-put-byte-requires-4 c κs = search needs
-
-slice-aggregate-put-byte-5 : tie.Need-slice-aggregate-put-byte-5
-slice-aggregate-put-byte-5 c = search needs
-
-put-byte-requires-5 : tie.Need-put-byte-requires-5
-put-byte-requires-5 c κs = search needs
+put-next-byte-requires-4 : tie.Need-put-next-byte-requires-4
+put-next-byte-requires-4 c κs = search needs
 
 slice-aggregate-put-text : tie.Need-slice-aggregate-put-text
 slice-aggregate-put-text c = search needs
@@ -53,18 +41,17 @@ unfolding setupLine
 returns c =
     let d₆ = c .before .before in
     let d₅ = d₆ .before .before .before .before .before in
-    let d₄ = d₅ .before .before .before .before .before in
-    let d₃ = d₄ .before .before .before .before .before in
-    let d₂ = d₃ .before .before .before .before .before in
-    let d₁ = d₂ .before .before .before .before .before in
-    let a = d₁ .before .before .before .before .args in
-    let p₁ = field-put _ _ _ _ (d₁ .put-byte .ensures) (letters "setup ") (a .u .processors) refl (omega arith) in
-    let p₂ = field-put _ _ _ _ (d₂ .put-byte2 .ensures) (letters " ") (a .u .superblocks) refl (omega arith) in
-    let p₃ = field-put _ _ _ _ (d₃ .put-byte3 .ensures) (letters " ") (a .u .spare) refl (omega arith) in
-    let p₄ = field-put _ _ _ _ (d₄ .put-byte4 .ensures) (letters " ") (a .u .p) refl (omega arith) in
-    let p₅ = field-put _ _ _ _ (d₅ .put-byte5 .ensures) (letters " ") (a .u .q) refl (omega arith) in
+    let d₄ = d₅ .before .before .before .before in
+    let d₃ = d₄ .before .before .before .before in
+    let d₂ = d₃ .before .before .before .before in
+    let d₁ = d₂ .before .before .before .before in
+    let p₁ = field-put _ _ _ _ (d₁ .put-byte .ensures) (letters "setup ") _ refl refl in
+    let p₂ = d₂ .put-next-byte .ensures in
+    let p₃ = d₃ .put-next-byte2 .ensures in
+    let p₄ = d₄ .put-next-byte3 .ensures in
+    let p₅ = d₅ .put-next-byte4 .ensures in
     let p₆ = word-put _ _ _ (d₆ .put-text .ensures) (letters "\n") refl in
-    then-pasted _ _ _ _ (then-pasted _ _ _ _ (then-pasted _ _ _ _ (then-pasted _ _ _ _ (then-pasted _ _ _ _ p₁ p₂) p₃) p₄) p₅) p₆
+    paste-then-paste _ _ _ _ (paste-then-paste _ _ _ _ (paste-then-paste _ _ _ _ (paste-then-paste _ _ _ _ (paste-then-paste _ _ _ _ p₁ p₂) p₃) p₄) p₅) p₆
 
 pub setup-line-spec : {M : Type 1} → statement M
 setup-line-spec =
@@ -72,14 +59,10 @@ setup-line-spec =
     (tie.spec
     slice-aggregate-put-byte
     put-byte-requires
-    slice-aggregate-put-byte-2
-    put-byte-requires-2
-    slice-aggregate-put-byte-3
-    put-byte-requires-3
-    slice-aggregate-put-byte-4
-    put-byte-requires-4
-    slice-aggregate-put-byte-5
-    put-byte-requires-5
+    put-next-byte-requires
+    put-next-byte-requires-2
+    put-next-byte-requires-3
+    put-next-byte-requires-4
     slice-aggregate-put-text
     put-text-requires
     same-length

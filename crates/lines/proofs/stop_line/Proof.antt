@@ -2,8 +2,7 @@
 use native.Mathlib.Omega.{arith}
 use mathlib.Core.Path.{refl}
 use Rattle.text.specs.Text.{letters}
-use Rattle.text.proofs.PasteLaws.{then-pasted}
-use Rattle.lines.proofs.FieldLaws.{word-put, field-put}
+use Rattle.fields.proofs.FieldLaws.{field-put, last-field-put, put-then-last-field}
 use Rattle.linerules.specs.Lines.{stopLine}
 use borrow.Author.Needs.{needs}
 use Rattle.lines.proofs.stop_line.Statement.{statement}
@@ -15,17 +14,11 @@ slice-aggregate-put-byte c = search needs
 put-byte-requires : tie.Need-put-byte-requires
 put-byte-requires c κs = search needs
 
-slice-aggregate-put-field : tie.Need-slice-aggregate-put-field
-slice-aggregate-put-field c = search needs
+slice-aggregate-put-last-field : tie.Need-slice-aggregate-put-last-field
+slice-aggregate-put-last-field c = search needs
 
-put-field-requires : tie.Need-put-field-requires
-put-field-requires c κs = search needs
-
-slice-aggregate-put-text : tie.Need-slice-aggregate-put-text
-slice-aggregate-put-text c = search needs
-
-put-text-requires : tie.Need-put-text-requires
-put-text-requires c κs = search needs
+put-last-field-requires : tie.Need-put-last-field-requires
+put-last-field-requires c κs = search needs
 
 same-length : tie.Need-same-length
 same-length c = search needs
@@ -33,14 +26,12 @@ same-length c = search needs
 returns : tie.Need-returns
 unfolding stopLine
 returns c =
-    let d₃ = c .before .before in
-    let d₂ = d₃ .before .before .before .before .before in
+    let d₂ = c .before .before in
     let d₁ = d₂ .before .before .before .before .before in
     let a = d₁ .before .before .before .before .args in
     let p₁ = field-put _ _ _ _ (d₁ .put-byte .ensures) (letters "stopped ") (a .number) refl (omega arith) in
-    let p₂ = field-put _ _ _ _ (d₂ .put-field .ensures) (letters " at ") (a .offset) refl (omega arith) in
-    let p₃ = word-put _ _ _ (d₃ .put-text .ensures) (letters "\n") refl in
-    then-pasted _ _ _ _ (then-pasted _ _ _ _ p₁ p₂) p₃
+    let p₂ = last-field-put _ _ _ _ _ (d₂ .put-last-field .ensures) (letters " at ") (a .offset) refl (omega arith) in
+    put-then-last-field _ _ _ _ _ p₁ p₂
 
 pub stop-line-spec : {M : Type 1} → statement M
 stop-line-spec =
@@ -48,9 +39,7 @@ stop-line-spec =
     (tie.spec
     slice-aggregate-put-byte
     put-byte-requires
-    slice-aggregate-put-field
-    put-field-requires
-    slice-aggregate-put-text
-    put-text-requires
+    slice-aggregate-put-last-field
+    put-last-field-requires
     same-length
     returns)

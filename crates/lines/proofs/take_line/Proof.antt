@@ -2,8 +2,8 @@
 use native.Mathlib.Omega.{arith}
 use mathlib.Core.Path.{refl}
 use Rattle.text.specs.Text.{letters}
-use Rattle.text.proofs.PasteLaws.{then-pasted}
-use Rattle.lines.proofs.FieldLaws.{word-put, field-put}
+use Rattle.text.proofs.PasteLaws.{paste-then-paste}
+use Rattle.fields.proofs.FieldLaws.{field-put, put-then-last-field}
 use Rattle.linerules.specs.Lines.{takeLine}
 use borrow.Author.Needs.{needs}
 use Rattle.lines.proofs.take_line.Statement.{statement}
@@ -21,14 +21,8 @@ slice-aggregate-put-short c = search needs
 put-short-requires : tie.Need-put-short-requires
 put-short-requires c κs = search needs
 
-put-result-requires : tie.Need-put-result-requires
-put-result-requires c κs = search needs
-
-slice-aggregate-put-text : tie.Need-slice-aggregate-put-text
-slice-aggregate-put-text c = search needs
-
-put-text-requires : tie.Need-put-text-requires
-put-text-requires c κs = search needs
+put-result-end-requires : tie.Need-put-result-end-requires
+put-result-end-requires c κs = search needs
 
 same-length : tie.Need-same-length
 same-length c = search needs
@@ -36,16 +30,13 @@ same-length c = search needs
 returns : tie.Need-returns
 unfolding takeLine
 returns c =
-    let d₄ = c .before .before in
-    let d₃ = d₄ .before .before .before .before .before in
+    let d₃ = c .before .before in
     let d₂ = d₃ .before .before .before .before in
     let d₁ = d₂ .before .before .before .before .before in
     let a = d₁ .before .before .before .before .args in
     let p₁ = field-put _ _ _ _ (d₁ .put-byte .ensures) (letters "take ") (a .processor) refl (omega arith) in
     let p₂ = field-put _ _ _ _ (d₂ .put-short .ensures) (letters " ") (a .size) refl (omega arith) in
-    let p₃ = d₃ .put-result .ensures in
-    let p₄ = word-put _ _ _ (d₄ .put-text .ensures) (letters "\n") refl in
-    then-pasted _ _ _ _ (then-pasted _ _ _ _ (then-pasted _ _ _ _ p₁ p₂) p₃) p₄
+    put-then-last-field _ _ _ _ _ (paste-then-paste _ _ _ _ p₁ p₂) (d₃ .put-result-end .ensures)
 
 pub take-line-spec : {M : Type 1} → statement M
 take-line-spec =
@@ -55,8 +46,6 @@ take-line-spec =
     put-byte-requires
     slice-aggregate-put-short
     put-short-requires
-    put-result-requires
-    slice-aggregate-put-text
-    put-text-requires
+    put-result-end-requires
     same-length
     returns)

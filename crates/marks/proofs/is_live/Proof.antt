@@ -1,7 +1,7 @@
 -- `marks::is_live` meets its contract: the code's shift and remainder are the definition of a mark, and past block 255 no mark is set. Assumes nothing.
 use mathlib.Core.Path.{refl, sym}
-use Rattle.marks.specs.Marks.{bit, markBit, mark}
-use Rattle.marks.proofs.MarkLaws.{mark-past, of-clear}
+use Rattle.marks.specs.Marks.{bit, markBit, isMarked}
+use Rattle.marks.proofs.MarkLaws.{mark-bit-past-256, no-mark-of-mark-bit-zero}
 use borrow.Author.Needs.{needs}
 use Rattle.marks.proofs.is_live.Statement.{statement}
 use Rattle.marks.proofs.is_live.Tie as tie
@@ -9,7 +9,7 @@ use Rattle.marks.proofs.is_live.Tie as tie
 returns : tie.Need-returns
 returns c =
     let a = c .before .args in
-    sym (of-clear (a .t1) (a .j) (mark-past (a .t1) (a .j) (search needs) (c .if1 .taken)))
+    sym (no-mark-of-mark-bit-zero (a .t1) (a .j) (mark-bit-past-256 (a .t1) (a .j) (search needs) (c .if1 .taken)))
 
 mul-result : tie.Need-mul-result
 mul-result c = search needs
@@ -21,7 +21,7 @@ shr-result : tie.Need-shr-result
 shr-result c = search needs
 
 returns-2 : tie.Need-returns-2
-unfolding mark markBit bit
+unfolding isMarked markBit bit
 returns-2 c = refl
 
 pub is-live-spec : {M : Type 1} → statement M

@@ -5,16 +5,16 @@ use lib.ListN.{getD}
 use lib.Count.{ones, ones-le}
 use mir.Val.{Fits}
 use mir.Syntax.{w64}
-use Rattle.marks.proofs.MarkLaws.{count-is}
+use Rattle.marks.proofs.MarkLaws.{live-count-is-ones-of-words}
 use borrow.Author.Needs.{needs}
 use Rattle.marks.proofs.live_count.Statement.{statement}
 use Rattle.marks.proofs.live_count.Tie as tie
 
-word : (c : tie.Start) → (i : ℕ) → Fits w64 (getD (c .args .t1) i 0)
-word c i = search needs
+word-fits : (c : tie.Start) → (i : ℕ) → Fits w64 (getD (c .args .t1) i 0)
+word-fits c i = search needs
 
-small : (c : tie.Start) → (i : ℕ) → ones (getD (c .args .t1) i 0) ≤ 64
-small c i = ones-le 64 (getD (c .args .t1) i 0) (word c i .fits)
+word-ones-le-64 : (c : tie.Start) → (i : ℕ) → ones (getD (c .args .t1) i 0) ≤ 64
+word-ones-le-64 c i = ones-le 64 (getD (c .args .t1) i 0) (word-fits c i .fits)
 
 array-read-result : tie.Need-array-read-result
 array-read-result c = search needs
@@ -23,22 +23,22 @@ array-read-result-2 : tie.Need-array-read-result-2
 array-read-result-2 c = search needs
 
 add-result : tie.Need-add-result
-add-result c = omega (arith, small c 0, small c 1)
+add-result c = omega (arith, word-ones-le-64 c 0, word-ones-le-64 c 1)
 
 array-read-result-3 : tie.Need-array-read-result-3
 array-read-result-3 c = search needs
 
 add-result-2 : tie.Need-add-result-2
-add-result-2 c = omega (arith, small c 0, small c 1, small c 2)
+add-result-2 c = omega (arith, word-ones-le-64 c 0, word-ones-le-64 c 1, word-ones-le-64 c 2)
 
 array-read-result-4 : tie.Need-array-read-result-4
 array-read-result-4 c = search needs
 
 add-result-3 : tie.Need-add-result-3
-add-result-3 c = omega (arith, small c 0, small c 1, small c 2, small c 3)
+add-result-3 c = omega (arith, word-ones-le-64 c 0, word-ones-le-64 c 1, word-ones-le-64 c 2, word-ones-le-64 c 3)
 
 returns : tie.Need-returns
-returns c = (count-is (c .args .t1) (λ i. word c i .fits), omega (arith, small c 0, small c 1, small c 2, small c 3))
+returns c = (live-count-is-ones-of-words (c .args .t1) (λ i. word-fits c i .fits), omega (arith, word-ones-le-64 c 0, word-ones-le-64 c 1, word-ones-le-64 c 2, word-ones-le-64 c 3))
 
 pub live-count-spec : {M : Type 1} → statement M
 live-count-spec =

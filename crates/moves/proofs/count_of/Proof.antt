@@ -5,22 +5,22 @@ use lib.ListN.{getD}
 use native.Mathlib.Omega.{arith}
 use borrow.Author.Needs.{needs}
 use Rattle.laws.specs.Sums.{sumBelow}
-use Rattle.laws.proofs.SumLaws.{sum-zero-is, sum-again, sum-end}
+use Rattle.laws.proofs.SumLaws.{sum-below-zero, sum-loop-step, sum-loop-end}
 use Rattle.heap.specs.Table.{blank}
-use Rattle.heap.specs.Counts.{total, oneOf, liveIfOf, superblocksOf, liveOf}
+use Rattle.heap.specs.Counts.{total, oneIfBelongs, liveIfBelongs, superblocksOf, liveOf}
 use Rattle.moves.proofs.count_of.Statement.{statement}
 use Rattle.moves.proofs.count_of.Tie as tie
 
 abbrev Inv-loop : tie.InvT-loop
 Inv-loop heap class s n₀ k₀ n k =
-    (k ≤ 64) × (n .superblocks ≡ sumBelow (λ j. oneOf heap class (getD (s .table) j blank)) k) × (n .live ≡ sumBelow (λ j. liveIfOf heap class (getD (s .table) j blank)) k)
+    (k ≤ 64) × (n .superblocks ≡ sumBelow (λ j. oneIfBelongs heap class (getD (s .table) j blank)) k) × (n .live ≡ sumBelow (λ j. liveIfBelongs heap class (getD (s .table) j blank)) k)
     × (n .superblocks ≤ k) × (n .live ≤ 256 * k)
 
 abbrev μ-loop : tie.MeasureT-loop
 μ-loop heap class s n₀ k₀ n k = 64 - k
 
 loop-holds : tie.Need-loop-holds Inv-loop μ-loop
-loop-holds c = search (needs, sum-zero-is)
+loop-holds c = search (needs, sum-below-zero)
 
 mul-b : tie.Need-mul-b Inv-loop μ-loop
 mul-b c = search needs
@@ -38,11 +38,11 @@ loop-less : tie.Need-loop-less Inv-loop μ-loop
 loop-less c = search needs
 
 loop-again : tie.Need-loop-again Inv-loop μ-loop
-loop-again c = (omega arith, search sum-again, search sum-again, omega arith, omega arith)
+loop-again c = (omega arith, search sum-loop-step, search sum-loop-step, omega arith, omega arith)
 
 returns : tie.Need-returns Inv-loop μ-loop
 unfolding superblocksOf liveOf total
-returns c = (search sum-end, search sum-end, omega arith, omega arith)
+returns c = (search sum-loop-end, search sum-loop-end, omega arith, omega arith)
 
 pub count-of-spec : {M : Type 1} → statement M
 count-of-spec =

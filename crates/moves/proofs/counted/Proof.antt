@@ -1,7 +1,7 @@
 -- `moves::counted` meets its contract. Assumes nothing.
 use native.Mathlib.Omega.{arith}
 use borrow.Author.Needs.{needs}
-use Rattle.moves.proofs.DrainLaws.{one-counted, live-counted, one-not-counted, live-not-counted}
+use Rattle.moves.proofs.TransferLoopLaws.{one-if-belongs-true, live-if-belongs-true, one-if-belongs-false, live-if-belongs-false}
 use Rattle.moves.proofs.counted.Statement.{statement}
 use Rattle.moves.proofs.counted.Tie as tie
 
@@ -18,10 +18,10 @@ add-t8 : tie.Need-add-t8
 add-t8 c = search needs
 
 returns : tie.Need-returns
-returns c = (search one-counted, search live-counted, omega arith, omega arith)
+returns c = (search one-if-belongs-true, search live-if-belongs-true, omega arith, omega arith)
 
 returns-2 : tie.Need-returns-2
-returns-2 c = (search one-not-counted, search live-not-counted, omega arith, omega arith)
+returns-2 c = (search one-if-belongs-false, search live-if-belongs-false, omega arith, omega arith)
 
 pub counted-spec : {M : Type 1} → statement M
 counted-spec = tie.close (tie.spec belongs-requires add-t6 live-in-requires add-t8 returns returns-2)

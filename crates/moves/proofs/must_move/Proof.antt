@@ -1,6 +1,6 @@
 -- `moves::must_move` meets its contract: the conditions are tested on the counts. Assumes nothing.
-use Rattle.predicates.proofs.RuleLaws.{blocks-fit}
-use Rattle.moves.proofs.DrainLaws.{must-by}
+use Rattle.predicates.proofs.MoveRuleLaws.{blocks-fit}
+use Rattle.moves.proofs.TransferLoopLaws.{must-move-from-counts}
 use borrow.Author.Needs.{needs}
 use Rattle.moves.proofs.must_move.Statement.{statement}
 use Rattle.moves.proofs.must_move.Tie as tie
@@ -21,7 +21,7 @@ both-conditions-requires : tie.Need-both-conditions-requires
 both-conditions-requires c κs = search needs
 
 returns : tie.Need-returns
-returns c = search must-by
+returns c = search must-move-from-counts
 
 pub must-move-spec : {M : Type 1} → statement M
 must-move-spec =

@@ -6,7 +6,7 @@ use native.Mathlib.Omega.{arith}
 use borrow.Author.Needs.{needs}
 use borrow.Author.Fill.{fill-none, fill-more}
 use lib.ListN.{length, set, replicate, drop, length-set}
-use Rattle.order.proofs.LoopLaws.{clear-end}
+use Rattle.order.proofs.LoopLaws.{clear-loop-end}
 use Rattle.order.proofs.clear_order.Statement.{statement}
 use Rattle.order.proofs.clear_order.Tie as tie
 
@@ -47,7 +47,7 @@ returns : tie.Need-returns Inv-loop μ-loop
 returns c =
     let a = c .before .before .before .before .args in
     let l = c .before .loop in
-    l .inv .2 ∙ clear-end (a .order .now) (a .n) (l .i) (omega arith)
+    l .inv .2 ∙ clear-loop-end (a .order .now) (a .n) (l .i) (omega arith)
 
 pub clear-order-spec : {M : Type 1} → statement M
 clear-order-spec =

@@ -4,7 +4,7 @@ use Prim.Native.Nat.{ℕ}
 use native.Mathlib.Omega.{arith}
 use borrow.Author.Needs.{needs}
 use Rattle.order.specs.Order.{lastFilled}
-use Rattle.order.proofs.OrderLaws.{last-filled-is, last-filled-none, last-filled-above}
+use Rattle.order.proofs.OrderLaws.{last-filled-is-place, last-filled-of-zero, last-filled-above-256}
 use Rattle.order.proofs.last_filled.Statement.{statement}
 use Rattle.order.proofs.last_filled.Tie as tie
 
@@ -12,10 +12,10 @@ returns : tie.Need-returns
 returns c =
     let a = c .before .before .args in
     let e : a .filled ≡ 0 = omega arith in
-    sym (ap (λ (m : ℕ). lastFilled (a .order .now) (a .s) m) e ∙ last-filled-none (a .order .now) (a .s))
+    sym (ap (λ (m : ℕ). lastFilled (a .order .now) (a .s) m) e ∙ last-filled-of-zero (a .order .now) (a .s))
 
 returns-2 : tie.Need-returns-2
-returns-2 c = let a = c .before .before .before .args in sym (last-filled-above (a .order .now) (a .s) (a .filled) (omega arith))
+returns-2 c = let a = c .before .before .before .args in sym (last-filled-above-256 (a .order .now) (a .s) (a .filled) (omega arith))
 
 cast-p : tie.Need-cast-p
 cast-p c = search needs
@@ -26,7 +26,7 @@ place-at-requires c κs = search needs
 returns-3 : tie.Need-returns-3
 returns-3 c =
     let a = c .before .before .before .before .args in
-    c .place-at .ensures ∙ sym (last-filled-is (a .order .now) (a .s) (a .filled) (omega arith) (omega arith))
+    c .place-at .ensures ∙ sym (last-filled-is-place (a .order .now) (a .s) (a .filled) (omega arith) (omega arith))
 
 pub last-filled-spec : {M : Type 1} → statement M
 last-filled-spec = tie.close (tie.spec returns returns-2 cast-p place-at-requires returns-3)

@@ -3,7 +3,7 @@ use mathlib.Core.Path.{sym}
 use native.Mathlib.Omega.{arith}
 use borrow.Author.Needs.{needs}
 use Rattle.order.specs.Order.{place}
-use Rattle.order.proofs.OrderLaws.{place-none}
+use Rattle.order.proofs.OrderLaws.{place-out-of-storage}
 use Rattle.order.proofs.place_at.Statement.{statement}
 use Rattle.order.proofs.place_at.Tie as tie
 
@@ -14,7 +14,7 @@ add-at : tie.Need-add-at
 add-at c = search needs
 
 returns : tie.Need-returns
-returns c = let a = c .before .args in sym (place-none (a .order .now) (a .s) (a .p) (omega arith))
+returns c = let a = c .before .args in sym (place-out-of-storage (a .order .now) (a .s) (a .p) (omega arith))
 
 mul-result : tie.Need-mul-result
 mul-result c = search needs

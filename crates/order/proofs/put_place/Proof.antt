@@ -3,7 +3,7 @@ use mathlib.Core.Path.{sym}
 use native.Mathlib.Omega.{arith}
 use borrow.Author.Needs.{needs}
 use Rattle.order.specs.Order.{withPlace}
-use Rattle.order.proofs.OrderLaws.{with-place-none}
+use Rattle.order.proofs.OrderLaws.{with-place-out-of-storage}
 use Rattle.order.proofs.put_place.Statement.{statement}
 use Rattle.order.proofs.put_place.Tie as tie
 
@@ -14,7 +14,7 @@ add-i : tie.Need-add-i
 add-i c = search needs
 
 returns : tie.Need-returns
-returns c = let a = c .before .args in sym (with-place-none (a .order .now) (a .s) (a .p) (a .block) (omega arith))
+returns c = let a = c .before .args in sym (with-place-out-of-storage (a .order .now) (a .s) (a .p) (a .block) (omega arith))
 
 mul-order : tie.Need-mul-order
 mul-order c = search needs

@@ -5,14 +5,14 @@ use Prim.Native.Nat.{ℕ, _≤_, zero-le, _-_, _+_, _*_}
 use native.Mathlib.Omega.{arith}
 use lib.ListN.{length, set, length-set}
 use lib.Seq.{paste, paste-zero}
-use Rattle.order.specs.Order.{down}
-use Rattle.order.proofs.OrderLaws.{renewed-many, renewed-short}
-use Rattle.order.proofs.LoopLaws.{renew-turn, renew-end}
+use Rattle.order.specs.Order.{descending}
+use Rattle.order.proofs.OrderLaws.{renewed-above-256-blocks, renewed-out-of-storage}
+use Rattle.order.proofs.LoopLaws.{renew-loop-step, renew-loop-end}
 use Rattle.order.proofs.renew_order.Statement.{statement}
 use Rattle.order.proofs.renew_order.Tie as tie
 
 abbrev Inv-loop : tie.InvT-loop
-Inv-loop order₀ s n base m j₀ order j = (length order ≡ length order₀) × (j ≤ m) × (order ≡ paste order₀ base (down m) j)
+Inv-loop order₀ s n base m j₀ order j = (length order ≡ length order₀) × (j ≤ m) × (order ≡ paste order₀ base (descending m) j)
 
 abbrev μ-loop : tie.MeasureT-loop
 μ-loop order₀ s n base m j₀ order j = m - j
@@ -21,16 +21,16 @@ mul-base : tie.Need-mul-base Inv-loop μ-loop
 mul-base c = omega arith
 
 returns : tie.Need-returns Inv-loop μ-loop
-returns c = let a = c .before .args in sym (renewed-many (a .order .now) (a .s) (a .n) (omega arith))
+returns c = let a = c .before .args in sym (renewed-above-256-blocks (a .order .now) (a .s) (a .n) (omega arith))
 
 add-if2 : tie.Need-add-if2 Inv-loop μ-loop
 add-if2 c = omega arith
 
 returns-2 : tie.Need-returns-2 Inv-loop μ-loop
-returns-2 c = let a = c .before .before .args in sym (renewed-short (a .order .now) (a .s) (a .n) (omega arith))
+returns-2 c = let a = c .before .before .args in sym (renewed-out-of-storage (a .order .now) (a .s) (a .n) (omega arith))
 
 loop-holds : tie.Need-loop-holds Inv-loop μ-loop
-loop-holds c = let a = c .before .before .args in (refl, zero-le, paste-zero (a .order .now) (a .s * 256) (down (a .n)))
+loop-holds c = let a = c .before .before .args in (refl, zero-le, paste-zero (a .order .now) (a .s * 256) (descending (a .n)))
 
 sub-order : tie.Need-sub-order Inv-loop μ-loop
 sub-order c = omega arith
@@ -62,7 +62,7 @@ loop-again c =
     let l = c .before .loop in (
       simp length-set (l .inv .0),
       omega arith,
-      ap (λ (x : List ℕ). set x (a .s * 256 + l .j) (a .n - 1 - l .j)) (l .inv .2) ∙ renew-turn (a .order .now) (a .s * 256) (a .n) (l .j) (omega arith) (omega arith),
+      ap (λ (x : List ℕ). set x (a .s * 256 + l .j) (a .n - 1 - l .j)) (l .inv .2) ∙ renew-loop-step (a .order .now) (a .s * 256) (a .n) (l .j) (omega arith) (omega arith),
     )
 
 same-length : tie.Need-same-length Inv-loop μ-loop
@@ -73,7 +73,7 @@ returns-3 c =
     let a = c .before .before .before .before .args in
     let l = c .before .loop in
     let e : l .j ≡ a .n = omega arith in
-    l .inv .2 ∙ ap (paste (a .order .now) (a .s * 256) (down (a .n))) e ∙ renew-end (a .order .now) (a .s) (a .n) (omega arith) (omega arith)
+    l .inv .2 ∙ ap (paste (a .order .now) (a .s * 256) (descending (a .n))) e ∙ renew-loop-end (a .order .now) (a .s) (a .n) (omega arith) (omega arith)
 
 pub renew-order-spec : {M : Type 1} → statement M
 renew-order-spec =

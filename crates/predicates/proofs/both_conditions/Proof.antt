@@ -1,7 +1,7 @@
 -- `predicates::both_conditions` meets its contract: the product and the sum fit. Assumes nothing.
 use native.Mathlib.Omega.{arith}
 use borrow.Author.Needs.{needs}
-use Rattle.predicates.proofs.RuleLaws.{product-fits, sum-fits, first-met, first-not-met}
+use Rattle.predicates.proofs.MoveRuleLaws.{product-fits, sum-fits, both-conditions-where-first-holds, both-conditions-false-where-first-fails}
 use Rattle.predicates.proofs.both_conditions.Statement.{statement}
 use Rattle.predicates.proofs.both_conditions.Tie as tie
 
@@ -18,10 +18,10 @@ is-sparse-requires : tie.Need-is-sparse-requires
 is-sparse-requires c κs = search needs
 
 returns : tie.Need-returns
-returns c = search first-met
+returns c = search both-conditions-where-first-holds
 
 returns-2 : tie.Need-returns-2
-returns-2 c = search first-not-met
+returns-2 c = search both-conditions-false-where-first-fails
 
 pub both-conditions-spec : {M : Type 1} → statement M
 both-conditions-spec =

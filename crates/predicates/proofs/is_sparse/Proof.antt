@@ -1,7 +1,7 @@
 -- `predicates::is_sparse` meets its contract: both products fit. Assumes nothing.
 use native.Mathlib.Omega.{arith}
 use borrow.Author.Needs.{needs}
-use Rattle.predicates.proofs.RuleLaws.{product-fits}
+use Rattle.predicates.proofs.MoveRuleLaws.{product-fits}
 use Rattle.predicates.proofs.is_sparse.Statement.{statement}
 use Rattle.predicates.proofs.is_sparse.Tie as tie
 

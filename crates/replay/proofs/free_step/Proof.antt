@@ -1,4 +1,5 @@
-use Rattle.replay.proofs.StepLaws.{free-stepped}
+-- `replay::free_step` meets its contract. Assumes nothing.
+use Rattle.replay.proofs.CommandStepLaws.{stepped-of-free}
 use borrow.Author.Needs.{needs}
 use Rattle.replay.proofs.free_step.Statement.{statement}
 use Rattle.replay.proofs.free_step.Tie as tie
@@ -22,7 +23,7 @@ same-length-2 : tie.Need-same-length-2
 same-length-2 c = search needs
 
 returns : tie.Need-returns
-returns c = search (free-stepped, c .before .before .before .before .before .free-line .ensures, c .before .before .before .before .before .before .before .before .before .free .ensures, c .before .before .before .before .before .before .before .before .before .before .before .before .before .before .before .pre)
+returns c = search (stepped-of-free, c .before .before .before .before .before .free-line .ensures, c .before .before .before .before .before .before .before .before .before .free .ensures, c .before .before .before .before .before .before .before .before .before .before .before .before .before .before .before .pre)
 
 pub free-step-spec : {M : Type 1} → statement M
 free-step-spec =

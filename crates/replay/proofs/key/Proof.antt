@@ -1,13 +1,14 @@
+-- `replay::key` meets its contract. Assumes nothing.
 use Prim.Native.Nat.{ℕ, _<_}
 use native.Mathlib.Omega.{arith}
-use Rattle.record.specs.Record.{byteAt}
-use Rattle.replay.proofs.LoopLaws.{key-text, key-no-room}
+use Rattle.littleendian.specs.Bytes.{byteAt}
+use Rattle.replay.proofs.ReplayLoopLaws.{key-written-of-finished, key-or-no-room-of-short-buffer}
 use borrow.Author.Needs.{needs}
 use Rattle.replay.proofs.key.Statement.{statement}
 use Rattle.replay.proofs.key.Tie as tie
 
 returns : tie.Need-returns
-returns c = search (needs, key-no-room)
+returns c = search (needs, key-or-no-room-of-short-buffer)
 
 replay-all-requires : tie.Need-replay-all-requires
 replay-all-requires c κs = search needs
@@ -24,7 +25,7 @@ same-length-2 c = search needs
 returns-2 : tie.Need-returns-2
 returns-2 c =
     let bytes : (i : ℕ) → byteAt (c .before .before .before .before .before .before .before .before .before .before .before .before .before .before .before .args .bytes .now) i < 256 = λ i. omega (arith, c .before .before .before .before .before .before .before .before .before .before .before .before .before .before .shared-slice-known .given i) in
-    search (key-text, bytes)
+    search (key-written-of-finished, bytes)
 
 pub key-spec : {M : Type 1} → statement M
 key-spec =

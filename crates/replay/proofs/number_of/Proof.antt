@@ -1,4 +1,5 @@
-use Rattle.replay.proofs.StepLaws.{number-ready, number-address, number-moves, number-refused}
+-- `replay::number_of` meets its contract. Assumes nothing.
+use Rattle.replay.proofs.CommandStepLaws.{number-ready, number-address, number-moves, number-refused}
 use borrow.Author.Needs.{needs}
 use Rattle.replay.proofs.number_of.Statement.{statement}
 use Rattle.replay.proofs.number_of.Tie as tie

@@ -1,4 +1,5 @@
-use Rattle.replay.proofs.StepLaws.{arm, refused-stepped}
+-- `replay::step` meets its contract. Assumes nothing.
+use Rattle.replay.proofs.CommandStepLaws.{matched-command-is-command-at, stepped-of-refused-command}
 use borrow.Author.Needs.{needs}
 use Rattle.replay.proofs.step.Statement.{statement}
 use Rattle.replay.proofs.step.Tie as tie
@@ -10,19 +11,19 @@ enum-known-command : tie.Need-enum-known-command
 enum-known-command c = search needs
 
 setup-step-requires : tie.Need-setup-step-requires
-setup-step-requires c κs = search (needs, arm)
+setup-step-requires c κs = search (needs, matched-command-is-command-at)
 
 enum-known-command-2 : tie.Need-enum-known-command-2
 enum-known-command-2 c = search needs
 
 take-step-requires : tie.Need-take-step-requires
-take-step-requires c κs = search (needs, arm)
+take-step-requires c κs = search (needs, matched-command-is-command-at)
 
 enum-known-command-3 : tie.Need-enum-known-command-3
 enum-known-command-3 c = search needs
 
 free-step-requires : tie.Need-free-step-requires
-free-step-requires c κs = search (needs, arm)
+free-step-requires c κs = search (needs, matched-command-is-command-at)
 
 enum-known-command-4 : tie.Need-enum-known-command-4
 enum-known-command-4 c = search needs
@@ -61,7 +62,7 @@ same-length-7 : tie.Need-same-length-7
 same-length-7 c = search needs
 
 returns-4 : tie.Need-returns-4
-returns-4 c = search (refused-stepped, arm)
+returns-4 c = search (stepped-of-refused-command, matched-command-is-command-at)
 
 pub step-spec : {M : Type 1} → statement M
 step-spec =

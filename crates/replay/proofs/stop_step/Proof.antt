@@ -1,3 +1,4 @@
+-- `replay::stop_step` meets its contract. Assumes nothing.
 use borrow.Author.Needs.{needs}
 use Rattle.replay.proofs.stop_step.Statement.{statement}
 use Rattle.replay.proofs.stop_step.Tie as tie

@@ -1,4 +1,5 @@
-use Rattle.replay.proofs.StepLaws.{take-stepped}
+-- `replay::take_step` meets its contract. Assumes nothing.
+use Rattle.replay.proofs.CommandStepLaws.{stepped-of-take}
 use borrow.Author.Needs.{needs}
 use Rattle.replay.proofs.take_step.Statement.{statement}
 use Rattle.replay.proofs.take_step.Tie as tie
@@ -22,7 +23,7 @@ same-length-2 : tie.Need-same-length-2
 same-length-2 c = search needs
 
 returns : tie.Need-returns
-returns c = search (take-stepped, c .before .before .before .before .before .take-line .ensures, c .before .before .before .before .before .before .before .before .before .take .ensures, c .before .before .before .before .before .before .before .before .before .before .before .before .before .before .before .pre)
+returns c = search (stepped-of-take, c .before .before .before .before .before .take-line .ensures, c .before .before .before .before .before .before .before .before .before .take .ensures, c .before .before .before .before .before .before .before .before .before .before .before .before .before .before .before .pre)
 
 pub take-step-spec : {M : Type 1} → statement M
 take-step-spec =

@@ -44,13 +44,13 @@ use Rattle.heap.specs.declared.Superblock.{Superblock}
 use Rattle.heap.specs.declared.Setup.{Setup}
 use Rattle.calls.specs.declared.Call.{Call}
 use Rattle.rowrules.specs.declared.RowAnswer.{RowAnswer}
-use Rattle.calls.specs.Answers.{Told, Yields}
+use Rattle.calls.specs.Answers.{HasNumberAndValuesOf, PassesIfAccepted}
 use Rattle.rowrules.specs.Row.{RowAfter, stateOf, rowAfter, callOn, rowCall}
-use Rattle.rowcore.specs.declared.Called.{Called}
-use Rattle.rowcore.specs.Tables.{isAccepted, leaves}
-use Rattle.row.specs.Whole.{loadOf, storeOf}
-use Rattle.rowrules.proofs.RowLaws.{told-same}
-use Rattle.row.proofs.StoredLaws.{call-whole, call-yields}
+use Rattle.rowcore.specs.declared.TableCall.{TableCall}
+use Rattle.rowcore.specs.Tables.{isAccepted, rowAfterCall}
+use Rattle.row.specs.LoadStore.{loadOf, storeOf}
+use Rattle.rowrules.proofs.RowLaws.{has-number-and-values-of-equal}
+use Rattle.row.proofs.LoadStoreLaws.{stored-call-is-row-call, stored-call-passes-if-accepted}
 use Rattle.heap.proofs.Superblock as T
 use Rattle.heap.proofs.Setup as S
 use Rattle.heap.proofs.Setup.Laws as S′
@@ -58,10 +58,11 @@ use Rattle.calls.proofs.Call as K
 use Rattle.calls.proofs.Call.Laws as K′
 use Rattle.rowrules.proofs.RowAnswer as N
 use Rattle.rowrules.proofs.RowAnswer.Laws as N′
-use Rattle.rowcore.proofs.Called as R
-use Rattle.rowcore.proofs.Called.Laws as R′
-use Rattle.row.proofs.Thin.{Load, Store, loaded-of, whole-typed, to-load, goes-load, answer-val, to-store, goes-store}
-use Rattle.row.proofs.Lent.{says-three, field-array, SharedOut, shares-out, shared-back}
+use Rattle.rowcore.proofs.TableCall as R
+use Rattle.rowcore.proofs.TableCall.Laws as R′
+use Rattle.row.proofs.LoadStoreContracts.{Load, Store, load-ensures-load-of, array64-typed, load-ghosts, load-precondition, answer-val, store-ghosts, store-precondition}
+use Rattle.laws.proofs.FieldArrays.{declared-array-of-field-array}
+use Rattle.row.proofs.WalkLaws.{goal-with-three-facts, KeptWhileShared, mut-slice-shared, mut-slice-restored}
 use Rattle.row.proofs.load as load′
 use Rattle.row.proofs.load.Symbol as load-def
 use Rattle.row.proofs.load.Symbol.{name as #load}
@@ -121,24 +122,24 @@ module _ {M : Type 1} (𝓤 : URA M) (H : Heap 𝓤) (A : Atoms 𝓤) (W : Given
   Post = walkOf 𝓤 H A f.ended stayed (f.clauses 𝓤 H A mem run) .post (((κ, (κ₁, tt)), (q, (q₁, tt)), tt, a, vals), tt)
 
   -- what the covered function's contract binds outside, and that what the walk has is what it asks
-  abbrev to-work : List Superblock → Val → Work 𝓤 H A mem run .Ghost
-  to-work t w = (((κ₁, tt), (q₁, tt), tt, (length ys, (t, (y, (su, (ca, tt))))), (vint w64 (length ys) ∷ [], (w ∷ [], (s₁ ∷ [], (sv ∷ [], (cv ∷ [], tt)))))), tt)
+  abbrev work-ghosts : List Superblock → Val → Work 𝓤 H A mem run .Ghost
+  work-ghosts t w = (((κ₁, tt), (q₁, tt), tt, (length ys, (t, (y, (su, (ca, tt))))), (vint w64 (length ys) ∷ [], (w ∷ [], (s₁ ∷ [], (sv ∷ [], (cv ∷ [], tt)))))), tt)
 
-  goes-work : (t : List Superblock) (w : Val) → ent 𝓤 (sep 𝓤 (A .lft κ₁ q₁) (sep 𝓤 (sem 𝓤 H A (MutSlice (named 1) κ₁ u16 .own y (s₁ ∷ []))) (sem 𝓤 H A (Array T.the-row 64 .own t (w ∷ []))))) (Work 𝓤 H A mem run .pre (to-work t w))
-  goes-work t w =
+  work-precondition : (t : List Superblock) (w : Val) → ent 𝓤 (sep 𝓤 (A .lft κ₁ q₁) (sep 𝓤 (sem 𝓤 H A (MutSlice (named 1) κ₁ u16 .own y (s₁ ∷ []))) (sem 𝓤 H A (Array T.the-row 64 .own t (w ∷ []))))) (Work 𝓤 H A mem run .pre (work-ghosts t w))
+  work-precondition t w =
       qed W (‵ (flft κ₁ q₁) ∷ ‵ (MutSlice (named 1) κ₁ u16 .own y (s₁ ∷ [])) ∷ ‵ (Array T.the-row 64 .own t (w ∷ [])) ∷ []) ∵
       nothing ! $ owned ! K.the-row (Is K.the-row) (EL.makes K.the-type K′.the-plain 𝓤 H A) ca (cv ∷ []) c-is $ fjoin ! $ owned ! S.the-row (Is S.the-row) (LL.makes S.the-type S′.the-plain 𝓤 H A) su (sv ∷ []) s-is $ fjoin ! $ move ! (2 ∷ 0 ∷ []) $ fjoin ! $ move ! (2 ∷ 0 ∷ []) $ fjoin ! $
       owned ! usize (Is usize) (uint-makes 𝓤 H A W w64) (length ys) (vint w64 (length ys) ∷ []) (refl, room .0) $ fjoin ! $ nothing ! $ move ! (2 ∷ 0 ∷ []) $ join ! $ join ! $ frame ! $ done !
 
   -- what the contract says of the result and of the two last lists
-  abbrev Says : RowAnswer → List Superblock → List ℕ → Type 0
-  Says r zs ws = rowAfter r zs ws ≡ rowCall su ys os ca
+  abbrev ContractEquation : RowAnswer → List Superblock → List ℕ → Type 0
+  ContractEquation r zs ws = rowAfter r zs ws ≡ rowCall su ys os ca
 
-  exits : (r : RowAnswer) (w : Val) (zs : List Superblock) (ws : List ℕ) → Is N.the-row r (w ∷ []) → length zs ≡ length ys → length ws ≡ length os → Says r zs ws → Yields (r .outcome) (stateOf (r .setup) zs) ws
+  exit-meets-post : (r : RowAnswer) (w : Val) (zs : List Superblock) (ws : List ℕ) → Is N.the-row r (w ∷ []) → length zs ≡ length ys → length ws ≡ length os → ContractEquation r zs ws → PassesIfAccepted (r .outcome) (stateOf (r .setup) zs) ws
       → ent 𝓤 (⋆ 𝓤 H A ((‵ (flft κ q) ⊛ ‵ ftrue) ∷ ‵ (finally T.the-row γ zs) ∷ (‵ (flft κ₁ q₁) ⊛ ‵ ftrue) ∷ ‵ (finally u16 γ₁ ws) ∷ [])) (Post w)
-  exits r w zs ws g l l₁ e p =
+  exit-meets-post r w zs ws g l l₁ e p =
       qed W ((‵ (flft κ q) ⊛ ‵ ftrue) ∷ ‵ (finally T.the-row γ zs) ∷ (‵ (flft κ₁ q₁) ⊛ ‵ ftrue) ∷ ‵ (finally u16 γ₁ ws) ∷ []) ∵
-      suffices ! _ (ends-at 𝓤 H A f.ended stayed (f.clauses 𝓤 H A mem run) W (((κ, (κ₁, tt)), (q, (q₁, tt)), tt, a, vals), tt) w r (zs, (ws, (tt, (tt, tt)))) (l, (l₁, (tt, (tt, tt))))) $ says-three ! e (told-same (r .outcome) (rowCall su ys os ca .outcome) (ap (λ (z : RowAfter). z .outcome) e)) p $
+      suffices ! _ (ends-at 𝓤 H A f.ended stayed (f.clauses 𝓤 H A mem run) W (((κ, (κ₁, tt)), (q, (q₁, tt)), tt, a, vals), tt) w r (zs, (ws, (tt, (tt, tt)))) (l, (l₁, (tt, (tt, tt))))) $ goal-with-three-facts ! e (has-number-and-values-of-equal (r .outcome) (rowCall su ys os ca .outcome) (ap (λ (z : RowAfter). z .outcome) e)) p $
       split ! $ move ! (0 ∷ 3 ∷ []) $ join ! $ frame ! $
       -- [true; finally zs; finally ws]
       move ! (0 ∷ 1 ∷ []) $ nothing ! $ fjoin ! $ nothing ! $ fjoin ! $ move ! (2 ∷ 0 ∷ []) $ fjoin ! $ move ! (1 ∷ 0 ∷ []) $ fjoin ! $ frame ! $
@@ -157,24 +158,24 @@ module _ {M : Type 1} (𝓤 : URA M) (H : Heap 𝓤) (A : Atoms 𝓤) (W : Given
         assigns ! (agg ! (and-then ! (load ! (from ! (stop !)) (look ! 16 refl)) (and-then ! (load ! (from ! (fld ! refl (stop !))) (look-in ! 30 (sub ! 1 refl (whole !)))) (no-more !)))) (from ! (stop !)) (init ! 14 refl (tt, (tt, (record { fits = room .0 }, tt)))) $
         -- the row is lent to `load`, for a lifetime ν of the call
         lft-new ! tt (λ ν. move ! (2 ∷ 1 ∷ []) $
-        use2 W (later (some (λ (δ : GName). ‵ (ShrSlice (named 0) (ν ∷ []) T.the-row .own (x δ) (s ∷ [])) ⊛ ‵ (SharedOut T.the-row κ (ν ∷ []) q γ b o ys)))) (shares-out T.the-row κ (ν ∷ []) q γ b o 𝓤 H A W (named 0) (named 0) ys) $ await ! tt $ pick ! (λ δ. split ! $
-        move ! (2 ∷ 0 ∷ []) $ use2 W (raw (Load 𝓤 H A mem run .pre (to-load 𝓤 H A W mem run b o ys ν δ))) (goes-load 𝓤 H A W mem run b o ys ν δ) $
-        calls-at ! fm (Load 𝓤 H A mem run) known-load (to-load 𝓤 H A W mem run b o ys ν δ) (and-then ! (load ! (from ! (stop !)) (look ! 14 refl)) (no-more !)) (λ u.
+        use2 W (later (some (λ (δ : GName). ‵ (ShrSlice (named 0) (ν ∷ []) T.the-row .own (x δ) (s ∷ [])) ⊛ ‵ (KeptWhileShared T.the-row κ (ν ∷ []) q γ b o ys)))) (mut-slice-shared T.the-row κ (ν ∷ []) q γ b o 𝓤 H A W (named 0) (named 0) ys) $ await ! tt $ pick ! (λ δ. split ! $
+        move ! (2 ∷ 0 ∷ []) $ use2 W (raw (Load 𝓤 H A mem run .pre (load-ghosts 𝓤 H A W mem run b o ys ν δ))) (load-precondition 𝓤 H A W mem run b o ys ν δ) $
+        calls-at ! fm (Load 𝓤 H A mem run) known-load (load-ghosts 𝓤 H A W mem run b o ys ν δ) (and-then ! (load ! (from ! (stop !)) (look ! 14 refl)) (no-more !)) (λ u.
         use1 W (later (some (λ (t : List Superblock). ((‵ (flft (ν ∷ []) fullShare) ⊛ ‵ ftrue) ⊛ ‵ (Array T.the-row 64 .own t (u ∷ []))) ⊛ raw (ensured 𝓤 H A load′.ended (load′.clauses 𝓤 H A mem run) (ν ∷ [], tt) (x δ, tt) tt t)))) (id⊢ 𝓤 _) $ await ! tt $ pick ! (λ t.
-        split ! $ move ! (1 ∷ []) $ use1 W (raw (fact 𝓤 (t ≡ loadOf ys))) (loaded-of 𝓤 H A mem run (ν ∷ []) (x δ) t) $ heard ! (t ≡ loadOf ys) (λ e₀.
-        split ! $ move ! (1 ∷ []) $ peeks ! (Array T.the-row 64) (Is (Array T.the-row 64)) (shows 𝓤 H A (Array T.the-row 64)) t (u ∷ []) (λ g₀. land ! (from ! (stop !)) (init ! 21 refl (whole-typed 𝓤 H A W t u g₀)) $
+        split ! $ move ! (1 ∷ []) $ use1 W (raw (fact 𝓤 (t ≡ loadOf ys))) (load-ensures-load-of 𝓤 H A mem run (ν ∷ []) (x δ) t) $ heard ! (t ≡ loadOf ys) (λ e₀.
+        split ! $ move ! (1 ∷ []) $ peeks ! (Array T.the-row 64) (Is (Array T.the-row 64)) (shows 𝓤 H A (Array T.the-row 64)) t (u ∷ []) (λ g₀. land ! (from ! (stop !)) (init ! 21 refl (array64-typed 𝓤 H A W t u g₀)) $
         -- the lifetime is ended, and the row comes back
         move ! (1 ∷ []) $ split ! $ lft-end ! tt $ move ! (0 ∷ 3 ∷ []) $
-        use2 W (later (‵ (MutSlice (named 0) κ T.the-row .own (x γ) (s ∷ [])) ⊛ ‵ (flft κ q))) (shared-back T.the-row κ (ν ∷ []) q γ b o 𝓤 H A W (named 0) (named 0) ys room) $ await ! tt $ split ! $ move ! (2 ∷ []) $ drop ! $
+        use2 W (later (‵ (MutSlice (named 0) κ T.the-row .own (x γ) (s ∷ [])) ⊛ ‵ (flft κ q))) (mut-slice-restored T.the-row κ (ν ∷ []) q γ b o 𝓤 H A W (named 0) (named 0) ys room) $ await ! tt $ split ! $ move ! (2 ∷ []) $ drop ! $
         -- [the row; κ's token; what the table owns; κ₁'s token; the order; local i at 5 + 2 (14 - i)]
         assigns ! (addr ! (from ! (fld ! refl (hop ! (look-in ! 29 (sub ! 0 refl (whole !))) (stop !))))) (from ! (stop !)) (init ! 13 refl (tt, tt)) $
         assigns ! (agg ! (and-then ! (load ! (from ! (stop !)) (look ! 13 refl)) (and-then ! (load ! (from ! (fld ! refl (stop !))) (look-in ! 29 (sub ! 1 refl (whole !)))) (no-more !)))) (from ! (stop !)) (init ! 11 refl (tt, (tt, (record { fits = room₁ .0 }, tt)))) $
-        move ! (3 ∷ 4 ∷ 2 ∷ []) $ use3 W (raw (Work 𝓤 H A mem run .pre (to-work t u))) (goes-work t u) $
+        move ! (3 ∷ 4 ∷ 2 ∷ []) $ use3 W (raw (Work 𝓤 H A mem run .pre (work-ghosts t u))) (work-precondition t u) $
         -- [`work`'s pre; the row; κ's token; local i at 3 + 2 (14 - i)]
-        calls-at ! fm (Work 𝓤 H A mem run) known-work (to-work t u) (and-then ! (load ! (from ! (stop !)) (look ! 21 refl)) (and-then ! (load ! (from ! (stop !)) (look ! 19 refl)) (and-then ! (load ! (from ! (stop !)) (look ! 9 refl)) (and-then ! (load ! (from ! (stop !)) (look ! 25 refl)) (and-then ! (load ! (from ! (stop !)) (look ! 23 refl)) (no-more !)))))) (λ w.
-        use1 W (later (some (λ (r : Called). ((‵ (flft κ₁ q₁) ⊛ ‵ ftrue) ⊛ ‵ (R.the-row .own r (w ∷ []))) ⊛ raw (ensured 𝓤 H A work.ended (work.clauses 𝓤 H A mem run) (κ₁, tt) (length ys, (t, (y, (su, (ca, tt))))) tt r)))) (id⊢ 𝓤 _) $ await ! tt $ pick ! (λ r.
-        split ! $ move ! (1 ∷ []) $ use1 W (some (λ (ws : Unit {0} × (Unit {0} × (List ℕ × (Unit {0} × (Unit {0} × Unit {0}))))). ‵ (lasts work.ended (κ₁, tt) (length ys, (t, (y, (su, (ca, tt))))) ws) ⊛ (raw (fact 𝓤 (leaves r (ws .1 .1 .0) ≡ callOn (length ys) su t os ca)) ⊛ (raw (fact 𝓤 (r .accepted ≡ isAccepted (r .answer .outcome))) ⊛ (raw (fact 𝓤 (Told (r .answer .outcome) (callOn (length ys) su t os ca .outcome))) ⊛ raw (fact 𝓤 (Yields (r .answer .outcome) (stateOf (r .answer .setup) (r .table)) (ws .1 .1 .0)))))))) (id⊢ 𝓤 _) $ pick ! (λ ws.
-        split ! $ move ! (1 ∷ []) $ split ! $ heard ! (leaves r (ws .1 .1 .0) ≡ callOn (length ys) su t os ca) (λ e₁. split ! $ heard ! (r .accepted ≡ isAccepted (r .answer .outcome)) (λ e₃. split ! $ drop ! $ heard ! (Yields (r .answer .outcome) (stateOf (r .answer .setup) (r .table)) (ws .1 .1 .0)) (λ e₄.
+        calls-at ! fm (Work 𝓤 H A mem run) known-work (work-ghosts t u) (and-then ! (load ! (from ! (stop !)) (look ! 21 refl)) (and-then ! (load ! (from ! (stop !)) (look ! 19 refl)) (and-then ! (load ! (from ! (stop !)) (look ! 9 refl)) (and-then ! (load ! (from ! (stop !)) (look ! 25 refl)) (and-then ! (load ! (from ! (stop !)) (look ! 23 refl)) (no-more !)))))) (λ w.
+        use1 W (later (some (λ (r : TableCall). ((‵ (flft κ₁ q₁) ⊛ ‵ ftrue) ⊛ ‵ (R.the-row .own r (w ∷ []))) ⊛ raw (ensured 𝓤 H A work.ended (work.clauses 𝓤 H A mem run) (κ₁, tt) (length ys, (t, (y, (su, (ca, tt))))) tt r)))) (id⊢ 𝓤 _) $ await ! tt $ pick ! (λ r.
+        split ! $ move ! (1 ∷ []) $ use1 W (some (λ (ws : Unit {0} × (Unit {0} × (List ℕ × (Unit {0} × (Unit {0} × Unit {0}))))). ‵ (lasts work.ended (κ₁, tt) (length ys, (t, (y, (su, (ca, tt))))) ws) ⊛ (raw (fact 𝓤 (rowAfterCall r (ws .1 .1 .0) ≡ callOn (length ys) su t os ca)) ⊛ (raw (fact 𝓤 (r .accepted ≡ isAccepted (r .answer .outcome))) ⊛ (raw (fact 𝓤 (HasNumberAndValuesOf (r .answer .outcome) (callOn (length ys) su t os ca .outcome))) ⊛ raw (fact 𝓤 (PassesIfAccepted (r .answer .outcome) (stateOf (r .answer .setup) (r .table)) (ws .1 .1 .0)))))))) (id⊢ 𝓤 _) $ pick ! (λ ws.
+        split ! $ move ! (1 ∷ []) $ split ! $ heard ! (rowAfterCall r (ws .1 .1 .0) ≡ callOn (length ys) su t os ca) (λ e₁. split ! $ heard ! (r .accepted ≡ isAccepted (r .answer .outcome)) (λ e₃. split ! $ drop ! $ heard ! (PassesIfAccepted (r .answer .outcome) (stateOf (r .answer .setup) (r .table)) (ws .1 .1 .0)) (λ e₄.
         fsplit ! $ drop ! $ fsplit ! $ drop ! $ fsplit ! $ fsplit ! $ move ! (1 ∷ []) $ feqL ! (λ l₁′.
         -- [order's last list; …; κ₁'s token and what the result owns; the row; κ's token; local i at 5 + 2 (14 - i)]
         move ! (2 ∷ []) $ split ! $ move ! (1 ∷ []) $ peeks ! R.the-row (Is R.the-row) (shows 𝓤 H A R.the-row) r (w ∷ []) (λ g₁.
@@ -183,9 +184,9 @@ module _ {M : Type 1} (𝓤 : URA M) (H : Heap 𝓤) (A : Atoms 𝓤) (W : Given
         -- [κ₁'s token; order's last list; the row; κ's token; local i at 4 + 2 (14 - i)]
         assigns ! (addr ! (from ! (fld ! refl (hop ! (look-in ! 30 (sub ! 0 refl (whole !))) (stop !))))) (from ! (stop !)) (init ! 6 refl (tt, tt)) $
         assigns ! (agg ! (and-then ! (load ! (from ! (stop !)) (look ! 6 refl)) (and-then ! (load ! (from ! (fld ! refl (stop !))) (look-in ! 30 (sub ! 1 refl (whole !)))) (no-more !)))) (from ! (stop !)) (init ! 4 refl (tt, (tt, (record { fits = room .0 }, tt)))) $
-        move ! (3 ∷ 2 ∷ []) $ use2 W (raw (Store 𝓤 H A mem run .pre (to-store 𝓤 H A W mem run b o ys κ q γ r))) (goes-store 𝓤 H A W mem run b o ys κ q γ r (field-array T.the-type 64 (r .table) _ (LL.owed R.the-type R′.the-laws r _ g₁ .0))) $
+        move ! (3 ∷ 2 ∷ []) $ use2 W (raw (Store 𝓤 H A mem run .pre (store-ghosts 𝓤 H A W mem run b o ys κ q γ r))) (store-precondition 𝓤 H A W mem run b o ys κ q γ r (declared-array-of-field-array T.the-type 64 (r .table) _ (LL.owed R.the-type R′.the-laws r _ g₁ .0))) $
         -- [`store`'s pre; κ₁'s token; order's last list; local i at 3 + 2 (14 - i)]
-        calls-at ! fm (Store 𝓤 H A mem run) known-store (to-store 𝓤 H A W mem run b o ys κ q γ r) (and-then ! (load ! (from ! (stop !)) (look ! 3 refl)) (and-then ! (load ! (from ! (fld ! refl (stop !))) (look-in ! 17 (sub ! 0 refl (whole !)))) (and-then ! (load ! (from ! (fld ! refl (stop !))) (look-in ! 17 (sub ! 2 refl (whole !)))) (no-more !)))) (λ w′.
+        calls-at ! fm (Store 𝓤 H A mem run) known-store (store-ghosts 𝓤 H A W mem run b o ys κ q γ r) (and-then ! (load ! (from ! (stop !)) (look ! 3 refl)) (and-then ! (load ! (from ! (fld ! refl (stop !))) (look-in ! 17 (sub ! 0 refl (whole !)))) (and-then ! (load ! (from ! (fld ! refl (stop !))) (look-in ! 17 (sub ! 2 refl (whole !)))) (no-more !)))) (λ w′.
         use1 W (later (some (λ (r′ : Unit {0}). ((‵ (flft κ q) ⊛ ‵ ftrue) ⊛ ‵ (unit .own r′ (w′ ∷ []))) ⊛ raw (ensured 𝓤 H A store.ended (store.clauses 𝓤 H A mem run) (κ, tt) (x γ, (r .table, (r .accepted, tt))) tt r′)))) (id⊢ 𝓤 _) $ await ! tt $ pick ! (λ r′.
         split ! $ move ! (1 ∷ []) $ use1 W (some (λ (zs : List Superblock × (Unit {0} × (Unit {0} × Unit {0}))). ‵ (lasts store.ended (κ, tt) (x γ, (r .table, (r .accepted, tt))) zs) ⊛ raw (fact 𝓤 (zs .0 ≡ storeOf (r .accepted) ys (r .table))))) (id⊢ 𝓤 _) $ pick ! (λ zs.
         split ! $ move ! (1 ∷ []) $ heard ! (zs .0 ≡ storeOf (r .accepted) ys (r .table)) (λ e₂. fsplit ! $ fsplit ! $ move ! (1 ∷ []) $ feqL ! (λ l′.
@@ -197,29 +198,29 @@ module _ {M : Type 1} (𝓤 : URA M) (H : Heap 𝓤) (A : Atoms 𝓤) (W : Given
         returns ! (look ! 32 refl) $ forget ! 4 refl $ forget ! 6 refl $ forget ! 8 refl $ forget ! 10 refl $ forget ! 12 refl $ forget ! 14 refl $ forget ! 16 refl $ forget ! 18 refl $ forget ! 20 refl $ forget ! 22 refl $ forget ! 24 refl $ forget ! 26 refl $ forget ! 28 refl $ forget ! 30 refl $ forget ! 32 refl $
         move ! (32 ∷ 33 ∷ []) $ free1 ! $ move ! (30 ∷ 31 ∷ []) $ free1 ! $ move ! (28 ∷ 29 ∷ []) $ free1 ! $ move ! (26 ∷ 27 ∷ []) $ free1 ! $ move ! (24 ∷ 25 ∷ []) $ free1 ! $ move ! (22 ∷ 23 ∷ []) $ free1 ! $ move ! (20 ∷ 21 ∷ []) $ free1 ! $ move ! (18 ∷ 19 ∷ []) $ free1 ! $
         move ! (16 ∷ 17 ∷ []) $ free1 ! $ move ! (14 ∷ 15 ∷ []) $ free1 ! $ move ! (12 ∷ 13 ∷ []) $ free1 ! $ move ! (10 ∷ 11 ∷ []) $ free1 ! $ move ! (8 ∷ 9 ∷ []) $ free1 ! $ move ! (6 ∷ 7 ∷ []) $ free1 ! $ move ! (4 ∷ 5 ∷ []) $ free1 ! $ free0 ! $
-        by ! (exits (r .answer) (answer-val r) (zs .0) (ws .1 .1 .0) (LL.owed R.the-type R′.the-laws r _ g₁ .1 .0) l′ l₁′ (call-whole ys t (zs .0) (ws .1 .1 .0) r e₀ e₃ e₂ su os ca e₁) (call-yields ys t (zs .0) (ws .1 .1 .0) r e₀ e₃ e₂ su os ca e₁ e₄)))))))))))))))))))))))))))))))))))))
+        by ! (exit-meets-post (r .answer) (answer-val r) (zs .0) (ws .1 .1 .0) (LL.owed R.the-type R′.the-laws r _ g₁ .1 .0) l′ l₁′ (stored-call-is-row-call ys t (zs .0) (ws .1 .1 .0) r e₀ e₃ e₂ su os ca e₁) (stored-call-passes-if-accepted ys t (zs .0) (ws .1 .1 .0) r e₀ e₃ e₂ su os ca e₁ e₄)))))))))))))))))))))))))))))))))))))
 
 module _ {M : Type 1} (𝓤 : URA M) (H : Heap 𝓤) (A : Atoms 𝓤) (W : Given 𝓤 H A) (mem : Memory → SProp 𝓤) (run : Routine → Fun 𝓤) where
-  row-walks : (C : Calls 𝓤 H) (Λ : Loops 𝓤 H) → FmC 𝓤 H (W .laws) C → Triple 𝓤 (C #load) (Load 𝓤 H A mem run) → Triple 𝓤 (C #work) (Work 𝓤 H A mem run) → Triple 𝓤 (C #store) (Store 𝓤 H A mem run)
+  call-row-walks : (C : Calls 𝓤 H) (Λ : Loops 𝓤 H) → FmC 𝓤 H (W .laws) C → Triple 𝓤 (C #load) (Load 𝓤 H A mem run) → Triple 𝓤 (C #work) (Work 𝓤 H A mem run) → Triple 𝓤 (C #store) (Store 𝓤 H A mem run)
       → Walks 𝓤 H A f.ended stayed (WpFn 𝓤 H C Λ code.function) (f.clauses 𝓤 H A mem run)
-  row-walks C Λ fm known-load known-work known-store = walked 𝓤 H A f.ended stayed (f.clauses 𝓤 H A mem run) (WpFn 𝓤 H C Λ code.function)
+  call-row-walks C Λ fm known-load known-work known-store = walked 𝓤 H A f.ended stayed (f.clauses 𝓤 H A mem run) (WpFn 𝓤 H C Λ code.function)
       (λ κs. (slice-vals, (slice-vals, (LL.vals S.the-type S′.the-laws, (EL.vals K.the-type K′.the-laws, tt))))) (λ κs. (mut-slice-tells (named 0) (κs .0) T.the-row, (mut-slice-tells (named 1) (κs .1 .0) u16, (LL.tells S.the-type S′.the-laws, (EL.tells K.the-type K′.the-laws, tt)))))
       (λ κs qs bounds a g are. via 𝓤 _ (fst∗ 𝓤 _ (emp 𝓤)) (walk 𝓤 H A W mem run (κs .0) (κs .1 .0) (qs .0) (qs .1 .0) (a .0 .ptr .0) (a .0 .ptr .1) (a .0 .name) (a .0 .now) (a .1 .0 .ptr .0) (a .1 .0 .ptr .1) (a .1 .0 .name) (a .1 .0 .now) (a .1 .1 .0) (a .1 .1 .1 .0)
       (are .0 .0 .1) (are .1 .0 .0 .1) (are .1 .1 .0) (are .1 .1 .1 .0) C Λ fm known-load known-work known-store))
 
-row-meets : {M : Type 1} (𝓤 : URA M) (H : Heap 𝓤) (A : Atoms 𝓤) → Given 𝓤 H A → (mem : Memory → SProp 𝓤) (run : Routine → Fun 𝓤) (𝓣 : Tables 𝓤 H)
+call-row-meets : {M : Type 1} (𝓤 : URA M) (H : Heap 𝓤) (A : Atoms 𝓤) → Given 𝓤 H A → (mem : Memory → SProp 𝓤) (run : Routine → Fun 𝓤) (𝓣 : Tables 𝓤 H)
     → Triple 𝓤 (𝓣 .C #load) (Load 𝓤 H A mem run) → Triple 𝓤 (𝓣 .C #work) (Work 𝓤 H A mem run) → Triple 𝓤 (𝓣 .C #store) (Store 𝓤 H A mem run)
     → Meets 𝓤 H A f.signature (WpFn 𝓤 H (𝓣 .C) (𝓣 .Λ) code.function) (f.spec 𝓤 H A mem run)
-row-meets 𝓤 H A W mem run 𝓣 known-load known-work known-store =
+call-row-meets 𝓤 H A W mem run 𝓣 known-load known-work known-store =
     walk-meets 𝓤 H A f.ended stayed W (goes-gave-slice 𝓤 H A W 2 0 tt (plain (λ _. T.the-row)), (goes-gave-slice 𝓤 H A W 2 1 tt (plain (λ _. u16)), (goes-dropped 𝓤 H A W 2 (plain (λ _. S.the-row)) yes (λ κs x f. refl), (goes-dropped 𝓤 H A W 2 (plain (λ _. K.the-row)) yes (λ κs x f. refl), tt)))) (f.clauses 𝓤 H A mem run)
-    (WpFn 𝓤 H (𝓣 .C) (𝓣 .Λ) code.function) (WpFn-mono 𝓤 H (W .laws) 𝓣 code.function) (row-walks 𝓤 H A W mem run (𝓣 .C) (𝓣 .Λ) (fmOf 𝓤 H (W .laws) 𝓣) known-load known-work known-store)
+    (WpFn 𝓤 H (𝓣 .C) (𝓣 .Λ) code.function) (WpFn-mono 𝓤 H (W .laws) 𝓣 code.function) (call-row-walks 𝓤 H A W mem run (𝓣 .C) (𝓣 .Λ) (fmOf 𝓤 H (W .laws) 𝓣) known-load known-work known-store)
 
 pub call-row-spec : {M : Type 1} → stated.statement M
 unfolding code.routine tablesOf
 call-row-spec 𝓤 H 𝓜 𝓖 𝓡 =
     entered 𝓤 H (tripleOf 𝓤 H (𝓖 .A) f.signature (f.spec 𝓤 H (𝓖 .A) (𝓜 .mem) (𝓡 .run)))
     (tables 𝓤 H 𝓜 𝓡 code.env .C) (tables 𝓤 H 𝓜 𝓡 code.env .Λ) #call-row code.function (code.unfolded 𝓤 H 𝓜 𝓡)
-    (row-meets 𝓤 H (𝓖 .A) (givenOf 𝓤 H 𝓜 𝓖) (𝓜 .mem) (𝓡 .run) (tablesOf 𝓤 H 𝓜 (tables 𝓤 H 𝓜 𝓡 code.env))
+    (call-row-meets 𝓤 H (𝓖 .A) (givenOf 𝓤 H 𝓜 𝓖) (𝓜 .mem) (𝓡 .run) (tablesOf 𝓤 H 𝓜 (tables 𝓤 H 𝓜 𝓡 code.env))
     (cited 𝓤 H (Load 𝓤 H (𝓖 .A) (𝓜 .mem) (𝓡 .run)) 𝓜 𝓡 code.env #load load-def.routine code.calls-row·load (load-thm.met 𝓤 H 𝓜 𝓖 𝓡))
     (cited 𝓤 H (Work 𝓤 H (𝓖 .A) (𝓜 .mem) (𝓡 .run)) 𝓜 𝓡 code.env #work work-def.routine code.calls-rowcore·call-table (work-thm.met 𝓤 H 𝓜 𝓖 𝓡))
     (cited 𝓤 H (Store 𝓤 H (𝓖 .A) (𝓜 .mem) (𝓡 .run)) 𝓜 𝓡 code.env #store store-def.routine code.calls-row·store (store-thm.met 𝓤 H 𝓜 𝓖 𝓡)))

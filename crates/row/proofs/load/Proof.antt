@@ -47,10 +47,10 @@ use denote.Exit.{yes}
 use Rattle.heap.specs.declared.Superblock.{Superblock}
 use Rattle.laws.specs.Sums.{pick as choose}
 use Rattle.heap.specs.Table.{unused}
-use Rattle.row.specs.Whole.{loadOf}
+use Rattle.row.specs.LoadStore.{loadOf}
 use Rattle.heap.proofs.Superblock as T
 use Rattle.heap.proofs.Superblock.Laws as T′
-use Rattle.row.proofs.Lent.{shown, holds, fails, front, front-next, front-long, front-all, Turn, fewer, fewer-wf, local-out, local-in}
+use Rattle.row.proofs.WalkLaws.{rewrite-cell-to-true, true-of-T, false-of-not-T, withFirst, with-first-suc, length-of-with-first, with-first-all, Turn, fewerTurnsLeft, fewer-turns-left-wf, array-cell-to-elements, elements-to-array-cell}
 use Rattle.rowcore.proofs.unused_table as blank′
 use Rattle.rowcore.proofs.unused_table.Symbol as blank-def
 use Rattle.rowcore.proofs.unused_table.Symbol.{name as #blank}
@@ -67,8 +67,8 @@ S = T′.mir
 abbrev Slice : Ty
 Slice = sliceTy (tyRef (named 0) imm (pointee (T.the-row .written)))
 
-abbrev Whole : Ty
-Whole = tyArray T′.mir 64
+abbrev Array64 : Ty
+Array64 = tyArray T′.mir 64
 
 abbrev word : Ty
 word = tyInt w64
@@ -92,11 +92,11 @@ module _ {M : Type 1} (𝓤 : URA M) (H : Heap 𝓤) (A : Atoms 𝓤) (mem : Mem
   abbrev Blank : Contract 𝓤
   Blank = tripleOf 𝓤 H A blank′.signature (blank′.spec 𝓤 H A mem run)
 
-  abbrev to-blank : Blank .Ghost
-  to-blank = ((tt, tt, tt, tt, tt), tt)
+  abbrev blank-ghosts : Blank .Ghost
+  blank-ghosts = ((tt, tt, tt, tt, tt), tt)
 
-  blank-of : (r : List Superblock) → ent 𝓤 (ensured 𝓤 H A blank′.ended (blank′.clauses 𝓤 H A mem run) tt tt tt r) (fact 𝓤 (r ≡ blank))
-  blank-of r = exE 𝓤 _ (λ ws. snd∗ 𝓤 (sem 𝓤 H A (lasts blank′.ended tt tt ws)) (fact 𝓤 (r ≡ blank)))
+  blank-ensures-unused : (r : List Superblock) → ent 𝓤 (ensured 𝓤 H A blank′.ended (blank′.clauses 𝓤 H A mem run) tt tt tt r) (fact 𝓤 (r ≡ blank))
+  blank-ensures-unused r = exE 𝓤 _ (λ ws. snd∗ 𝓤 (sem 𝓤 H A (lasts blank′.ended tt tt ws)) (fact 𝓤 (r ≡ blank)))
 
 module _ {M : Type 1} (𝓤 : URA M) (H : Heap 𝓤) (A : Atoms 𝓤) (W : Given 𝓤 H A) (mem : Memory → SProp 𝓤) (run : Routine → Fun 𝓤) (κ : Lft) (q : Share) (b o : ℕ) (γ : GName) (ys : List Superblock)
     (room : Room T.the-row (length ys)) where
@@ -112,14 +112,14 @@ module _ {M : Type 1} (𝓤 : URA M) (H : Heap 𝓤) (A : Atoms 𝓤) (W : Given
   abbrev Post : Val → SProp 𝓤
   Post = walkOf 𝓤 H A f.ended stayed (f.clauses 𝓤 H A mem run) .post (((κ, tt), (q, tt), tt, (x, tt), vals), tt)
 
-  typed : (e : Superblock) → Is T.the-row e (val e ∷ []) → Holds (hasTy S (val e)) × WT (val e)
-  typed e g = LL.lawful T.the-type T′.the-laws 𝓤 H A W .typed e _ g .0
+  element-typed : (e : Superblock) → Is T.the-row e (val e ∷ []) → Holds (hasTy S (val e)) × WT (val e)
+  element-typed e g = LL.lawful T.the-type T′.the-laws 𝓤 H A W .typed e _ g .0
 
-  whole-typed : (zs : List Superblock) (v : Val) → Is (Array T.the-row 64) zs (v ∷ []) → Holds (hasTy Whole v) × WT v
-  whole-typed zs v g = array-lawful 𝓤 H A W T.the-row (LL.lawful T.the-type T′.the-laws 𝓤 H A W) 64 .typed zs _ g .0
+  array64-typed : (zs : List Superblock) (v : Val) → Is (Array T.the-row 64) zs (v ∷ []) → Holds (hasTy Array64 v) × WT v
+  array64-typed zs v g = array-lawful 𝓤 H A W T.the-row (LL.lawful T.the-type T′.the-laws 𝓤 H A W) 64 .typed zs _ g .0
 
-  exits : (zs : List Superblock) (v : Val) → zs ≡ loadOf ys → ent 𝓤 (⋆ 𝓤 H A (‵ (flft κ q) ∷ ‵ (Array T.the-row 64 .own zs (v ∷ [])) ∷ [])) (Post v)
-  exits zs v e =
+  exit-meets-post : (zs : List Superblock) (v : Val) → zs ≡ loadOf ys → ent 𝓤 (⋆ 𝓤 H A (‵ (flft κ q) ∷ ‵ (Array T.the-row 64 .own zs (v ∷ [])) ∷ [])) (Post v)
+  exit-meets-post zs v e =
       qed W (‵ (flft κ q) ∷ ‵ (Array T.the-row 64 .own zs (v ∷ [])) ∷ []) ∵
       suffices ! _ (ends-at 𝓤 H A f.ended stayed (f.clauses 𝓤 H A mem run) W (((κ, tt), (q, tt), tt, (x, tt), vals), tt) v zs (tt, tt) (tt, tt)) $ says ! e $
       nothing ! $ move ! (1 ∷ 0 ∷ []) $ join ! $ frame ! $ nothing ! $ nothing ! $ fjoin ! $ frame ! $ done !
@@ -132,86 +132,86 @@ module _ {M : Type 1} (𝓤 : URA M) (H : Heap 𝓤) (A : Atoms 𝓤) (W : Given
     Λ = 𝓣 .Λ
 
     abbrev E : Env 𝓤 H
-    E = (Whole, l₀) ∷ (Slice, l₁) ∷ (Whole, l₂) ∷ (word, l₃) ∷ (Whole, l₄) ∷ (word, l₅) ∷ (tyBool, l₆) ∷ (tyBool, l₇) ∷ (word, l₈) ∷ (tyPtr, l₉) ∷ (S, l₁₀) ∷ (word, l₁₁) ∷ (tyPtr, l₁₂) ∷ (tyPtr, l₁₃) ∷ []
+    E = (Array64, l₀) ∷ (Slice, l₁) ∷ (Array64, l₂) ∷ (word, l₃) ∷ (Array64, l₄) ∷ (word, l₅) ∷ (tyBool, l₆) ∷ (tyBool, l₇) ∷ (word, l₈) ∷ (tyPtr, l₉) ∷ (S, l₁₀) ∷ (word, l₁₁) ∷ (tyPtr, l₁₂) ∷ (tyPtr, l₁₃) ∷ []
 
     abbrev Dies : List (Item 𝓤)
-    Dies = ‵ (fdies Whole l₀) ∷ ‵ (fdies Slice l₁) ∷ ‵ (fdies Whole l₂) ∷ ‵ (fdies word l₃) ∷ ‵ (fdies Whole l₄) ∷ ‵ (fdies word l₅) ∷ ‵ (fdies tyBool l₆) ∷ ‵ (fdies tyBool l₇) ∷ ‵ (fdies word l₈) ∷ ‵ (fdies tyPtr l₉) ∷ ‵ (fdies S l₁₀) ∷ ‵ (fdies word l₁₁) ∷ ‵ (fdies tyPtr l₁₂) ∷ ‵ (fdies tyPtr l₁₃) ∷ []
+    Dies = ‵ (fdies Array64 l₀) ∷ ‵ (fdies Slice l₁) ∷ ‵ (fdies Array64 l₂) ∷ ‵ (fdies word l₃) ∷ ‵ (fdies Array64 l₄) ∷ ‵ (fdies word l₅) ∷ ‵ (fdies tyBool l₆) ∷ ‵ (fdies tyBool l₇) ∷ ‵ (fdies word l₈) ∷ ‵ (fdies tyPtr l₉) ∷ ‵ (fdies S l₁₀) ∷ ‵ (fdies word l₁₁) ∷ ‵ (fdies tyPtr l₁₂) ∷ ‵ (fdies tyPtr l₁₃) ∷ []
 
     -- _7 to _13, _1, and what else no turn touches
-    abbrev Rest : List (Item 𝓤)
-    Rest = ‵ (froom tyBool l₇ 0) ∷ ‵ (froom word l₈ 0) ∷ ‵ (froom tyPtr l₉ 0) ∷ ‵ (froom S l₁₀ 0) ∷ ‵ (froom word l₁₁ 0) ∷ ‵ (froom tyPtr l₁₂ 0) ∷ ‵ (froom tyPtr l₁₃ 0)
-        ∷ ‵ (fat fullShare Slice l₁ 0 s) ∷ ‵ (froom Whole l₀ 0) ∷ ‵ (froom Whole l₄ 0) ∷ ‵ (froom word l₅ 0) ∷ ‵ (froom tyBool l₆ 0) ∷ Dies
+    abbrev OtherItems : List (Item 𝓤)
+    OtherItems = ‵ (froom tyBool l₇ 0) ∷ ‵ (froom word l₈ 0) ∷ ‵ (froom tyPtr l₉ 0) ∷ ‵ (froom S l₁₀ 0) ∷ ‵ (froom word l₁₁ 0) ∷ ‵ (froom tyPtr l₁₂ 0) ∷ ‵ (froom tyPtr l₁₃ 0)
+        ∷ ‵ (fat fullShare Slice l₁ 0 s) ∷ ‵ (froom Array64 l₀ 0) ∷ ‵ (froom Array64 l₄ 0) ∷ ‵ (froom word l₅ 0) ∷ ‵ (froom tyBool l₆ 0) ∷ Dies
 
     -- where i records are copied
-    abbrev At : Share → ℕ → List (Item 𝓤)
-    At q′ i = ‵ (row T.the-row q′ ys b o) ∷ ‵ (row T.the-row fullShare (front i ys blank) l₂ 0) ∷ ‵ (fat fullShare word l₃ 0 (vint w64 i)) ∷ ‵ (fobor κ q (arr-parts (shares T.the-row) (length ys) .part q′ ys b o)) ∷ Rest
+    abbrev LoopItems : Share → ℕ → List (Item 𝓤)
+    LoopItems q′ i = ‵ (row T.the-row q′ ys b o) ∷ ‵ (row T.the-row fullShare (withFirst i ys blank) l₂ 0) ∷ ‵ (fat fullShare word l₃ 0 (vint w64 i)) ∷ ‵ (fobor κ q (arr-parts (shares T.the-row) (length ys) .part q′ ys b o)) ∷ OtherItems
 
     -- where the table is zs, and the borrow is shut
-    abbrev Done : List Superblock → List (Item 𝓤)
-    Done zs = ‵ (flft κ q) ∷ ‵ (row T.the-row fullShare zs l₂ 0) ∷ ‵ (froom word l₃ 0) ∷ Rest
+    abbrev ItemsAfterLoop : List Superblock → List (Item 𝓤)
+    ItemsAfterLoop zs = ‵ (flft κ q) ∷ ‵ (row T.the-row fullShare zs l₂ 0) ∷ ‵ (froom word l₃ 0) ∷ OtherItems
 
-    leaves : (zs : List Superblock) → length zs ≡ 64 → zs ≡ loadOf ys → Sq W (Done zs) (runs C Λ E mir.t-6 (atRet E Post))
-    leaves zs l e =
-        move ! (1 ∷ []) $ use1 W (some (λ (v : Val). ‵ (fat fullShare Whole l₂ 0 v) ⊛ ‵ (Array T.the-row 64 .own zs (v ∷ [])))) (local-in 𝓤 H A W T.the-row tt 64 zs l₂ l) $ pick ! (λ v. split ! $ move ! (1 ∷ []) $
+    return-meets-post : (zs : List Superblock) → length zs ≡ 64 → zs ≡ loadOf ys → Sq W (ItemsAfterLoop zs) (runs C Λ E mir.t-6 (atRet E Post))
+    return-meets-post zs l e =
+        move ! (1 ∷ []) $ use1 W (some (λ (v : Val). ‵ (fat fullShare Array64 l₂ 0 v) ⊛ ‵ (Array T.the-row 64 .own zs (v ∷ [])))) (elements-to-array-cell 𝓤 H A W T.the-row tt 64 zs l₂ l) $ pick ! (λ v. split ! $ move ! (1 ∷ []) $
         peeks ! (Array T.the-row 64) (Is (Array T.the-row 64)) (shows 𝓤 H A (Array T.the-row 64)) zs (v ∷ []) (λ g.
         -- [what the table owns; _2; the token; _3; _7 to _13; _1@11; _0@12; _4; _5; _6; they die@16]
-        assigns ! (of-opd ! (load ! (from ! (stop !)) (look ! 1 refl))) (from ! (stop !)) (init ! 12 refl (whole-typed zs v g)) $
+        assigns ! (of-opd ! (load ! (from ! (stop !)) (look ! 1 refl))) (from ! (stop !)) (init ! 12 refl (array64-typed zs v g)) $
         returns ! (look ! 12 refl) $ forget ! 1 refl $ forget ! 11 refl $ forget ! 12 refl $
         move ! (12 ∷ 16 ∷ []) $ free1 ! $ move ! (11 ∷ 15 ∷ []) $ free1 ! $ move ! (1 ∷ 14 ∷ []) $ free1 ! $
         -- [what the table owns; the token; _3; _7 to _13@3; _4@10; _5; _6; they die@13]
         move ! (2 ∷ 13 ∷ []) $ free1 ! $ move ! (9 ∷ 12 ∷ []) $ free1 ! $ move ! (9 ∷ 11 ∷ []) $ free1 ! $ move ! (9 ∷ 10 ∷ []) $ free1 ! $
         -- [what the table owns; the token; _7 to _13@2; they die@9]
         move ! (2 ∷ 9 ∷ []) $ free1 ! $ move ! (2 ∷ 8 ∷ []) $ free1 ! $ move ! (2 ∷ 7 ∷ []) $ free1 ! $ move ! (2 ∷ 6 ∷ []) $ free1 ! $ move ! (2 ∷ 5 ∷ []) $ free1 ! $ move ! (2 ∷ 4 ∷ []) $ free1 ! $ move ! (2 ∷ 3 ∷ []) $ free1 ! $ free0 ! $
-        move ! (1 ∷ 0 ∷ []) $ by ! (exits zs v e)))
+        move ! (1 ∷ 0 ∷ []) $ by ! (exit-meets-post zs v e)))
 
     -- the loop, where the row has 64 records
     module _ (q′ : Share) (long : length ys ≡ 64) where
       abbrev I : Turn 64 → List (Item 𝓤)
-      I n = At q′ (n .0)
+      I n = LoopItems q′ (n .0)
 
-      abbrev Left : Kit.Post 𝓤 H
-      Left = anyQ (afterBlock 𝓤 H (afterSeq 𝓤 H (Wp 𝓤 H C Λ E mir.t-6 (atReturn 𝓤 H E Post)) (atReturn 𝓤 H E Post)))
+      abbrev PostAfterLoop : Kit.Post 𝓤 H
+      PostAfterLoop = anyQ (afterBlock 𝓤 H (afterSeq 𝓤 H (Wp 𝓤 H C Λ E mir.t-6 (atReturn 𝓤 H E Post)) (atReturn 𝓤 H E Post)))
 
-      abbrev Again : Turn 64 → Kit.Post 𝓤 H
-      Again n = anyQ (afterTurn 𝓤 H (Below 𝓤 H A (fewer 64) I n) (Kit.post 𝓤 H Left))
+      abbrev PostAfterTurn : Turn 64 → Kit.Post 𝓤 H
+      PostAfterTurn n = anyQ (afterTurn 𝓤 H (Below 𝓤 H A (fewerTurnsLeft 64) I n) (Kit.post 𝓤 H PostAfterLoop))
 
-      blank-long : length blank ≡ length ys
-      blank-long = length-replicate 64 unused ∙ sym long
+      length-of-blank : length blank ≡ length ys
+      length-of-blank = length-replicate 64 unused ∙ sym long
 
-      ends : (n : Turn 64) → Sq W (At q′ 64) (runs C Λ E mir.turn-1 (Again n))
+      turn-at-end : (n : Turn 64) → Sq W (LoopItems q′ 64) (runs C Λ E mir.turn-1 (PostAfterTurn n))
       unfolding afterTurn
-      ends n =
+      turn-at-end n =
           assigns ! (bin ! (load ! (from ! (stop !)) (look ! 2 refl)) (lit ! tt) tt) (from ! (stop !)) (init ! 4 refl (tt, tt)) $
           leaves-loop ! (load ! (from ! (stop !)) (look ! 4 refl)) $ exec ! C Λ E mir.t-6 (atRet E Post) $ forget ! 4 refl $ forget ! 2 refl $
-          rewrite ! 1 (λ (zs : List Superblock). ‵ (row T.the-row fullShare zs l₂ 0)) (subst (λ (n : ℕ). front n ys blank ≡ ys) long (front-all ys blank blank-long)) refl $
-          move ! (0 ∷ 3 ∷ []) $ shuts-slice ! tt T.the-row q′ ys b o $ leaves ys long (sym (ap (λ (c : Bool). choose c ys blank) (holds (eqb (length ys) 64) (subst (λ (n : ℕ). Holds (eqb n 64)) (sym long) tt))))
+          rewrite ! 1 (λ (zs : List Superblock). ‵ (row T.the-row fullShare zs l₂ 0)) (subst (λ (n : ℕ). withFirst n ys blank ≡ ys) long (with-first-all ys blank length-of-blank)) refl $
+          move ! (0 ∷ 3 ∷ []) $ shuts-slice ! tt T.the-row q′ ys b o $ return-meets-post ys long (sym (ap (λ (c : Bool). choose c ys blank) (true-of-T (eqb (length ys) 64) (subst (λ (n : ℕ). Holds (eqb n 64)) (sym long) tt))))
 
-      more : (i m : ℕ) (e : i + suc m ≡ 64) → i < 64 → Sq W (At q′ i) (runs C Λ E mir.turn-1 (Again (i, (suc m, e))))
+      turn-before-end : (i m : ℕ) (e : i + suc m ≡ 64) → i < 64 → Sq W (LoopItems q′ i) (runs C Λ E mir.turn-1 (PostAfterTurn (i, (suc m, e))))
       unfolding afterTurn
-      more i m e small =
+      turn-before-end i m e small =
           assigns ! (bin ! (load ! (from ! (stop !)) (look ! 2 refl)) (lit ! tt) tt) (from ! (stop !)) (init ! 4 refl (tt, tt)) $
-          shown ! 4 refl (lt→ltb i _ (omega (arith, e))) $
+          rewrite-cell-to-true ! 4 refl (lt→ltb i _ (omega (arith, e))) $
           stays ! (load ! (from ! (stop !)) (look ! 4 refl)) $
           assigns ! (bin ! (load ! (from ! (stop !)) (look ! 2 refl)) (lit ! tt) (record { fits = far-fits })) (from ! (stop !)) (init ! 5 refl (tt, record { fits = far-fits })) $
           assigns ! (bin ! (load ! (from ! (fld ! refl (stop !))) (look-in ! 11 (sub ! 0 refl (whole !)))) (load ! (from ! (stop !)) (look ! 5 refl)) tt) (from ! (stop !)) (init ! 6 refl (tt, tt)) $
           rewrite ! 6 (λ (p : ℕ). ‵ (fat fullShare tyPtr l₉ 0 (vptr b p))) (sym (place-is size o i)) refl $
           elem-out ! T.the-row (Is T.the-row) (shows 𝓤 H A T.the-row) (LL.vals T.the-type T′.the-laws) (LL.tells T.the-type T′.the-laws) q′ ys i unused b o in-row (λ g.
           -- [row[i]; what it owns; the others; the table; _3; the open borrow; _8@6; _9; _10@8; _11@9; …]
-          assigns ! (of-opd ! (load ! (from ! (hop ! (look ! 8 refl) (stop !))) (look-raw ! 0 refl))) (from ! (stop !)) (init ! 9 refl (typed z g)) $
+          assigns ! (of-opd ! (load ! (from ! (hop ! (look ! 8 refl) (stop !))) (look-raw ! 0 refl))) (from ! (stop !)) (init ! 9 refl (element-typed z g)) $
           elem-back ! T.the-row q′ ys i unused (val z ∷ []) b o in-row $
           -- [the row; the table; _3; the open borrow; _8@4; _9; _10; _11@7; _12@8; _13@9; _14@10; _1@11; …]
           assigns ! (bin ! (load ! (from ! (stop !)) (look ! 2 refl)) (lit ! tt) (record { fits = far-fits })) (from ! (stop !)) (init ! 8 refl (tt, record { fits = far-fits })) $
           assigns ! (addr ! (from ! (stop !))) (from ! (stop !)) (init ! 9 refl (tt, tt)) $
           assigns ! (bin ! (load ! (from ! (stop !)) (look ! 9 refl)) (load ! (from ! (stop !)) (look ! 8 refl)) tt) (from ! (stop !)) (init ! 10 refl (tt, tt)) $
           rewrite ! 10 (λ (p : ℕ). ‵ (fat fullShare tyPtr l₁₃ 0 (vptr l₂ p))) (sym (place-is size 0 i)) refl $
-          move ! (1 ∷ []) $ elem-out ! T.the-row (Is T.the-row) (shows 𝓤 H A T.the-row) (LL.vals T.the-type T′.the-laws) (LL.tells T.the-type T′.the-laws) fullShare (front i ys blank) i unused l₂ 0 in-table (λ _.
+          move ! (1 ∷ []) $ elem-out ! T.the-row (Is T.the-row) (shows 𝓤 H A T.the-row) (LL.vals T.the-type T′.the-laws) (LL.tells T.the-type T′.the-laws) fullShare (withFirst i ys blank) i unused l₂ 0 in-table (λ _.
           -- [t[i]; what it owns; the others; the row; _3; the open borrow; _8@6; …; _11@9; …; _14@12; …]
-          assigns ! (of-opd ! (load ! (from ! (stop !)) (look ! 9 refl))) (from ! (hop ! (look ! 12 refl) (stop !))) (store-raw ! 0 refl (typed z g)) $
-          move ! (1 ∷ []) $ drop ! $ owned ! T.the-row (Is T.the-row) (LL.makes T.the-type T′.the-plain 𝓤 H A) z _ g $ move ! (1 ∷ 0 ∷ []) $ elem-put ! T.the-row fullShare (front i ys blank) i z (val z ∷ []) l₂ 0 in-table $
-          rewrite ! 0 (λ (zs : List Superblock). ‵ (row T.the-row fullShare zs l₂ 0)) (front-next i ys blank unused in-row blank-long) refl $ move ! (1 ∷ 0 ∷ []) $
+          assigns ! (of-opd ! (load ! (from ! (stop !)) (look ! 9 refl))) (from ! (hop ! (look ! 12 refl) (stop !))) (store-raw ! 0 refl (element-typed z g)) $
+          move ! (1 ∷ []) $ drop ! $ owned ! T.the-row (Is T.the-row) (LL.makes T.the-type T′.the-plain 𝓤 H A) z _ g $ move ! (1 ∷ 0 ∷ []) $ elem-put ! T.the-row fullShare (withFirst i ys blank) i z (val z ∷ []) l₂ 0 in-table $
+          rewrite ! 0 (λ (zs : List Superblock). ‵ (row T.the-row fullShare zs l₂ 0)) (with-first-suc i ys blank unused in-row length-of-blank) refl $ move ! (1 ∷ 0 ∷ []) $
           assigns-last ! (bin ! (load ! (from ! (stop !)) (look ! 2 refl)) (lit ! tt) (record { fits = next-fits })) (from ! (stop !)) (store ! 2 refl (tt, record { fits = next-fits })) $
           forget ! 4 refl $ forget ! 5 refl $ forget ! 6 refl $ forget ! 7 refl $ forget ! 8 refl $ forget ! 9 refl $ forget ! 10 refl $
-          rewrite ! 2 (λ (j : ℕ). ‵ (fat fullShare word l₃ 0 (vint w64 j))) (add-one i) refl $ again ! (fewer 64) I (i, (suc m, e)) (suc i, (m, next-e)) (lt-suc-self m)))
+          rewrite ! 2 (λ (j : ℕ). ‵ (fat fullShare word l₃ 0 (vint w64 j))) (add-one i) refl $ again ! (fewerTurnsLeft 64) I (i, (suc m, e)) (suc i, (m, next-e)) (lt-suc-self m)))
         where
           z : Superblock
           z = getD ys i unused
@@ -219,8 +219,8 @@ module _ {M : Type 1} (𝓤 : URA M) (H : Heap 𝓤) (A : Atoms 𝓤) (W : Given
           in-row : i < length ys
           in-row = subst (λ (n : ℕ). i < n) (sym long) small
 
-          in-table : i < length (front i ys blank)
-          in-table = subst (λ (n : ℕ). i < n) (sym (front-long i ys blank ∙ length-replicate 64 unused)) small
+          in-table : i < length (withFirst i ys blank)
+          in-table = subst (λ (n : ℕ). i < n) (sym (length-of-with-first i ys blank ∙ length-replicate 64 unused)) small
 
           far-fits : i * size < 2 ^ 64
           far-fits = omega (arith, small)
@@ -231,25 +231,25 @@ module _ {M : Type 1} (𝓤 : URA M) (H : Heap 𝓤) (A : Atoms 𝓤) (W : Given
           next-e : suc i + m ≡ 64
           next-e = suc-add i m ∙ sym (add-suc i m) ∙ e
 
-      turns : (n : Turn 64) → Sq W (I n) (runs C Λ E mir.turn-1 (Again n))
-      turns (i, (zero, e)) = subst (λ (k : ℕ). Sq W (At q′ k) (runs C Λ E mir.turn-1 (Again (i, (zero, e))))) (sym e ∙ add-zero i) (ends (i, (zero, e)))
-      turns (i, (suc m, e)) = more i m e (omega (arith, e))
+      turn-meets-post : (n : Turn 64) → Sq W (I n) (runs C Λ E mir.turn-1 (PostAfterTurn n))
+      turn-meets-post (i, (zero, e)) = subst (λ (k : ℕ). Sq W (LoopItems q′ k) (runs C Λ E mir.turn-1 (PostAfterTurn (i, (zero, e))))) (sym e ∙ add-zero i) (turn-at-end (i, (zero, e)))
+      turn-meets-post (i, (suc m, e)) = turn-before-end i m e (omega (arith, e))
 
-  goes-blank : ent 𝓤 (emp 𝓤) (Blank 𝓤 H A mem run .pre (to-blank 𝓤 H A mem run))
-  goes-blank = qed W [] ∵ nothing ! $ nothing ! $ join ! $ frame ! $ done !
+  blank-precondition : ent 𝓤 (emp 𝓤) (Blank 𝓤 H A mem run .pre (blank-ghosts 𝓤 H A mem run))
+  blank-precondition = qed W [] ∵ nothing ! $ nothing ! $ join ! $ frame ! $ done !
 
   walk : (𝓣 : Tables 𝓤 H) → Triple 𝓤 (𝓣 .C #blank) (Blank 𝓤 H A mem run) → ent 𝓤 (onEntry 𝓤 H A f.signature (κ, tt) (q, tt) (x, tt) vals) (WpFn 𝓤 H (𝓣 .C) (𝓣 .Λ) code.function (s ∷ []) Post)
   walk 𝓣 known =
       qed W ((‵ (flft κ q) ⊛ ‵ ftrue) ∷ ‵ (owns (ShrSlice (named 0) κ T.the-row ∷ []) (x, tt) vals) ∷ []) ∵ enter ! (𝓣 .C) (𝓣 .Λ) code.function (s ∷ []) _ $
       alloc1 ! (λ l₀. alloc1 ! (λ l₁. alloc1 ! (λ l₂. alloc1 ! (λ l₃. alloc1 ! (λ l₄. alloc1 ! (λ l₅. alloc1 ! (λ l₆. alloc1 ! (λ l₇. alloc1 ! (λ l₈. alloc1 ! (λ l₉. alloc1 ! (λ l₁₀. alloc1 ! (λ l₁₁. alloc1 ! (λ l₁₂. alloc1 ! (λ l₁₃. alloc0 ! $ params1 ! $
       pass1 ! (init ! 24 refl (tt, (tt, (record { fits = room .0 }, tt)))) $ pass0 ! $
-      use0 W (raw (Blank 𝓤 H A mem run .pre (to-blank 𝓤 H A mem run))) goes-blank $
-      calls-at ! (fmOf 𝓤 H (W .laws) 𝓣) (Blank 𝓤 H A mem run) known (to-blank 𝓤 H A mem run) (no-more !) (λ w.
+      use0 W (raw (Blank 𝓤 H A mem run .pre (blank-ghosts 𝓤 H A mem run))) blank-precondition $
+      calls-at ! (fmOf 𝓤 H (W .laws) 𝓣) (Blank 𝓤 H A mem run) known (blank-ghosts 𝓤 H A mem run) (no-more !) (λ w.
       use1 W (later (some (λ (r : List Superblock). (‵ ftrue ⊛ ‵ (Array T.the-row 64 .own r (w ∷ []))) ⊛ raw (ensured 𝓤 H A blank′.ended (blank′.clauses 𝓤 H A mem run) tt tt tt r)))) (id⊢ 𝓤 _) $ await ! tt $ pick ! (λ r.
-      split ! $ move ! (1 ∷ []) $ use1 W (raw (fact 𝓤 (r ≡ blank))) (blank-of 𝓤 H A mem run r) $ heard ! (r ≡ blank) (λ e. split ! $ drop ! $ rewrite ! 0 (λ (zs : List Superblock). ‵ (Array T.the-row 64 .own zs (w ∷ []))) e refl $
-      peeks ! (Array T.the-row 64) (Is (Array T.the-row 64)) (shows 𝓤 H A (Array T.the-row 64)) blank (w ∷ []) (λ g. land ! (from ! (stop !)) (init ! 19 refl (whole-typed blank w g)) $
-      assigns ! (of-opd ! (load ! (from ! (stop !)) (look ! 19 refl))) (from ! (stop !)) (init ! 23 refl (whole-typed blank w g)) $ forget ! 19 refl $
-      move ! (23 ∷ 0 ∷ []) $ use2 W (‵ (row T.the-row fullShare blank l₂ 0)) (local-out 𝓤 H A W T.the-row tt 64 blank l₂ w) $
+      split ! $ move ! (1 ∷ []) $ use1 W (raw (fact 𝓤 (r ≡ blank))) (blank-ensures-unused 𝓤 H A mem run r) $ heard ! (r ≡ blank) (λ e. split ! $ drop ! $ rewrite ! 0 (λ (zs : List Superblock). ‵ (Array T.the-row 64 .own zs (w ∷ []))) e refl $
+      peeks ! (Array T.the-row 64) (Is (Array T.the-row 64)) (shows 𝓤 H A (Array T.the-row 64)) blank (w ∷ []) (λ g. land ! (from ! (stop !)) (init ! 19 refl (array64-typed blank w g)) $
+      assigns ! (of-opd ! (load ! (from ! (stop !)) (look ! 19 refl))) (from ! (stop !)) (init ! 23 refl (array64-typed blank w g)) $ forget ! 19 refl $
+      move ! (23 ∷ 0 ∷ []) $ use2 W (‵ (row T.the-row fullShare blank l₂ 0)) (array-cell-to-elements 𝓤 H A W T.the-row tt 64 blank l₂ w) $
       -- [the table; _13@1; …; _6@15; _5@17; _4@19; _3@21; …; _2 dies@23; _1@24; …; _0@26; …; the token@28; what row owns@29]
       assigns ! (of-opd ! (load ! (from ! (fld ! refl (stop !))) (look-in ! 24 (sub ! 1 refl (whole !))))) (from ! (stop !)) (init ! 17 refl (tt, record { fits = room .0 })) $
       assigns ! (bin ! (load ! (from ! (stop !)) (look ! 17 refl)) (lit ! tt) tt) (from ! (stop !)) (init ! 15 refl (tt, tt)) $ forget ! 17 refl $
@@ -261,9 +261,9 @@ module _ {M : Type 1} (𝓤 : URA M) (H : Heap 𝓤) (A : Atoms 𝓤) (W : Given
       (λ h. forget ! 15 refl $ assigns ! (of-opd ! (lit ! tt)) (from ! (stop !)) (init ! 3 refl (tt, record { fits = lit< tt })) $
       looks-slice ! tt T.the-row (Is T.the-row) (shows 𝓤 H A T.the-row) (LL.vals T.the-type T′.the-laws) (LL.tells T.the-type T′.the-laws) (LL.copy T.the-type T′.the-copy 𝓤 H A W) ys b o (λ q′.
       move ! (2 ∷ []) $ drop ! $ move ! (0 ∷ 2 ∷ 3 ∷ 1 ∷ []) $
-      blocks ! $ loops ! 𝓣 (fewer 64) (fewer-wf 64) (I 𝓣 l₀ l₁ l₂ l₃ l₄ l₅ l₆ l₇ l₈ l₉ l₁₀ l₁₁ l₁₂ l₁₃ q′ (omega (arith, eqb→eq (length ys) _ h))) (turns 𝓣 l₀ l₁ l₂ l₃ l₄ l₅ l₆ l₇ l₈ l₉ l₁₀ l₁₁ l₁₂ l₁₃ q′ (omega (arith, eqb→eq (length ys) _ h))) (0, (64, refl))))
+      blocks ! $ loops ! 𝓣 (fewerTurnsLeft 64) (fewer-turns-left-wf 64) (I 𝓣 l₀ l₁ l₂ l₃ l₄ l₅ l₆ l₇ l₈ l₉ l₁₀ l₁₁ l₁₂ l₁₃ q′ (omega (arith, eqb→eq (length ys) _ h))) (turn-meets-post 𝓣 l₀ l₁ l₂ l₃ l₄ l₅ l₆ l₇ l₈ l₉ l₁₀ l₁₁ l₁₂ l₁₃ q′ (omega (arith, eqb→eq (length ys) _ h))) (0, (64, refl))))
       (λ h. skips ! $ exec ! (𝓣 .C) (𝓣 .Λ) (E 𝓣 l₀ l₁ l₂ l₃ l₄ l₅ l₆ l₇ l₈ l₉ l₁₀ l₁₁ l₁₂ l₁₃) mir.t-6 (atRet (E 𝓣 l₀ l₁ l₂ l₃ l₄ l₅ l₆ l₇ l₈ l₉ l₁₀ l₁₁ l₁₂ l₁₃) Post) $ forget ! 15 refl $ drop ! $
-      leaves 𝓣 l₀ l₁ l₂ l₃ l₄ l₅ l₆ l₇ l₈ l₉ l₁₀ l₁₁ l₁₂ l₁₃ blank (length-replicate 64 unused) (sym (ap (λ (c : Bool). choose c ys blank) (fails (eqb (length ys) 64) (T-not (eqb (length ys) 64) h)))))))))))))))))))))))
+      return-meets-post 𝓣 l₀ l₁ l₂ l₃ l₄ l₅ l₆ l₇ l₈ l₉ l₁₀ l₁₁ l₁₂ l₁₃ blank (length-replicate 64 unused) (sym (ap (λ (c : Bool). choose c ys blank) (false-of-not-T (eqb (length ys) 64) (T-not (eqb (length ys) 64) h)))))))))))))))))))))))
 
 module _ {M : Type 1} (𝓤 : URA M) (H : Heap 𝓤) (A : Atoms 𝓤) (W : Given 𝓤 H A) (mem : Memory → SProp 𝓤) (run : Routine → Fun 𝓤) where
   load-walks : (𝓣 : Tables 𝓤 H) → Triple 𝓤 (𝓣 .C #blank) (Blank 𝓤 H A mem run) → Walks 𝓤 H A f.ended stayed (WpFn 𝓤 H (𝓣 .C) (𝓣 .Λ) code.function) (f.clauses 𝓤 H A mem run)

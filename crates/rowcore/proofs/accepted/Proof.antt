@@ -1,4 +1,5 @@
-use Rattle.rowcore.proofs.TableLaws.{accepted-ready, accepted-address, accepted-moves, accepted-refused}
+-- `rowcore::accepted` meets its contract. Assumes nothing.
+use Rattle.rowcore.proofs.TableCallLaws.{accepted-ready, accepted-address, accepted-moves, accepted-refused}
 use borrow.Author.Needs.{needs}
 use Rattle.rowcore.proofs.accepted.Statement.{statement}
 use Rattle.rowcore.proofs.accepted.Tie as tie

@@ -1,4 +1,5 @@
-use Rattle.rowcore.proofs.TableLaws.{answer-made}
+-- `rowcore::answered` meets its contract. Assumes nothing.
+use Rattle.rowcore.proofs.TableCallLaws.{answered-call-from-parts}
 use borrow.Author.Needs.{needs}
 use Rattle.rowcore.proofs.answered.Statement.{statement}
 use Rattle.rowcore.proofs.answered.Tie as tie
@@ -7,7 +8,7 @@ accepted-requires : tie.Need-accepted-requires
 accepted-requires c κs = search needs
 
 returns : tie.Need-returns
-returns c = search answer-made
+returns c = search answered-call-from-parts
 
 pub answered-spec : {M : Type 1} → statement M
 answered-spec = tie.close (tie.spec accepted-requires returns)

@@ -1,4 +1,5 @@
-use Rattle.rowcore.proofs.TableLaws.{call-take, call-free}
+-- `rowcore::call_state` meets its contract. Assumes nothing.
+use Rattle.rowcore.proofs.TableCallLaws.{take-is-call-of, free-is-call-of}
 use borrow.Author.Needs.{needs}
 use Rattle.rowcore.proofs.call_state.Statement.{statement}
 use Rattle.rowcore.proofs.call_state.Tie as tie
@@ -19,13 +20,13 @@ same-length : tie.Need-same-length
 same-length c = search needs
 
 returns : tie.Need-returns
-returns c = (search call-take, c .before .before .take .ensures .1 .1)
+returns c = (search take-is-call-of, c .before .before .take .ensures .1 .1)
 
 same-length-2 : tie.Need-same-length-2
 same-length-2 c = search needs
 
 returns-2 : tie.Need-returns-2
-returns-2 c = (search call-free, c .before .before .free .ensures .1 .1)
+returns-2 c = (search free-is-call-of, c .before .before .free .ensures .1 .1)
 
 pub call-state-spec : {M : Type 1} → statement M
 call-state-spec =

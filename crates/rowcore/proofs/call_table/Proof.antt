@@ -1,4 +1,5 @@
-use Rattle.rowcore.proofs.TableLaws.{call-refused, call-answered, gives, refused-accepts, answer-accepts, refused-yields, answer-yields}
+-- `rowcore::call_table` meets its contract. Assumes nothing.
+use Rattle.rowcore.proofs.TableCallLaws.{refused-call-is-call-on, answered-call-is-call-on, table-call-clauses, accepted-flag-of-refused-call, accepted-flag-of-answered-call, refused-call-passes-if-accepted, answered-call-passes-if-accepted}
 use borrow.Author.Needs.{needs}
 use Rattle.rowcore.proofs.call_table.Statement.{statement}
 use Rattle.rowcore.proofs.call_table.Tie as tie
@@ -13,7 +14,7 @@ same-length : tie.Need-same-length
 same-length c = search needs
 
 returns : tie.Need-returns
-returns c = gives _ _ _ (search call-refused) (search refused-accepts) (search refused-yields)
+returns c = table-call-clauses _ _ _ (search refused-call-is-call-on) (search accepted-flag-of-refused-call) (search refused-call-passes-if-accepted)
 
 call-state-requires : tie.Need-call-state-requires
 call-state-requires c κs = search needs
@@ -25,7 +26,7 @@ same-length-2 : tie.Need-same-length-2
 same-length-2 c = search needs
 
 returns-2 : tie.Need-returns-2
-returns-2 c = gives _ _ _ (search call-answered) (search answer-accepts) (answer-yields _ _ _ (c .before .before .before .call-state .ensures .1) (c .answered .ensures))
+returns-2 c = table-call-clauses _ _ _ (search answered-call-is-call-on) (search accepted-flag-of-answered-call) (answered-call-passes-if-accepted _ _ _ (c .before .before .before .call-state .ensures .1) (c .answered .ensures))
 
 pub call-table-spec : {M : Type 1} → statement M
 call-table-spec =

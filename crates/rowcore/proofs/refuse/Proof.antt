@@ -1,4 +1,5 @@
-use Rattle.rowcore.proofs.TableLaws.{refused-made}
+-- `rowcore::refuse` meets its contract. Assumes nothing.
+use Rattle.rowcore.proofs.TableCallLaws.{refused-call-from-parts}
 use borrow.Author.Needs.{needs}
 use Rattle.rowcore.proofs.refuse.Statement.{statement}
 use Rattle.rowcore.proofs.refuse.Tie as tie
@@ -7,7 +8,7 @@ accepted-requires : tie.Need-accepted-requires
 accepted-requires c κs = search needs
 
 returns : tie.Need-returns
-returns c = search refused-made
+returns c = search refused-call-from-parts
 
 pub refuse-spec : {M : Type 1} → statement M
 refuse-spec = tie.close (tie.spec accepted-requires returns)

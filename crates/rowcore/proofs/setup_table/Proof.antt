@@ -1,4 +1,5 @@
-use Rattle.rowcore.proofs.TableLaws.{setup-refused, setup-answered, gives, refused-accepts, answer-accepts, refused-yields, answer-yields}
+-- `rowcore::setup_table` meets its contract. Assumes nothing.
+use Rattle.rowcore.proofs.TableCallLaws.{refused-setup-is-setup-on, answered-setup-is-setup-on, table-call-clauses, accepted-flag-of-refused-call, accepted-flag-of-answered-call, refused-call-passes-if-accepted, answered-call-passes-if-accepted}
 use borrow.Author.Needs.{needs}
 use Rattle.rowcore.proofs.setup_table.Statement.{statement}
 use Rattle.rowcore.proofs.setup_table.Tie as tie
@@ -16,7 +17,7 @@ same-length : tie.Need-same-length
 same-length c = search needs
 
 returns : tie.Need-returns
-returns c = gives _ _ _ (search setup-refused) (search refused-accepts) (search refused-yields)
+returns c = table-call-clauses _ _ _ (search refused-setup-is-setup-on) (search accepted-flag-of-refused-call) (search refused-call-passes-if-accepted)
 
 setup-requires : tie.Need-setup-requires
 setup-requires c κs = search needs
@@ -28,7 +29,7 @@ same-length-2 : tie.Need-same-length-2
 same-length-2 c = search needs
 
 returns-2 : tie.Need-returns-2
-returns-2 c = gives _ _ _ (search setup-answered) (search answer-accepts) (answer-yields _ _ _ (c .before .before .before .setup .ensures .1 .1) (c .answered .ensures))
+returns-2 c = table-call-clauses _ _ _ (search answered-setup-is-setup-on) (search accepted-flag-of-answered-call) (answered-call-passes-if-accepted _ _ _ (c .before .before .before .setup .ensures .1 .1) (c .answered .ensures))
 
 pub setup-table-spec : {M : Type 1} → statement M
 setup-table-spec =

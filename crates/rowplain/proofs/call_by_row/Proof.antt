@@ -1,5 +1,6 @@
-use Rattle.laws.proofs.Replaced.{length-mapped}
-use Rattle.rowplain.proofs.MostLaws.{call-at, call-told, passes-at}
+-- `rowplain::call_by_row` meets its contract. Assumes nothing.
+use Rattle.laws.proofs.ReplacedElement.{length-of-length-map}
+use Rattle.rowplain.proofs.AtMostLaws.{row-call-of-min, row-call-number-and-values, passes-if-accepted-of-min}
 use borrow.Author.Needs.{needs}
 use Rattle.rowplain.proofs.call_by_row.Statement.{statement}
 use Rattle.rowplain.proofs.call_by_row.Tie as tie
@@ -7,14 +8,14 @@ use Rattle.rowplain.proofs.call_by_row.Tie as tie
 at-most-requires : tie.Need-at-most-requires
 at-most-requires c κs = search needs
 
-lend-call-requires : tie.Need-lend-call-requires
-lend-call-requires c κs = search needs
+borrow-call-requires : tie.Need-borrow-call-requires
+borrow-call-requires c κs = search needs
 
 same-length : tie.Need-same-length
 same-length c = search needs
 
 returns : tie.Need-returns
-returns c = (search call-at, (search call-told, passes-at _ _ _ _ (c .before .before .lend-call .ensures .1) (c .before .before .before .before .at-most .ensures .0) (search length-mapped)))
+returns c = (search row-call-of-min, (search row-call-number-and-values, passes-if-accepted-of-min _ _ _ _ (c .before .before .borrow-call .ensures .1) (c .before .before .before .before .at-most .ensures .0) (search length-of-length-map)))
 
 pub call-by-row-spec : {M : Type 1} → statement M
-call-by-row-spec = tie.close (tie.spec at-most-requires lend-call-requires same-length returns)
+call-by-row-spec = tie.close (tie.spec at-most-requires borrow-call-requires same-length returns)

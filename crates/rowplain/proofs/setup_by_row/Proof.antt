@@ -1,5 +1,6 @@
-use Rattle.laws.proofs.Replaced.{length-mapped}
-use Rattle.rowplain.proofs.MostLaws.{setup-at, setup-told, passes-at}
+-- `rowplain::setup_by_row` meets its contract. Assumes nothing.
+use Rattle.laws.proofs.ReplacedElement.{length-of-length-map}
+use Rattle.rowplain.proofs.AtMostLaws.{row-setup-of-min, row-setup-number-and-values, passes-if-accepted-of-min}
 use borrow.Author.Needs.{needs}
 use Rattle.rowplain.proofs.setup_by_row.Statement.{statement}
 use Rattle.rowplain.proofs.setup_by_row.Tie as tie
@@ -7,14 +8,14 @@ use Rattle.rowplain.proofs.setup_by_row.Tie as tie
 at-most-requires : tie.Need-at-most-requires
 at-most-requires c κs = search needs
 
-lend-setup-requires : tie.Need-lend-setup-requires
-lend-setup-requires c κs = search needs
+borrow-setup-requires : tie.Need-borrow-setup-requires
+borrow-setup-requires c κs = search needs
 
 same-length : tie.Need-same-length
 same-length c = search needs
 
 returns : tie.Need-returns
-returns c = (search setup-at, (search setup-told, passes-at _ _ _ _ (c .before .before .lend-setup .ensures .1) (c .before .before .before .before .at-most .ensures .0) (search length-mapped)))
+returns c = (search row-setup-of-min, (search row-setup-number-and-values, passes-if-accepted-of-min _ _ _ _ (c .before .before .borrow-setup .ensures .1) (c .before .before .before .before .at-most .ensures .0) (search length-of-length-map)))
 
 pub setup-by-row-spec : {M : Type 1} → statement M
-setup-by-row-spec = tie.close (tie.spec at-most-requires lend-setup-requires same-length returns)
+setup-by-row-spec = tie.close (tie.spec at-most-requires borrow-setup-requires same-length returns)

@@ -5,7 +5,7 @@ use Prim.Native.Nat.{ℕ, _≤_, _-_}
 use native.Mathlib.Omega.{arith}
 use lib.ListN.{length}
 use borrow.Author.Needs.{needs}
-use Rattle.stream.proofs.Laws.{counted, read-within}
+use Rattle.stream.proofs.InputLaws.{count-is-length-of-take, read-bytes-within-buffer}
 use Rattle.stream.proofs.read_whole.Statement.{statement}
 use Rattle.stream.proofs.read_whole.Tie as tie
 
@@ -45,25 +45,25 @@ returns c = search needs
 add-done : tie.Need-add-done Inv-loop μ-loop
 add-done c =
     let buf : List ℕ = c .before .before .before .before .before .before .before .before .before .loop .buf in
-    omega (arith, read-within buf _ buf _ _ _ (c .before .before .before .before .before .before .read-some .ensures) (c .before .before .part .given .1) (c .before .before .before .before .before .before .before .before .loop-test .taken) (c .before .before .before .before .before .buf .given .0) refl)
+    omega (arith, read-bytes-within-buffer buf _ buf _ _ _ (c .before .before .before .before .before .before .read-some .ensures) (c .before .before .part .given .1) (c .before .before .before .before .before .before .before .before .loop-test .taken) (c .before .before .before .before .before .buf .given .0) refl)
 
 loop-less : tie.Need-loop-less Inv-loop μ-loop
 loop-less c = omega arith
 
 loop-again : tie.Need-loop-again Inv-loop μ-loop
-loop-again c = (search read-within, search needs)
+loop-again c = (search read-bytes-within-buffer, search needs)
 
 same-length-2 : tie.Need-same-length-2 Inv-loop μ-loop
 same-length-2 c = search needs
 
 returns-2 : tie.Need-returns-2 Inv-loop μ-loop
-returns-2 c = (omega arith, counted _ _ (omega arith))
+returns-2 c = (omega arith, count-is-length-of-take _ _ (omega arith))
 
 same-length-3 : tie.Need-same-length-3 Inv-loop μ-loop
 same-length-3 c = search needs
 
 returns-3 : tie.Need-returns-3 Inv-loop μ-loop
-returns-3 c = (omega arith, counted _ _ (omega arith))
+returns-3 c = (omega arith, count-is-length-of-take _ _ (omega arith))
 
 pub read-whole-spec : {M : Type 1} → statement M
 read-whole-spec =

@@ -7,11 +7,11 @@ use Rattle.stream.proofs.write_output.Tie as tie
 write-whole-requires : tie.Need-write-whole-requires
 write-whole-requires c κs = search needs
 
-slice-aggregate-tell : tie.Need-slice-aggregate-tell
-slice-aggregate-tell c = search needs
+slice-aggregate-report-failure : tie.Need-slice-aggregate-report-failure
+slice-aggregate-report-failure c = search needs
 
-tell-requires : tie.Need-tell-requires
-tell-requires c κs = search needs
+report-failure-requires : tie.Need-report-failure-requires
+report-failure-requires c κs = search needs
 
 returns : tie.Need-returns
 returns c = λ e. absurd (let z : ⊥ = omega arith in z)
@@ -21,4 +21,4 @@ returns-2 c = search needs
 
 pub write-output-spec : {M : Type 1} → statement M
 write-output-spec =
-    tie.close (tie.spec write-whole-requires slice-aggregate-tell tell-requires returns returns-2)
+    tie.close (tie.spec write-whole-requires slice-aggregate-report-failure report-failure-requires returns returns-2)

@@ -3,7 +3,7 @@ use Prim.Native.Nat.{_≤_, _-_}
 use native.Mathlib.Omega.{arith}
 use lib.ListN.{length}
 use borrow.Author.Needs.{needs}
-use Rattle.stream.proofs.Laws.{counted}
+use Rattle.stream.proofs.InputLaws.{count-is-length-of-take}
 use Rattle.stream.proofs.write_whole.Statement.{statement}
 use Rattle.stream.proofs.write_whole.Tie as tie
 
@@ -38,10 +38,10 @@ loop-again : tie.Need-loop-again Inv-loop μ-loop
 loop-again c = search needs
 
 returns : tie.Need-returns Inv-loop μ-loop
-returns c = (omega arith, counted _ _ (omega arith))
+returns c = (omega arith, count-is-length-of-take _ _ (omega arith))
 
 returns-2 : tie.Need-returns-2 Inv-loop μ-loop
-returns-2 c = (omega arith, counted _ _ (omega arith))
+returns-2 c = (omega arith, count-is-length-of-take _ _ (omega arith))
 
 pub write-whole-spec : {M : Type 1} → statement M
 write-whole-spec =

@@ -1,7 +1,7 @@
 -- `text::put_digits` meets its contract: the digits before the last one are put by the call of itself, one fewer at most, which is the measure. Assumes nothing.
 use native.Mathlib.Omega.{arith}
 use borrow.Author.Needs.{needs}
-use Rattle.text.proofs.DigitLaws.{fewer, one-digit, more-digits}
+use Rattle.text.proofs.DigitLaws.{div-10-lt-pow-pred, paste-one-digit, paste-last-digit}
 use Prim.Native.Nat.{ℕ, _<_}
 use borrow.Fn.Kinds.{In}
 use borrow.Fn.PlainCycle.{Measures, is, falls, and}
@@ -63,7 +63,7 @@ put-digits-returns : (t : ℕ) → put-digits-lts.Need-returns (
 ) (put-digits-at t) put-digits.Post
 put-digits-returns t c =
     let a = c .before .before .before .before .before .before .args in
-    one-digit (a .out .now) (a .at) (a .most) (a .n) _ (omega arith) (omega arith) (omega arith) (c .before .before .put-byte .ensures)
+    paste-one-digit (a .out .now) (a .at) (a .most) (a .n) _ (omega arith) (omega arith) (omega arith) (c .before .before .put-byte .ensures)
 
 put-digits-sub-put-digits : (t : ℕ) → put-digits-lts.Need-sub-put-digits (
   put-byte-reads.Asked,
@@ -81,7 +81,7 @@ put-digits-put-digits-requires : (t : ℕ) → put-digits-lts.Need-put-digits-re
 ) (put-digits-at t) put-digits.Post
 put-digits-put-digits-requires t c κs =
     let z = c .before .before .before in
-    let d = fewer (z .args .most) (z .args .n) (z .pre .1 .0) (omega arith) in
+    let d = div-10-lt-pow-pred (z .args .most) (z .args .n) (z .pre .1 .0) (omega arith) in
     (omega arith, (d .0, omega arith))
 
 put-digits-put-byte-requires-2 : (t : ℕ) → put-digits-lts.Need-put-byte-requires-2 (
@@ -109,7 +109,7 @@ put-digits-returns-2 : (t : ℕ) → put-digits-lts.Need-returns-2 (
 put-digits-returns-2 t c =
     let k = c .before .before .before .before .before .before in
     let a = k .before .before .before .before .args in
-    more-digits (a .out .now) (a .at) (a .most) (a .n) _ (omega arith) (omega arith) (omega arith) (k .put-digits .ensures) (c .before .before .put-byte2 .ensures)
+    paste-last-digit (a .out .now) (a .at) (a .most) (a .n) _ (omega arith) (omega arith) (omega arith) (k .put-digits .ensures) (c .before .before .put-byte2 .ensures)
 
 pub +put-digits-spec : {M : Type 1} → statement M
 +put-digits-spec = close μ-put-digits λ t. put-digits-lts.spec (

@@ -1,5 +1,5 @@
 -- `text::put_byte` meets its contract: there is such a place, or not. Assumes nothing.
-use Rattle.text.proofs.PasteLaws.{byte-put, byte-left-out}
+use Rattle.text.proofs.PasteLaws.{paste-byte-inside, paste-byte-past-end}
 use native.Mathlib.Omega.{arith}
 use borrow.Author.Needs.{needs}
 use Rattle.text.proofs.put_byte.Statement.{statement}
@@ -15,10 +15,10 @@ same-length : tie.Need-same-length
 same-length c = search needs
 
 returns : tie.Need-returns
-returns c = byte-put _ _ _ _ (omega arith) (omega arith)
+returns c = paste-byte-inside _ _ _ _ (omega arith) (omega arith)
 
 returns-2 : tie.Need-returns-2
-returns-2 c = byte-left-out _ _ _ _ (omega arith) (omega arith)
+returns-2 c = paste-byte-past-end _ _ _ _ (omega arith) (omega arith)
 
 pub put-byte-spec : {M : Type 1} → statement M
 put-byte-spec = tie.close (tie.spec slice-write-out add-result same-length returns returns-2)

@@ -5,7 +5,7 @@ use lib.ListN.{length, take}
 use native.Mathlib.Omega.{arith}
 use borrow.Author.Needs.{needs}
 use Rattle.text.specs.Text.{pasted}
-use Rattle.text.proofs.PasteLaws.{none-pasted, again-pasted, all-pasted}
+use Rattle.text.proofs.PasteLaws.{paste-first-0, paste-first-suc, paste-first-all}
 use Rattle.text.proofs.put_text.Statement.{statement}
 use Rattle.text.proofs.put_text.Tie as tie
 
@@ -21,7 +21,7 @@ lesser-requires c κs = search needs
 loop-holds : tie.Need-loop-holds Inv-loop μ-loop
 loop-holds c =
     let a = c .before .before .before .args in
-    (omega arith, none-pasted (a .out .now) (a .at) (a .text .now) (c .lesser .result) (omega arith), refl)
+    (omega arith, paste-first-0 (a .out .now) (a .at) (a .text .now) (c .lesser .result) (omega arith), refl)
 
 shared-slice-read-put-byte : tie.Need-shared-slice-read-put-byte Inv-loop μ-loop
 shared-slice-read-put-byte c = search needs
@@ -40,7 +40,7 @@ loop-again c =
     let p = c .before .before .put-byte in
     let l = c .before .before .before .before .before .before .loop in
     let a = c .before .before .before .before .before .before .before .before .before .before .args in
-    (omega arith, again-pasted (a .out .now) (a .at) (a .text .now) (l .i) _ (omega arith) (omega arith) (l .inv .1) (p .ensures), p .kept .0 ∙ l .inv .2)
+    (omega arith, paste-first-suc (a .out .now) (a .at) (a .text .now) (l .i) _ (omega arith) (omega arith) (l .inv .1) (p .ensures), p .kept .0 ∙ l .inv .2)
 
 same-length : tie.Need-same-length Inv-loop μ-loop
 same-length c = search needs
@@ -49,7 +49,7 @@ returns : tie.Need-returns Inv-loop μ-loop
 returns c =
     let l = c .before .loop in
     let a = c .before .before .before .before .before .args in
-    all-pasted (a .out .now) (a .at) (a .text .now) (l .i) (omega arith) (l .inv .1)
+    paste-first-all (a .out .now) (a .at) (a .text .now) (l .i) (omega arith) (l .inv .1)
 
 pub put-text-spec : {M : Type 1} → statement M
 put-text-spec =

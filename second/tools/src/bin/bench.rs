@@ -122,7 +122,7 @@ fn print_in_process(run: &Run) {
 /// The time of the state check alone, over every state of a record.
 fn time_of_checks(record: &[u8]) -> Duration {
     let mut order = vec![0; SUPERBLOCKS * ORDER_PLACES];
-    let mut state = State::fresh(Setup::default());
+    let mut state = State::new(Setup::default());
     let mut total = Duration::ZERO;
     let mut offset = 0;
     while let Ok((command, next_offset)) = decode(record, offset) {

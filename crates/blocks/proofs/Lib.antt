@@ -1,3 +1,0 @@
-pub mod PastLaws
-pub mod TakeLaws
-pub mod FreeLaws

@@ -1,0 +1,83 @@
+-- When a take and a free are accepted, and what they then do to a state: the facts that the claims over lists go by.
+use mathlib.Core.Path.{_≡_}
+use mathlib.Core.Bool.{Bool, true, false}
+use mathlib.Core.Logic.{_⊎_}
+use mathlib.Core.List.{List}
+use lib.ListN.{length}
+use Prim.Native.Nat.{ℕ, suc, _+_, _-_, _*_, _≤_, _<_}
+use Rattle.classes.specs.Classes.{sizeOf, blocksOf, classOf}
+use Rattle.marks.specs.Marks.{markBit}
+use Rattle.heap.specs.declared.State.{State}
+use Rattle.heap.specs.Table.{superblockAt, liveIn}
+use Rattle.heap.specs.Counts.{superblocksOf, superblocksOfClass, liveOfClass, ownersChanged}
+use Rattle.heap.specs.declared.Found.the-variants.{At, Nothing}
+use Rattle.heap.specs.Choice.{fullest}
+use Rattle.heaplaws.proofs.StateFacts.{Sound}
+use Rattle.calls.specs.Take.{otherPlaces, takenFrom, takenFromOther, takeOf}
+use Rattle.calls.specs.Free.{isUnmapped, isMisaligned, isLiveAt, freedAt, freeOf}
+
+-- the state passes the check and its places are lent
+pub record Passed (s : State) (order : List ℕ) : Type 0 where
+  pub sound : Sound s order
+  pub room : s .setup .superblocks * 256 ≤ length order
+
+-- an accepted take: the state passes, the processor and the size are in range, and
+-- place 1, or else one of places 2 to 4, offers superblock k
+pub record TakeAccepted (s : State) (order : List ℕ) (i size k : ℕ) : Type 0 where
+  pub passed : Passed s order
+  pub processor : (1 ≤ i) × (i ≤ s .setup .processors)
+  pub size-low : 1 ≤ size
+  pub size-high : size ≤ 2048
+  pub place : ((fullest i (classOf size) s ≡ At k) × (takeOf s order i size ≡ takenFrom k s order))
+      ⊎ ((fullest i (classOf size) s ≡ Nothing) × (otherPlaces (classOf size) s ≡ At k) × (takeOf s order i size ≡ takenFromOther i (classOf size) k s order))
+
+-- an accepted free: the state passes, the processor is in range, and a live block starts at the address
+pub record FreeAccepted (s : State) (order : List ℕ) (i a : ℕ) : Type 0 where
+  pub passed : Passed s order
+  pub processor : (1 ≤ i) × (i ≤ s .setup .processors)
+  pub mapped : isUnmapped s a ≡ false
+  pub block-aligned : isMisaligned s a ≡ false
+  pub live : isLiveAt s a ≡ true
+  pub result-is : freeOf s order i a ≡ freedAt s order a
+
+-- Heap i takes block j of superblock k, for class c; s is the state before and t after.
+-- "an accepted take answers the address of a block that was not marked, in a superblock of the size's class, marks exactly it, and changes at most one owner"
+pub record TakeEffect (i c k j : ℕ) (s t : State) : Type 0 where
+  pub below : k < s .setup .superblocks
+  pub class-lt-27 : c < 27
+  pub block : j < blocksOf c
+  pub setup : t .setup ≡ s .setup
+  pub others : (m : ℕ) → (m ≡ k → ⊥) → superblockAt t m ≡ superblockAt s m
+  pub owner : superblockAt t k .owner ≡ i
+  pub class : superblockAt t k .class ≡ c
+  pub before : (liveIn (superblockAt s k) ≡ 0) ⊎ ((superblockAt s k .class ≡ c) × (superblockAt s k .owner ≡ 255 → ⊥))
+  pub not-marked : markBit (superblockAt s k .live) j ≡ 0
+  pub is-marked : markBit (superblockAt t k .live) j ≡ 1
+  pub marks : (m : ℕ) → m < 256 → (m ≡ j → ⊥) → markBit (superblockAt t k .live) m ≡ markBit (superblockAt s k .live) m
+  pub live : liveIn (superblockAt t k) ≡ suc (liveIn (superblockAt s k))
+  pub one-owner-changed : ownersChanged s t ≤ 1
+  -- the class's superblocks: another class has no more; this one has no more, or none in heap 0 now
+  pub owned-of-others : (d : ℕ) → (d ≡ c → ⊥) → superblocksOfClass d t ≤ superblocksOfClass d s
+  pub owned-of-class : (superblocksOfClass c t ≤ superblocksOfClass c s) ⊎ (superblocksOf 0 c t ≡ 0)
+  pub live-of-class : liveOfClass c t ≡ suc (liveOfClass c s)
+  pub live-of-others : (d : ℕ) → (d ≡ c → ⊥) → liveOfClass d t ≡ liveOfClass d s
+
+-- Block j of superblock k, of class c, is freed, with so many moves.
+pub record FreeEffect (c k j moves : ℕ) (s t : State) : Type 0 where
+  pub below : k < s .setup .superblocks
+  pub class-lt-27 : c < 27
+  pub block : j < blocksOf c
+  pub setup : t .setup ≡ s .setup
+  pub class-before : superblockAt s k .class ≡ c
+  pub owned-before : superblockAt s k .owner ≡ 255 → ⊥
+  pub was-marked : markBit (superblockAt s k .live) j ≡ 1
+  pub not-marked : markBit (superblockAt t k .live) j ≡ 0
+  pub marks : (m b : ℕ) → m < 64 → ((m ≡ k) × (b ≡ j) → ⊥) → b < 256 → markBit (superblockAt t m .live) b ≡ markBit (superblockAt s m .live) b
+  pub classes : (m : ℕ) → m < 64 → superblockAt t m .class ≡ superblockAt s m .class
+  -- an owner stays, or was a processor heap's and is 0
+  pub owners : (m : ℕ) → m < 64 → (superblockAt t m .owner ≡ superblockAt s m .owner) ⊎ ((superblockAt s m .owner ≡ superblockAt s k .owner) × (superblockAt t m .owner ≡ 0))
+  pub changed : ownersChanged s t ≡ moves
+  pub moves-le-q : moves ≤ s .setup .q
+  pub owned : (d : ℕ) → superblocksOfClass d t ≡ superblocksOfClass d s
+  pub live-of-class : liveOfClass c s ≡ suc (liveOfClass c t)
+  pub live-of-others : (d : ℕ) → (d ≡ c → ⊥) → liveOfClass d t ≡ liveOfClass d s

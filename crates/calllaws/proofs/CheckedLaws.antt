@@ -1,0 +1,58 @@
+-- The refusals that take and free share, as cases. Assumes nothing.
+use mathlib.Core.Path.{_≡_, refl}
+use mathlib.Core.Bool.{Bool, true, false}
+use mathlib.Core.Logic.{_⊎_, inl, inr}
+use mathlib.Core.List.{List}
+use Prim.Native.Nat.{ℕ, _*_, _≤_, _<_}
+use lib.ListN.{length}
+use lib.Dec.{T, leb, leb→le}
+use borrow.Author.Tests.{leb-true, le-leb, lt-leb}
+use Rattle.laws.specs.Sums.{pick, both}
+use Rattle.laws.proofs.TestLaws.{T-of-true, true-of-T, both-left, both-right}
+use Rattle.heap.specs.declared.State.{State}
+use Rattle.heap.specs.Check.{withinLimits, restValid, passes}
+use Rattle.heaplaws.proofs.StateCheckLaws.{passes-of-sound, sound-of-limits-and-rest}
+use Rattle.calllaws.proofs.CallEffects.{Passed}
+use Rattle.calls.specs.Answers.{After, refused, checked, isProcessor}
+
+-- the three tests, as the check of a call makes them
+checked-by-tests : (s : State) (order : List ℕ) (next : After) (a b c : Bool) → withinLimits (s .setup) ≡ a → leb (s .setup .superblocks * 256) (length order) ≡ b → restValid s order ≡ c
+    → ((r : ℕ) × (pick a (pick b (pick c next (refused 13 s order)) (refused 12 s order)) (refused 13 s order) ≡ refused r s order))
+    ⊎ (Passed s order × (pick a (pick b (pick c next (refused 13 s order)) (refused 12 s order)) (refused 13 s order) ≡ next))
+checked-by-tests s order next true true true e f g =
+    inr (record { sound = sound-of-limits-and-rest s order (T-of-true (withinLimits (s .setup)) e) (T-of-true (restValid s order) g); room = leb-true (s .setup .superblocks * 256) (length order) f }, refl)
+checked-by-tests s order next true true false e f g = inl (13, refl)
+checked-by-tests s order next true false c e f g = inl (12, refl)
+checked-by-tests s order next false b c e f g = inl (13, refl)
+
+-- a call is refused by the check, or goes on with a state that passes
+pub checked-refused-or-passed : (s : State) (order : List ℕ) (next : After) → ((r : ℕ) × (checked s order next ≡ refused r s order)) ⊎ (Passed s order × (checked s order next ≡ next))
+unfolding checked
+checked-refused-or-passed s order next = checked-by-tests s order next (withinLimits (s .setup)) (leb (s .setup .superblocks * 256) (length order)) (restValid s order) refl refl refl
+
+pub checked-is-next-of-passed : (s : State) (order : List ℕ) (next : After) → Passed s order → checked s order next ≡ next
+unfolding checked passes
+checked-is-next-of-passed s order next p =
+    let t : T (both (withinLimits (s .setup)) (restValid s order)) = passes-of-sound s order (p .sound) in
+    simp (
+      true-of-T (withinLimits (s .setup)) (both-left (withinLimits (s .setup)) (restValid s order) t),
+      le-leb (s .setup .superblocks * 256) (length order) (p .room),
+      true-of-T (restValid s order) (both-right (withinLimits (s .setup)) (restValid s order) t),
+    )
+
+-- the order of the first refusals: 13 for setup numbers, 12, the rest of 13
+pub checked-refuses-13-of-limits : (s : State) (order : List ℕ) (next : After) → withinLimits (s .setup) ≡ false → checked s order next ≡ refused 13 s order
+unfolding checked
+checked-refuses-13-of-limits s order next e = rw e
+
+pub checked-refuses-12-of-storage : (s : State) (order : List ℕ) (next : After) → withinLimits (s .setup) ≡ true → length order < s .setup .superblocks * 256 → checked s order next ≡ refused 12 s order
+unfolding checked
+checked-refuses-12-of-storage s order next e l = rw (e, lt-leb (s .setup .superblocks * 256) (length order) l)
+
+pub checked-refuses-13-of-rest : (s : State) (order : List ℕ) (next : After) → withinLimits (s .setup) ≡ true → s .setup .superblocks * 256 ≤ length order → restValid s order ≡ false → checked s order next ≡ refused 13 s order
+unfolding checked
+checked-refuses-13-of-rest s order next e l f = rw (e, le-leb (s .setup .superblocks * 256) (length order) l, f)
+
+pub bounds-of-is-processor : (s : State) (i : ℕ) → T (isProcessor s i) → (1 ≤ i) × (i ≤ s .setup .processors)
+unfolding isProcessor
+bounds-of-is-processor s i t = (leb→le 1 i (both-left (leb 1 i) (leb i (s .setup .processors)) t), leb→le i (s .setup .processors) (both-right (leb 1 i) (leb i (s .setup .processors)) t))

@@ -1,0 +1,231 @@
+-- A live block's mark cleared and its number put in the next place, before any move: what the state and its counts are then. Assumes nothing.
+use mathlib.Core.Path.{_≡_, refl, sym, ap, _∙_, subst}
+use mathlib.Core.Bool.{Bool, true, false, not}
+use mathlib.Core.Logic.{_⊎_, inl, inr}
+use mathlib.Core.List.{List}
+use Prim.Native.Nat.{ℕ, suc, _+_, _-_, _*_, _≤_, _<_}
+use native.Mathlib.Nat.{mul-le-mul-left}
+use native.Mathlib.Decide.{ℕ-discrete, decLt}
+use native.Mathlib.Omega.{arith}
+use borrow.Author.Tests.{eq-eqb, ne-eqb}
+use lib.ListN.{length}
+use lib.Seq.{getD-set-same, getD-set-other}
+use lib.Dec.{T, eqb}
+use Rattle.laws.specs.Sums.{pick, both, one}
+use Rattle.laws.proofs.Inequalities.{le-of-not-below}
+use Rattle.laws.proofs.SumLaws.{sum-cong}
+use Rattle.classes.specs.Classes.{blocksOf}
+use Rattle.classes.proofs.ClassTableLaws.{blocks-of-le-256}
+use Rattle.marks.specs.Marks.{markBit}
+use Rattle.marks.proofs.MarkLaws.{live-count-without-mark, length-without-mark, without-mark-same, without-mark-other}
+use Rattle.order.specs.Order.{withPlace}
+use Rattle.ordercheck.proofs.PlacesValidLaws.{places-valid-after-free}
+use Rattle.ordercheck.proofs.OwnPlacesOnly.{places-valid-other-with-place}
+use Rattle.heap.specs.declared.Superblock.{Superblock}
+use Rattle.heap.specs.declared.State.{State}
+use Rattle.heap.specs.Table.{blank, superblockAt, withSuperblock, liveIn, withoutMarkAt}
+use Rattle.heap.specs.Counts.{total, belongs, isOwnedOfClass, oneIfBelongs, liveIfBelongs, superblocksOf, blocksIn, liveOf, superblocksOfClass, liveOfClass, ownersChanged}
+use Rattle.heap.specs.Moves.{mustMove}
+use Rattle.heaplaws.proofs.StateFacts.{Shape, Unused, Owned, Sparse}
+use Rattle.heaplaws.proofs.CountLaws.{total-with-superblock, live-if-belongs-is-live-in, live-if-belongs-other-owner, live-if-belongs-other-class}
+use Rattle.heaplaws.proofs.StateCheckLaws.{shape-with-superblock, owned-of-owner}
+use Rattle.heaplaws.proofs.MoveLaws.{must-move-of-conditions}
+use Rattle.calllaws.proofs.CallEffects.{Passed}
+use Rattle.calllaws.proofs.SuperblockLaws.{owned-of-class-true, owned-of-class-false}
+use Rattle.calllaws.proofs.TransferredLaws.{SoundExcept, must-move-cong}
+
+-- block j of superblock k is live, in a state that passes its check
+pub record LiveBlock (s : State) (order : List ℕ) (k j : ℕ) : Type 0 where
+  pub shape : Shape s
+  pub passed : Passed s order
+  pub below : k < s .setup .superblocks
+  pub owned : superblockAt s k .owner ≡ 255 → ⊥
+  pub block : j < blocksOf (superblockAt s k .class)
+  pub marked : markBit (superblockAt s k .live) j ≡ 1
+
+-- superblock k's owner and class
+abbrev pub ownerAt : State → ℕ → ℕ
+ownerAt s k = superblockAt s k .owner
+
+abbrev pub classAt : State → ℕ → ℕ
+classAt s k = superblockAt s k .class
+
+-- "The block's mark is cleared"
+abbrev pub withMarkCleared : State → ℕ → ℕ → State
+withMarkCleared s k j = withSuperblock s k (withoutMarkAt (superblockAt s k) j)
+
+-- "and its number goes in the next place of its superblock's order"
+abbrev pub withBlockPushed : State → List ℕ → ℕ → ℕ → List ℕ
+withBlockPushed s order k j = withPlace order k (blocksOf (superblockAt s k .class) - liveIn (superblockAt s k)) j
+
+-- where the move rule does not ask for a move, one of its conditions is not met
+condition-fails-of-not-must-move : (h c : ℕ) (s : State) → (T (mustMove h c s) → ⊥)
+    → (blocksIn h c s ≤ liveOf h c s + s .setup .spare * blocksOf c) ⊎ ((s .setup .q - s .setup .p) * blocksIn h c s ≤ s .setup .q * liveOf h c s)
+condition-fails-of-not-must-move h c s f = go (decLt (liveOf h c s + s .setup .spare * blocksOf c) (blocksIn h c s)) (decLt (s .setup .q * liveOf h c s) ((s .setup .q - s .setup .p) * blocksIn h c s))
+  where
+    go : Dec (liveOf h c s + s .setup .spare * blocksOf c < blocksIn h c s) → Dec (s .setup .q * liveOf h c s < (s .setup .q - s .setup .p) * blocksIn h c s)
+        → (blocksIn h c s ≤ liveOf h c s + s .setup .spare * blocksOf c) ⊎ ((s .setup .q - s .setup .p) * blocksIn h c s ≤ s .setup .q * liveOf h c s)
+    go (yes a) (yes b) = absurd (f (must-move-of-conditions h c s a b))
+    go (yes a) (no b) = inr (le-of-not-below b)
+    go (no a) q = inl (le-of-not-below a)
+
+-- one of the conditions, read with one live block more
+condition-with-one-live-less : {a b u v : ℕ} (q r x : ℕ) → b ≡ a → u ≡ suc v → (a ≤ u + x) ⊎ (r * a ≤ q * u) → (b ≤ v + 1 + x) ⊎ (r * b ≤ q * (v + 1))
+condition-with-one-live-less q r x e f (inl l) = inl (omega arith)
+condition-with-one-live-less {a} {b} {u} {v} q r x e f (inr l) = inr (subst (λ (y : ℕ). r * b ≤ q * y) more (subst (λ (y : ℕ). r * y ≤ q * u) (sym e) l))
+  where
+    more : u ≡ v + 1
+    more = omega arith
+
+module _ (s : State) (order : List ℕ) (k j : ℕ) (live : LiveBlock s order k j) where
+  pub live-block-superblock-lt-64 : k < 64
+  live-block-superblock-lt-64 = let h = live .passed .sound .numbers .superblocks-high in let l = live .below in omega arith
+
+  in-table : k < length (s .table)
+  in-table = let e = live .shape .long in let l = live-block-superblock-lt-64 in omega arith
+
+  four : length (superblockAt s k .live) ≡ 4
+  four = live .shape .four k live-block-superblock-lt-64
+
+  pub live-block-superblock-owned : Owned (s .setup) order k (superblockAt s k)
+  live-block-superblock-owned = owned-of-owner s order (live .passed .sound) k live-block-superblock-lt-64 (live .owned)
+
+  block-lt-256 : j < 256
+  block-lt-256 = let b = live .block in omega (arith, blocks-of-le-256 (classAt s k))
+
+  -- ---- the superblocks
+  pub mark-cleared-at-superblock : superblockAt (withMarkCleared s k j) k ≡ withoutMarkAt (superblockAt s k) j
+  mark-cleared-at-superblock = getD-set-same (s .table) k (withoutMarkAt (superblockAt s k) j) blank in-table
+
+  pub mark-cleared-at-others : (m : ℕ) → (m ≡ k → ⊥) → superblockAt (withMarkCleared s k j) m ≡ superblockAt s m
+  mark-cleared-at-others m other = getD-set-other (s .table) k m (withoutMarkAt (superblockAt s k) j) blank other
+
+  -- what holds of the one with its mark cleared and of each other holds of each
+  mark-cleared-each : (P : ℕ → Superblock → Type 0) → P k (withoutMarkAt (superblockAt s k) j) → ((m : ℕ) → m < 64 → (m ≡ k → ⊥) → P m (superblockAt s m)) → (m : ℕ) → m < 64 → P m (superblockAt (withMarkCleared s k j) m)
+  mark-cleared-each P here other m l = go (ℕ-discrete m k)
+    where
+      go : Dec (m ≡ k) → P m (superblockAt (withMarkCleared s k j) m)
+      go (yes e) = subst (λ (i : ℕ). P i (superblockAt (withMarkCleared s k j) i)) (sym e) (subst (λ (b : Superblock). P k b) (sym mark-cleared-at-superblock) here)
+      go (no f) = subst (λ (b : Superblock). P m b) (sym (mark-cleared-at-others m f)) (other m l f)
+
+  pub mark-cleared-shape : Shape (withMarkCleared s k j)
+  mark-cleared-shape = shape-with-superblock s k (withoutMarkAt (superblockAt s k) j) (live .shape) live-block-superblock-lt-64 (length-without-mark (superblockAt s k .live) j ∙ four)
+
+  pub mark-cleared-class : (m : ℕ) → m < 64 → superblockAt (withMarkCleared s k j) m .class ≡ superblockAt s m .class
+  mark-cleared-class = mark-cleared-each (λ m b. b .class ≡ superblockAt s m .class) refl (λ m l f. refl)
+
+  pub mark-cleared-owner : (m : ℕ) → m < 64 → superblockAt (withMarkCleared s k j) m .owner ≡ superblockAt s m .owner
+  mark-cleared-owner = mark-cleared-each (λ m b. b .owner ≡ superblockAt s m .owner) refl (λ m l f. refl)
+
+  pub mark-cleared-bit : markBit (superblockAt (withMarkCleared s k j) k .live) j ≡ 0
+  mark-cleared-bit = ap (λ (b : Superblock). markBit (b .live) j) mark-cleared-at-superblock ∙ without-mark-same (superblockAt s k .live) j four block-lt-256
+
+  pub mark-cleared-other-bits : (m b : ℕ) → m < 64 → ((m ≡ k) × (b ≡ j) → ⊥) → markBit (superblockAt (withMarkCleared s k j) m .live) b ≡ markBit (superblockAt s m .live) b
+  mark-cleared-other-bits m b l = mark-cleared-each (λ m x. ((m ≡ k) × (b ≡ j) → ⊥) → markBit (x .live) b ≡ markBit (superblockAt s m .live) b)
+      (λ apart. without-mark-other (superblockAt s k .live) j b (λ q. apart (refl, q)))
+      (λ m l f apart. refl) m l
+
+  pub mark-cleared-live-in : liveIn (superblockAt s k) ≡ suc (liveIn (withoutMarkAt (superblockAt s k) j))
+  mark-cleared-live-in = live-count-without-mark (superblockAt s k .live) j four block-lt-256 (live .marked)
+
+  -- ---- the counts
+  mark-cleared-total-same : (f : Superblock → ℕ) → f (withoutMarkAt (superblockAt s k) j) ≡ f (superblockAt s k) → total f (withMarkCleared s k j .table) ≡ total f (s .table)
+  mark-cleared-total-same f e = let t = total-with-superblock f s k (withoutMarkAt (superblockAt s k) j) (live .shape .long) live-block-superblock-lt-64 in omega arith
+
+  mark-cleared-total-less : (f : Superblock → ℕ) → f (superblockAt s k) ≡ suc (f (withoutMarkAt (superblockAt s k) j)) → total f (s .table) ≡ suc (total f (withMarkCleared s k j .table))
+  mark-cleared-total-less f e = let t = total-with-superblock f s k (withoutMarkAt (superblockAt s k) j) (live .shape .long) live-block-superblock-lt-64 in omega arith
+
+  pub mark-cleared-superblocks-of : (h c : ℕ) → superblocksOf h c (withMarkCleared s k j) ≡ superblocksOf h c s
+  unfolding superblocksOf oneIfBelongs belongs
+  mark-cleared-superblocks-of h c = mark-cleared-total-same (oneIfBelongs h c) refl
+
+  pub mark-cleared-blocks-in : (h c : ℕ) → blocksIn h c (withMarkCleared s k j) ≡ blocksIn h c s
+  unfolding blocksIn
+  mark-cleared-blocks-in h c = ap (λ (m : ℕ). m * blocksOf c) (mark-cleared-superblocks-of h c)
+
+  pub mark-cleared-owned-of : (c : ℕ) → superblocksOfClass c (withMarkCleared s k j) ≡ superblocksOfClass c s
+  unfolding superblocksOfClass isOwnedOfClass
+  mark-cleared-owned-of c = mark-cleared-total-same (λ b. one (isOwnedOfClass c b)) refl
+
+  pub mark-cleared-live-of : liveOf (ownerAt s k) (classAt s k) s ≡ suc (liveOf (ownerAt s k) (classAt s k) (withMarkCleared s k j))
+  unfolding liveOf
+  mark-cleared-live-of =
+      mark-cleared-total-less (liveIfBelongs (ownerAt s k) (classAt s k))
+      (live-if-belongs-is-live-in (ownerAt s k) (classAt s k) (superblockAt s k) refl refl ∙ mark-cleared-live-in ∙ ap suc (sym (live-if-belongs-is-live-in (ownerAt s k) (classAt s k) (withoutMarkAt (superblockAt s k) j) refl refl)))
+
+  pub mark-cleared-live-of-others : (h c : ℕ) → ((h ≡ ownerAt s k) × (c ≡ classAt s k) → ⊥) → liveOf h c (withMarkCleared s k j) ≡ liveOf h c s
+  unfolding liveOf
+  mark-cleared-live-of-others h c apart = mark-cleared-total-same (liveIfBelongs h c) (go (ℕ-discrete h (ownerAt s k)))
+    where
+      go : Dec (h ≡ ownerAt s k) → liveIfBelongs h c (withoutMarkAt (superblockAt s k) j) ≡ liveIfBelongs h c (superblockAt s k)
+      go (yes e) =
+          live-if-belongs-other-class h c (withoutMarkAt (superblockAt s k) j) (λ (q : classAt s k ≡ c). apart (e, sym q))
+          ∙ sym (live-if-belongs-other-class h c (superblockAt s k) (λ (q : classAt s k ≡ c). apart (e, sym q)))
+      go (no f) =
+          live-if-belongs-other-owner h c (withoutMarkAt (superblockAt s k) j) (λ (q : ownerAt s k ≡ h). f (sym q))
+          ∙ sym (live-if-belongs-other-owner h c (superblockAt s k) (λ (q : ownerAt s k ≡ h). f (sym q)))
+
+  pub mark-cleared-live-of-class : liveOfClass (classAt s k) s ≡ suc (liveOfClass (classAt s k) (withMarkCleared s k j))
+  unfolding liveOfClass
+  mark-cleared-live-of-class =
+      mark-cleared-total-less (λ b. pick (isOwnedOfClass (classAt s k) b) (liveIn b) 0)
+      (rw (owned-of-class-true (classAt s k) (superblockAt s k) (live .owned) refl, owned-of-class-true (classAt s k) (withoutMarkAt (superblockAt s k) j) (live .owned) refl) mark-cleared-live-in)
+
+  pub mark-cleared-live-of-other-classes : (d : ℕ) → (d ≡ classAt s k → ⊥) → liveOfClass d (withMarkCleared s k j) ≡ liveOfClass d s
+  unfolding liveOfClass
+  mark-cleared-live-of-other-classes d apart =
+      mark-cleared-total-same (λ b. pick (isOwnedOfClass d b) (liveIn b) 0)
+      (rw (owned-of-class-false d (superblockAt s k) (λ q. apart (sym q)), owned-of-class-false d (withoutMarkAt (superblockAt s k) j) (λ (q : classAt s k ≡ d). apart (sym q))))
+
+  -- clearing a mark changes no owner
+  pub mark-cleared-owners-changed : (t : State) → ownersChanged s t ≡ ownersChanged (withMarkCleared s k j) t
+  unfolding ownersChanged
+  mark-cleared-owners-changed t =
+      sum-cong (λ m. one (not (eqb (superblockAt s m .owner) (superblockAt t m .owner)))) (λ m. one (not (eqb (superblockAt (withMarkCleared s k j) m .owner) (superblockAt t m .owner)))) 64
+      (λ m l. ap (λ (x : ℕ). one (not (eqb x (superblockAt t m .owner)))) (sym (mark-cleared-owner m l)))
+
+  -- ---- the check
+  fits : k * 256 + blocksOf (classAt s k) ≤ length order
+  fits = let r = live .passed .room in let l = live .below in omega (arith, blocks-of-le-256 (classAt s k))
+
+  next-place-lt-256 : blocksOf (classAt s k) - liveIn (superblockAt s k) < 256
+  next-place-lt-256 = omega (arith, blocks-of-le-256 (classAt s k), mark-cleared-live-in)
+
+  mark-cleared-unused-or-owned : (m : ℕ) → m < 64 → Unused (superblockAt (withMarkCleared s k j) m) ⊎ Owned (s .setup) (withBlockPushed s order k j) m (superblockAt (withMarkCleared s k j) m)
+  mark-cleared-unused-or-owned = mark-cleared-each (λ m b. Unused b ⊎ Owned (s .setup) (withBlockPushed s order k j) m b)
+      (inr (record {
+        owner = live-block-superblock-owned .owner;
+        class = live-block-superblock-owned .class;
+        places = places-valid-after-free order (superblockAt s k .live) k (blocksOf (classAt s k)) (blocks-of-le-256 (classAt s k)) (live-block-superblock-owned .places) four j (live .block) (live .marked) fits;
+      }))
+      (λ m l f. beside m f (live .passed .sound .each m l))
+    where
+      beside : (m : ℕ) → (m ≡ k → ⊥) → Unused (superblockAt s m) ⊎ Owned (s .setup) order m (superblockAt s m) → Unused (superblockAt s m) ⊎ Owned (s .setup) (withBlockPushed s order k j) m (superblockAt s m)
+      beside m f (inl u) = inl u
+      beside m f (inr o) = inr (record {
+        owner = o .owner;
+        class = o .class;
+        places = subst T (sym (places-valid-other-with-place order (superblockAt s m .live) m (blocksOf (superblockAt s m .class)) k f (blocks-of-le-256 (superblockAt s m .class)) (blocksOf (classAt s k) - liveIn (superblockAt s k)) j next-place-lt-256)) (o .places);
+      })
+
+  -- the check holds as before, but perhaps for the move rule of the block's heap and class
+  pub mark-cleared-sound-except : SoundExcept (ownerAt s k) (classAt s k) (withMarkCleared s k j) (withBlockPushed s order k j)
+  mark-cleared-sound-except =
+      record {
+        numbers = live .passed .sound .numbers;
+        each = mark-cleared-unused-or-owned;
+        past-unused = mark-cleared-each (λ m b. s .setup .superblocks ≤ m → Unused b) (λ far. absurd (let l = live .below in let z : ⊥ = omega arith in z)) (λ m l f. live .passed .sound .past-unused m l);
+        invariant = λ i d low high class apart must. live .passed .sound .invariant i d low high class (subst T (must-move-cong i d s (withMarkCleared s k j) refl (mark-cleared-superblocks-of i d) (mark-cleared-live-of-others i d apart)) must);
+        sparse = mark-cleared-each (λ m b. b .owner ≡ 0 → Sparse (s .setup) b) (λ zero. still (live .passed .sound .sparse k live-block-superblock-lt-64 zero)) (λ m l f. live .passed .sound .sparse m l);
+      }
+    where
+      still : Sparse (s .setup) (superblockAt s k) → Sparse (s .setup) (withoutMarkAt (superblockAt s k) j)
+      still h = let g = mul-le-mul-left {m = liveIn (withoutMarkAt (superblockAt s k) j)} {n = liveIn (superblockAt s k)} (s .setup .q) (omega (arith, mark-cleared-live-in)) in omega arith
+
+  -- before the free the block's heap and class did not meet both conditions: with one live block more one of them fails
+  pub mark-cleared-condition-fails : 1 ≤ ownerAt s k
+      → (blocksIn (ownerAt s k) (classAt s k) (withMarkCleared s k j) ≤ liveOf (ownerAt s k) (classAt s k) (withMarkCleared s k j) + 1 + s .setup .spare * blocksOf (classAt s k))
+      ⊎ ((s .setup .q - s .setup .p) * blocksIn (ownerAt s k) (classAt s k) (withMarkCleared s k j) ≤ s .setup .q * (liveOf (ownerAt s k) (classAt s k) (withMarkCleared s k j) + 1))
+  mark-cleared-condition-fails pos =
+      condition-with-one-live-less (s .setup .q) (s .setup .q - s .setup .p) (s .setup .spare * blocksOf (classAt s k)) (mark-cleared-blocks-in (ownerAt s k) (classAt s k)) mark-cleared-live-of
+      (condition-fails-of-not-must-move (ownerAt s k) (classAt s k) s (live .passed .sound .invariant (ownerAt s k) (classAt s k) pos (live-block-superblock-owned .owner) (live-block-superblock-owned .class)))

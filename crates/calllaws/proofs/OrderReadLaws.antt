@@ -1,0 +1,159 @@
+-- No call reads an order place from N × 256 on: storages with the same first N × 256 places get the same answers, for every state and argument. Assumes nothing.
+use mathlib.Core.Path.{_≡_, refl, ap, subst}
+use mathlib.Core.Bool.{Bool, true, false, not}
+use mathlib.Core.Logic.{_⊎_, inl, inr}
+use mathlib.Core.List.{List}
+use Prim.Native.Nat.{ℕ, _+_, _-_, _*_, _≤_}
+use native.Mathlib.Omega.{arith}
+use borrow.Author.Tests.{leb-true, le-leb}
+use lib.ListN.{length, take}
+use lib.Dec.{eqb, leb}
+use Rattle.laws.specs.Sums.{pick, both}
+use Rattle.laws.proofs.TestLaws.{T-of-true}
+use Rattle.classes.specs.Classes.{blocksOf, classOf}
+use Rattle.classes.proofs.ClassTableLaws.{blocks-of-le-256}
+use Rattle.order.specs.Order.{place, lastFilled, renewed}
+use Rattle.order.proofs.FirstPlaces.{SameFirst, take-equal-of-same-first, same-first-of-take-equal, same-first-place, same-first-renewed, same-first-with-place, same-first-cleared}
+use Rattle.heap.specs.declared.Setup.{Setup}
+use Rattle.heap.specs.declared.Superblock.{Superblock}
+use Rattle.heap.specs.declared.State.{State}
+use Rattle.heap.specs.declared.Found.{Found}
+use Rattle.heap.specs.declared.Found.the-variants.{At, Nothing}
+use Rattle.heap.specs.Table.{superblockAt, withSuperblock, liveIn, withMarkAt}
+use Rattle.heap.specs.Choice.{fullest}
+use Rattle.heap.specs.Check.{within, withinLimits, restValid}
+use Rattle.heaplaws.proofs.StateCheckLaws.{sound-of-limits-and-rest}
+use Rattle.heaplaws.proofs.CheckReadsLaws.{rest-valid-reads-only-first-places}
+use Rattle.calls.specs.declared.Call.{Call}
+use Rattle.calls.specs.declared.Call.the-variants.{Take, Free}
+use Rattle.calls.specs.declared.Outcome.the-variants.{Address}
+use Rattle.calls.specs.Answers.{After, refused, checked, isProcessor}
+use Rattle.calls.specs.Setup.{setupOf}
+use Rattle.calls.specs.Take.{otherPlaces, acquired, acquiredOrder, nextBlock, addressOf, takenFrom, takenFromOther, takenAt, takeUnchecked, takeOf}
+use Rattle.calls.specs.Free.{superblockIndex, superblockHolding, blockOf, isUnmapped, isMisaligned, isLiveAt, orderPushed, freedAt, freeUnchecked, freeOf}
+use Rattle.calls.specs.Calls.{callOf}
+use Rattle.calllaws.proofs.CallEffects.{Passed}
+use Rattle.calllaws.proofs.CheckedLaws.{bounds-of-is-processor}
+use Rattle.calllaws.proofs.OrderWriteLaws.{fullest-below-superblocks, other-places-below-superblocks}
+
+-- two calls give the same answer and the same state, and leave the same first n places
+pub record SameCall (n : ℕ) (a b : After) : Type 0 where
+  pub answer : a .answer ≡ b .answer
+  pub first : take n (a .order) ≡ take n (b .order)
+
+-- the same, where both storages have the n places
+record Agree (n : ℕ) (a b : After) : Type 0 where
+  answer : a .answer ≡ b .answer
+  order : SameFirst n (a .order) (b .order)
+
+agree-pick : (n : ℕ) (t : Bool) {a b x y : After} → (t ≡ true → Agree n a b) → (t ≡ false → Agree n x y) → Agree n (pick t a x) (pick t b y)
+agree-pick n true f g = f refl
+agree-pick n false f g = g refl
+
+-- the block in the last filled place of superblock k
+last-filled-agrees : (n : ℕ) (x y : List ℕ) → SameFirst n x y → (k m : ℕ) → k * 256 + 256 ≤ n → lastFilled x k m ≡ lastFilled y k m
+unfolding lastFilled
+last-filled-agrees n x y h k m l = go (leb 1 m) (leb m 256) refl
+  where
+    go : (a b : Bool) → leb m 256 ≡ b → pick (both a b) (place x k (m - 1)) 0 ≡ pick (both a b) (place y k (m - 1)) 0
+    go true true e = let g = leb-true m 256 e in same-first-place n x y h k (m - 1) (omega arith)
+    go true false e = refl
+    go false b e = refl
+
+-- superblock k, of the first N, gives a block
+taken-from-agrees : (n k : ℕ) (s : State) (x y : List ℕ) → SameFirst n x y → k * 256 + 256 ≤ n → Agree n (takenFrom k s x) (takenFrom k s y)
+unfolding takenFrom nextBlock
+taken-from-agrees n k s x y h l = record {
+  answer = ap (λ (j : ℕ). record { outcome = Address (addressOf k (superblockAt s k .class) j); state = withSuperblock s k (withMarkAt (superblockAt s k) j) })
+      (last-filled-agrees n x y h k (blocksOf (superblockAt s k .class) - liveIn (superblockAt s k)) l);
+  order = h;
+}
+
+acquired-order-agrees : (n c k : ℕ) (b : Superblock) (x y : List ℕ) → SameFirst n x y → k * 256 + 256 ≤ n → SameFirst n (acquiredOrder c k b x) (acquiredOrder c k b y)
+unfolding acquiredOrder
+acquired-order-agrees n c k b x y h l = go (eqb (liveIn b) 0)
+  where
+    go : (t : Bool) → SameFirst n (pick t (renewed x k (blocksOf c)) x) (pick t (renewed y k (blocksOf c)) y)
+    go true = same-first-renewed n x y h k (blocksOf c) (blocks-of-le-256 c) (omega (arith, blocks-of-le-256 c))
+    go false = h
+
+module _ (s : State) (x y : List ℕ) (h : SameFirst (s .setup .superblocks * 256) x y) where
+  abbrev n : ℕ
+  n = s .setup .superblocks * 256
+
+  same-refusal : (r : ℕ) → Agree n (refused r s x) (refused r s y)
+  same-refusal r = record { answer = refl; order = h }
+
+  -- the check
+  checked-agree : (a b : After) → (Passed s x → Agree n a b) → Agree n (checked s x a) (checked s y b)
+  unfolding checked
+  checked-agree a b f =
+      rw (le-leb n (length x) (h .long), le-leb n (length y) (h .also-long), ← (rest-valid-reads-only-first-places s x y h))
+      (agree-pick n (withinLimits (s .setup))
+      (λ l. agree-pick n (restValid s x) (λ g. f (record { sound = sound-of-limits-and-rest s x (T-of-true (withinLimits (s .setup)) l) (T-of-true (restValid s x) g); room = h .long })) (λ g. same-refusal 13))
+      (λ l. same-refusal 13))
+
+  -- a take
+  take-agrees : (i size : ℕ) → Agree n (takeOf s x i size) (takeOf s y i size)
+  unfolding takeOf takeUnchecked takenAt takenFromOther
+  take-agrees i size =
+      checked-agree (takeUnchecked s x i size) (takeUnchecked s y i size)
+      (go (isProcessor s i) (within 1 2048 size) (fullest i (classOf size) s) (otherPlaces (classOf size) s) refl refl refl)
+    where
+      tests : List ℕ → (p w : Bool) (own other : Found) → After
+      tests l p w own other = pick (not p) (refused 2 s l) (pick (not w) (refused 3 s l) (takenAt i (classOf size) s l own other))
+
+      go : (p w : Bool) (own other : Found) → isProcessor s i ≡ p → fullest i (classOf size) s ≡ own → otherPlaces (classOf size) s ≡ other → Passed s x → Agree n (tests x p w own other) (tests y p w own other)
+      go false w own other ep eo et passed = same-refusal 2
+      go true false own other ep eo et passed = same-refusal 3
+      go true true (At k) other ep eo et passed =
+          taken-from-agrees n k s x y h (omega (arith, fullest-below-superblocks s x passed i (classOf size) k (bounds-of-is-processor s i (T-of-true (isProcessor s i) ep) .1) eo))
+      go true true Nothing (At k) ep eo et passed =
+          let l : k * 256 + 256 ≤ n = omega (arith, other-places-below-superblocks s x passed (classOf size) k et) in
+          taken-from-agrees n k (withSuperblock s k (acquired i (classOf size) (superblockAt s k))) (acquiredOrder (classOf size) k (superblockAt s k) x) (acquiredOrder (classOf size) k (superblockAt s k) y)
+          (acquired-order-agrees n (classOf size) k (superblockAt s k) x y h l) l
+      go true true Nothing Nothing ep eo et passed = same-refusal 4
+
+  -- a free
+  free-agrees : (i a : ℕ) → Agree n (freeOf s x i a) (freeOf s y i a)
+  unfolding freeOf freeUnchecked freedAt orderPushed
+  free-agrees i a =
+      checked-agree (freeUnchecked s x i a) (freeUnchecked s y i a) (λ passed.
+      agree-pick n (not (isProcessor s i)) (λ e. same-refusal 2) (λ e.
+      agree-pick n (isUnmapped s a) (λ e. same-refusal 5) (λ e.
+      agree-pick n (isMisaligned s a) (λ e. same-refusal 6) (λ e.
+      agree-pick n (not (isLiveAt s a)) (λ e. same-refusal 7) (λ e.
+      record { answer = refl; order = same-first-with-place n x y h (superblockIndex a) (blocksOf (superblockHolding s a .class) - liveIn (superblockHolding s a)) (blockOf s a) })))))
+
+  call-agrees : (call : Call) → Agree n (callOf s x call) (callOf s y call)
+  unfolding callOf
+  call-agrees (Take i size) = take-agrees i size
+  call-agrees (Free i a) = free-agrees i a
+
+-- a setup
+setup-agrees : (u : Setup) (x y : List ℕ) → SameFirst (u .superblocks * 256) x y → Agree (u .superblocks * 256) (setupOf u x) (setupOf u y)
+unfolding setupOf
+setup-agrees u x y h =
+    rw (le-leb (u .superblocks * 256) (length x) (h .long), le-leb (u .superblocks * 256) (length y) (h .also-long))
+    (agree-pick (u .superblocks * 256) (withinLimits u) (λ e. record { answer = refl; order = same-first-cleared (u .superblocks * 256) x y h }) (λ e. record { answer = refl; order = h }))
+
+same-call-of-agree : (n : ℕ) (a b : After) → Agree n a b → SameCall n a b
+same-call-of-agree n a b g = record { answer = g .answer; first = take-equal-of-same-first n (a .order) (b .order) (g .order) }
+
+-- ---- storages with the same first N × 256 places, or all of fewer
+-- a call gives the same answer and state, and leaves the same first N × 256 places
+pub call-reads-only-first-places : (s : State) (x y : List ℕ) (call : Call) → take (s .setup .superblocks * 256) x ≡ take (s .setup .superblocks * 256) y
+    → SameCall (s .setup .superblocks * 256) (callOf s x call) (callOf s y call)
+call-reads-only-first-places s x y call e = go (same-first-of-take-equal (s .setup .superblocks * 256) x y e)
+  where
+    go : (x ≡ y) ⊎ SameFirst (s .setup .superblocks * 256) x y → SameCall (s .setup .superblocks * 256) (callOf s x call) (callOf s y call)
+    go (inl q) = subst (λ (z : List ℕ). SameCall (s .setup .superblocks * 256) (callOf s x call) (callOf s z call)) q (record { answer = refl; first = refl })
+    go (inr h) = same-call-of-agree (s .setup .superblocks * 256) (callOf s x call) (callOf s y call) (call-agrees s x y h call)
+
+-- and so does a setup
+pub setup-reads-only-first-places : (u : Setup) (x y : List ℕ) → take (u .superblocks * 256) x ≡ take (u .superblocks * 256) y → SameCall (u .superblocks * 256) (setupOf u x) (setupOf u y)
+setup-reads-only-first-places u x y e = go (same-first-of-take-equal (u .superblocks * 256) x y e)
+  where
+    go : (x ≡ y) ⊎ SameFirst (u .superblocks * 256) x y → SameCall (u .superblocks * 256) (setupOf u x) (setupOf u y)
+    go (inl q) = subst (λ (z : List ℕ). SameCall (u .superblocks * 256) (setupOf u x) (setupOf u z)) q (record { answer = refl; first = refl })
+    go (inr h) = same-call-of-agree (u .superblocks * 256) (setupOf u x) (setupOf u y) (setup-agrees u x y h)

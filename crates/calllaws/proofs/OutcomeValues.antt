@@ -1,0 +1,37 @@
+-- Each answer by document 01's number and values. Assumes nothing.
+use mathlib.Core.Path.{_≡_, refl, ap}
+use mathlib.Core.List.{List, [], _∷_}
+use Prim.Native.Nat.{ℕ}
+use Rattle.classes.specs.Classes.{classOf}
+use Rattle.heap.specs.declared.State.{State}
+use Rattle.heaplaws.proofs.StateFacts.{Shape}
+use Rattle.calls.specs.declared.Outcome.{Outcome}
+use Rattle.calls.specs.declared.Outcome.the-variants.{Address, Moves, Refused}
+use Rattle.calls.specs.Answers.{refused, numberOf, valuesOf}
+use Rattle.calls.specs.Take.{addressOf, takeOf}
+use Rattle.calls.specs.Free.{freeOf}
+use Rattle.calllaws.proofs.CallEffects.{TakeAccepted, FreeAccepted}
+use Rattle.calllaws.proofs.TakeLaws.{taken-block, take-address}
+use Rattle.calllaws.proofs.FreeLaws.{moves, free-outcome}
+
+-- the number and the values of an outcome
+pub record HasNumberAndValues (outcome : Outcome) (number : ℕ) (values : List ℕ) : Type 0 where
+  pub number-is : numberOf outcome ≡ number
+  pub values-are : valuesOf outcome ≡ values
+
+-- "A refusal carries its number alone, with no address and no moves"
+pub refused-number-and-values : (r : ℕ) (s : State) (order : List ℕ) → HasNumberAndValues (refused r s order .answer .outcome) r []
+unfolding numberOf valuesOf
+refused-number-and-values r s order = record { number-is = refl; values-are = refl }
+
+-- an accepted take: its address
+pub take-number-and-values : (s : State) (order : List ℕ) (i size k : ℕ) (shape : Shape s) (acc : TakeAccepted s order i size k)
+    → HasNumberAndValues (takeOf s order i size .answer .outcome) 0 (addressOf k (classOf size) (taken-block s order i size k shape acc) ∷ [])
+unfolding numberOf valuesOf
+take-number-and-values s order i size k shape acc = rw (take-address s order i size k shape acc) (record { number-is = refl; values-are = refl })
+
+-- an accepted free: its moves
+pub free-number-and-values : (s : State) (order : List ℕ) (i a : ℕ) (shape : Shape s) (acc : FreeAccepted s order i a)
+    → HasNumberAndValues (freeOf s order i a .answer .outcome) 0 (moves s order i a shape acc ∷ [])
+unfolding numberOf valuesOf
+free-number-and-values s order i a shape acc = rw (free-outcome s order i a shape acc) (record { number-is = refl; values-are = refl })

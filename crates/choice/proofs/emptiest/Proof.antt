@@ -1,0 +1,16 @@
+-- `choice::emptiest` meets its contract. Assumes nothing.
+use Rattle.heap.specs.Choice.{emptiest}
+use Rattle.choice.specs.Criteria.{meetsCriterion, preferredBy}
+use borrow.Author.Needs.{needs}
+use Rattle.choice.proofs.emptiest.Statement.{statement}
+use Rattle.choice.proofs.emptiest.Tie as tie
+
+scan-requires : tie.Need-scan-requires
+scan-requires c κs = search needs
+
+returns : tie.Need-returns
+unfolding emptiest meetsCriterion preferredBy
+returns c = c .scan .ensures
+
+pub emptiest-spec : {M : Type 1} → statement M
+emptiest-spec = tie.close (tie.spec scan-requires returns)

@@ -1,0 +1,16 @@
+-- `choice::fullest` meets its contract. Assumes nothing.
+use Rattle.heap.specs.Choice.{fullest}
+use Rattle.choice.specs.Criteria.{meetsCriterion, preferredBy}
+use borrow.Author.Needs.{needs}
+use Rattle.choice.proofs.fullest.Statement.{statement}
+use Rattle.choice.proofs.fullest.Tie as tie
+
+scan-requires : tie.Need-scan-requires
+scan-requires c κs = search needs
+
+returns : tie.Need-returns
+unfolding fullest meetsCriterion preferredBy
+returns c = c .scan .ensures
+
+pub fullest-spec : {M : Type 1} → statement M
+fullest-spec = tie.close (tie.spec scan-requires returns)

@@ -1,0 +1,16 @@
+-- `choice::lowest_empty` meets its contract. Assumes nothing.
+use Rattle.heap.specs.Choice.{lowestEmpty}
+use Rattle.choice.specs.Criteria.{meetsCriterion, preferredBy}
+use borrow.Author.Needs.{needs}
+use Rattle.choice.proofs.lowest_empty.Statement.{statement}
+use Rattle.choice.proofs.lowest_empty.Tie as tie
+
+scan-requires : tie.Need-scan-requires
+scan-requires c κs = search needs
+
+returns : tie.Need-returns
+unfolding lowestEmpty meetsCriterion preferredBy
+returns c = c .scan .ensures
+
+pub lowest-empty-spec : {M : Type 1} → statement M
+lowest-empty-spec = tie.close (tie.spec scan-requires returns)

@@ -1,0 +1,185 @@
+-- Laws of the commands of a record: what is known of a command that was read, and the commands that follow it. Assumes nothing.
+use mathlib.Core.Path.{_≡_, refl, sym, ap, subst}
+use mathlib.Core.Bool.{Bool, true, false}
+use mathlib.Core.List.{List, [], _∷_}
+use mathlib.Core.Logic.{⊎-elim}
+use Prim.Native.Nat.{ℕ, zero, suc, _+_, _≤_, _<_}
+use native.Mathlib.Nat.{le-refl}
+use native.Mathlib.Omega.{arith}
+use borrow.Author.Tests.{leb-false, lt-leb, le-leb}
+use lib.ListN.{length}
+use lib.Dec.{T, leb}
+use Rattle.laws.specs.Sums.{pick, either}
+use Rattle.commandlaws.proofs.RefusalTable.{CommandRow, row-of-command-at}
+use Rattle.commandlaws.proofs.RefusalTable as row
+use Rattle.commands.specs.declared.Command.{Command}
+use Rattle.commands.specs.declared.Command.the-variants.{Setup, Take, Free, Refused}
+use Rattle.littleendian.specs.Bytes.{byteAt, twoAt, fourAt}
+use Rattle.commands.specs.Record.{commandAt, sizeOfCommand, isRefused, commandsFrom, commandsOf}
+
+-- ---- one command
+
+-- a command that is not refused lies whole in a record that is not too long, and has 4 to 6 bytes
+pub record CommandInside (r : List ℕ) (at : ℕ) (c : Command) : Type 0 where
+  pub short : length r ≤ 60000
+  pub inside : at + sizeOfCommand c ≤ length r
+  pub some : 4 ≤ sizeOfCommand c
+  pub few : sizeOfCommand c ≤ 6
+
+-- what is known of the command at a position, by its kind
+CommandFacts : List ℕ → ℕ → Command → Type 0
+CommandFacts r at (Setup processors superblocks spare p q) =
+    (length r ≤ 60000) × (at ≡ 0) × (at + 6 ≤ length r)
+    × (processors ≡ byteAt r (at + 1)) × (superblocks ≡ byteAt r (at + 2)) × (spare ≡ byteAt r (at + 3)) × (p ≡ byteAt r (at + 4)) × (q ≡ byteAt r (at + 5))
+CommandFacts r at (Take processor size) =
+    (length r ≤ 60000) × (0 < at) × (at + 4 ≤ length r) × (processor ≡ byteAt r (at + 1)) × (size ≡ twoAt r (at + 2))
+CommandFacts r at (Free processor address) =
+    (length r ≤ 60000) × (0 < at) × (at + 6 ≤ length r) × (processor ≡ byteAt r (at + 1)) × (address ≡ fourAt r (at + 2))
+CommandFacts r at (Refused number offset) = (8 ≤ number) × (number ≤ 11) × (offset ≤ 60000)
+
+command-facts-of-row : {r : List ℕ} {at : ℕ} {c : Command} → CommandRow r at c → CommandFacts r at c
+unfolding CommandFacts
+command-facts-of-row (row.record-too-long l) = (omega arith, omega arith, omega arith)
+command-facts-of-row (row.unknown l u) = (omega arith, omega arith, omega arith)
+command-facts-of-row (row.misplaced l u m) = (omega arith, omega arith, ⊎-elim (λ w. omega arith) (⊎-elim (λ w. omega arith) (λ w. omega arith)) m)
+command-facts-of-row (row.truncated l u m c i) = (omega arith, omega arith, omega arith)
+command-facts-of-row (row.past-record-end l u m c i) = (omega arith, omega arith, omega arith)
+command-facts-of-row (row.setup s f b i) = (s, f, i, refl, refl, refl, refl, refl)
+command-facts-of-row (row.take s f b i) = (s, f, i, refl, refl)
+command-facts-of-row (row.free s f b i) = (s, f, i, refl, refl)
+
+module _ (r : List ℕ) (at : ℕ) (c : Command) (e : c ≡ commandAt r at) where
+  command-facts : CommandFacts r at c
+  command-facts = subst (CommandFacts r at) (sym e) (command-facts-of-row (row-of-command-at r at))
+
+  pub command-inside : isRefused c ≡ false → CommandInside r at c
+  unfolding isRefused sizeOfCommand CommandFacts
+  command-inside f = go c f command-facts
+    where
+      go : (d : Command) → isRefused d ≡ false → CommandFacts r at d → CommandInside r at d
+      go (Setup processors superblocks spare p q) f t = record { short = t .0; inside = t .2; some = omega arith; few = le-refl 6 }
+      go (Take processor size) f t = record { short = t .0; inside = t .2; some = le-refl 4; few = omega arith }
+      go (Free processor address) f t = record { short = t .0; inside = t .2; some = omega arith; few = le-refl 6 }
+      go (Refused number offset) f t = absurd (subst T f tt)
+
+  setup-facts : (processors superblocks spare p q : ℕ) → c ≡ Setup processors superblocks spare p q → CommandFacts r at (Setup processors superblocks spare p q)
+  setup-facts processors superblocks spare p q k = subst (CommandFacts r at) k command-facts
+
+  take-facts : (processor size : ℕ) → c ≡ Take processor size → CommandFacts r at (Take processor size)
+  take-facts processor size k = subst (CommandFacts r at) k command-facts
+
+  free-facts : (processor address : ℕ) → c ≡ Free processor address → CommandFacts r at (Free processor address)
+  free-facts processor address k = subst (CommandFacts r at) k command-facts
+
+  -- by kind: a setup is first, a take or a free is not
+  pub setup-first-and-inside : (processors superblocks spare p q : ℕ) → c ≡ Setup processors superblocks spare p q → (length r ≤ 60000) × (at ≡ 0) × (at + 6 ≤ length r)
+  unfolding CommandFacts
+  setup-first-and-inside processors superblocks spare p q k = let t = setup-facts processors superblocks spare p q k in (t .0, t .1, t .2)
+
+  pub take-later-and-inside : (processor size : ℕ) → c ≡ Take processor size → (length r ≤ 60000) × (0 < at) × (at + 4 ≤ length r)
+  unfolding CommandFacts
+  take-later-and-inside processor size k = let t = take-facts processor size k in (t .0, t .1, t .2)
+
+  pub free-later-and-inside : (processor address : ℕ) → c ≡ Free processor address → (length r ≤ 60000) × (0 < at) × (at + 6 ≤ length r)
+  unfolding CommandFacts
+  free-later-and-inside processor address k = let t = free-facts processor address k in (t .0, t .1, t .2)
+
+  -- a record's own refusals are 8 to 11, at offsets up to the longest record's end
+  pub refusal-number-and-offset-bounds : (number offset : ℕ) → c ≡ Refused number offset → (8 ≤ number) × (number ≤ 11) × (offset ≤ 60000)
+  unfolding CommandFacts
+  refusal-number-and-offset-bounds number offset k = subst (CommandFacts r at) k command-facts
+
+  -- the numbers of a command fit their types where the record's bytes do
+  module _ (bytes : (i : ℕ) → byteAt r i < 256) where
+    pub setup-fits : (processors superblocks spare p q : ℕ) → c ≡ Setup processors superblocks spare p q → (processors < 256) × (superblocks < 256) × (spare < 256) × (p < 256) × (q < 256)
+    unfolding CommandFacts
+    setup-fits processors superblocks spare p q k =
+        let t = setup-facts processors superblocks spare p q k in
+        (omega (arith, t, bytes (at + 1)), omega (arith, t, bytes (at + 2)), omega (arith, t, bytes (at + 3)), omega (arith, t, bytes (at + 4)), omega (arith, t, bytes (at + 5)))
+
+    pub take-fits : (processor size : ℕ) → c ≡ Take processor size → (processor < 256) × (size < 65536)
+    unfolding CommandFacts
+    take-fits processor size k =
+        let t = take-facts processor size k in
+        (omega (arith, t, bytes (at + 1)), omega (arith, t, bytes (at + 2), bytes (at + 2 + 1)))
+
+    pub free-fits : (processor address : ℕ) → c ≡ Free processor address → (processor < 256) × (address < 4294967296)
+    unfolding CommandFacts
+    free-fits processor address k =
+        let t = free-facts processor address k in
+        (omega (arith, t, bytes (at + 1)), omega (arith, t, bytes (at + 2), bytes (at + 2 + 1), bytes (at + 2 + 2), bytes (at + 2 + 2 + 1)))
+
+-- ---- the commands that follow
+
+-- the number of commands at most is without effect once it is above the bytes left
+pub commands-from-count-irrelevant : (m n : ℕ) (r : List ℕ) (at : ℕ) → 0 < m → 0 < n → length r < at + m → length r < at + n → commandsFrom m r at ≡ commandsFrom n r at
+unfolding commandsFrom
+commands-from-count-irrelevant zero n r at p q h k = absurd (omega arith)
+commands-from-count-irrelevant (suc m) zero r at p q h k = absurd (omega arith)
+commands-from-count-irrelevant (suc m) (suc n) r at p q h k = ap (λ (l : List Command). c ∷ l) (go (commands-from-count-irrelevant m n r (at + sizeOfCommand c)) (isRefused c) refl (leb (length r) (at + sizeOfCommand c)) refl)
+  where
+    c : Command
+    c = commandAt r at
+
+    Same : Type 0
+    Same = commandsFrom m r (at + sizeOfCommand c) ≡ commandsFrom n r (at + sizeOfCommand c)
+
+    go : (0 < m → 0 < n → length r < at + sizeOfCommand c + m → length r < at + sizeOfCommand c + n → Same)
+        → (t : Bool) → isRefused c ≡ t → (u : Bool) → leb (length r) (at + sizeOfCommand c) ≡ u
+        → pick (either t u) [] (commandsFrom m r (at + sizeOfCommand c)) ≡ pick (either t u) [] (commandsFrom n r (at + sizeOfCommand c))
+    go same true e u f = refl
+    go same false e true f = refl
+    go same false e false f =
+        let d = command-inside r at c refl e in
+        let l = leb-false (length r) (at + sizeOfCommand c) f in
+        same (omega arith) (omega arith) (omega arith) (omega arith)
+
+-- the commands from a position on, and what is left of them at a position that may be the record's end
+abbrev pub commandsAt : List ℕ → ℕ → List Command
+commandsAt r at = commandsFrom (suc (length r)) r at
+
+unfoldable pub remaining : List ℕ → ℕ → List Command
+remaining r at = pick (leb (length r) at) [] (commandsAt r at)
+
+-- how a loop starts, goes on, and ends
+pub commands-of-is-commands-at-0 : (r : List ℕ) → commandsOf r ≡ commandsAt r 0
+unfolding commandsOf
+commands-of-is-commands-at-0 r = refl
+
+pub remaining-inside : (r : List ℕ) (at : ℕ) → at < length r → remaining r at ≡ commandsAt r at
+unfolding remaining
+remaining-inside r at h = rw (lt-leb (length r) at h)
+
+pub remaining-end : (r : List ℕ) (at : ℕ) → length r ≤ at → remaining r at ≡ []
+unfolding remaining
+remaining-end r at h = rw (le-leb (length r) at h)
+
+pub commands-refused : (r : List ℕ) (at : ℕ) (c : Command) (number offset : ℕ) → c ≡ commandAt r at → c ≡ Refused number offset → commandsAt r at ≡ Refused number offset ∷ []
+unfolding commandsFrom isRefused
+commands-refused r at c number offset e k = rw (← e, k)
+
+pub commands-next : (r : List ℕ) (at : ℕ) (c : Command) → c ≡ commandAt r at → isRefused c ≡ false → commandsAt r at ≡ c ∷ remaining r (at + sizeOfCommand c)
+unfolding commandsFrom remaining
+commands-next r at c e f = rw (← e, f) (ap (λ (l : List Command). c ∷ l) (go (leb (length r) (at + sizeOfCommand c)) refl))
+  where
+    go : (t : Bool) → leb (length r) (at + sizeOfCommand c) ≡ t
+        → pick t [] (commandsFrom (length r) r (at + sizeOfCommand c)) ≡ pick t [] (commandsFrom (suc (length r)) r (at + sizeOfCommand c))
+    go true h = refl
+    go false h =
+        let d = command-inside r at c e f in
+        let l = leb-false (length r) (at + sizeOfCommand c) h in
+        commands-from-count-irrelevant (length r) (suc (length r)) r (at + sizeOfCommand c) (omega arith) (omega arith) (omega arith) (omega arith)
+
+module _ (r : List ℕ) (at : ℕ) (c : Command) (e : c ≡ commandAt r at) where
+  pub commands-setup : (processors superblocks spare p q : ℕ) → c ≡ Setup processors superblocks spare p q
+      → commandsAt r at ≡ Setup processors superblocks spare p q ∷ remaining r (at + 6)
+  unfolding isRefused sizeOfCommand
+  commands-setup processors superblocks spare p q k = rw k at (commands-next r at c e (ap isRefused k))
+
+  pub commands-take : (processor size : ℕ) → c ≡ Take processor size → commandsAt r at ≡ Take processor size ∷ remaining r (at + 4)
+  unfolding isRefused sizeOfCommand
+  commands-take processor size k = rw k at (commands-next r at c e (ap isRefused k))
+
+  pub commands-free : (processor address : ℕ) → c ≡ Free processor address → commandsAt r at ≡ Free processor address ∷ remaining r (at + 6)
+  unfolding isRefused sizeOfCommand
+  commands-free processor address k = rw k at (commands-next r at c e (ap isRefused k))

@@ -1,0 +1,3 @@
+pub mod RefusalTable
+pub mod CommandLaws
+pub mod RefusalOffsets

@@ -1,0 +1,26 @@
+-- The command at a position, by the branches in which the code meets it. Assumes nothing.
+use mathlib.Core.Path.{_≡_}
+use mathlib.Core.List.{List}
+use Prim.Native.Nat.{ℕ, _≤_, _<_}
+use borrow.Author.Tests.{lt-ltb, le-ltb, eq-eqb, ne-eqb}
+use lib.ListN.{length}
+use Rattle.commands.specs.declared.Command.{Command}
+use Rattle.commands.specs.declared.Command.the-variants.{Refused}
+use Rattle.commands.specs.Record.{commandByFirstByte, commandAt}
+
+module _ (r : List ℕ) (at : ℕ) (c : Command) where
+  pub command-at-of-too-long-record : 60000 < length r → c ≡ Refused 11 0 → c ≡ commandAt r at
+  unfolding commandAt
+  command-at-of-too-long-record long e = rw (lt-ltb 60000 (length r) long) e
+
+  pub command-at-is-command-by-first-byte : length r ≤ 60000 → at < length r → c ≡ commandByFirstByte r at → c ≡ commandAt r at
+  unfolding commandAt
+  command-at-is-command-by-first-byte short inside e = rw (le-ltb 60000 (length r) short, lt-ltb at (length r) inside) e
+
+  pub command-at-of-empty-record : length r ≤ 60000 → length r ≤ at → at ≡ 0 → c ≡ Refused 10 0 → c ≡ commandAt r at
+  unfolding commandAt
+  command-at-of-empty-record short past first e = rw (le-ltb 60000 (length r) short, le-ltb at (length r) past, eq-eqb at 0 first) e
+
+  pub command-at-past-end : length r ≤ 60000 → length r ≤ at → (at ≡ 0 → ⊥) → c ≡ Refused 9 (length r) → c ≡ commandAt r at
+  unfolding commandAt
+  command-at-past-end short past later e = rw (le-ltb 60000 (length r) short, le-ltb at (length r) past, ne-eqb at 0 later) e

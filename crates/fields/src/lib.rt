@@ -1,0 +1,77 @@
+// The fields of the key's lines, written into a lent buffer, as far as they reach.
+use calls::Outcome;
+use text::put_decimal;
+use text::put_text;
+ghost use mathlib.Core.Path.{_≡_};
+ghost use mathlib.Core.List.{[], _++_};
+ghost use Rattle.text.specs.Text.{letters, decimal, pasted};
+ghost use Rattle.linerules.specs.Lines.{result};
+
+// A word and a number after it.
+pub fn put_field(out: &mut [u8], at: usize, label: &[u8], n: u32) -> usize
+    ensures { λ r. ⌜ record { end = r; buffer = now (out .exit) } ≡ pasted (now (out .entry)) at (now (label .entry) ++ decimal n) ⌝ }
+{
+    let next = put_text(out, at, label);
+    put_decimal(out, next, n)
+}
+
+// The same for numbers of 8 and of 16 bits.
+pub fn put_byte(out: &mut [u8], at: usize, label: &[u8], n: u8) -> usize
+    ensures { λ r. ⌜ record { end = r; buffer = now (out .exit) } ≡ pasted (now (out .entry)) at (now (label .entry) ++ decimal n) ⌝ }
+{
+    put_field(out, at, label, n as u32)
+}
+
+pub fn put_short(out: &mut [u8], at: usize, label: &[u8], n: u16) -> usize
+    ensures { λ r. ⌜ record { end = r; buffer = now (out .exit) } ≡ pasted (now (out .entry)) at (now (label .entry) ++ decimal n) ⌝ }
+{
+    put_field(out, at, label, n as u32)
+}
+
+// A word, a number and the end of the line.
+pub fn put_last_field(out: &mut [u8], at: usize, label: &[u8], n: u32) -> usize
+    ensures { λ r. ⌜ record { end = r; buffer = now (out .exit) } ≡ pasted (now (out .entry)) at (now (label .entry) ++ decimal n ++ letters "\n") ⌝ }
+{
+    let end = put_field(out, at, label, n);
+    put_text(out, end, b"\n")
+}
+
+// A space and a number.
+pub fn put_next(out: &mut [u8], at: usize, n: u32) -> usize
+    ensures { λ r. ⌜ record { end = r; buffer = now (out .exit) } ≡ pasted (now (out .entry)) at (letters " " ++ decimal n) ⌝ }
+{
+    put_field(out, at, b" ", n)
+}
+
+pub fn put_next_byte(out: &mut [u8], at: usize, n: u8) -> usize
+    ensures { λ r. ⌜ record { end = r; buffer = now (out .exit) } ≡ pasted (now (out .entry)) at (letters " " ++ decimal n) ⌝ }
+{
+    put_next(out, at, n as u32)
+}
+
+// No text: the place, or the buffer's end where the place lies past it.
+pub fn put_nothing(out: &mut [u8], at: usize) -> usize
+    ensures { λ r. ⌜ record { end = r; buffer = now (out .exit) } ≡ pasted (now (out .entry)) at [] ⌝ }
+{
+    put_text(out, at, b"")
+}
+
+// The address given, the moves or the refusal.
+pub fn put_result(out: &mut [u8], at: usize, outcome: Outcome) -> usize
+    ensures { λ r. ⌜ record { end = r; buffer = now (out .exit) } ≡ pasted (now (out .entry)) at (result outcome) ⌝ }
+{
+    match outcome {
+        Outcome::Ready => put_nothing(out, at),
+        Outcome::Address(a) => put_field(out, at, b" at ", a),
+        Outcome::Moves(m) => put_byte(out, at, b" moved ", m),
+        Outcome::Refused(r) => put_byte(out, at, b" refused ", r),
+    }
+}
+
+// The same and the end of its line.
+pub fn put_result_end(out: &mut [u8], at: usize, outcome: Outcome) -> usize
+    ensures { λ r. ⌜ record { end = r; buffer = now (out .exit) } ≡ pasted (now (out .entry)) at (result outcome ++ letters "\n") ⌝ }
+{
+    let end = put_result(out, at, outcome);
+    put_text(out, end, b"\n")
+}

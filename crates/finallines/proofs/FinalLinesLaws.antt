@@ -1,0 +1,57 @@
+-- The lines at the end of a record, put one after another. Assumes nothing.
+use mathlib.Core.Path.{_≡_, ap, _∙_}
+use mathlib.Core.List.{List, []}
+use Prim.Native.Nat.{ℕ, suc, _+_, _≤_}
+use native.Mathlib.Nat.{le-antisymm}
+use native.Mathlib.Omega.{arith}
+use native.Mathlib.Numerals.{add-one}
+use borrow.Author.Tests.{eq-eqb, ne-eqb}
+use Rattle.text.specs.Text.{pasted, letters}
+use Rattle.text.proofs.PasteLaws.{paste-then-paste}
+use Rattle.heap.specs.declared.State.{State}
+use Rattle.heap.specs.Counts.{superblocksOf, liveOf}
+use Rattle.linerules.specs.Lines.{heapLine, heapLineIf, classLines, heapLines, finalLines}
+
+module _ (l₀ : List ℕ) {l : List ℕ} (at : ℕ) {r : ℕ} (s : State) where
+  -- a heap and class without a superblock has no line
+  pub heap-line-if-of-no-superblock : (h c n : ℕ) → n ≡ superblocksOf h c s → n ≡ 0 → record { end = r; buffer = l } ≡ pasted l₀ at [] → record { end = r; buffer = l } ≡ pasted l₀ at (heapLineIf h c s)
+  unfolding heapLineIf
+  heap-line-if-of-no-superblock h c n e z p = rw (← e, eq-eqb n 0 z) p
+
+  -- one with a superblock has one
+  pub heap-line-if-of-superblocks : (h c n m : ℕ) → record { end = r; buffer = l } ≡ pasted l₀ at (heapLine h c n m) → n ≡ superblocksOf h c s → m ≡ liveOf h c s → 1 ≤ n
+      → record { end = r; buffer = l } ≡ pasted l₀ at (heapLineIf h c s)
+  unfolding heapLineIf
+  heap-line-if-of-superblocks h c n m p e f z = rw (← e, ← f, ne-eqb n 0 (λ (k : n ≡ 0). omega arith)) p
+
+  -- the classes of a heap, and the heaps: none yet, all
+  pub class-lines-start : (h : ℕ) → record { end = r; buffer = l } ≡ pasted l₀ at [] → record { end = r; buffer = l } ≡ pasted l₀ at (classLines h 0 s)
+  unfolding classLines
+  class-lines-start h p = p
+
+  pub class-lines-end : (h c : ℕ) → c ≤ 27 → 27 ≤ c → record { end = r; buffer = l } ≡ pasted l₀ at (classLines h c s) → record { end = r; buffer = l } ≡ pasted l₀ at (classLines h 27 s)
+  class-lines-end h c a b p = p ∙ ap (λ (k : ℕ). pasted l₀ at (classLines h k s)) (le-antisymm a b)
+
+  pub heap-lines-start : record { end = r; buffer = l } ≡ pasted l₀ at [] → record { end = r; buffer = l } ≡ pasted l₀ at (heapLines 0 s)
+  unfolding heapLines
+  heap-lines-start p = p
+
+  pub heap-lines-end : (h n : ℕ) → h ≤ n → n ≤ h → record { end = r; buffer = l } ≡ pasted l₀ at (heapLines h s) → record { end = r; buffer = l } ≡ pasted l₀ at (heapLines n s)
+  heap-lines-end h n a b p = p ∙ ap (λ (k : ℕ). pasted l₀ at (heapLines k s)) (le-antisymm a b)
+
+  -- one class more, one heap more, and after heaps 0 to P the last line
+  module _ {l₂ : List ℕ} {r₂ : ℕ} where
+    pub class-lines-step : (h c : ℕ) → record { end = r; buffer = l } ≡ pasted l₀ at (classLines h c s)
+        → record { end = r₂; buffer = l₂ } ≡ pasted l r (heapLineIf h c s) → record { end = r₂; buffer = l₂ } ≡ pasted l₀ at (classLines h (c + 1) s)
+    unfolding classLines
+    class-lines-step h c p q = rw add-one (paste-then-paste l₀ (classLines h c s) (heapLineIf h c s) at p q)
+
+    pub heap-lines-step : (h : ℕ) → record { end = r; buffer = l } ≡ pasted l₀ at (heapLines h s)
+        → record { end = r₂; buffer = l₂ } ≡ pasted l r (classLines h 27 s) → record { end = r₂; buffer = l₂ } ≡ pasted l₀ at (heapLines (h + 1) s)
+    unfolding heapLines
+    heap-lines-step h p q = rw add-one (paste-then-paste l₀ (heapLines h s) (classLines h 27 s) at p q)
+
+    pub final-lines-after-heap-lines : (n : ℕ) → record { end = r; buffer = l } ≡ pasted l₀ at (heapLines n s) → n ≡ s .setup .processors + 1
+        → record { end = r₂; buffer = l₂ } ≡ pasted l r (letters "end\n") → record { end = r₂; buffer = l₂ } ≡ pasted l₀ at (finalLines s)
+    unfolding finalLines
+    final-lines-after-heap-lines n p e q = paste-then-paste l₀ (heapLines (suc (s .setup .processors)) s) (letters "end\n") at (rw (e, add-one) at p) q

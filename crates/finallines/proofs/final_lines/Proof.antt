@@ -1,0 +1,44 @@
+-- `finallines::final_lines` meets its contract: the heaps, then the last line. Assumes nothing.
+use mathlib.Core.Path.{refl}
+use native.Mathlib.Omega.{arith}
+use borrow.Author.Needs.{needs}
+use Rattle.text.specs.Text.{letters}
+use Rattle.fields.proofs.FieldLaws.{word-put}
+use Rattle.finallines.proofs.FinalLinesLaws.{final-lines-after-heap-lines}
+use Rattle.finallines.proofs.final_lines.Statement.{statement}
+use Rattle.finallines.proofs.final_lines.Tie as tie
+
+cast-heap-lines : tie.Need-cast-heap-lines
+cast-heap-lines c = search needs
+
+add-heap-lines : tie.Need-add-heap-lines
+add-heap-lines c = search needs
+
+heap-lines-requires : tie.Need-heap-lines-requires
+heap-lines-requires c κs = search needs
+
+slice-aggregate-put-text : tie.Need-slice-aggregate-put-text
+slice-aggregate-put-text c = search needs
+
+put-text-requires : tie.Need-put-text-requires
+put-text-requires c κs = search needs
+
+same-length : tie.Need-same-length
+same-length c = search needs
+
+returns : tie.Need-returns
+returns c =
+    let h = c .before .before .before .before .before .before .before .heap-lines in
+    final-lines-after-heap-lines _ _ _ _ (h .ensures) (omega arith) (word-put _ _ _ (c .before .before .put-text .ensures) (letters "end\n") refl)
+
+pub final-lines-spec : {M : Type 1} → statement M
+final-lines-spec =
+    tie.close
+    (tie.spec
+    cast-heap-lines
+    add-heap-lines
+    heap-lines-requires
+    slice-aggregate-put-text
+    put-text-requires
+    same-length
+    returns)

@@ -1,0 +1,67 @@
+// The lines at the end of a record that does not stop, written into a lent buffer, as far as they reach.
+use fields::put_byte;
+use fields::put_field;
+use fields::put_last_field;
+use fields::put_nothing;
+use heap::State;
+use text::put_text;
+ghost use mathlib.Core.Path.{_≡_};
+ghost use Prim.Native.Nat.{_≤_};
+ghost use Rattle.text.specs.Text.{pasted};
+ghost use Rattle.linerules.specs.Lines.{heapLine, heapLineIf, classLines, heapLines, finalLines};
+
+// The line of a heap and class, with the number of its superblocks and of their live blocks.
+fn heap_line(out: &mut [u8], at: usize, heap: u8, class: u8, superblocks: u32, live: u32) -> usize
+    ensures { λ r. ⌜ record { end = r; buffer = now (out .exit) } ≡ pasted (now (out .entry)) at (heapLine heap class superblocks live) ⌝ }
+{
+    let a = put_byte(out, at, b"heap ", heap);
+    let b = put_byte(out, a, b" class ", class);
+    let c = put_field(out, b, b" superblocks ", superblocks);
+    put_last_field(out, c, b" live ", live)
+}
+
+// The line of a heap and class, where it has a superblock.
+fn heap_line_if(out: &mut [u8], at: usize, heap: u8, class: u8, s: State) -> usize
+    ensures { λ r. ⌜ record { end = r; buffer = now (out .exit) } ≡ pasted (now (out .entry)) at (heapLineIf heap class s) ⌝ }
+{
+    let n = moves::count_of(s, heap, class);
+    if n.superblocks == 0 {
+        return put_nothing(out, at);
+    }
+    heap_line(out, at, heap, class, n.superblocks, n.live)
+}
+
+// The lines of a heap, classes rising.
+fn class_lines(out: &mut [u8], at: usize, heap: u8, s: State) -> usize
+    ensures { λ r. ⌜ record { end = r; buffer = now (out .exit) } ≡ pasted (now (out .entry)) at (classLines heap 27 s) ⌝ }
+{
+    let mut end = put_nothing(out, at);
+    let mut class: u8 = 0;
+    while class < 27 {
+        end = heap_line_if(out, end, heap, class, s);
+        class += 1;
+    }
+    end
+}
+
+// The lines of the heaps below a number, heaps rising.
+fn heap_lines(out: &mut [u8], at: usize, heaps: usize, s: State) -> usize
+    requires { ⌜ heaps ≤ 256 ⌝ }
+    ensures { λ r. ⌜ record { end = r; buffer = now (out .exit) } ≡ pasted (now (out .entry)) at (heapLines heaps s) ⌝ }
+{
+    let mut end = put_nothing(out, at);
+    let mut heap: usize = 0;
+    while heap < heaps {
+        end = class_lines(out, end, heap as u8, s);
+        heap += 1;
+    }
+    end
+}
+
+// The lines at the end of a record that does not stop.
+pub fn final_lines(out: &mut [u8], at: usize, s: State) -> usize
+    ensures { λ r. ⌜ record { end = r; buffer = now (out .exit) } ≡ pasted (now (out .entry)) at (finalLines s) ⌝ }
+{
+    let end = heap_lines(out, at, s.setup.processors as usize + 1, s);
+    put_text(out, end, b"end\n")
+}

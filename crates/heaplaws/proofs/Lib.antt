@@ -1,0 +1,8 @@
+pub mod WholeCheckCases
+pub mod StateFacts
+pub mod ChoiceLaws
+pub mod CountLaws
+pub mod StateCheckLaws
+pub mod MoveLaws
+pub mod ShapeLaws
+pub mod CheckReadsLaws

@@ -1,0 +1,283 @@
+-- A state passes the check exactly if the facts of StateFacts hold of it. Assumes nothing.
+use mathlib.Core.Path.{_≡_, refl, sym, ap, _∙_, subst}
+use mathlib.Core.Bool.{Bool, true, false, not}
+use mathlib.Core.Logic.{_⊎_, inl, inr}
+use mathlib.Core.List.{List}
+use Prim.Native.Nat.{ℕ, zero, suc, _+_, _-_, _*_, _≤_, _<_}
+use native.Mathlib.Nat.{mul-le-mul-left, mul-le-mul-right, zero-mul}
+use native.Mathlib.Decide.{ℕ-discrete, decLt}
+use native.Mathlib.Omega.{arith}
+use borrow.Author.Tests.{eq-eqb, ne-eqb, le-ltb, ltb-false}
+use lib.ListN.{length, length-set, length-replicate, getD-replicate}
+use lib.Dec.{T, eqb, leb, ltb, leb→le, le→leb, ltb→lt, lt→ltb, eqb→eq, T-not, not-T}
+use Rattle.laws.specs.Sums.{both, either, allBelow}
+use Rattle.laws.proofs.TestLaws.{T-of-true, false-of-not-T, both-left, both-right, both-make, either-left, either-right, either-right-of-left-false}
+use Rattle.laws.proofs.SumLaws.{all-at, all-of-each}
+use Rattle.classes.specs.Classes.{blocksOf}
+use Rattle.classes.proofs.ClassTableLaws.{blocks-of-le-256}
+use Rattle.marks.proofs.MarkLaws.{live-count-of-no-marks}
+use Rattle.ordercheck.proofs.PlacesValidLaws.{live-count-le-of-places-valid}
+use Rattle.heap.specs.declared.Superblock.{Superblock}
+use Rattle.heap.specs.declared.Setup.{Setup}
+use Rattle.heap.specs.declared.State.{State}
+use Rattle.heap.specs.Table.{blank, unused, superblockAt, withSuperblock, liveIn, isUnused, newState}
+use Rattle.heap.specs.Counts.{superblocksOf, liveOf, blocksIn, belongs}
+use Rattle.heap.specs.Moves.{bothConditions, mustMove}
+use Rattle.heap.specs.Check.{within, withinLimits, superblockValid, unusedFrom, emptinessInvariant, sparseIfGlobal, restValid, passes}
+use Rattle.heaplaws.proofs.StateFacts.{Shape, WithinLimits, Unused, Owned, Sparse, Sound}
+use Rattle.heaplaws.proofs.CountLaws.{superblock-at-replaced, superblock-at-others, owner-and-class-of-belongs, superblocks-of-new-state}
+
+-- ---- the setup numbers
+bounds-of-within : (a b x : ℕ) → T (within a b x) → (a ≤ x) × (x ≤ b)
+bounds-of-within a b x t = (leb→le a x (both-left (leb a x) (leb x b) t), leb→le x b (both-right (leb a x) (leb x b) t))
+
+within-of-bounds : (a b x : ℕ) → a ≤ x → x ≤ b → T (within a b x)
+within-of-bounds a b x p q = both-make (leb a x) (leb x b) (le→leb a x p) (le→leb x b q)
+
+pub facts-of-within-limits : (u : Setup) → T (withinLimits u) → WithinLimits u
+unfolding withinLimits
+facts-of-within-limits u t =
+    let a = bounds-of-within 1 8 (u .processors) (both-left (within 1 8 (u .processors)) _ t) in
+    let t1 = both-right (within 1 8 (u .processors)) _ t in
+    let b = bounds-of-within 1 64 (u .superblocks) (both-left (within 1 64 (u .superblocks)) _ t1) in
+    let t2 = both-right (within 1 64 (u .superblocks)) _ t1 in
+    let c = bounds-of-within 1 16 (u .spare) (both-left (within 1 16 (u .spare)) _ t2) in
+    let t3 = both-right (within 1 16 (u .spare)) _ t2 in
+    let d = both-left (both (leb 1 (u .p)) (ltb (u .p) (u .q))) _ t3 in
+    let e = bounds-of-within 2 8 (u .q) (both-right (both (leb 1 (u .p)) (ltb (u .p) (u .q))) _ t3) in
+    record {
+      processors-low = a .0;
+      processors-high = a .1;
+      superblocks-low = b .0;
+      superblocks-high = b .1;
+      spare-low = c .0;
+      spare-high = c .1;
+      p-low = leb→le 1 (u .p) (both-left (leb 1 (u .p)) _ d);
+      p-high = ltb→lt (u .p) (u .q) (both-right (leb 1 (u .p)) _ d);
+      q-low = e .0;
+      q-high = e .1;
+    }
+
+pub within-limits-of-facts : (u : Setup) → WithinLimits u → T (withinLimits u)
+unfolding withinLimits
+within-limits-of-facts u l =
+    both-make (within 1 8 (u .processors)) _ (within-of-bounds 1 8 (u .processors) (l .processors-low) (l .processors-high))
+    (both-make (within 1 64 (u .superblocks)) _ (within-of-bounds 1 64 (u .superblocks) (l .superblocks-low) (l .superblocks-high))
+    (both-make (within 1 16 (u .spare)) _ (within-of-bounds 1 16 (u .spare) (l .spare-low) (l .spare-high))
+    (both-make (both (leb 1 (u .p)) (ltb (u .p) (u .q))) _ (both-make (leb 1 (u .p)) (ltb (u .p) (u .q)) (le→leb 1 (u .p) (l .p-low)) (lt→ltb (u .p) (u .q) (l .p-high)))
+    (within-of-bounds 2 8 (u .q) (l .q-low) (l .q-high)))))
+
+-- ---- one superblock
+pub facts-of-is-unused : (b : Superblock) → T (isUnused b) → Unused b
+unfolding isUnused
+facts-of-is-unused b t =
+    let r = both-right (eqb (b .owner) 255) _ t in
+    record {
+      owner = eqb→eq (b .owner) 255 (both-left (eqb (b .owner) 255) _ t);
+      class = eqb→eq (b .class) 0 (both-left (eqb (b .class) 0) _ r);
+      live = eqb→eq (liveIn b) 0 (both-right (eqb (b .class) 0) _ r);
+    }
+
+pub is-unused-of-facts : (b : Superblock) → Unused b → T (isUnused b)
+unfolding isUnused
+is-unused-of-facts b h =
+    both-make (eqb (b .owner) 255) _ (T-of-true _ (eq-eqb (b .owner) 255 (h .owner)))
+    (both-make (eqb (b .class) 0) _ (T-of-true _ (eq-eqb (b .class) 0 (h .class))) (T-of-true _ (eq-eqb (liveIn b) 0 (h .live))))
+
+-- a superblock that a heap owns is not unused
+pub not-unused-of-owner : (b : Superblock) → (b .owner ≡ 255 → ⊥) → isUnused b ≡ false
+not-unused-of-owner b f = false-of-not-T (isUnused b) (λ t. f (facts-of-is-unused b t .owner))
+
+pub not-unused-of-belongs : (h c : ℕ) (b : Superblock) → h < 255 → T (belongs h c b) → isUnused b ≡ false
+not-unused-of-belongs h c b l t = not-unused-of-owner b (λ (q : b .owner ≡ 255). omega (arith, owner-and-class-of-belongs h c b t .0))
+
+-- the superblocks of a new state
+pub unused-is-unused : Unused unused
+unused-is-unused = record { owner = refl; class = refl; live = live-count-of-no-marks }
+
+module _ (u : Setup) (order : List ℕ) (k : ℕ) (b : Superblock) where
+  pub unused-or-owned-of-superblock-valid : T (superblockValid u order k b) → Unused b ⊎ Owned u order k b
+  unfolding superblockValid
+  unused-or-owned-of-superblock-valid t = go (isUnused b) refl
+    where
+      go : (x : Bool) → isUnused b ≡ x → Unused b ⊎ Owned u order k b
+      go true e = inl (facts-of-is-unused b (T-of-true _ e))
+      go false e =
+          let r = either-right-of-left-false (isUnused b) _ t e in
+          let r1 = both-right (leb (b .owner) (u .processors)) _ r in
+          inr (record {
+            owner = leb→le (b .owner) (u .processors) (both-left (leb (b .owner) (u .processors)) _ r);
+            class = ltb→lt (b .class) 27 (both-left (ltb (b .class) 27) _ r1);
+            places = both-right (ltb (b .class) 27) _ r1;
+          })
+
+  pub superblock-valid-of-unused : Unused b → T (superblockValid u order k b)
+  unfolding superblockValid
+  superblock-valid-of-unused h = either-left (isUnused b) _ (is-unused-of-facts b h)
+
+  pub superblock-valid-of-owned : Owned u order k b → T (superblockValid u order k b)
+  unfolding superblockValid
+  superblock-valid-of-owned h =
+      either-right (isUnused b) _
+      (both-make (leb (b .owner) (u .processors)) _ (le→leb (b .owner) (u .processors) (h .owner))
+      (both-make (ltb (b .class) 27) _ (lt→ltb (b .class) 27 (h .class)) (h .places)))
+
+unused-of-unused-from : (n k : ℕ) (b : Superblock) → T (unusedFrom n k b) → n ≤ k → Unused b
+unfolding unusedFrom
+unused-of-unused-from n k b t l = facts-of-is-unused b (either-right-of-left-false (ltb k n) (isUnused b) t (le-ltb k n l))
+
+unused-from-of-unused : (n k : ℕ) (b : Superblock) → (n ≤ k → Unused b) → T (unusedFrom n k b)
+unfolding unusedFrom
+unused-from-of-unused n k b h = go (ltb k n) refl
+  where
+    go : (x : Bool) → ltb k n ≡ x → T (either x (isUnused b))
+    go true e = tt
+    go false e = is-unused-of-facts b (h (ltb-false k n e))
+
+sparse-of-sparse-if-global : (u : Setup) (b : Superblock) → T (sparseIfGlobal u b) → b .owner ≡ 0 → Sparse u b
+unfolding sparseIfGlobal
+sparse-of-sparse-if-global u b t e = ltb→lt (u .q * liveIn b) ((u .q - u .p) * blocksOf (b .class)) (either-right-of-left-false (not (eqb (b .owner) 0)) _ t (ap not (eq-eqb (b .owner) 0 e)))
+
+sparse-if-global-of-sparse : (u : Setup) (b : Superblock) → (b .owner ≡ 0 → Sparse u b) → T (sparseIfGlobal u b)
+unfolding sparseIfGlobal
+sparse-if-global-of-sparse u b h = go (ℕ-discrete (b .owner) 0)
+  where
+    go : Dec (b .owner ≡ 0) → T (either (not (eqb (b .owner) 0)) (ltb (u .q * liveIn b) ((u .q - u .p) * blocksOf (b .class))))
+    go (yes e) = either-right (not (eqb (b .owner) 0)) _ (lt→ltb (u .q * liveIn b) ((u .q - u .p) * blocksOf (b .class)) (h e))
+    go (no f) = either-left (not (eqb (b .owner) 0)) _ (T-of-true _ (ap not (ne-eqb (b .owner) 0 f)))
+
+-- ---- the whole state
+not-must-move-of-emptiness-invariant : (s : State) → T (emptinessInvariant s) → (h c : ℕ) → 1 ≤ h → h ≤ s .setup .processors → c < 27 → T (mustMove h c s) → ⊥
+unfolding emptinessInvariant
+not-must-move-of-emptiness-invariant s t zero c low high lc m = omega arith
+not-must-move-of-emptiness-invariant s t (suc i) c low high lc m =
+    T-not (mustMove (suc i) c s)
+    (all-at (λ d. not (mustMove (suc i) d s)) 27 (all-at (λ j. allBelow (λ d. not (mustMove (suc j) d s)) 27) (s .setup .processors) t i high) c lc) m
+
+emptiness-invariant-of-not-must-move : (s : State) → ((h c : ℕ) → 1 ≤ h → h ≤ s .setup .processors → c < 27 → T (mustMove h c s) → ⊥) → T (emptinessInvariant s)
+unfolding emptinessInvariant
+emptiness-invariant-of-not-must-move s h =
+    all-of-each (λ j. allBelow (λ d. not (mustMove (suc j) d s)) 27) (s .setup .processors)
+    (λ i l. all-of-each (λ d. not (mustMove (suc i) d s)) 27 (λ c lc. not-T (mustMove (suc i) c s) (h (suc i) c (omega arith) l lc)))
+
+-- the check's two parts, as the calls test them
+pub sound-of-limits-and-rest : (s : State) (order : List ℕ) → T (withinLimits (s .setup)) → T (restValid s order) → Sound s order
+unfolding restValid
+sound-of-limits-and-rest s order a b =
+    let b1 = both-right (allBelow (λ k. superblockValid (s .setup) order k (superblockAt s k)) 64) _ b in
+    let b2 = both-right (allBelow (λ k. unusedFrom (s .setup .superblocks) k (superblockAt s k)) 64) _ b1 in
+    record {
+      numbers = facts-of-within-limits (s .setup) a;
+      each = λ k l. unused-or-owned-of-superblock-valid (s .setup) order k (superblockAt s k)
+          (all-at (λ k. superblockValid (s .setup) order k (superblockAt s k)) 64 (both-left (allBelow (λ k. superblockValid (s .setup) order k (superblockAt s k)) 64) _ b) k l);
+      past-unused = λ k l. unused-of-unused-from (s .setup .superblocks) k (superblockAt s k)
+          (all-at (λ k. unusedFrom (s .setup .superblocks) k (superblockAt s k)) 64 (both-left (allBelow (λ k. unusedFrom (s .setup .superblocks) k (superblockAt s k)) 64) _ b1) k l);
+      invariant = not-must-move-of-emptiness-invariant s (both-left (emptinessInvariant s) _ b2);
+      sparse = λ k l. sparse-of-sparse-if-global (s .setup) (superblockAt s k) (all-at (λ k. sparseIfGlobal (s .setup) (superblockAt s k)) 64 (both-right (emptinessInvariant s) _ b2) k l);
+    }
+
+pub rest-valid-of-sound : (s : State) (order : List ℕ) → Sound s order → T (restValid s order)
+unfolding restValid
+rest-valid-of-sound s order h =
+    both-make (allBelow (λ k. superblockValid (s .setup) order k (superblockAt s k)) 64) _ (all-of-each (λ k. superblockValid (s .setup) order k (superblockAt s k)) 64 (λ k l. good k (h .each k l)))
+    (both-make (allBelow (λ k. unusedFrom (s .setup .superblocks) k (superblockAt s k)) 64) _
+    (all-of-each (λ k. unusedFrom (s .setup .superblocks) k (superblockAt s k)) 64 (λ k l. unused-from-of-unused (s .setup .superblocks) k (superblockAt s k) (h .past-unused k l)))
+    (both-make (emptinessInvariant s) _ (emptiness-invariant-of-not-must-move s (h .invariant))
+    (all-of-each (λ k. sparseIfGlobal (s .setup) (superblockAt s k)) 64 (λ k l. sparse-if-global-of-sparse (s .setup) (superblockAt s k) (h .sparse k l)))))
+  where
+    good : (k : ℕ) → Unused (superblockAt s k) ⊎ Owned (s .setup) order k (superblockAt s k) → T (superblockValid (s .setup) order k (superblockAt s k))
+    good k (inl a) = superblock-valid-of-unused (s .setup) order k (superblockAt s k) a
+    good k (inr a) = superblock-valid-of-owned (s .setup) order k (superblockAt s k) a
+
+pub sound-of-passes : (s : State) (order : List ℕ) → T (passes s order) → Sound s order
+unfolding passes
+sound-of-passes s order t = sound-of-limits-and-rest s order (both-left (withinLimits (s .setup)) _ t) (both-right (withinLimits (s .setup)) _ t)
+
+pub passes-of-sound : (s : State) (order : List ℕ) → Sound s order → T (passes s order)
+unfolding passes
+passes-of-sound s order h = both-make (withinLimits (s .setup)) _ (within-limits-of-facts (s .setup) (h .numbers)) (rest-valid-of-sound s order h)
+
+-- ---- a new state
+pub superblock-at-new-state-unused : (u : Setup) (k : ℕ) → k < 64 → superblockAt (newState u) k ≡ unused
+superblock-at-new-state-unused u k l = getD-replicate 64 k unused blank l
+
+-- no heap of it must move
+new-state-not-must-move : (u : Setup) (h c : ℕ) → h < 255 → T (mustMove h c (newState u)) → ⊥
+unfolding mustMove bothConditions blocksIn
+new-state-not-must-move u h c l m =
+    let more = ltb→lt (liveOf h c (newState u) + u .spare * blocksOf c) (superblocksOf h c (newState u) * blocksOf c) (both-left (ltb (liveOf h c (newState u) + u .spare * blocksOf c) (superblocksOf h c (newState u) * blocksOf c)) _ m) in
+    let none : superblocksOf h c (newState u) * blocksOf c ≡ 0 = rw (superblocks-of-new-state u h c l) (zero-mul (blocksOf c)) in
+    omega arith
+
+-- it passes, with any storage
+pub new-state-sound : (u : Setup) (order : List ℕ) → T (withinLimits u) → Sound (newState u) order
+new-state-sound u order t = record {
+  numbers = numbers;
+  each = λ k l. inl (free k l);
+  past-unused = λ k l m. free k l;
+  invariant = held;
+  sparse = λ k l e. absurd (owned k l e);
+}
+  where
+    numbers : WithinLimits u
+    numbers = facts-of-within-limits u t
+
+    free : (k : ℕ) → k < 64 → Unused (superblockAt (newState u) k)
+    free k l = subst Unused (sym (superblock-at-new-state-unused u k l)) unused-is-unused
+
+    owned : (k : ℕ) → k < 64 → superblockAt (newState u) k .owner ≡ 0 → ⊥
+    owned k l e = omega (arith, free k l .owner)
+
+    held : (h c : ℕ) → 1 ≤ h → h ≤ u .processors → c < 27 → T (mustMove h c (newState u)) → ⊥
+    held h c low high lc m = new-state-not-must-move u h c (omega (arith, numbers .processors-high)) m
+
+pub new-state-shape : (u : Setup) → Shape (newState u)
+new-state-shape u = record { long = length-replicate 64 unused; four = λ k l. ap (λ (b : Superblock). length (b .live)) (superblock-at-new-state-unused u k l) }
+
+-- a superblock replaced by one with four numbers of marks keeps the shape
+pub shape-with-superblock : (s : State) (k : ℕ) (b : Superblock) → Shape s → k < 64 → length (b .live) ≡ 4 → Shape (withSuperblock s k b)
+shape-with-superblock s k b h l e = record { long = length-set (s .table) k b ∙ h .long; four = λ j lj. at j lj (ℕ-discrete j k) }
+  where
+    at : (j : ℕ) → j < 64 → Dec (j ≡ k) → length (superblockAt (withSuperblock s k b) j .live) ≡ 4
+    at j lj (yes q) = ap (λ (i : ℕ). length (superblockAt (withSuperblock s k b) i .live)) q ∙ ap (λ (d : Superblock). length (d .live)) (superblock-at-replaced s k b (h .long) l) ∙ e
+    at j lj (no f) = ap (λ (d : Superblock). length (d .live)) (superblock-at-others s k b j f) ∙ h .four j lj
+
+-- ---- what a state that passes says of one superblock
+-- fewer live than the share of n that sparse allows are fewer than n
+live-lt-blocks-of-sparse : (q p live n : ℕ) → q * live < (q - p) * n → live < n
+live-lt-blocks-of-sparse q p live n h = go (decLt live n)
+  where
+    go : Dec (live < n) → live < n
+    go (yes l) = l
+    go (no f) = absurd (let z : ⊥ = omega (arith, mul-le-mul-left {m = n} {n = live} q (omega arith), mul-le-mul-right {m = q - p} {n = q} n (omega arith)) in z)
+
+module _ (s : State) (order : List ℕ) (sound : Sound s order) (k : ℕ) (l : k < 64) where
+  -- a superblock that a heap owns has a number below N
+  pub owned-below-superblocks : (superblockAt s k .owner ≡ 255 → ⊥) → k < s .setup .superblocks
+  owned-below-superblocks f = go (decLt k (s .setup .superblocks))
+    where
+      go : Dec (k < s .setup .superblocks) → k < s .setup .superblocks
+      go (yes h) = h
+      go (no g) = absurd (f (sound .past-unused k l (omega arith) .owner))
+
+  pub owned-of-owner : (superblockAt s k .owner ≡ 255 → ⊥) → Owned (s .setup) order k (superblockAt s k)
+  owned-of-owner f = go (sound .each k l)
+    where
+      go : Unused (superblockAt s k) ⊎ Owned (s .setup) order k (superblockAt s k) → Owned (s .setup) order k (superblockAt s k)
+      go (inl u) = absurd (f (u .owner))
+      go (inr o) = o
+
+  pub unused-of-owner-255 : superblockAt s k .owner ≡ 255 → Unused (superblockAt s k)
+  unused-of-owner-255 e = go (sound .each k l)
+    where
+      go : Unused (superblockAt s k) ⊎ Owned (s .setup) order k (superblockAt s k) → Unused (superblockAt s k)
+      go (inl u) = u
+      go (inr o) = absurd (let z : ⊥ = omega (arith, o .owner, sound .numbers .processors-high) in z)
+
+  -- not more live than blocks
+  pub live-le-blocks-of-owned : (superblockAt s k .owner ≡ 255 → ⊥) → liveIn (superblockAt s k) ≤ blocksOf (superblockAt s k .class)
+  live-le-blocks-of-owned f = live-count-le-of-places-valid order (superblockAt s k .live) k (blocksOf (superblockAt s k .class)) (blocks-of-le-256 (superblockAt s k .class)) (owned-of-owner f .places)
+
+  -- a sparse superblock has a free block
+  pub free-block-in-global : superblockAt s k .owner ≡ 0 → liveIn (superblockAt s k) < blocksOf (superblockAt s k .class)
+  free-block-in-global e = live-lt-blocks-of-sparse (s .setup .q) (s .setup .p) (liveIn (superblockAt s k)) (blocksOf (superblockAt s k .class)) (sound .sparse k l e)

@@ -1,0 +1,83 @@
+-- The rules on a state as facts: what a choice finds, what a state that passes its check is, what moves do.
+use mathlib.Core.Path.{_≡_}
+use mathlib.Core.Bool.{Bool}
+use mathlib.Core.Logic.{_⊎_}
+use mathlib.Core.List.{List}
+use Prim.Native.Nat.{ℕ, _-_, _*_, _≤_, _<_}
+use lib.ListN.{length, getD}
+use lib.Dec.{T}
+use Rattle.classes.specs.Classes.{blocksOf}
+use Rattle.ordercheck.specs.FilledPlaces.{placesValid}
+use Rattle.heap.specs.declared.Superblock.{Superblock}
+use Rattle.heap.specs.declared.Setup.{Setup}
+use Rattle.heap.specs.declared.State.{State}
+use Rattle.heap.specs.Table.{blank, superblockAt, liveIn, withOwner}
+use Rattle.heap.specs.Counts.{belongs, superblocksOf, liveOf, superblocksOfClass, liveOfClass}
+use Rattle.heap.specs.Moves.{mustMove}
+
+-- a way to compare superblocks, by which some are preferred and the others equal
+pub record StrictWeakOrder (better : Superblock → Superblock → Bool) : Type 0 where
+  pub is-irreflexive : (b : Superblock) → T (better b b) → ⊥
+  pub is-transitive : (a b d : Superblock) → T (better a b) → T (better b d) → T (better a d)
+  pub is-negatively-transitive : (a b d : Superblock) → T (better a d) → (T (better b d) → ⊥) → T (better a b)
+
+-- superblock k meets the criterion, none that meets it is preferred, and it is preferred to each that meets it and has a lower number
+pub record IsBest (wanted : Superblock → Bool) (better : Superblock → Superblock → Bool) (table : List Superblock) (n k : ℕ) : Type 0 where
+  pub below : k < n
+  pub is-wanted : T (wanted (getD table k blank))
+  pub none-better : (m : ℕ) → m < n → T (wanted (getD table m blank)) → T (better (getD table m blank) (getD table k blank)) → ⊥
+  pub first : (m : ℕ) → m < k → T (wanted (getD table m blank)) → T (better (getD table k blank) (getD table m blank))
+
+-- what the type of a state says of its lists
+pub record Shape (s : State) : Type 0 where
+  pub long : length (s .table) ≡ 64
+  pub four : (k : ℕ) → k < 64 → length (superblockAt s k .live) ≡ 4
+
+-- setup numbers within their limits
+pub record WithinLimits (u : Setup) : Type 0 where
+  pub processors-low : 1 ≤ u .processors
+  pub processors-high : u .processors ≤ 8
+  pub superblocks-low : 1 ≤ u .superblocks
+  pub superblocks-high : u .superblocks ≤ 64
+  pub spare-low : 1 ≤ u .spare
+  pub spare-high : u .spare ≤ 16
+  pub p-low : 1 ≤ u .p
+  pub p-high : u .p < u .q
+  pub q-low : 2 ≤ u .q
+  pub q-high : u .q ≤ 8
+
+-- unused: owner 255, class 0, nothing live
+pub record Unused (b : Superblock) : Type 0 where
+  pub owner : b .owner ≡ 255
+  pub class : b .class ≡ 0
+  pub live : liveIn b ≡ 0
+
+-- a superblock that a heap owns: its owner, its class, its marks and order places
+pub record Owned (u : Setup) (order : List ℕ) (k : ℕ) (b : Superblock) : Type 0 where
+  pub owner : b .owner ≤ u .processors
+  pub class : b .class < 27
+  pub places : T (placesValid order (b .live) k (blocksOf (b .class)))
+
+-- a superblock of heap 0 is sparse
+abbrev pub Sparse : Setup → Superblock → Type 0
+Sparse u b = u .q * liveIn b < (u .q - u .p) * blocksOf (b .class)
+
+-- the whole check
+pub record Sound (s : State) (order : List ℕ) : Type 0 where
+  pub numbers : WithinLimits (s .setup)
+  pub each : (k : ℕ) → k < 64 → Unused (superblockAt s k) ⊎ Owned (s .setup) order k (superblockAt s k)
+  pub past-unused : (k : ℕ) → k < 64 → s .setup .superblocks ≤ k → Unused (superblockAt s k)
+  pub invariant : (h c : ℕ) → 1 ≤ h → h ≤ s .setup .processors → c < 27 → T (mustMove h c s) → ⊥
+  pub sparse : (k : ℕ) → k < 64 → superblockAt s k .owner ≡ 0 → Sparse (s .setup) (superblockAt s k)
+
+-- what the moves of heap h and class c, from state s, have come to: t is s with some superblocks of (h, c) passed to heap 0
+pub record TransferredFrom (h c : ℕ) (s t : State) : Type 0 where
+  pub setup : t .setup ≡ s .setup
+  pub long : length (t .table) ≡ 64
+  -- a superblock is as it was, or it was heap h's of class c, is sparse, and only its owner has become 0: "a moved superblock's owner was i and is 0, the others keep theirs"
+  pub each : (k : ℕ) → k < 64 → (superblockAt t k ≡ superblockAt s k) ⊎ (T (belongs h c (superblockAt s k)) × Sparse (s .setup) (superblockAt s k) × (superblockAt t k ≡ withOwner 0 (superblockAt s k)))
+  -- no other processor heap or class is touched
+  pub others : (i d : ℕ) → 0 < i → ((i ≡ h) × (d ≡ c) → ⊥) → (superblocksOf i d t ≡ superblocksOf i d s) × (liveOf i d t ≡ liveOf i d s)
+  -- no class changes its number of superblocks or live blocks
+  pub owned : (d : ℕ) → superblocksOfClass d t ≡ superblocksOfClass d s
+  pub live : (d : ℕ) → liveOfClass d t ≡ liveOfClass d s

@@ -1,0 +1,1 @@
+// Laws of the state's rules, in the page's words. The definitions are those of crate heap.

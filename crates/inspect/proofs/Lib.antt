@@ -1,4 +1,0 @@
-pub mod CheckLaws
-pub mod SetupLaws
-pub mod TallyLaws
-pub mod HeldLaws

@@ -1,0 +1,206 @@
+-- The calls of a record that its key replays are a list as in demand 3, so that its claims hold of every record's key. Assumes nothing.
+use mathlib.Core.Path.{_≡_, refl, sym, ap, _∙_, subst}
+use mathlib.Core.Bool.{Bool, true, false}
+use mathlib.Core.Logic.{_⊎_, inl, inr, ⊎-elim}
+use mathlib.Core.List.{List, [], _∷_, _++_, append-assoc}
+use Prim.Native.Nat.{ℕ, zero, suc, _+_, _*_, _<_}
+use native.Mathlib.Omega.{arith}
+use borrow.Author.Tests.{ne-eqb}
+use lib.ListN.{length}
+use lib.Dec.{eqb, leb}
+use Rattle.laws.specs.Sums.{pick, either}
+use Rattle.heap.specs.declared.Setup.{Setup}
+use Rattle.heap.specs.Table.{noState}
+use Rattle.heap.specs.Check.{withinLimits}
+use Rattle.calls.specs.declared.Call.{Call}
+use Rattle.calls.specs.declared.Call.the-variants as call
+use Rattle.calls.specs.declared.Outcome.{Outcome}
+use Rattle.calls.specs.declared.Outcome.the-variants.{Ready, Refused}
+use Rattle.calls.specs.Answers.{After, refused, numberOf}
+use Rattle.calls.specs.Setup.{acceptedSetup, setupOf}
+use Rattle.calls.specs.Calls.{callOf}
+use Rattle.bound.specs.Claim.{Step, Linked, Claims}
+use Rattle.bound.proofs.Demand3.{demand-3}
+use Rattle.bound.proofs.CallListLaws.{stepsBy, steps-linked}
+use Rattle.commands.specs.declared.Command.{Command}
+use Rattle.commands.specs.declared.Command.the-variants as command
+use Rattle.commands.specs.Record.{commandAt, sizeOfCommand, isRefused, commandsFrom, commandsOf}
+use Rattle.commandlaws.proofs.CommandLaws.{remaining, commands-of-is-commands-at-0, commands-setup, commands-refused, setup-first-and-inside, take-later-and-inside, free-later-and-inside}
+use Rattle.linerules.specs.Lines.{setupLine, takeLine, freeLine, stopLine, finalLines}
+use Rattle.keyrules.specs.Key.{beforeFirst, setupText, textOf, orderAfter, keyOf, storageOf}
+
+-- ---- the calls of a record
+-- the takes and frees among commands, up to their end or stop; a setup among them is passed over
+unfoldable pub callsIn : List Command → List Call
+callsIn [] = []
+callsIn (command.Setup processors superblocks spare p q ∷ commands) = callsIn commands
+callsIn (command.Take processor size ∷ commands) = call.Take processor size ∷ callsIn commands
+callsIn (command.Free processor address ∷ commands) = call.Free processor address ∷ callsIn commands
+callsIn (command.Refused number offset ∷ commands) = []
+
+-- those calls with what each left, one after the other
+unfoldable pub stepsIn : After → List Command → List Step
+stepsIn before commands = stepsBy callOf before (callsIn commands)
+
+-- what the last of them left
+unfoldable pub lastAfter : After → List Step → After
+lastAfter before [] = before
+lastAfter before (step ∷ steps) = lastAfter (step .after) steps
+
+-- ---- what is printed of them
+unfoldable pub callLine : Call → Outcome → List ℕ
+callLine (call.Take processor size) outcome = takeLine processor size outcome
+callLine (call.Free processor address) outcome = freeLine processor address outcome
+
+unfoldable pub stepLines : List Step → List ℕ
+stepLines [] = []
+stepLines (step ∷ steps) = callLine (step .call) (step .after .answer .outcome) ++ stepLines steps
+
+-- the stop line, or the final lines of the last state
+unfoldable pub endingLines : After → List Command → List ℕ
+endingLines last [] = finalLines (last .answer .state)
+endingLines last (command.Setup processors superblocks spare p q ∷ commands) = endingLines last commands
+endingLines last (command.Take processor size ∷ commands) = endingLines last commands
+endingLines last (command.Free processor address ∷ commands) = endingLines last commands
+endingLines last (command.Refused number offset ∷ commands) = stopLine number offset
+
+-- ---- a setup comes first, and only there
+NoSetup : List Command → Type 0
+NoSetup [] = Unit {0}
+NoSetup (command.Setup processors superblocks spare p q ∷ commands) = ⊥
+NoSetup (command.Take processor size ∷ commands) = NoSetup commands
+NoSetup (command.Free processor address ∷ commands) = NoSetup commands
+NoSetup (command.Refused number offset ∷ commands) = NoSetup commands
+
+no-setup-of-pick : (t : Bool) (commands : List Command) → NoSetup commands → NoSetup (pick t [] commands)
+unfolding NoSetup
+no-setup-of-pick true commands n = tt
+no-setup-of-pick false commands n = n
+
+no-setup-in-commands-from : (m : ℕ) (r : List ℕ) (at : ℕ) → 0 < at → NoSetup (commandsFrom m r at)
+unfolding NoSetup commandsFrom sizeOfCommand
+no-setup-in-commands-from zero r at later = tt
+no-setup-in-commands-from (suc m) r at later = go (commandAt r at) refl (λ (k : ℕ). no-setup-in-commands-from m r (at + k) (omega arith))
+  where
+    over : Command → Bool
+    over c = either (isRefused c) (leb (length r) (at + sizeOfCommand c))
+
+    go : (c : Command) → c ≡ commandAt r at → ((k : ℕ) → NoSetup (commandsFrom m r (at + k)))
+        → NoSetup (c ∷ pick (over c) [] (commandsFrom m r (at + sizeOfCommand c)))
+    go (command.Setup processors superblocks spare p q) e more =
+        let told = setup-first-and-inside r at (command.Setup processors superblocks spare p q) e processors superblocks spare p q refl in omega arith
+    go (command.Take processor size) e more = no-setup-of-pick (over (command.Take processor size)) (commandsFrom m r (at + 4)) (more 4)
+    go (command.Free processor address) e more = no-setup-of-pick (over (command.Free processor address)) (commandsFrom m r (at + 6)) (more 6)
+    go (command.Refused number offset) e more = no-setup-of-pick (over (command.Refused number offset)) (commandsFrom m r (at + 0)) (more 0)
+
+tailOf : List Command → List Command
+tailOf [] = []
+tailOf (c ∷ commands) = commands
+
+no-setup-after-first : (r : List ℕ) → NoSetup (tailOf (commandsOf r))
+unfolding NoSetup tailOf commandsOf commandsFrom sizeOfCommand isRefused
+no-setup-after-first r = go (commandAt r 0)
+  where
+    after : (k : ℕ) → 0 < k → NoSetup (pick (leb (length r) (0 + k)) [] (commandsFrom (length r) r (0 + k)))
+    after k some = no-setup-of-pick (leb (length r) (0 + k)) (commandsFrom (length r) r (0 + k)) (no-setup-in-commands-from (length r) r (0 + k) (omega arith))
+
+    go : (c : Command) → NoSetup (pick (either (isRefused c) (leb (length r) (0 + sizeOfCommand c))) [] (commandsFrom (length r) r (0 + sizeOfCommand c)))
+    go (command.Setup processors superblocks spare p q) = after 6 (omega arith)
+    go (command.Take processor size) = after 4 (omega arith)
+    go (command.Free processor address) = after 6 (omega arith)
+    go (command.Refused number offset) = tt
+
+-- ---- the lines are those of the calls
+text-of-is-step-lines : (before : After) (commands : List Command) → NoSetup commands
+    → textOf before commands ≡ stepLines (stepsIn before commands) ++ endingLines (lastAfter before (stepsIn before commands)) commands
+unfolding NoSetup textOf stepsIn callsIn stepsBy callOf stepLines callLine lastAfter endingLines
+text-of-is-step-lines before [] n = refl
+text-of-is-step-lines before (command.Setup processors superblocks spare p q ∷ commands) n = absurd n
+text-of-is-step-lines before (command.Take processor size ∷ commands) n =
+    let after = callOf (before .answer .state) (before .order) (call.Take processor size) in
+    let line = takeLine processor size (after .answer .outcome) in
+    ap (λ (l : List ℕ). line ++ l) (text-of-is-step-lines after commands n) ∙ sym (append-assoc line (stepLines (stepsIn after commands)) (endingLines (lastAfter after (stepsIn after commands)) commands))
+text-of-is-step-lines before (command.Free processor address ∷ commands) n =
+    let after = callOf (before .answer .state) (before .order) (call.Free processor address) in
+    let line = freeLine processor address (after .answer .outcome) in
+    ap (λ (l : List ℕ). line ++ l) (text-of-is-step-lines after commands n) ∙ sym (append-assoc line (stepLines (stepsIn after commands)) (endingLines (lastAfter after (stepsIn after commands)) commands))
+text-of-is-step-lines before (command.Refused number offset ∷ commands) n = refl
+
+order-after-is-last-order : (before : After) (commands : List Command) → NoSetup commands → orderAfter before commands ≡ lastAfter before (stepsIn before commands) .order
+unfolding NoSetup orderAfter stepsIn callsIn stepsBy callOf lastAfter
+order-after-is-last-order before [] n = refl
+order-after-is-last-order before (command.Setup processors superblocks spare p q ∷ commands) n = absurd n
+order-after-is-last-order before (command.Take processor size ∷ commands) n = order-after-is-last-order (callOf (before .answer .state) (before .order) (call.Take processor size)) commands n
+order-after-is-last-order before (command.Free processor address ∷ commands) n = order-after-is-last-order (callOf (before .answer .state) (before .order) (call.Free processor address)) commands n
+order-after-is-last-order before (command.Refused number offset ∷ commands) n = refl
+
+-- ---- the theorem
+-- a record that starts with the accepted setup u: the calls after it are a list as in demand 3 from what the setup left, the claim
+-- holds of it, and the key prints the setup, these calls with their outcomes, and the stop line or the last state
+pub record KeyClaims (r order : List ℕ) (u : Setup) (commands : List Command) : Type 0 where
+  pub starts : commandsOf r ≡ command.Setup (u .processors) (u .superblocks) (u .spare) (u .p) (u .q) ∷ commands
+  pub ready : setupOf u order .answer .outcome ≡ Ready
+  pub linked : Linked (setupOf u order) (stepsIn (setupOf u order) commands)
+  pub claims : Claims u (setupOf u order) [] (λ c. 0) (stepsIn (setupOf u order) commands)
+  pub printed : keyOf r order
+      ≡ setupLine u ++ (stepLines (stepsIn (setupOf u order) commands) ++ endingLines (lastAfter (setupOf u order) (stepsIn (setupOf u order) commands)) commands)
+  pub storage : storageOf r order ≡ lastAfter (setupOf u order) (stepsIn (setupOf u order) commands) .order
+
+module _ (r order : List ℕ) (u : Setup) (commands : List Command) (e : commandsOf r ≡ command.Setup (u .processors) (u .superblocks) (u .spare) (u .p) (u .q) ∷ commands) where
+  pub key-claims-of-accepted-setup : setupOf u order .answer .outcome ≡ Ready → KeyClaims r order u commands
+  unfolding tailOf keyOf storageOf textOf orderAfter setupText numberOf stepsIn
+  key-claims-of-accepted-setup ready =
+      let after = setupOf u order in
+      let n : NoSetup commands = subst NoSetup (ap tailOf e) (no-setup-after-first r) in
+      let linked = steps-linked after (callsIn commands) in
+      record {
+        starts = e;
+        ready = ready;
+        linked = linked;
+        claims = demand-3 u order after refl ready (stepsBy callOf after (callsIn commands)) linked;
+        printed = ap (textOf (beforeFirst order)) e ∙ ap (λ (o : Outcome). setupText u o (textOf after commands)) ready ∙ ap (λ (l : List ℕ). setupLine u ++ l) (text-of-is-step-lines after commands n);
+        storage = ap (orderAfter (beforeFirst order)) e ∙ ap (λ (o : Outcome). pick (eqb (numberOf o) 0) (orderAfter after commands) (after .order)) ready ∙ order-after-is-last-order after commands n;
+      }
+
+  -- a refused setup prints its stop line alone
+  key-of-refused-setup : (number : ℕ) → setupOf u order .answer .outcome ≡ Refused (suc number) → keyOf r order ≡ stopLine (suc number) 0
+  unfolding keyOf textOf setupText numberOf
+  key-of-refused-setup number refused =
+      ap (textOf (beforeFirst order)) e
+      ∙ ap (λ (o : Outcome). setupText u o (textOf (setupOf u order) commands)) refused
+      ∙ ap (λ (t : Bool). pick t (setupLine u ++ textOf (setupOf u order) commands) (stopLine (suc number) 0)) (ne-eqb (suc number) 0 (λ (z : suc number ≡ 0). omega arith))
+
+-- a setup is accepted, or refused with 1 or 12
+setup-ready-or-refused : (u : Setup) (order : List ℕ) → (setupOf u order .answer .outcome ≡ Ready) ⊎ ((number : ℕ) × (setupOf u order .answer .outcome ≡ Refused (suc number)))
+unfolding setupOf
+setup-ready-or-refused u order = go (withinLimits u) (leb (u .superblocks * 256) (length order))
+  where
+    go : (a b : Bool) → (pick a (pick b (acceptedSetup u order) (refused 12 noState order)) (refused 1 noState order) .answer .outcome ≡ Ready)
+        ⊎ ((number : ℕ) × (pick a (pick b (acceptedSetup u order) (refused 12 noState order)) (refused 1 noState order) .answer .outcome ≡ Refused (suc number)))
+    go true true = inl refl
+    go true false = inr (11, refl)
+    go false b = inr (0, refl)
+
+-- every record's key: the claim holds of its calls, or the key is a stop line alone and no call is run
+pub key-demand-3 : (r order : List ℕ)
+    → ((u : Setup) × (commands : List Command) × KeyClaims r order u commands) ⊎ ((number : ℕ) × (offset : ℕ) × (keyOf r order ≡ stopLine number offset))
+unfolding keyOf textOf
+key-demand-3 r order = go (commandAt r 0) refl
+  where
+    Every : Type 0
+    Every = ((u : Setup) × (commands : List Command) × KeyClaims r order u commands) ⊎ ((number : ℕ) × (offset : ℕ) × (keyOf r order ≡ stopLine number offset))
+
+    first : (u : Setup) → commandsOf r ≡ command.Setup (u .processors) (u .superblocks) (u .spare) (u .p) (u .q) ∷ remaining r 6 → Every
+    first u e =
+        ⊎-elim {C = Every} (λ ready. inl (u, remaining r 6, key-claims-of-accepted-setup r order u (remaining r 6) e ready))
+        (λ d. inr (suc (d .0), 0, key-of-refused-setup r order u (remaining r 6) e (d .0) (d .1)))
+        (setup-ready-or-refused u order)
+
+    go : (c : Command) → c ≡ commandAt r 0 → Every
+    go (command.Setup processors superblocks spare p q) e =
+        first (record { processors = processors; superblocks = superblocks; spare = spare; p = p; q = q })
+        (commands-of-is-commands-at-0 r ∙ commands-setup r 0 (command.Setup processors superblocks spare p q) e processors superblocks spare p q refl)
+    go (command.Take processor size) e = let told = take-later-and-inside r 0 (command.Take processor size) e processor size refl in absurd (omega arith)
+    go (command.Free processor address) e = let told = free-later-and-inside r 0 (command.Free processor address) e processor address refl in absurd (omega arith)
+    go (command.Refused number offset) e =
+        inr (number, offset, ap (textOf (beforeFirst order)) (commands-of-is-commands-at-0 r ∙ commands-refused r 0 (command.Refused number offset) number offset e refl))

@@ -1,0 +1,6 @@
+pub mod SetupKeptLaws
+pub mod KeyRoomLaws
+pub mod KeyOrNoRoomLaws
+pub mod RefusedSetupKey
+pub mod KeyClaims
+pub mod WholeCaseKey

@@ -1,0 +1,74 @@
+-- The setup numbers stay what the accepted setup gave, so that no state of a record has a processor heap above 8. Assumes nothing.
+use mathlib.Core.Path.{_≡_, refl, sym, ap, _∙_, subst}
+use mathlib.Core.Bool.{Bool, true, false}
+use mathlib.Core.Logic.{⊎-elim}
+use mathlib.Core.List.{List}
+use Prim.Native.Nat.{ℕ, zero, suc, _+_, _*_, _≤_}
+use native.Mathlib.Omega.{arith}
+use lib.ListN.{length}
+use lib.Dec.{T, eqb, leb}
+use Rattle.laws.specs.Sums.{pick}
+use Rattle.heap.specs.declared.Setup.{Setup}
+use Rattle.heap.specs.declared.State.{State}
+use Rattle.heap.specs.declared.Found.{Found}
+use Rattle.heap.specs.declared.Found.the-variants.{At, Nothing}
+use Rattle.heap.specs.Table.{noState}
+use Rattle.heap.specs.Choice.{emptiest}
+use Rattle.heap.specs.Moves.{mustMove, transferred, foundTransferred, transfersUpTo, excessTransferred, invariantRestored}
+use Rattle.heap.specs.Check.{withinLimits}
+use Rattle.heaplaws.proofs.StateCheckLaws.{facts-of-within-limits}
+use Rattle.calls.specs.Answers.{After, refused}
+use Rattle.calls.specs.Setup.{acceptedSetup, setupOf}
+use Rattle.calls.specs.Take.{takenFrom, takenFromOther, takeOf}
+use Rattle.calls.specs.Free.{markCleared, freedAt, freeOf}
+use Rattle.calllaws.proofs.TakeLaws.{take-refused-or-accepted}
+use Rattle.calllaws.proofs.FreeLaws.{free-refused-or-accepted}
+
+-- ---- the move rule
+setup-of-found-transferred : (f : Found) (s : State) → foundTransferred f s .setup ≡ s .setup
+unfolding foundTransferred transferred
+setup-of-found-transferred (At k) s = refl
+setup-of-found-transferred Nothing s = refl
+
+setup-of-transfers-up-to : (k h c m : ℕ) (s : State) → transfersUpTo k h c m s .state .setup ≡ s .setup
+unfolding transfersUpTo
+setup-of-transfers-up-to zero h c m s = refl
+setup-of-transfers-up-to (suc k) h c m s = go (mustMove h c s) (setup-of-transfers-up-to k h c (m + 1) (foundTransferred (emptiest h c s) s) ∙ setup-of-found-transferred (emptiest h c s) s)
+  where
+    go : (t : Bool) → transfersUpTo k h c (m + 1) (foundTransferred (emptiest h c s) s) .state .setup ≡ s .setup
+        → pick t (transfersUpTo k h c (m + 1) (foundTransferred (emptiest h c s) s)) (record { moves = m; state = s }) .state .setup ≡ s .setup
+    go true e = e
+    go false e = refl
+
+setup-of-invariant-restored : (h c : ℕ) (s : State) → invariantRestored h c s .state .setup ≡ s .setup
+unfolding invariantRestored excessTransferred
+setup-of-invariant-restored h c s = go (eqb h 0)
+  where
+    go : (t : Bool) → pick t (record { moves = 0; state = s }) (transfersUpTo 64 h c 0 s) .state .setup ≡ s .setup
+    go true = refl
+    go false = setup-of-transfers-up-to 64 h c 0 s
+
+-- ---- the calls
+pub setup-kept-by-take : (s : State) (order : List ℕ) (i size : ℕ) → takeOf s order i size .answer .state .setup ≡ s .setup
+unfolding takenFromOther takenFrom
+setup-kept-by-take s order i size =
+    ⊎-elim (λ d. ap (λ (x : After). x .answer .state .setup) (d .1))
+    (λ d. ⊎-elim (λ e. ap (λ (x : After). x .answer .state .setup) (e .1)) (λ e. ap (λ (x : After). x .answer .state .setup) (e .2)) (d .1 .place))
+    (take-refused-or-accepted s order i size)
+
+pub setup-kept-by-free : (s : State) (order : List ℕ) (i a : ℕ) → freeOf s order i a .answer .state .setup ≡ s .setup
+unfolding freedAt markCleared
+setup-kept-by-free s order i a =
+    ⊎-elim (λ d. ap (λ (x : After). x .answer .state .setup) (d .1))
+    (λ d. ap (λ (x : After). x .answer .state .setup) (d .result-is) ∙ setup-of-invariant-restored _ _ _)
+    (free-refused-or-accepted s order i a)
+
+-- ---- a setup: five zeros, or numbers within their limits
+pub processors-after-setup-le-8 : (u : Setup) (order : List ℕ) → setupOf u order .answer .state .setup .processors ≤ 8
+unfolding setupOf
+processors-after-setup-le-8 u order = go (withinLimits u) (leb (u .superblocks * 256) (length order)) refl
+  where
+    go : (a b : Bool) → withinLimits u ≡ a → pick a (pick b (acceptedSetup u order) (refused 12 noState order)) (refused 1 noState order) .answer .state .setup .processors ≤ 8
+    go true true e = facts-of-within-limits u (subst T (sym e) tt) .processors-high
+    go true false e = omega arith
+    go false b e = omega arith

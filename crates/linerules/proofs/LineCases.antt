@@ -1,0 +1,95 @@
+-- Lines computed, and held against the text that is to be printed: those of document 01's whole case, and lines whose numbers all differ.
+-- Assumes nothing.
+use mathlib.Core.Path.{_≡_, refl}
+use mathlib.Core.List.{[], _∷_}
+use Prim.Native.Nat.{ℕ}
+use lib.ListN.{replicate}
+use Rattle.laws.specs.Sums.{sumBelow}
+use Rattle.marks.specs.Marks.{liveCount, markBit, bit}
+use Rattle.text.specs.Text.{letters, decimal, digits}
+use Rattle.heap.specs.declared.Superblock.{Superblock}
+use Rattle.heap.specs.declared.State.{State}
+use Rattle.heap.specs.Table.{unused}
+use Rattle.heap.specs.Counts.{total, belongs, oneIfBelongs, liveIfBelongs, superblocksOf, liveOf}
+use Rattle.calls.specs.declared.Outcome.the-variants.{Address, Moves, Refused}
+use Rattle.linerules.specs.Lines.{setupLine, result, takeLine, freeLine, stopLine, heapLine, heapLineIf, classLines, heapLines, finalLines}
+
+-- ---- the whole case
+setup-printed : setupLine (record { processors = 1; superblocks = 2; spare = 1; p = 1; q = 4 }) ≡ letters "setup 1 2 1 1 4\n"
+unfolding setupLine decimal digits
+setup-printed = refl
+
+take-printed : takeLine 1 2048 (Address 4096) ≡ letters "take 1 2048 at 4096\n"
+unfolding takeLine result decimal digits
+take-printed = refl
+
+refused-take-printed : takeLine 1 2049 (Refused 3) ≡ letters "take 1 2049 refused 3\n"
+unfolding takeLine result decimal digits
+refused-take-printed = refl
+
+free-printed : freeLine 1 2048 (Moves 1) ≡ letters "free 1 2048 moved 1\n"
+unfolding freeLine result decimal digits
+free-printed = refl
+
+refused-free-printed : freeLine 1 0 (Refused 7) ≡ letters "free 1 0 refused 7\n"
+unfolding freeLine result decimal digits
+refused-free-printed = refl
+
+-- ---- numbers that all differ: P, N, K, p, q; processor, size or address, and result
+setup-line-case : setupLine (record { processors = 7; superblocks = 63; spare = 15; p = 3; q = 8 }) ≡ letters "setup 7 63 15 3 8\n"
+unfolding setupLine decimal digits
+setup-line-case = refl
+
+take-line-case : takeLine 3 1792 (Address 258048) ≡ letters "take 3 1792 at 258048\n"
+unfolding takeLine result decimal digits
+take-line-case = refl
+
+free-line-case : freeLine 6 200704 (Moves 5) ≡ letters "free 6 200704 moved 5\n"
+unfolding freeLine result decimal digits
+free-line-case = refl
+
+stop-line-case : stopLine 10 59996 ≡ letters "stopped 10 at 59996\n"
+unfolding stopLine decimal digits
+stop-line-case = refl
+
+heap-line-case : heapLine 8 26 64 128 ≡ letters "heap 8 class 26 superblocks 64 live 128\n"
+unfolding heapLine decimal digits
+heap-line-case = refl
+
+-- ---- the lines at the end: P = 2, heap 0 too, two classes of heap 1, one of them with nothing live; the superblocks stand in another order,
+-- others are unused, and owner 3 is no heap where P is 2
+abbrev superblock : ℕ → ℕ → ℕ → Superblock
+superblock owner class marks = record { owner = owner; class = class; live = marks ∷ 0 ∷ 0 ∷ 0 ∷ [] }
+
+abbrev several-superblocks : State
+several-superblocks =
+    record {
+      setup = record { processors = 2; superblocks = 63; spare = 15; p = 3; q = 8 };
+      table =
+          superblock 2 26 3 ∷ superblock 1 11 0 ∷ superblock 1 0 15 ∷ superblock 3 8 1 ∷ superblock 2 26 3 ∷ unused ∷ superblock 1 11 0 ∷ superblock 0 9 31
+          ∷ superblock 2 26 1 ∷ superblock 1 0 3 ∷ superblock 2 26 3 ∷ superblock 1 11 0 ∷ replicate 52 unused;
+    }
+
+-- superblocks with nothing live have a line, and a class without a superblock has none
+heap-line-if-of-nothing-live-case : heapLineIf 1 11 several-superblocks ≡ letters "heap 1 class 11 superblocks 3 live 0\n"
+unfolding heapLineIf heapLine decimal digits superblocksOf liveOf total belongs oneIfBelongs liveIfBelongs sumBelow liveCount markBit bit
+heap-line-if-of-nothing-live-case = refl
+
+heap-line-if-of-no-superblock-case : heapLineIf 2 11 several-superblocks ≡ []
+unfolding heapLineIf superblocksOf total belongs oneIfBelongs sumBelow
+heap-line-if-of-no-superblock-case = refl
+
+class-lines-case : classLines 1 27 several-superblocks ≡ letters "heap 1 class 0 superblocks 2 live 6\nheap 1 class 11 superblocks 3 live 0\n"
+unfolding classLines heapLineIf heapLine decimal digits superblocksOf liveOf total belongs oneIfBelongs liveIfBelongs sumBelow liveCount markBit bit
+class-lines-case = refl
+
+final-lines-case : finalLines several-superblocks
+    ≡ letters "heap 0 class 9 superblocks 1 live 5\nheap 1 class 0 superblocks 2 live 6\nheap 1 class 11 superblocks 3 live 0\nheap 2 class 26 superblocks 4 live 7\nend\n"
+unfolding finalLines heapLines classLines heapLineIf heapLine decimal digits superblocksOf liveOf total belongs oneIfBelongs liveIfBelongs sumBelow liveCount markBit bit
+final-lines-case = refl
+
+-- the whole case's own: block 0 of class 0 is live in superblock 0, block 0 of class 26 in superblock 1
+final-lines-of-whole-case : finalLines (record { setup = record { processors = 1; superblocks = 2; spare = 1; p = 1; q = 4 }; table = superblock 1 0 1 ∷ superblock 1 26 1 ∷ replicate 62 unused })
+    ≡ letters "heap 1 class 0 superblocks 1 live 1\nheap 1 class 26 superblocks 1 live 1\nend\n"
+unfolding finalLines heapLines classLines heapLineIf heapLine decimal digits superblocksOf liveOf total belongs oneIfBelongs liveIfBelongs sumBelow liveCount markBit bit
+final-lines-of-whole-case = refl

@@ -1,0 +1,70 @@
+-- How long the lines are at most, where each number fits its type. Assumes nothing.
+use mathlib.Core.Path.{_≡_, refl}
+use mathlib.Core.Bool.{Bool, true, false}
+use mathlib.Core.List.{[]}
+use Prim.Native.Nat.{ℕ, zero, suc, _+_, _*_, _≤_, _<_, zero-le}
+use native.Mathlib.Omega.{arith}
+use lib.ListN.{length, length-append}
+use lib.Dec.{eqb}
+use Rattle.laws.specs.Sums.{pick}
+use Rattle.text.proofs.DigitLaws.{length-of-decimal-le-10, length-of-byte-decimal-le-3, length-of-u16-decimal-le-5}
+use Rattle.heap.specs.declared.Setup.{Setup}
+use Rattle.heap.specs.declared.State.{State}
+use Rattle.heap.specs.Counts.{superblocksOf, liveOf}
+use Rattle.calls.specs.declared.Outcome.{Outcome}
+use Rattle.calls.specs.declared.Outcome.the-variants.{Ready, Address, Moves, Refused}
+use Rattle.linerules.specs.Lines.{setupLine, result, takeLine, freeLine, stopLine, heapLine, heapLineIf, classLines, heapLines, finalLines}
+-- the computed cases come first: a wrong definition fails there
+use Rattle.linerules.proofs.LineCases as cases
+
+pub length-of-setup-line-le-26 : (u : Setup) → u .processors < 256 → u .superblocks < 256 → u .spare < 256 → u .p < 256 → u .q < 256 → length (setupLine u) ≤ 26
+unfolding setupLine
+length-of-setup-line-le-26 u a b c d e =
+    simp length-append (omega (arith, length-of-byte-decimal-le-3 (u .processors) a, length-of-byte-decimal-le-3 (u .superblocks) b, length-of-byte-decimal-le-3 (u .spare) c, length-of-byte-decimal-le-3 (u .p) d, length-of-byte-decimal-le-3 (u .q) e))
+
+-- moves and refusals are of 8 bits, addresses of 32
+pub length-of-result-le-14 : (o : Outcome) → ((m : ℕ) → o ≡ Moves m → m < 256) → ((r : ℕ) → o ≡ Refused r → r < 256) → length (result o) ≤ 14
+unfolding result
+length-of-result-le-14 Ready f g = zero-le
+length-of-result-le-14 (Address a) f g = omega (arith, length-of-decimal-le-10 a)
+length-of-result-le-14 (Moves m) f g = omega (arith, length-of-byte-decimal-le-3 m (f m refl))
+length-of-result-le-14 (Refused r) f g = omega (arith, length-of-byte-decimal-le-3 r (g r refl))
+
+module _ (o : Outcome) (f : (m : ℕ) → o ≡ Moves m → m < 256) (g : (r : ℕ) → o ≡ Refused r → r < 256) where
+  pub length-of-take-line-le-29 : (processor size : ℕ) → processor < 256 → size < 65536 → length (takeLine processor size o) ≤ 29
+  unfolding takeLine
+  length-of-take-line-le-29 processor size a b = simp length-append (omega (arith, length-of-byte-decimal-le-3 processor a, length-of-u16-decimal-le-5 size b, length-of-result-le-14 o f g))
+
+  pub length-of-free-line-le-34 : (processor address : ℕ) → processor < 256 → length (freeLine processor address o) ≤ 34
+  unfolding freeLine
+  length-of-free-line-le-34 processor address a = simp length-append (omega (arith, length-of-byte-decimal-le-3 processor a, length-of-decimal-le-10 address, length-of-result-le-14 o f g))
+
+pub length-of-stop-line-le-26 : (number offset : ℕ) → number < 256 → length (stopLine number offset) ≤ 26
+unfolding stopLine
+length-of-stop-line-le-26 number offset a = simp length-append (omega (arith, length-of-byte-decimal-le-3 number a, length-of-decimal-le-10 offset))
+
+pub length-of-heap-line-le-64 : (h c superblocks live : ℕ) → h < 256 → c < 256 → length (heapLine h c superblocks live) ≤ 64
+unfolding heapLine
+length-of-heap-line-le-64 h c superblocks live a b = simp length-append (omega (arith, length-of-byte-decimal-le-3 h a, length-of-byte-decimal-le-3 c b, length-of-decimal-le-10 superblocks, length-of-decimal-le-10 live))
+
+length-of-heap-line-if-le-64 : (h c : ℕ) (s : State) → h < 256 → c < 256 → length (heapLineIf h c s) ≤ 64
+unfolding heapLineIf
+length-of-heap-line-if-le-64 h c s a b = go (eqb (superblocksOf h c s) 0)
+  where
+    go : (t : Bool) → length (pick t [] (heapLine h c (superblocksOf h c s) (liveOf h c s))) ≤ 64
+    go true = zero-le
+    go false = length-of-heap-line-le-64 h c (superblocksOf h c s) (liveOf h c s) a b
+
+length-of-class-lines-le : (h c : ℕ) (s : State) → h < 256 → c ≤ 256 → length (classLines h c s) ≤ c * 64
+unfolding classLines
+length-of-class-lines-le h zero s a b = zero-le
+length-of-class-lines-le h (suc c) s a b = simp length-append (omega (arith, length-of-class-lines-le h c s a (omega arith), length-of-heap-line-if-le-64 h c s a (omega arith)))
+
+length-of-heap-lines-le : (h : ℕ) (s : State) → h ≤ 256 → length (heapLines h s) ≤ h * (27 * 64)
+unfolding heapLines
+length-of-heap-lines-le zero s a = zero-le
+length-of-heap-lines-le (suc h) s a = simp length-append (omega (arith, length-of-heap-lines-le h s (omega arith), length-of-class-lines-le h 27 s (omega arith) (omega arith)))
+
+pub length-of-final-lines-le : (s : State) → s .setup .processors < 256 → length (finalLines s) ≤ (s .setup .processors + 1) * (27 * 64) + 4
+unfolding finalLines
+length-of-final-lines-le s a = simp length-append (omega (arith, length-of-heap-lines-le (suc (s .setup .processors)) s (omega arith)))

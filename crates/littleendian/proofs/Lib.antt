@@ -1,0 +1,2 @@
+pub mod LittleEndianCases
+pub mod PastEndLaws

@@ -1,0 +1,45 @@
+-- Past the end of the bytes every number is 0, so that all positions there read the same. Assumes nothing.
+use mathlib.Core.Path.{_≡_, refl, sym, ap, _∙_}
+use mathlib.Core.List.{List}
+use Prim.Native.Nat.{ℕ, _+_, _*_, _≤_, _<_}
+use native.Mathlib.Nat.{le-refl}
+use native.Mathlib.Omega.{arith}
+use borrow.Author.Tests.{ltb-false, lt-ltb, le-ltb}
+use lib.ListN.{length, List·getD-eq-default}
+use lib.Dec.{ltb}
+use Rattle.laws.proofs.TestLaws.{pick-elim}
+use Rattle.littleendian.specs.Bytes.{byteAt, twoAt, fourAt, eightAt, positionAfter}
+-- the computed cases come first: a wrong definition fails there
+use Rattle.littleendian.proofs.LittleEndianCases as cases
+
+pub byte-at-past-end : (r : List ℕ) (i : ℕ) → length r ≤ i → 0 ≡ byteAt r i
+byte-at-past-end r i past = sym (List·getD-eq-default r 0 past)
+
+pub two-at-past-end : (r : List ℕ) (i : ℕ) → length r ≤ i → 0 ≡ twoAt r i
+two-at-past-end r i past = omega (arith, byte-at-past-end r i past, byte-at-past-end r (i + 1) (omega arith))
+
+pub four-at-past-end : (r : List ℕ) (i : ℕ) → length r ≤ i → 0 ≡ fourAt r i
+four-at-past-end r i past = omega (arith, two-at-past-end r i past, two-at-past-end r (i + 2) (omega arith))
+
+pub eight-at-past-end : (r : List ℕ) (i : ℕ) → length r ≤ i → 0 ≡ eightAt r i
+eight-at-past-end r i past = omega (arith, four-at-past-end r i past, four-at-past-end r (i + 4) (omega arith))
+
+-- ---- a position after another
+pub position-at-end : (r : List ℕ) (at i : ℕ) → length r ≤ at + i → length r ≡ positionAfter r at i
+unfolding positionAfter
+position-at-end r at i past = rw (le-ltb (at + i) (length r) past)
+
+pub position-inside : (r : List ℕ) (at i : ℕ) → at + i < length r → at + i ≡ positionAfter r at i
+unfolding positionAfter
+position-inside r at i inside = rw (lt-ltb (at + i) (length r) inside)
+
+-- what is the same at all positions past the end is so at a position and at the one clamped to the end
+pub read-at-position-after : {A : Type 0} (f : ℕ → A) (z : A) (r : List ℕ) (at i : ℕ) → ((j : ℕ) → length r ≤ j → z ≡ f j) → f (positionAfter r at i) ≡ f (at + i)
+unfolding positionAfter
+read-at-position-after f z r at i past =
+    pick-elim (λ (n : ℕ). f n ≡ f (at + i)) (ltb (at + i) (length r)) (at + i) (length r)
+    (λ e. refl)
+    (λ e. sym (past (length r) (le-refl (length r))) ∙ past (at + i) (ltb-false (at + i) (length r) e))
+
+pub two-at-position-after : (r : List ℕ) (at i position v : ℕ) → position ≡ positionAfter r at i → v ≡ twoAt r position → v ≡ twoAt r (at + i)
+two-at-position-after r at i position v p e = e ∙ ap (λ (n : ℕ). twoAt r n) p ∙ read-at-position-after (λ (n : ℕ). twoAt r n) 0 r at i (two-at-past-end r)

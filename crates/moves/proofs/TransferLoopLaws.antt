@@ -1,0 +1,105 @@
+-- Laws of the move rule's code: one superblock counted, the test, one superblock passed on, and the loop of the moves. Assumes nothing.
+use mathlib.Core.Path.{_≡_, refl, sym, ap, _∙_}
+use mathlib.Core.Bool.{Bool, true, false, _&&_}
+use mathlib.Core.List.{List}
+use Prim.Native.Nat.{ℕ, suc, _+_, _-_, _*_, _≤_, _<_}
+use native.Mathlib.Nat.{add-zero}
+use native.Mathlib.Omega.{arith}
+use mir.Syntax.{w8}
+use mir.Val.{Fits}
+use lib.ListN.{length, length-set}
+use lib.Seq.{set-out}
+use Rattle.laws.proofs.TestLaws.{T-of-true}
+use Rattle.classes.specs.Classes.{blocksOf}
+use Rattle.heap.specs.declared.Superblock.{Superblock}
+use Rattle.heap.specs.declared.State.{State}
+use Rattle.heap.specs.declared.Moved.{Moved}
+use Rattle.heap.specs.declared.Found.{Found}
+use Rattle.heap.specs.declared.Found.the-variants.{At, Nothing}
+use Rattle.heap.specs.Table.{superblockAt, withOwner, liveIn}
+use Rattle.heap.specs.Counts.{belongs, oneIfBelongs, liveIfBelongs, superblocksOf, blocksIn, liveOf}
+use Rattle.heap.specs.Choice.{emptiest}
+use Rattle.heap.specs.Moves.{bothConditions, mustMove, transferred, foundTransferred, transfersUpTo, excessTransferred}
+use Rattle.heaplaws.proofs.CountLaws.{superblocks-of-le-64}
+use Rattle.heaplaws.proofs.MoveLaws.{superblocks-after-transfer, transfers-up-to-stop, transfers-up-to-step}
+
+-- one superblock more is counted where it belongs to the heap and class, and in no other case
+module _ (h c : ℕ) (b : Superblock) (r : Bool) (e : r ≡ belongs h c b) (n : ℕ) where
+  pub one-if-belongs-true : r ≡ true → n + 1 ≡ n + oneIfBelongs h c b
+  unfolding oneIfBelongs
+  one-if-belongs-true t = rw (← e, t)
+
+  pub live-if-belongs-true : (live : ℕ) → live ≡ liveIn b → r ≡ true → n + live ≡ n + liveIfBelongs h c b
+  unfolding liveIfBelongs
+  live-if-belongs-true live l t = rw (← e, t, ← l)
+
+  pub one-if-belongs-false : r ≡ false → n ≡ n + oneIfBelongs h c b
+  unfolding oneIfBelongs
+  one-if-belongs-false f = rw (← e, f) (sym (add-zero n))
+
+  pub live-if-belongs-false : r ≡ false → n ≡ n + liveIfBelongs h c b
+  unfolding liveIfBelongs
+  live-if-belongs-false f = rw (← e, f) (sym (add-zero n))
+
+-- the test, from the counts
+pub must-move-from-counts : (h c : ℕ) (s : State) (n k u : ℕ) (r : Bool) → n ≡ blocksOf c → k ≡ superblocksOf h c s → u ≡ liveOf h c s
+    → r ≡ bothConditions (s .setup .spare) (s .setup .p) (s .setup .q) n (k * n) u → r ≡ mustMove h c s
+unfolding mustMove blocksIn
+must-move-from-counts h c s n k u r p q e g = rw (← p, ← q, ← e) g
+
+-- past the table's end nothing passes on
+pub transferred-past-table : (k : ℕ) (s : State) → length (s .table) ≡ 64 → 64 ≤ k → s ≡ transferred k s
+unfolding transferred
+transferred-past-table k s long h = sym (ap (λ (l : List Superblock). record { setup = s .setup; table = l }) (set-out (s .table) k (withOwner 0 (superblockAt s k)) (omega arith)))
+
+length-of-found-transferred : (f : Found) (s : State) → length (foundTransferred f s .table) ≡ length (s .table)
+unfolding foundTransferred transferred
+length-of-found-transferred (At k) s = length-set (s .table) k (withOwner 0 (superblockAt s k))
+length-of-found-transferred Nothing s = refl
+
+-- after m moves from state s, which left t: the moves still to be made are those from t
+pub record TransferInvariant (h c : ℕ) (s t : State) (m : ℕ) : Type 0 where
+  pub rest : transfersUpTo (64 - m) h c m t ≡ excessTransferred h c s
+  pub left : superblocksOf h c t + m ≡ superblocksOf h c s
+  pub long : length (t .table) ≡ 64
+
+pub transfer-invariant-start : (h c : ℕ) (s : State) → length (s .table) ≡ 64 → TransferInvariant h c s s 0
+unfolding excessTransferred
+transfer-invariant-start h c s long = record { rest = refl; left = omega arith; long = long }
+
+-- no more moves than superblocks, so the count fits
+pub transfer-count-fits-w8 : (h c : ℕ) (s t : State) (m : ℕ) → TransferInvariant h c s t m → Fits w8 (m + 1)
+transfer-count-fits-w8 h c s t m d = omega (arith, superblocks-of-le-64 h c s)
+
+pub excess-transferred-at-loop-end : (h c : ℕ) (s t : State) (m : ℕ) (must : Bool) → TransferInvariant h c s t m → must ≡ mustMove h c t → must ≡ false → _≡_ {A = Moved} (record { moves = m; state = t }) (excessTransferred h c s)
+excess-transferred-at-loop-end h c s t m must d e f = sym (transfers-up-to-stop (64 - m) h c m t (sym e ∙ f)) ∙ d .rest
+
+-- the first of two tests that both hold; so a loop that asks more than the rule still makes the rule's moves, and only ends too early
+pub left-true-of-and : (must more : Bool) → (must && more) ≡ true → must ≡ true
+left-true-of-and true more e = refl
+left-true-of-and false more e = e
+
+-- one move: a superblock less, and the state that it leaves
+module _ (h c : ℕ) (t next : State) (must : Bool) (found : Found) (long : length (t .table) ≡ 64) (pos : 0 < h) (asked : must ≡ mustMove h c t) (holds : must ≡ true)
+    (chosen : found ≡ emptiest h c t) (gave : next ≡ foundTransferred found t) where
+  next-is-emptiest-transferred : next ≡ foundTransferred (emptiest h c t) t
+  next-is-emptiest-transferred = gave ∙ ap (λ (f : Found). foundTransferred f t) chosen
+
+  must-move-true : mustMove h c t ≡ true
+  must-move-true = sym asked ∙ holds
+
+  one-superblock-less : superblocksOf h c next + 1 ≡ superblocksOf h c t
+  one-superblock-less = ap (λ (x : State). superblocksOf h c x + 1) next-is-emptiest-transferred ∙ superblocks-after-transfer h c t long pos (T-of-true (mustMove h c t) must-move-true)
+
+  pub superblocks-decrease : superblocksOf h c next < superblocksOf h c t
+  superblocks-decrease = omega (arith, one-superblock-less)
+
+  pub transfer-invariant-step : (s : State) (m : ℕ) → TransferInvariant h c s t m → TransferInvariant h c s next (m + 1)
+  transfer-invariant-step s m d =
+      let low : m < 64 = omega (arith, superblocks-of-le-64 h c s, one-superblock-less) in
+      let fuel : suc (64 - (m + 1)) ≡ 64 - m = omega arith in
+      record {
+        rest = ap (λ (x : State). transfersUpTo (64 - (m + 1)) h c (m + 1) x) next-is-emptiest-transferred ∙ sym (transfers-up-to-step (64 - (m + 1)) h c m t must-move-true) ∙ ap (λ (k : ℕ). transfersUpTo k h c m t) fuel ∙ d .rest;
+        left = omega (arith, one-superblock-less);
+        long = ap (λ (x : State). length (x .table)) gave ∙ length-of-found-transferred found t ∙ long;
+      }

@@ -1,0 +1,7 @@
+pub mod Cases
+pub mod OccurrenceLaws
+pub mod SeenMarksLaws
+pub mod PlacesCheckLaws
+pub mod PlacesValidLaws
+pub mod OwnPlacesOnly
+pub mod StorageLengthLaws

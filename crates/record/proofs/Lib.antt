@@ -1,4 +1,0 @@
-pub mod Cases
-pub mod Table
-pub mod CommandLaws
-pub mod Offsets

@@ -1,0 +1,114 @@
+-- A take or a free, whichever it is: refused, it changes nothing; accepted, it leaves a state that passes, and as many superblocks. Assumes nothing.
+use mathlib.Core.Path.{_≡_, refl, sym, ap, _∙_}
+use mathlib.Core.Bool.{Bool, true, false}
+use mathlib.Core.Logic.{_⊎_, inl, inr, ⊎-elim}
+use mathlib.Core.List.{List}
+use Prim.Native.Nat.{ℕ, zero, suc, _+_}
+use native.Mathlib.Omega.{arith}
+use lib.ListN.{length, length-set}
+use lib.Dec.{eqb}
+use Rattle.laws.specs.Sums.{pick}
+use Rattle.classes.specs.Classes.{classOf}
+use Rattle.heap.specs.declared.State.{State}
+use Rattle.heap.specs.declared.Found.{Found}
+use Rattle.heap.specs.declared.Found.the-variants.{At, Nothing}
+use Rattle.heap.specs.Table.{superblockAt, withSuperblock, withOwner, withMarkAt, withoutMarkAt}
+use Rattle.heap.specs.Choice.{emptiest}
+use Rattle.heap.specs.Moves.{mustMove, transferred, foundTransferred, transfersUpTo, excessTransferred, invariantRestored}
+use Rattle.heaplaws.proofs.StateFacts.{Shape}
+use Rattle.calls.specs.declared.Call.{Call}
+use Rattle.calls.specs.declared.Call.the-variants.{Take, Free}
+use Rattle.calls.specs.declared.Outcome.{Outcome}
+use Rattle.calls.specs.declared.Outcome.the-variants.{Ready, Address, Moves, Refused}
+use Rattle.calls.specs.Answers.{After, refused}
+use Rattle.calls.specs.Take.{acquired, nextBlock, takenFrom, takenFromOther, takeOf}
+use Rattle.calls.specs.Free.{superblockIndex, superblockHolding, blockOf, markCleared, freedAt, freeOf}
+use Rattle.calls.specs.Calls.{callOf}
+use Rattle.calllaws.proofs.CallEffects.{Passed, TakeAccepted, FreeAccepted}
+use Rattle.calllaws.proofs.TakeLaws.{take-refused-or-accepted, take-passed, take-shape}
+use Rattle.calllaws.proofs.FreeLaws.{free-refused-or-accepted, free-passed, free-shape}
+
+-- ---- the moves
+length-of-found-transferred : (f : Found) (s : State) → length (foundTransferred f s .table) ≡ length (s .table)
+unfolding foundTransferred transferred
+length-of-found-transferred (At k) s = length-set (s .table) k (withOwner 0 (superblockAt s k))
+length-of-found-transferred Nothing s = refl
+
+length-of-transfers-up-to : (k h c m : ℕ) (s : State) → length (transfersUpTo k h c m s .state .table) ≡ length (s .table)
+unfolding transfersUpTo
+length-of-transfers-up-to zero h c m s = refl
+length-of-transfers-up-to (suc k) h c m s = go (mustMove h c s) (length-of-transfers-up-to k h c (m + 1) (foundTransferred (emptiest h c s) s) ∙ length-of-found-transferred (emptiest h c s) s)
+  where
+    go : (b : Bool) → length (transfersUpTo k h c (m + 1) (foundTransferred (emptiest h c s) s) .state .table) ≡ length (s .table)
+        → length (pick b (transfersUpTo k h c (m + 1) (foundTransferred (emptiest h c s) s)) (record { moves = m; state = s }) .state .table) ≡ length (s .table)
+    go true e = e
+    go false e = refl
+
+length-of-invariant-restored : (h c : ℕ) (s : State) → length (invariantRestored h c s .state .table) ≡ length (s .table)
+unfolding invariantRestored excessTransferred
+length-of-invariant-restored h c s = go (eqb h 0)
+  where
+    go : (b : Bool) → length (pick b (record { moves = 0; state = s }) (transfersUpTo 64 h c 0 s) .state .table) ≡ length (s .table)
+    go true = refl
+    go false = length-of-transfers-up-to 64 h c 0 s
+
+-- ---- a take and a free that are accepted
+length-of-taken-from : (k : ℕ) (s : State) (order : List ℕ) → length (takenFrom k s order .answer .state .table) ≡ length (s .table)
+unfolding takenFrom
+length-of-taken-from k s order = length-set (s .table) k (withMarkAt (superblockAt s k) (nextBlock s order k))
+
+length-of-taken-from-other : (i c k : ℕ) (s : State) (order : List ℕ) → length (takenFromOther i c k s order .answer .state .table) ≡ length (s .table)
+unfolding takenFromOther
+length-of-taken-from-other i c k s order =
+    length-of-taken-from k (withSuperblock s k (acquired i c (superblockAt s k))) _ ∙ length-set (s .table) k (acquired i c (superblockAt s k))
+
+length-of-freed-at : (s : State) (order : List ℕ) (a : ℕ) → length (freedAt s order a .answer .state .table) ≡ length (s .table)
+unfolding freedAt markCleared
+length-of-freed-at s order a =
+    length-of-invariant-restored (superblockHolding s a .owner) (superblockHolding s a .class) (markCleared s a) ∙ length-set (s .table) (superblockIndex a) (withoutMarkAt (superblockHolding s a) (blockOf s a))
+
+-- an accepted call's outcome is no refusal
+unfoldable isRefusal : Outcome → ℕ
+isRefusal Ready = 0
+isRefusal (Address a) = 0
+isRefusal (Moves m) = 0
+isRefusal (Refused r) = 1
+
+-- ---- an accepted call: the state passes, and so does the one after it; the table keeps its length
+pub record CallAccepted (s : State) (order : List ℕ) (result : After) : Type 0 where
+  pub passed : Passed s order
+  pub long : length (result .answer .state .table) ≡ length (s .table)
+  pub not-refused : (r : ℕ) → result .answer .outcome ≡ Refused r → ⊥
+  pub passes : Shape s → Passed (result .answer .state) (result .order) × Shape (result .answer .state)
+
+call-accepted-of-result : (s : State) (order : List ℕ) (result x : After) → result ≡ x → Passed s order → length (x .answer .state .table) ≡ length (s .table) → isRefusal (x .answer .outcome) ≡ 0
+    → (Shape s → Passed (result .answer .state) (result .order) × Shape (result .answer .state)) → CallAccepted s order result
+unfolding isRefusal
+call-accepted-of-result s order result x e p l n after =
+    record {
+      passed = p;
+      long = ap (λ (y : After). length (y .answer .state .table)) e ∙ l;
+      not-refused = λ r f. let z : _≡_ {A = ℕ} 1 0 = sym (ap isRefusal f) ∙ ap (λ (y : After). isRefusal (y .answer .outcome)) e ∙ n in omega arith;
+      passes = after;
+    }
+
+call-accepted-of-take : (s : State) (order : List ℕ) (i size k : ℕ) → TakeAccepted s order i size k → CallAccepted s order (takeOf s order i size)
+unfolding isRefusal takenFrom takenFromOther
+call-accepted-of-take s order i size k acc =
+    ⊎-elim (λ h. call-accepted-of-result s order (takeOf s order i size) (takenFrom k s order) (h .1) (acc .passed) (length-of-taken-from k s order) refl after)
+    (λ h. call-accepted-of-result s order (takeOf s order i size) (takenFromOther i (classOf size) k s order) (h .2) (acc .passed) (length-of-taken-from-other i (classOf size) k s order) refl after)
+    (acc .place)
+  where
+    after : Shape s → Passed (takeOf s order i size .answer .state) (takeOf s order i size .order) × Shape (takeOf s order i size .answer .state)
+    after shape = (take-passed s order i size k shape acc, take-shape s order i size k shape acc)
+
+call-accepted-of-free : (s : State) (order : List ℕ) (i a : ℕ) → FreeAccepted s order i a → CallAccepted s order (freeOf s order i a)
+unfolding isRefusal freedAt
+call-accepted-of-free s order i a acc =
+    call-accepted-of-result s order (freeOf s order i a) (freedAt s order a) (acc .result-is) (acc .passed) (length-of-freed-at s order a) refl
+    (λ shape. (free-passed s order i a shape acc, free-shape s order i a shape acc))
+
+pub call-refused-or-accepted : (s : State) (order : List ℕ) (call : Call) → ((r : ℕ) × (callOf s order call ≡ refused r s order)) ⊎ CallAccepted s order (callOf s order call)
+unfolding callOf
+call-refused-or-accepted s order (Take i size) = ⊎-elim inl (λ h. inr (call-accepted-of-take s order i size (h .0) (h .1))) (take-refused-or-accepted s order i size)
+call-refused-or-accepted s order (Free i a) = ⊎-elim inl (λ h. inr (call-accepted-of-free s order i a h)) (free-refused-or-accepted s order i a)

@@ -1,0 +1,2 @@
+pub mod RestValidLaws
+pub mod WithinLimitsLaws

@@ -1,0 +1,84 @@
+-- What is asked of each superblock alone: the answer at each way out. Assumes nothing.
+use mathlib.Core.Path.{_≡_, refl, sym, _∙_}
+use mathlib.Core.Bool.{Bool, true, false, not}
+use mathlib.Core.List.{List}
+use Prim.Native.Nat.{ℕ, _+_, _-_, _*_, _≤_, _<_}
+use native.Mathlib.Omega.{arith}
+use borrow.Author.Count.{below-more}
+use borrow.Author.Tests.{not-true, not-false, eqb-true, eq-eqb, ne-eqb, le-leb, lt-leb, lt-ltb, le-ltb}
+use lib.Dec.{T, eqb, ltb}
+use Rattle.laws.specs.Sums.{both, either}
+use Rattle.laws.proofs.TestLaws.{T-of-true, both-false-right, both-true-right}
+use Rattle.laws.proofs.SumLaws.{all-false, all-true}
+use Rattle.classes.specs.Classes.{blocksOf}
+use Rattle.ordercheck.specs.FilledPlaces.{placesValid}
+use Rattle.heap.specs.declared.Superblock.{Superblock}
+use Rattle.heap.specs.declared.Setup.{Setup}
+use Rattle.heap.specs.declared.State.{State}
+use Rattle.heap.specs.Table.{superblockAt, liveIn, isUnused}
+use Rattle.heap.specs.Check.{superblockValid, unusedFrom, sparseIfGlobal}
+use Rattle.superblockcheck.specs.Alone.{aloneValid, eachValid}
+
+module _ (u : Setup) (order : List ℕ) (k : ℕ) (b : Superblock) (r : Bool) (unused : r ≡ isUnused b) where
+  pub alone-valid-of-unused : r ≡ true → true ≡ aloneValid u order k b
+  unfolding aloneValid superblockValid unusedFrom sparseIfGlobal isUnused
+  alone-valid-of-unused e =
+      let is : isUnused b ≡ true = sym unused ∙ e in
+      let o : b .owner ≡ 255 = eqb-true (b .owner) 255 (owner (eqb (b .owner) 255) (both (eqb (b .class) 0) (eqb (liveIn b) 0)) is) in
+      sym (simp (is, either-yes, ne-eqb (b .owner) 0 (λ (z : b .owner ≡ 0). omega arith)))
+    where
+      owner : (x y : Bool) → both x y ≡ true → x ≡ true
+      owner true y q = refl
+      owner false y q = q
+
+      either-yes : (x : Bool) → either x true ≡ true
+      either-yes true = refl
+      either-yes false = refl
+
+  module _ (some : r ≡ false) where
+    is-unused-false : isUnused b ≡ false
+    is-unused-false = sym unused ∙ some
+
+    pub alone-valid-false-past-n : u .superblocks ≤ k → false ≡ aloneValid u order k b
+    unfolding aloneValid superblockValid unusedFrom
+    alone-valid-false-past-n h = sym (simp (is-unused-false, le-ltb k (u .superblocks) h, both-false-right))
+
+    pub alone-valid-false-of-owner : u .processors < b .owner → false ≡ aloneValid u order k b
+    unfolding aloneValid superblockValid
+    alone-valid-false-of-owner h = sym (simp (is-unused-false, lt-leb (b .owner) (u .processors) h))
+
+    pub alone-valid-false-of-class : b .owner ≤ u .processors → 27 ≤ b .class → false ≡ aloneValid u order k b
+    unfolding aloneValid superblockValid
+    alone-valid-false-of-class o h = sym (simp (is-unused-false, le-ltb (b .class) 27 h, both-false-right))
+
+    pub alone-valid-false-of-not-sparse : (t : Bool) → t ≡ sparseIfGlobal u b → not t ≡ true → false ≡ aloneValid u order k b
+    unfolding aloneValid
+    alone-valid-false-of-not-sparse t e f = sym (simp (sym e ∙ not-true t f, both-false-right))
+
+    pub alone-valid-is-places-valid : (t g : Bool) → k < u .superblocks → b .owner ≤ u .processors → b .class < 27 → t ≡ sparseIfGlobal u b → not t ≡ false → g ≡ placesValid order (b .live) k (blocksOf (b .class))
+        → g ≡ aloneValid u order k b
+    unfolding aloneValid superblockValid unusedFrom
+    alone-valid-is-places-valid t g below owner class e f p = p ∙ sym (simp (is-unused-false, lt-ltb k (u .superblocks) below, le-leb (b .owner) (u .processors) owner, lt-ltb (b .class) 27 class, sym e ∙ not-false t f, both-true-right))
+
+-- heap 0's superblocks are sparse
+module _ (u : Setup) (b : Superblock) where
+  pub sparse-if-global-of-other-heap : (b .owner ≡ 0 → ⊥) → true ≡ sparseIfGlobal u b
+  unfolding sparseIfGlobal
+  sparse-if-global-of-other-heap f = sym (simp (ne-eqb (b .owner) 0 f))
+
+  pub sparse-if-global-of-heap-0 : (n live : ℕ) (r : Bool) → b .owner ≡ 0 → n ≡ blocksOf (b .class) → live ≡ liveIn b → r ≡ ltb (u .q * live) ((u .q - u .p) * n) → r ≡ sparseIfGlobal u b
+  unfolding sparseIfGlobal
+  sparse-if-global-of-heap-0 n live r z e l t = t ∙ sym (simp (eq-eqb (b .owner) 0 z, ← e, ← l))
+
+-- the loop over the table
+pub each-valid-false-of-one : (s : State) (order : List ℕ) (k : ℕ) (r : Bool) → k < 64 → r ≡ aloneValid (s .setup) order k (superblockAt s k) → not r ≡ true → false ≡ eachValid s order
+unfolding eachValid
+each-valid-false-of-one s order k r l e f = all-false (λ i. aloneValid (s .setup) order i (superblockAt s i)) 64 k l (sym e ∙ not-true r f)
+
+pub each-valid-step : (s : State) (order : List ℕ) (k : ℕ) (r : Bool) → r ≡ aloneValid (s .setup) order k (superblockAt s k) → not r ≡ false
+    → ((i : ℕ) → i < k → T (aloneValid (s .setup) order i (superblockAt s i))) → (i : ℕ) → i < k + 1 → T (aloneValid (s .setup) order i (superblockAt s i))
+each-valid-step s order k r e f h = below-more (λ i. T (aloneValid (s .setup) order i (superblockAt s i))) k h (T-of-true _ (sym e ∙ not-false r f))
+
+pub each-valid-of-all-64 : (s : State) (order : List ℕ) (k : ℕ) → 64 ≤ k → ((i : ℕ) → i < k → T (aloneValid (s .setup) order i (superblockAt s i))) → true ≡ eachValid s order
+unfolding eachValid
+each-valid-of-all-64 s order k l h = all-true (λ i. aloneValid (s .setup) order i (superblockAt s i)) 64 (λ i li. h i (omega arith))

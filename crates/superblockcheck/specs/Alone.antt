@@ -1,0 +1,18 @@
+-- What the check of document 01, "The state handed in", asks of each superblock alone. Assumes nothing.
+use mathlib.Core.Bool.{Bool}
+use mathlib.Core.List.{List}
+use Prim.Native.Nat.{ℕ}
+use Rattle.laws.specs.Sums.{both, allBelow}
+use Rattle.heap.specs.declared.Superblock.{Superblock}
+use Rattle.heap.specs.declared.Setup.{Setup}
+use Rattle.heap.specs.declared.State.{State}
+use Rattle.heap.specs.Table.{superblockAt}
+use Rattle.heap.specs.Check.{superblockValid, unusedFrom, sparseIfGlobal}
+
+-- what the check asks of superblock k alone
+unfoldable pub aloneValid : Setup → List ℕ → ℕ → Superblock → Bool
+aloneValid u order k b = both (superblockValid u order k b) (both (unusedFrom (u .superblocks) k b) (sparseIfGlobal u b))
+
+-- and so each superblock
+unfoldable pub eachValid : State → List ℕ → Bool
+eachValid s order = allBelow (λ k. aloneValid (s .setup) order k (superblockAt s k)) 64

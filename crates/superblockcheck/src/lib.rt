@@ -1,0 +1,59 @@
+// What the check of a state handed in asks of each superblock alone.
+ghost use mathlib.Core.Path.{_≡_};
+ghost use Rattle.heap.specs.Check.{sparseIfGlobal};
+ghost use Rattle.superblockcheck.specs.Alone.{aloneValid, eachValid};
+use heap::Setup;
+use heap::State;
+use heap::Superblock;
+
+// Each superblock of the table passes.
+pub fn each_valid(s: State, order: &[u16]) -> bool
+    ensures { λ r. ⌜ r ≡ eachValid s (now (order .entry)) ⌝ }
+{
+    let setup = s.setup;
+    let mut k: u8 = 0;
+    while k < 64 {
+        let i = k as usize;
+        let b = s.table[i];
+        if !alone_valid(setup, order, k, b) {
+            return false;
+        }
+        k += 1;
+    }
+    true
+}
+
+// Superblock k is unused; or it is below N, of a heap and a class, sparse where heap 0 owns it, and its marks and places are right.
+fn alone_valid(setup: Setup, order: &[u16], k: u8, b: Superblock) -> bool
+    ensures { λ r. ⌜ r ≡ aloneValid setup (now (order .entry)) k b ⌝ }
+{
+    if predicates::is_unused(b) {
+        return true;
+    }
+    if setup.superblocks <= k {
+        return false;
+    }
+    if setup.processors < b.owner {
+        return false;
+    }
+    if b.class >= 27 {
+        return false;
+    }
+    if !sparse_if_global(setup, b) {
+        return false;
+    }
+    let live = b.live;
+    ordercheck::places_valid(order, live, k, b.class)
+}
+
+// A superblock is not heap 0's, or has few enough live blocks.
+fn sparse_if_global(setup: Setup, b: Superblock) -> bool
+    ensures { λ r. ⌜ r ≡ sparseIfGlobal setup b ⌝ }
+{
+    if b.owner != 0 {
+        return true;
+    }
+    let n = classes::block_count(b.class) as u32;
+    let live = predicates::live_in(b);
+    predicates::is_sparse(setup, live, n)
+}

@@ -1,0 +1,2 @@
+pub mod PastTableLaws
+pub mod TableReadLaws

@@ -1,0 +1,42 @@
+-- What a state has past its table's 64 superblocks, and that a change there changes nothing. Assumes nothing.
+use mathlib.Core.Path.{_≡_, sym, ap, _∙_}
+use mathlib.Core.Bool.{false}
+use mathlib.Core.List.{List, []}
+use Prim.Native.Nat.{ℕ, _%_, _≤_}
+use native.Mathlib.Omega.{arith}
+use lib.ListN.{length, List·getD-eq-default}
+use lib.Seq.{set-out}
+use Rattle.marks.specs.Marks.{markBit, isMarked}
+use Rattle.marks.proofs.BitLaws.{bit-of-zero}
+use Rattle.marks.proofs.MarkLaws.{no-mark-of-mark-bit-zero, live-count-zero-of-marks-clear}
+use Rattle.heap.specs.declared.Superblock.{Superblock}
+use Rattle.heap.specs.declared.State.{State}
+use Rattle.heap.specs.Table.{blank, superblockAt, withSuperblock, liveIn, isUnused}
+
+-- what stands past the table has no marks
+mark-bit-of-empty-list : (j : ℕ) → markBit [] j ≡ 0
+unfolding markBit
+mark-bit-of-empty-list j = bit-of-zero (j % 64)
+
+module _ (s : State) (k : ℕ) (long : length (s .table) ≡ 64) (h : 64 ≤ k) where
+  superblock-past-table-is-blank : superblockAt s k ≡ blank
+  superblock-past-table-is-blank = List·getD-eq-default (s .table) blank {n = k} (omega arith)
+
+  pub owner-past-table : 0 ≡ superblockAt s k .owner
+  owner-past-table = ap (λ (b : Superblock). b .owner) (sym superblock-past-table-is-blank)
+
+  pub class-past-table : 0 ≡ superblockAt s k .class
+  class-past-table = ap (λ (b : Superblock). b .class) (sym superblock-past-table-is-blank)
+
+  pub live-past-table : 0 ≡ liveIn (superblockAt s k)
+  live-past-table = sym (ap (λ (b : Superblock). liveIn b) superblock-past-table-is-blank ∙ live-count-zero-of-marks-clear [] (λ j l. mark-bit-of-empty-list j))
+
+  pub not-unused-past-table : isUnused (superblockAt s k) ≡ false
+  unfolding isUnused
+  not-unused-past-table = ap (λ (b : Superblock). isUnused b) superblock-past-table-is-blank
+
+  pub mark-past-table : (j : ℕ) → false ≡ isMarked (superblockAt s k .live) j
+  mark-past-table j = sym (ap (λ (b : Superblock). isMarked (b .live) j) superblock-past-table-is-blank ∙ no-mark-of-mark-bit-zero [] j (mark-bit-of-empty-list j))
+
+  pub with-superblock-past-table : (b : Superblock) → s ≡ withSuperblock s k b
+  with-superblock-past-table b = ap (λ (l : List Superblock). record { setup = s .setup; table = l }) (sym (set-out (s .table) k b (omega arith)))

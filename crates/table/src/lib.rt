@@ -1,0 +1,134 @@
+// Superblock k of a state, whole states, and the answer that is a refusal.
+// Each function is total, as the definitions are: past the table's 64 superblocks the owner and the class read as 0 and nothing is
+// live, and a change there changes nothing.
+ghost use mathlib.Core.Path.{_≡_};
+ghost use Prim.Native.Nat.{_-_, _≤_};
+ghost use Rattle.classes.specs.Classes.{blocksOf};
+ghost use Rattle.heap.specs.Table.{superblockAt, withSuperblock, liveIn, withMarkAt, noState, newState};
+ghost use Rattle.calls.specs.declared.Outcome.the-variants.{Refused};
+ghost use Rattle.calls.specs.Answers.{isProcessor, HasNumberAndValuesOf};
+use calls::Answer;
+use calls::Outcome;
+use heap::Setup;
+use heap::State;
+use heap::Superblock;
+
+// ---- superblock k of a state
+
+// Its owner.
+pub fn owner_at(s: State, k: usize) -> u8
+    ensures { λ r. ⌜ r ≡ superblockAt s k .owner ⌝ }
+{
+    if k >= 64 {
+        return 0;
+    }
+    let b = s.table[k];
+    b.owner
+}
+
+// Its size class.
+pub fn class_at(s: State, k: usize) -> u8
+    ensures { λ r. ⌜ r ≡ superblockAt s k .class ⌝ }
+{
+    if k >= 64 {
+        return 0;
+    }
+    let b = s.table[k];
+    b.class
+}
+
+// How many of its blocks are live.
+pub fn live_at(s: State, k: usize) -> u32
+    ensures { λ r. ⌜ (r ≡ liveIn (superblockAt s k)) × (r ≤ 256) ⌝ }
+{
+    if k >= 64 {
+        return 0;
+    }
+    let b = s.table[k];
+    predicates::live_in(b)
+}
+
+// How many places of its order are filled: n - live.
+pub fn filled_at(s: State, k: usize) -> u16
+    ensures { λ r. ⌜ (r ≡ blocksOf (superblockAt s k .class) - liveIn (superblockAt s k)) × (r ≤ 256) ⌝ }
+{
+    let class = class_at(s, k);
+    let n = classes::block_count(class) as u32;
+    let live = live_at(s, k);
+    if n < live {
+        return 0;
+    }
+    (n - live) as u16
+}
+
+// The state with block j of superblock k live.
+pub fn mark_at(s: State, k: usize, j: usize) -> State
+    ensures { λ r. ⌜ r ≡ withSuperblock s k (withMarkAt (superblockAt s k) j) ⌝ }
+{
+    if k >= 64 {
+        return s;
+    }
+    let b = s.table[k];
+    let old = b.live;
+    let taken = marks::set_live(old, j);
+    let mut t = s;
+    t.table[k] = Superblock {
+        owner: b.owner,
+        class: b.class,
+        live: taken,
+    };
+    t
+}
+
+// ---- whole states
+
+// The processor is one of the setup's.
+pub fn is_processor(s: State, processor: u8) -> bool
+    ensures { λ r. ⌜ r ≡ isProcessor s processor ⌝ }
+{
+    if processor < 1 {
+        return false;
+    }
+    processor <= s.setup.processors
+}
+
+// A new setup's state: its numbers and 64 unused superblocks.
+pub fn new_state(u: Setup) -> State
+    ensures { λ r. ⌜ r ≡ newState u ⌝ }
+{
+    let b = Superblock {
+        owner: 255,
+        class: 0,
+        live: [0u64; 4],
+    };
+    State {
+        setup: u,
+        table: [b; 64],
+    }
+}
+
+// What a refused setup hands back: five zeros and 64 unused superblocks.
+pub fn no_state() -> State
+    ensures { λ r. ⌜ r ≡ noState ⌝ }
+{
+    new_state(Setup {
+        processors: 0,
+        superblocks: 0,
+        spare: 0,
+        p: 0,
+        q: 0,
+    })
+}
+
+// ---- answers
+
+// The refusal with its number alone.
+pub fn refuse(s: State, number: u8) -> Answer
+    ensures { λ r. ⌜ r ≡ record { outcome = Refused number; state = s } ⌝ }
+    ensures number_and_values { λ r. ⌜ HasNumberAndValuesOf (r .outcome) (Refused number) ⌝ }
+{
+    Answer {
+        outcome: Outcome::Refused(number),
+        state: s,
+    }
+}

@@ -1,0 +1,70 @@
+-- The four places, in the forms that the code's proofs ask. Assumes nothing.
+use mathlib.Core.Path.{_≡_, refl, sym, ap, _∙_}
+use mathlib.Core.List.{List}
+use Prim.Native.Nat.{ℕ, _≤_, _<_, _*_}
+use native.Mathlib.Omega.{arith}
+use Rattle.heap.specs.declared.State.{State}
+use Rattle.heap.specs.declared.Found.{Found}
+use Rattle.heap.specs.declared.Found.the-variants.{At, Nothing}
+use Rattle.heap.specs.Choice.{fullest, lowestEmpty, lowestUnused, orElse}
+use Rattle.heaplaws.proofs.ChoiceLaws.{best-of-fullest, best-of-lowest-empty, best-of-lowest-unused}
+use Rattle.calls.specs.declared.Answer.{Answer}
+use Rattle.calls.specs.declared.Outcome.the-variants.{Refused}
+use Rattle.calls.specs.Answers.{After, refused}
+use Rattle.calls.specs.Take.{otherPlaces, takenFrom, takenFromOther, takenAt}
+
+-- places 2, 3 and 4
+pub other-places-is-fullest-of-global : (c : ℕ) (s : State) (a : Found) (k : ℕ) → a ≡ fullest 0 c s → a ≡ At k → At k ≡ otherPlaces c s
+unfolding otherPlaces
+other-places-is-fullest-of-global c s a k e f = rw (← e, f)
+
+pub other-places-is-lowest-empty : (c : ℕ) (s : State) (a b : Found) (k : ℕ) → a ≡ fullest 0 c s → a ≡ Nothing → b ≡ lowestEmpty s → b ≡ At k → At k ≡ otherPlaces c s
+unfolding otherPlaces
+other-places-is-lowest-empty c s a b k e f g h = rw (← e, f, ← g, h)
+
+pub other-places-is-lowest-unused : (c : ℕ) (s : State) (a b d : Found) → a ≡ fullest 0 c s → a ≡ Nothing → b ≡ lowestEmpty s → b ≡ Nothing → d ≡ lowestUnused s → d ≡ otherPlaces c s
+unfolding otherPlaces
+other-places-is-lowest-unused c s a b d e f g h i = i ∙ rw (← e, f, ← g, h)
+
+-- a superblock found has a number of at most 255
+pub fullest-lt-64 : (h c : ℕ) (s : State) (k : ℕ) → fullest h c s ≡ At k → k < 64
+fullest-lt-64 h c s k e = best-of-fullest h c s k e .below
+
+pub fullest-lt-256 : (h c : ℕ) (s : State) (a : Found) (k : ℕ) → a ≡ fullest h c s → a ≡ At k → k < 256
+fullest-lt-256 h c s a k e f = omega (arith, fullest-lt-64 h c s k (sym e ∙ f))
+
+pub other-places-lt-256 : (c : ℕ) (s : State) (a : Found) (k : ℕ) → s .setup .superblocks < 256 → a ≡ otherPlaces c s → a ≡ At k → k < 256
+unfolding otherPlaces
+other-places-lt-256 c s a k n e f = go (fullest 0 c s) refl (lowestEmpty s) refl (lowestUnused s) refl (sym f ∙ e)
+  where
+    go : (x : Found) → x ≡ fullest 0 c s → (y : Found) → y ≡ lowestEmpty s → (z : Found) → z ≡ lowestUnused s → At k ≡ orElse x (orElse y z) → k < 256
+    go (At i) p y q z r w = omega (arith, fullest-lt-64 0 c s k (sym p ∙ sym w))
+    go Nothing p (At i) q z r w = let b = best-of-lowest-empty s k (sym q ∙ sym w) .below in omega arith
+    go Nothing p Nothing q z r w = let b = best-of-lowest-unused s k (sym r ∙ sym w) .below in omega arith
+
+-- what a take answers
+pub taken-at-of-own : (h c : ℕ) (s : State) (order : List ℕ) (own : Found) (k : ℕ) (after : After) → own ≡ fullest h c s → own ≡ At k → after ≡ takenFrom k s order
+    → after ≡ takenAt h c s order (fullest h c s) (otherPlaces c s)
+unfolding takenAt
+taken-at-of-own h c s order own k after e f g = g ∙ rw (← e, f)
+
+pub taken-at-of-no-own : (h c : ℕ) (s : State) (order : List ℕ) (own : Found) (after : After) → own ≡ fullest h c s → own ≡ Nothing → after ≡ takenAt h c s order Nothing (otherPlaces c s)
+    → after ≡ takenAt h c s order (fullest h c s) (otherPlaces c s)
+taken-at-of-no-own h c s order own after e f g = g ∙ ap (λ (x : Found). takenAt h c s order x (otherPlaces c s)) (sym f ∙ e)
+
+pub taken-at-of-other : (h c : ℕ) (s : State) (order : List ℕ) (other : Found) (k : ℕ) (after : After) → other ≡ otherPlaces c s → other ≡ At k → after ≡ takenFromOther h c k s order
+    → after ≡ takenAt h c s order Nothing (otherPlaces c s)
+unfolding takenAt
+taken-at-of-other h c s order other k after e f g = g ∙ rw (← e, f)
+
+pub taken-at-of-nothing-offered : (h c : ℕ) (s : State) (order : List ℕ) (other : Found) (r : Answer) → other ≡ otherPlaces c s → other ≡ Nothing → r ≡ record { outcome = Refused 4; state = s }
+    → record { answer = r; order = order } ≡ takenAt h c s order Nothing (otherPlaces c s)
+unfolding takenAt
+taken-at-of-nothing-offered h c s order other r e f g = ap (λ (x : Answer). record { answer = x; order = order }) g ∙ rw (← e, f)
+
+-- how a proof finds which of them it asks
+pub ruleset other-places-rules = (other-places-is-fullest-of-global, other-places-is-lowest-empty, other-places-is-lowest-unused)
+
+pub ruleset taken-at-own-rules = (taken-at-of-own, taken-at-of-no-own)
+
+pub ruleset taken-at-other-rules = (taken-at-of-other, taken-at-of-nothing-offered)
