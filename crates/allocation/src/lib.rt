@@ -24,7 +24,7 @@ pub fn take_from(s: State, order: &[u16], k: u8) -> Answer
 {
     let i = k as usize;
     let filled = table::filled_at(s, i);
-    let j = order::last_filled(order, k, filled);
+    let j = freelists::last_filled(order, k, filled);
     let class = table::class_at(s, i);
     let address = address_of(k, class, j);
     let t = table::mark_at(s, i, j as usize);
@@ -72,7 +72,7 @@ fn acquire_order(s: State, order: &mut [u16], class: u8, k: u8)
 {
     if table::live_at(s, k as usize) == 0 {
         let n = classes::block_count(class);
-        order::renew_order(order, k, n);
+        freelistinit::renew_order(order, k, n);
     }
 }
 

@@ -10,7 +10,7 @@ use lib.Dec.{T}
 use Rattle.laws.proofs.TestLaws.{true-of-T}
 use Rattle.classes.specs.Classes.{blocksOf}
 use Rattle.order.specs.Order.{cleared}
-use Rattle.order.proofs.OrderLaws.{length-cleared}
+use Rattle.orderlaws.proofs.OrderLaws.{length-cleared}
 use Rattle.heap.specs.declared.Setup.{Setup}
 use Rattle.heap.specs.Table.{newState}
 use Rattle.heap.specs.Check.{withinLimits}

@@ -15,7 +15,7 @@ use Rattle.classes.specs.Classes.{sizeOf, blocksOf}
 use Rattle.classes.proofs.ClassTableLaws.{size-of-ge-16, blocks-of-le-256}
 use Rattle.classes.proofs.OffsetLaws.{offset-lt-4096, block-of-offset, offset-mod-size, offset-of-block}
 use Rattle.marks.specs.Marks.{markBit}
-use Rattle.marks.proofs.MarkLaws.{marks-clear-of-live-count-zero}
+use Rattle.marklaws.proofs.MarkLaws.{marks-clear-of-live-count-zero}
 use Rattle.heap.specs.declared.Superblock.{Superblock}
 use Rattle.heap.specs.declared.State.{State}
 use Rattle.heap.specs.declared.Setup.{Setup}

@@ -137,3 +137,7 @@ module _ (r : Answer) (order : List ℕ) (rules : After) (e : _≡_ {A = After} 
   -- and pass where the rules' do
   pub passes-if-accepted-by-rules : PassesIfAccepted (rules .answer .outcome) (rules .answer .state) (rules .order) → PassesIfAccepted (r .outcome) (r .state) order
   passes-if-accepted-by-rules = subst (λ (x : After). PassesIfAccepted (x .answer .outcome) (x .answer .state) (x .order)) (sym e)
+
+-- ---- a refusal's answer, with the order handed in, is what the rules leave
+pub refused-of-answer : (s : State) (order : List ℕ) (number : ℕ) (r : Answer) → r ≡ record { outcome = Refused number; state = s } → _≡_ {A = After} (record { answer = r; order = order }) (refused number s order)
+refused-of-answer s order number r e = ap (λ (x : Answer). record { answer = x; order = order }) e

@@ -12,8 +12,8 @@ use Rattle.laws.specs.Sums.{pick, either}
 use Rattle.laws.proofs.TestLaws.{T-of-true, not-T-of-false, neither-left, neither-right}
 use Rattle.classes.specs.Classes.{sizeOf, blocksOf}
 use Rattle.classes.proofs.OffsetLaws.{offset-of-block}
-use Rattle.marks.proofs.MarkLaws.{mark-bit-one-of-mark}
-use Rattle.order.proofs.OrderLaws.{length-with-place}
+use Rattle.marklaws.proofs.MarkLaws.{mark-bit-one-of-mark}
+use Rattle.orderlaws.proofs.OrderLaws.{length-with-place}
 use Rattle.heap.specs.declared.Setup.{Setup}
 use Rattle.heap.specs.declared.State.{State}
 use Rattle.heap.specs.Table.{liveIn, isUnused}

@@ -16,9 +16,9 @@ use Rattle.classes.specs.Classes.{blocksOf, classOf}
 use Rattle.classes.proofs.ClassTableLaws.{blocks-of-le-256, blocks-of-pos}
 use Rattle.classes.proofs.ClassLaws.{class-of-lt-27}
 use Rattle.marks.specs.Marks.{liveCount}
-use Rattle.marks.proofs.MarkLaws.{live-count-without-mark, live-count-of-no-marks}
+use Rattle.marklaws.proofs.MarkLaws.{live-count-without-mark, live-count-of-no-marks}
 use Rattle.order.specs.Order.{place, lastFilled, withPlace, renewed}
-use Rattle.order.proofs.OrderLaws.{last-filled-is-place, renewed-place, renewed-other-superblock, with-place-same, with-place-other-place, with-place-other-superblock}
+use Rattle.orderlaws.proofs.OrderLaws.{last-filled-is-place, renewed-place, renewed-other-superblock, with-place-same, with-place-other-place, with-place-other-superblock}
 use Rattle.ordercheck.proofs.PlacesValidLaws.{last-filled-of-renewed-is-0}
 use Rattle.heap.specs.declared.Superblock.{Superblock}
 use Rattle.heap.specs.declared.State.{State}

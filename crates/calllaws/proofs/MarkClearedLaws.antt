@@ -17,7 +17,7 @@ use Rattle.laws.proofs.SumLaws.{sum-cong}
 use Rattle.classes.specs.Classes.{blocksOf}
 use Rattle.classes.proofs.ClassTableLaws.{blocks-of-le-256}
 use Rattle.marks.specs.Marks.{markBit}
-use Rattle.marks.proofs.MarkLaws.{live-count-without-mark, length-without-mark, without-mark-same, without-mark-other}
+use Rattle.marklaws.proofs.MarkLaws.{live-count-without-mark, length-without-mark, without-mark-same, without-mark-other}
 use Rattle.order.specs.Order.{withPlace}
 use Rattle.ordercheck.proofs.PlacesValidLaws.{places-valid-after-free}
 use Rattle.ordercheck.proofs.OwnPlacesOnly.{places-valid-other-with-place}

@@ -13,7 +13,7 @@ use Rattle.laws.proofs.TestLaws.{T-of-true}
 use Rattle.classes.specs.Classes.{blocksOf, classOf}
 use Rattle.classes.proofs.ClassTableLaws.{blocks-of-le-256}
 use Rattle.order.specs.Order.{place, lastFilled, renewed}
-use Rattle.order.proofs.FirstPlaces.{SameFirst, take-equal-of-same-first, same-first-of-take-equal, same-first-place, same-first-renewed, same-first-with-place, same-first-cleared}
+use Rattle.orderlaws.proofs.FirstPlaces.{SameFirst, take-equal-of-same-first, same-first-of-take-equal, same-first-place, same-first-renewed, same-first-with-place, same-first-cleared}
 use Rattle.heap.specs.declared.Setup.{Setup}
 use Rattle.heap.specs.declared.Superblock.{Superblock}
 use Rattle.heap.specs.declared.State.{State}

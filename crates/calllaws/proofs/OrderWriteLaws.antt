@@ -12,10 +12,10 @@ use Rattle.laws.specs.Sums.{pick}
 use Rattle.laws.proofs.TestLaws.{neither-left, neither-right}
 use Rattle.classes.specs.Classes.{sizeOf, blocksOf, classOf}
 use Rattle.classes.proofs.ClassTableLaws.{blocks-of-le-256}
-use Rattle.marks.proofs.MarkLaws.{mark-bit-one-of-mark, marks-clear-of-live-count-zero}
+use Rattle.marklaws.proofs.MarkLaws.{mark-bit-one-of-mark, marks-clear-of-live-count-zero}
 use Rattle.order.specs.Order.{place, renewed, withPlace, cleared}
-use Rattle.order.proofs.OrderLaws.{length-renewed, renewed-index-below, renewed-index-above, length-with-place, with-place-other-index, with-place-same, length-cleared, cleared-index-below, cleared-index-above}
-use Rattle.order.proofs.FirstPlaces.{renewed-at-index, drop-equal-of-same-rest}
+use Rattle.orderlaws.proofs.OrderLaws.{length-renewed, renewed-index-below, renewed-index-above, length-with-place, with-place-other-index, with-place-same, length-cleared, cleared-index-below, cleared-index-above}
+use Rattle.orderlaws.proofs.FirstPlaces.{renewed-at-index, drop-equal-of-same-rest}
 use Rattle.heap.specs.declared.Setup.{Setup}
 use Rattle.heap.specs.declared.State.{State}
 use Rattle.heap.specs.declared.Found.{Found}

@@ -13,7 +13,7 @@ use Rattle.laws.specs.Sums.{pick}
 use Rattle.laws.proofs.Decides.{TypeIf, type-if-elim, Decides, true-of-decides, false-of-decides, decides-fact, decides-le, decides-nonzero, decides-differs, decides-as, decides-either, decides-both}
 use Rattle.classes.specs.Classes.{sizeOf, blocksOf, classOf}
 use Rattle.marks.specs.Marks.{markBit}
-use Rattle.marks.proofs.MarkLaws.{mark-bit-zero-of-no-mark, no-mark-of-mark-bit-zero}
+use Rattle.marklaws.proofs.MarkLaws.{mark-bit-zero-of-no-mark, no-mark-of-mark-bit-zero}
 use Rattle.heap.specs.declared.Setup.{Setup}
 use Rattle.heap.specs.declared.State.{State}
 use Rattle.heap.specs.declared.Found.{Found}

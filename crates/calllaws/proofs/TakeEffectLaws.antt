@@ -14,7 +14,7 @@ use Rattle.laws.proofs.SumLaws.{sum-cong}
 use Rattle.classes.specs.Classes.{blocksOf}
 use Rattle.classes.proofs.ClassTableLaws.{blocks-of-le-256}
 use Rattle.marks.specs.Marks.{markBit, liveCount, withMark}
-use Rattle.marks.proofs.MarkLaws.{with-mark-same, with-mark-other, live-count-with-mark, length-with-mark}
+use Rattle.marklaws.proofs.MarkLaws.{with-mark-same, with-mark-other, live-count-with-mark, length-with-mark}
 use Rattle.ordercheck.specs.FilledPlaces.{placesValid}
 use Rattle.ordercheck.proofs.PlacesValidLaws.{last-filled-below-n, last-filled-not-marked, places-valid-after-take}
 use Rattle.ordercheck.proofs.OwnPlacesOnly.{places-valid-cong}

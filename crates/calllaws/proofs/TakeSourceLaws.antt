@@ -14,9 +14,9 @@ use Rattle.laws.proofs.Inequalities.{le-of-not-below}
 use Rattle.classes.specs.Classes.{blocksOf}
 use Rattle.classes.proofs.ClassTableLaws.{blocks-of-le-256, blocks-of-pos}
 use Rattle.marks.specs.Marks.{markBit}
-use Rattle.marks.proofs.MarkLaws.{marks-clear-of-live-count-zero, mark-bit-of-no-marks, live-count-of-no-marks}
+use Rattle.marklaws.proofs.MarkLaws.{marks-clear-of-live-count-zero, mark-bit-of-no-marks, live-count-of-no-marks}
 use Rattle.order.specs.Order.{place, lastFilled, renewed}
-use Rattle.order.proofs.OrderLaws.{length-renewed, renewed-other-superblock}
+use Rattle.orderlaws.proofs.OrderLaws.{length-renewed, renewed-other-superblock}
 use Rattle.ordercheck.specs.FilledPlaces.{placesValid}
 use Rattle.ordercheck.proofs.PlacesValidLaws.{places-valid-after-renewal}
 use Rattle.heap.specs.declared.Superblock.{Superblock}

@@ -1,5 +1,4 @@
 pub mod Cases
-pub mod ClassFormula
 pub mod FirstAtLeastLaws
 pub mod ClassTableLaws
 pub mod ClassLaws

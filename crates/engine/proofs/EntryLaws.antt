@@ -19,15 +19,12 @@ use Rattle.calls.specs.Answers.{After, HasNumberAndValuesOf, PassesIfAccepted, 
 use Rattle.calls.specs.Setup.{acceptedSetup, setupOf}
 use Rattle.calls.specs.Take.{takeUnchecked, takeOf}
 use Rattle.calls.specs.Free.{freeUnchecked, freeOf}
-use Rattle.calllaws.proofs.AcceptedCallLaws.{take-passes-if-accepted, free-passes-if-accepted, setup-passes-if-accepted, number-and-values-by-rules, passes-if-accepted-by-rules}
+use Rattle.calllaws.proofs.AcceptedCallLaws.{take-passes-if-accepted, free-passes-if-accepted, setup-passes-if-accepted, number-and-values-by-rules, passes-if-accepted-by-rules, refused-of-answer}
 use Rattle.engine.specs.FirstRefusal.{setupRefusal, firstRefusal}
 use Rattle.engine.proofs.FirstRefusalLaws.{checked-is-first-refusal, checked-of-no-refusal}
 
 abbrev answerAndOrder : Answer → List ℕ → After
 answerAndOrder r order = record { answer = r; order = order }
-
-refused-of-answer : (s : State) (order : List ℕ) (number : ℕ) (r : Answer) → r ≡ record { outcome = Refused number; state = s } → answerAndOrder r order ≡ refused number s order
-refused-of-answer s order number r e = ap (λ (x : Answer). answerAndOrder x order) e
 
 -- ---- the three clauses of an entry's contract, from the equation
 module _ (s : State) (order : List ℕ) (i n : ℕ) (shape : Shape s) {r : Answer} {out : List ℕ} where

@@ -34,10 +34,10 @@ pub fn setup(u: Setup, order: &mut [u16]) -> Answer
 {
     let first = setup_refusal(1, u, order);
     if first != 0 {
-        return table::refuse(table::no_state(), first);
+        return states::refuse(states::no_state(), first);
     }
-    order::clear_order(order, u.superblocks as usize * 256);
-    let s = table::new_state(u);
+    freelistinit::clear_order(order, u.superblocks as usize * 256);
+    let s = states::new_state(u);
     Answer {
         outcome: Outcome::Ready,
         state: s,
@@ -66,9 +66,9 @@ pub fn take(s: State, order: &mut [u16], processor: u8, size: u16) -> Answer
 {
     let first = first_refusal(s, order);
     if first != 0 {
-        return table::refuse(s, first);
+        return states::refuse(s, first);
     }
-    unchecked::take(s, order, processor, size)
+    takeunchecked::take(s, order, processor, size)
 }
 
 // The block at the address is free again, and the move rule is followed; or the first refusal.
@@ -79,7 +79,7 @@ pub fn free(s: State, order: &mut [u16], processor: u8, address: u32) -> Answer
 {
     let first = first_refusal(s, order);
     if first != 0 {
-        return table::refuse(s, first);
+        return states::refuse(s, first);
     }
-    unchecked::free(s, order, processor, address)
+    freeunchecked::free(s, order, processor, address)
 }

@@ -11,7 +11,7 @@ use Rattle.laws.proofs.TestLaws.{T-of-true, true-of-T, both-false-right}
 use Rattle.laws.proofs.SumLaws.{all-at, all-cong}
 use Rattle.classes.specs.Classes.{blocksOf}
 use Rattle.classes.proofs.ClassTableLaws.{blocks-of-le-256}
-use Rattle.order.proofs.FirstPlaces.{SameFirst, same-first-place}
+use Rattle.orderlaws.proofs.FirstPlaces.{SameFirst, same-first-place}
 use Rattle.ordercheck.proofs.StorageLengthLaws.{places-valid-cong-if-in-storage}
 use Rattle.heap.specs.declared.Superblock.{Superblock}
 use Rattle.heap.specs.declared.State.{State}

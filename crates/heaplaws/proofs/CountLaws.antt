@@ -14,7 +14,7 @@ use Rattle.laws.proofs.TestLaws.{T-of-true, true-of-T, false-of-not-T, equal-of
 use Rattle.laws.proofs.SumLaws.{sum-cong, sum-of-zeros, sum-le-of-terms-le, sum-le-mul, sum-scale, pos-term-of-pos-sum}
 use Rattle.laws.proofs.Counting.{sum-swap, sum-le-of-terms-le-one, indicator-sum-inside, indicator-sum-outside}
 use Rattle.laws.proofs.ReplacedElement.{sum-set}
-use Rattle.marks.proofs.MarkLaws.{live-count-le-256}
+use Rattle.marklaws.proofs.MarkLaws.{live-count-le-256}
 use Rattle.heap.specs.declared.Superblock.{Superblock}
 use Rattle.heap.specs.declared.State.{State}
 use Rattle.heap.specs.declared.Setup.{Setup}

@@ -15,7 +15,7 @@ use Rattle.laws.proofs.TestLaws.{T-of-true, false-of-not-T, both-left, both-rig
 use Rattle.laws.proofs.SumLaws.{all-at, all-of-each}
 use Rattle.classes.specs.Classes.{blocksOf}
 use Rattle.classes.proofs.ClassTableLaws.{blocks-of-le-256}
-use Rattle.marks.proofs.MarkLaws.{live-count-of-no-marks}
+use Rattle.marklaws.proofs.MarkLaws.{live-count-of-no-marks}
 use Rattle.ordercheck.proofs.PlacesValidLaws.{live-count-le-of-places-valid}
 use Rattle.heap.specs.declared.Superblock.{Superblock}
 use Rattle.heap.specs.declared.Setup.{Setup}

@@ -19,7 +19,8 @@ use Rattle.heap.specs.Counts.{total, superblocksOf, blocksIn, liveOf}
 use Rattle.heap.specs.Moves.{bothConditions, mustMove}
 use Rattle.heap.specs.Check.{within, emptinessInvariant}
 use Rattle.predicates.proofs.MoveRuleLaws.{both-conditions-false-where-first-fails}
-use Rattle.invariantcheck.specs.Tally.{pairInvariant, classInvariant, Tallied, heapInvariant, tallyInvariant}
+use Rattle.tally.specs.Tally.{Tallied}
+use Rattle.invariantcheck.specs.TallyInvariant.{pairInvariant, classInvariant, heapInvariant, tallyInvariant}
 
 -- ---- one heap and class
 module _ (u : Setup) (class superblocks live : ℕ) where

@@ -1,2 +1,1 @@
-pub mod TallyLaws
 pub mod EmptinessInvariantLaws

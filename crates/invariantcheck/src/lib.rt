@@ -4,7 +4,7 @@ ghost use mathlib.Core.Path.{_≡_};
 ghost use Prim.Native.Nat.{ℕ, _≤_, _<_};
 ghost use lib.ListN.{getD};
 ghost use Rattle.heap.specs.Check.{emptinessInvariant};
-ghost use Rattle.invariantcheck.specs.Tally.{pairInvariant, slotOf, Tallied, heapInvariant, tallyInvariant};
+ghost use Rattle.invariantcheck.specs.TallyInvariant.{pairInvariant, heapInvariant, tallyInvariant};
 use heap::Setup;
 use heap::State;
 
@@ -22,52 +22,7 @@ fn pair_invariant(setup: Setup, class: u8, superblocks: u32, live: u32) -> bool
     !predicates::both_conditions(setup, n, superblocks * n, live)
 }
 
-// ---- the tally
-
-// The superblocks, and the live blocks in them, of nine heaps and 27 classes: those of the heap that is j above the first
-// and of class c stand at j × 27 + c.
-struct Tally {
-    superblocks: [u32; 243],
-    live: [u32; 243],
-}
-
-// Where a superblock's heap and class stand in a tally; 243 where it is left out.
-fn slot(first: usize, owner: u8, class: u8) -> usize
-    requires { ⌜ first ≤ 255 ⌝ }
-    ensures { λ r. ⌜ r ≡ slotOf first owner class ⌝ }
-{
-    let h = owner as usize;
-    if h < first {
-        return 243;
-    }
-    if h >= first + 9 {
-        return 243;
-    }
-    if 27 <= class {
-        return 243;
-    }
-    (h - first) * 27 + class as usize
-}
-
-// The tally of the nine heaps from the first on.
-fn tally_from(s: State, first: usize) -> Tally
-    requires { ⌜ first ≤ 255 ⌝ }
-    ensures { λ r. ⌜ Tallied (s .table) first 64 (r .superblocks) (r .live) ⌝ }
-{
-    let mut superblocks = [0u32; 243];
-    let mut live = [0u32; 243];
-    let mut k: usize = 0;
-    while k < 64 {
-        let b = s.table[k];
-        let at = slot(first, b.owner, b.class);
-        if at < 243 {
-            superblocks[at] += 1;
-            live[at] += predicates::live_in(b);
-        }
-        k += 1;
-    }
-    Tally { superblocks, live }
-}
+// ---- by tallied numbers
 
 // The heap that is j above the first is no processor's, or meets both conditions of the move rule in no class.
 fn heap_invariant(
@@ -126,7 +81,7 @@ pub fn emptiness_invariant(s: State) -> bool
     let last = setup.processors as usize;
     let mut first: usize = 1;
     while first <= last {
-        let t = tally_from(s, first);
+        let t = tally::tally_from(s, first as u8);
         let superblocks = t.superblocks;
         let live = t.live;
         if !tally_invariant(setup, &superblocks, &live, first) {

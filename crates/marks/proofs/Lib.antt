@@ -1,4 +1,1 @@
 pub mod MarkCases
-pub mod BitLaws
-pub mod MarkLaws
-pub mod NoMarkFromLaws

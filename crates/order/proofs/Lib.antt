@@ -1,4 +1,1 @@
 pub mod Cases
-pub mod OrderLaws
-pub mod LoopLaws
-pub mod FirstPlaces

@@ -10,7 +10,7 @@ use Rattle.laws.specs.Sums.{both}
 use Rattle.laws.proofs.SumLaws.{all-cong}
 use Rattle.marks.specs.Marks.{markBit, noMarkFrom}
 use Rattle.order.specs.Order.{place, withPlace, renewed}
-use Rattle.order.proofs.OrderLaws.{length-with-place, with-place-other-superblock, length-renewed, renewed-other-superblock}
+use Rattle.orderlaws.proofs.OrderLaws.{length-with-place, with-place-other-superblock, length-renewed, renewed-other-superblock}
 use Rattle.ordercheck.specs.FilledPlaces.{occurrences, filledPlaces, placesInStorage, eachOnce, placesValid}
 use Rattle.ordercheck.proofs.OccurrenceLaws.{occurrences-cong}
 

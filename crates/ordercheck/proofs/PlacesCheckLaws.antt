@@ -8,7 +8,7 @@ use borrow.Author.Tests.{not-true, not-false, le-leb, lt-leb}
 use lib.ListN.{length}
 use Rattle.laws.proofs.TestLaws.{T-of-true}
 use Rattle.marks.specs.Marks.{liveCount, noMarkFrom}
-use Rattle.marks.proofs.NoMarkFromLaws.{live-count-le-of-no-mark-from}
+use Rattle.marklaws.proofs.NoMarkFromLaws.{live-count-le-of-no-mark-from}
 use Rattle.ordercheck.specs.FilledPlaces.{filledPlaces, placesInStorage, eachOnce, placesValid}
 
 module _ (order live : List ℕ) (s n k : ℕ) (r : Bool) (count : n ≡ k) (tested : r ≡ noMarkFrom live n) where

@@ -12,10 +12,10 @@ use Rattle.laws.proofs.TestLaws.{T-of-true, both-left, both-right, both-make, o
 use Rattle.laws.proofs.SumLaws.{sum-cong}
 use Rattle.laws.proofs.Counting.{indicator-sum-inside}
 use Rattle.marks.specs.Marks.{markBit, liveCount, noMarkFrom, withMark, withoutMark, noMarks}
-use Rattle.marks.proofs.MarkLaws.{with-mark-same, with-mark-other, without-mark-same, without-mark-other, live-count-with-mark, live-count-without-mark, mark-bit-of-no-marks, live-count-of-no-marks}
-use Rattle.marks.proofs.NoMarkFromLaws.{mark-clear-of-no-mark-from, no-mark-from-of-marks-clear, live-count-le-of-no-mark-from, no-mark-from-of-no-marks}
+use Rattle.marklaws.proofs.MarkLaws.{with-mark-same, with-mark-other, without-mark-same, without-mark-other, live-count-with-mark, live-count-without-mark, mark-bit-of-no-marks, live-count-of-no-marks}
+use Rattle.marklaws.proofs.NoMarkFromLaws.{mark-clear-of-no-mark-from, no-mark-from-of-marks-clear, live-count-le-of-no-mark-from, no-mark-from-of-no-marks}
 use Rattle.order.specs.Order.{place, lastFilled, withPlace, renewed}
-use Rattle.order.proofs.OrderLaws.{last-filled-is-place, length-with-place, with-place-same, with-place-other-place, length-renewed, renewed-place}
+use Rattle.orderlaws.proofs.OrderLaws.{last-filled-is-place, length-with-place, with-place-same, with-place-other-place, length-renewed, renewed-place}
 use Rattle.ordercheck.specs.FilledPlaces.{occurrences, filledPlaces, placesInStorage, eachOnce, placesValid}
 use Rattle.ordercheck.proofs.OccurrenceLaws.{occurrences-suc, occurrences-cong}
 use Rattle.ordercheck.proofs.SeenMarksLaws.{block-once-of-each-once, each-once-of-blocks-once, filled-below-n-of-each-once}

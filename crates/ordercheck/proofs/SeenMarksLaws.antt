@@ -15,8 +15,8 @@ use Rattle.laws.proofs.TestLaws.{T-of-true, true-of-T, false-of-not-T, one-of-e
 use Rattle.laws.proofs.SumLaws.{sum-cong, all-at, all-of-each}
 use Rattle.laws.proofs.Counting.{sum-add, sum-of-ones, terms-one-of-full-sum, indicator-sum-inside, indicator-sum-outside}
 use Rattle.marks.specs.Marks.{markBit, noMarkFrom, withMark}
-use Rattle.marks.proofs.MarkLaws.{mark-bit-lt-two, with-mark-same, with-mark-other, length-with-mark}
-use Rattle.marks.proofs.NoMarkFromLaws.{live-count-is-sum-below, live-count-le-of-no-mark-from}
+use Rattle.marklaws.proofs.MarkLaws.{mark-bit-lt-two, with-mark-same, with-mark-other, length-with-mark}
+use Rattle.marklaws.proofs.NoMarkFromLaws.{live-count-is-sum-below, live-count-le-of-no-mark-from}
 use Rattle.order.specs.Order.{place}
 use Rattle.ordercheck.specs.FilledPlaces.{occurrences, filledPlaces, eachOnce}
 use Rattle.ordercheck.proofs.OccurrenceLaws.{occurrences-zero, occurrences-suc, occurrences-mono, occurrences-sum-swap}

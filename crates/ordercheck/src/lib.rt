@@ -12,10 +12,10 @@ pub fn places_valid(order: &[u16], live: [u64; 4], s: u8, class: u8) -> bool
     ensures { λ r. ⌜ r ≡ placesValid (now (order .entry)) live s (blocksOf class) ⌝ }
 {
     let n = classes::block_count(class) as usize;
-    if !marks::no_mark_from(live, n) {
+    if !bitmap::no_mark_from(live, n) {
         return false;
     }
-    let m = n - marks::live_count(live) as usize;
+    let m = n - bitmap::live_count(live) as usize;
     let base = s as usize * 256;
     if order.len() < base + m {
         return false;

@@ -16,7 +16,7 @@ pub fn live_in(b: Superblock) -> u32
     ensures { λ r. ⌜ (r ≡ liveIn b) × (r ≤ 256) ⌝ }
 {
     let live = b.live;
-    marks::live_count(live)
+    bitmap::live_count(live)
 }
 
 // It is of the heap and the class.

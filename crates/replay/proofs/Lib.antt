@@ -1,2 +1,1 @@
-pub mod CommandStepLaws
 pub mod ReplayLoopLaws

@@ -1,4 +1,3 @@
-pub mod LoadStoreCases
 pub mod WalkLaws
 pub mod LoadStoreLaws
 pub mod LoadStoreContracts

@@ -30,7 +30,7 @@ use denote.Triple.Statement.{Contract}
 use denote.Triple.Clauses.{ensured, lasts}
 use Rattle.heap.specs.declared.Superblock.{Superblock}
 use Rattle.rowcore.specs.declared.TableCall.{TableCall}
-use Rattle.row.specs.LoadStore.{loadOf}
+use Rattle.rowrules.specs.LoadStore.{loadOf}
 use Rattle.heap.proofs.Superblock as T
 use Rattle.heap.proofs.Superblock.Laws as T′
 use Rattle.rowcore.proofs.TableCall as R

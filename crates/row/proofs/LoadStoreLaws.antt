@@ -19,8 +19,8 @@ use Rattle.calls.specs.Calls.{callOf}
 use Rattle.rowrules.specs.Row.{RowAfter, rowAfter, stateOf, asRowAfter, rowRefused, rowAcceptedSetup, setupOn, callOn, rowSetup, rowCall}
 use Rattle.rowcore.specs.declared.TableCall.{TableCall}
 use Rattle.rowcore.specs.Tables.{isAccepted, rowAfterCall}
-use Rattle.rowrules.proofs.RowLaws.{setup-on-other-length-not-accepted, call-on-other-length-not-accepted, row-setup-row-if-accepted, row-call-row-if-accepted}
-use Rattle.row.specs.LoadStore.{loadOf, storeOf}
+use Rattle.rowlaws.proofs.RowLaws.{setup-on-other-length-not-accepted, call-on-other-length-not-accepted, row-setup-row-if-accepted, row-call-row-if-accepted}
+use Rattle.rowrules.specs.LoadStore.{loadOf, storeOf}
 
 -- what a call leaves, with another row
 abbrev withRow : RowAfter → List Superblock → RowAfter

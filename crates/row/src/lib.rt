@@ -3,7 +3,7 @@
 ghost use mathlib.Core.Path.{_≡_};
 ghost use Rattle.calls.specs.Answers.{HasNumberAndValuesOf, PassesIfAccepted};
 ghost use Rattle.rowrules.specs.Row.{stateOf, rowAfter, rowSetup, rowCall};
-ghost use Rattle.row.specs.LoadStore.{loadOf, storeOf};
+ghost use Rattle.rowrules.specs.LoadStore.{loadOf, storeOf};
 use calls::Call;
 use heap::Setup;
 use heap::Superblock;

@@ -24,7 +24,7 @@ use Rattle.calls.specs.Take.{takeOf}
 use Rattle.calls.specs.Free.{freeOf}
 use Rattle.calls.specs.Calls.{callOf}
 use Rattle.engine.specs.FirstRefusal.{setupRefusal}
-use Rattle.rowrules.proofs.RowLaws.{has-number-and-values-of-equal}
+use Rattle.rowlaws.proofs.RowLaws.{has-number-and-values-of-equal}
 use Rattle.rowrules.specs.Row.{RowAfter, stateOf, asRowAfter, rowRefused, rowAcceptedSetup, setupOn, callOn}
 use Rattle.rowcore.specs.declared.TableCall.{TableCall}
 use Rattle.rowcore.specs.Tables.{isAccepted, rowAfterCall, rowFirstRefusal, refusedCall, answeredCall}

@@ -26,7 +26,7 @@ pub struct TableCall {
 pub fn unused_table() -> [Superblock; 64]
     ensures { λ r. ⌜ r ≡ replicate 64 unused ⌝ }
 {
-    let s = table::no_state();
+    let s = states::no_state();
     s.table
 }
 
@@ -96,7 +96,7 @@ pub fn setup_table(n: usize, table: [Superblock; 64], order: &mut [u16], u: Setu
 {
     let first = first_refusal(1, n, order, u);
     if first != 0 {
-        let none = table::no_state();
+        let none = states::no_state();
         let zeros = none.setup;
         return refuse(first, zeros, table);
     }

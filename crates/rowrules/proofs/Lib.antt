@@ -1,4 +1,2 @@
 pub mod RowCases
-pub mod CallAcceptedLaws
-pub mod RowLaws
-pub mod RowDemand3
+pub mod LoadStoreCases

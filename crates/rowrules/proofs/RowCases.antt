@@ -1,31 +1,23 @@
 -- Cases of the calls on a lent row, each shown whole: outcome, setup numbers, row and all order places. No two of the numbers in them are the same by chance. Assumes nothing.
 use mathlib.Core.Path.{_≡_, refl, ap}
 use mathlib.Core.List.{List, [], _∷_, _++_, map}
-use Prim.Native.Nat.{ℕ, _+_, _-_, _/_}
+use Prim.Native.Nat.{ℕ}
 use native.Mathlib.Omega.{arith}
-use lib.ListN.{length, getD, set, replicate}
-use lib.Dec.{T}
-use Rattle.laws.specs.Sums.{both, one, sumBelow, allBelow}
-use Rattle.classes.specs.Classes.{sizes, counts, sizeOf, blocksOf, firstAtLeast, classOf}
-use Rattle.marks.specs.Marks.{bit, markBit, isMarked, withMark, withoutMark, liveCount, noMarkFrom}
-use Rattle.order.specs.Order.{place, lastFilled, withPlace, descending, withRenewedPlaces, renewed, cleared}
-use Rattle.ordercheck.specs.FilledPlaces.{occurrences, placesInStorage, eachOnce, placesValid}
+use lib.ListN.{getD, replicate}
+use Rattle.laws.specs.Sums.{allBelow}
+use Rattle.order.specs.Order.{cleared}
 use Rattle.heap.specs.declared.Superblock.{Superblock}
 use Rattle.heap.specs.declared.Setup.{Setup}
 use Rattle.heap.specs.Table.{isUnused}
-use Rattle.heap.specs.Counts.{total, belongs, oneIfBelongs, liveIfBelongs, superblocksOf, blocksIn, liveOf}
-use Rattle.heap.specs.Choice.{prefer, chosenBelow, moreLive, fewerLive, neverPreferred, hasFree, emptyInGlobal, fullest, lowestEmpty, lowestUnused, emptiest}
-use Rattle.heap.specs.Moves.{bothConditions, mustMove, transferred, foundTransferred, transfersUpTo, excessTransferred, invariantRestored}
-use Rattle.heap.specs.Check.{withinLimits, superblockValid, unusedFrom, emptinessInvariant, sparseIfGlobal, restValid, passes}
+use Rattle.heap.specs.Check.{withinLimits, superblockValid, restValid}
 use Rattle.calls.specs.declared.Call.{Call}
 use Rattle.calls.specs.declared.Call.the-variants.{Take, Free}
 use Rattle.calls.specs.declared.Outcome.{Outcome}
-use Rattle.calls.specs.declared.Outcome.the-variants.{Ready, Address, Moves, Refused}
-use Rattle.calls.specs.Answers.{checked, isProcessor, valuesOf}
-use Rattle.calls.specs.Take.{otherPlaces, acquired, acquiredOrder, nextBlock, addressOf, takenFrom, takenFromOther, takenAt, takeUnchecked, takeOf}
-use Rattle.calls.specs.Free.{blockOf, isUnmapped, isMisaligned, isLiveAt, markCleared, orderPushed, freedAt, freeUnchecked, freeOf}
+use Rattle.calls.specs.declared.Outcome.the-variants.{Ready, Refused}
+use Rattle.calls.specs.Answers.{checked}
+use Rattle.calls.specs.Take.{takeOf}
 use Rattle.calls.specs.Calls.{callOf}
-use Rattle.rowrules.specs.Row.{RowAfter, setupOn, callOn, rowSetup, rowCall}
+use Rattle.rowrules.specs.Row.{RowAfter, stateOf, setupOn, callOn, rowSetup, rowCall}
 use Rattle.rowrules.specs.RowClaim.{RowStep, RowLinked}
 
 -- P = 2, N = 1, K = 3, p/q = 4/5; the same with p not below q; and five zeros
@@ -38,15 +30,9 @@ setup-with-p-equal-q = record { processors = 2; superblocks = 1; spare = 3; p = 
 abbrev pub zero-setup : Setup
 zero-setup = record { processors = 0; superblocks = 0; spare = 0; p = 0; q = 0 }
 
--- an unused superblock; superblock 0 with its first 2048 bytes live, and then with nothing live; and a record that no check passes
+-- an unused superblock, and a record that no check passes
 abbrev pub unused-superblock : Superblock
 unused-superblock = record { owner = 255; class = 0; live = 0 ∷ 0 ∷ 0 ∷ 0 ∷ [] }
-
-abbrev pub first-block-live : Superblock
-first-block-live = record { owner = 2; class = 26; live = 1 ∷ 0 ∷ 0 ∷ 0 ∷ [] }
-
-abbrev pub no-block-live : Superblock
-no-block-live = record { owner = 2; class = 26; live = 0 ∷ 0 ∷ 0 ∷ 0 ∷ [] }
 
 abbrev pub invalid-superblock : Superblock
 invalid-superblock = record { owner = 99; class = 33; live = 11 ∷ 12 ∷ 13 ∷ 14 ∷ [] }
@@ -95,55 +81,37 @@ pub record CallCase : Type 0 where
 abbrev pub call-refused-case : ℕ → Setup → List Superblock → List ℕ → Call → CallCase
 call-refused-case r u row order call = record { setup = u; row = row; order = order; call = call; after = row-after (Refused r) u row order }
 
-abbrev pub row-after-take : RowAfter
-row-after-take = row-after (Address 0) example-setup (first-block-live ∷ replicate 63 unused-superblock) (1 ∷ 0 ∷ replicate 254 7 ++ 8 ∷ 9 ∷ [])
-
-abbrev pub row-after-free : RowAfter
-row-after-free = row-after (Moves 0) example-setup (no-block-live ∷ replicate 63 unused-superblock) (1 ∷ 0 ∷ replicate 254 7 ++ 8 ∷ 9 ∷ [])
-
--- "13 for setup numbers, 12, the rest of 13", in which is the row's length; then the call's own refusals
+-- "13 for setup numbers, 12, the rest of 13", in which is the row's length
 abbrev pub row-call-cases : List CallCase
 row-call-cases =
     call-refused-case 13 setup-with-p-equal-q (replicate 63 unused-superblock) storage-of-255 (Take 2 2048) ∷ call-refused-case 12 example-setup (replicate 63 unused-superblock) storage-of-255 (Take 2 2048) ∷ call-refused-case 13 example-setup (replicate 63 unused-superblock) storage-of-258 (Take 2 2048)
-    ∷ call-refused-case 13 example-setup (replicate 65 unused-superblock) storage-of-258 (Free 2 0) ∷ call-refused-case 13 example-setup (replicate 64 invalid-superblock) storage-of-258 (Take 2 2048) ∷ call-refused-case 3 example-setup (replicate 64 unused-superblock) storage-of-258 (Take 2 2049)
-    ∷ call-refused-case 5 example-setup (replicate 64 unused-superblock) storage-of-258 (Free 2 0)
-    ∷ record { setup = example-setup; row = replicate 64 unused-superblock; order = storage-of-258; call = Take 2 2048; after = row-after-take }
-    ∷ record { setup = example-setup; row = row-after-take .row; order = row-after-take .order; call = Free 1 0; after = row-after-free } ∷ []
+    ∷ call-refused-case 13 example-setup (replicate 65 unused-superblock) storage-of-258 (Free 2 0) ∷ call-refused-case 13 example-setup (replicate 64 invalid-superblock) storage-of-258 (Take 2 2048) ∷ []
 
 pub row-call-cases-are-computed : map (λ (k : CallCase). rowCall (k .setup) (k .row) (k .order) (k .call)) row-call-cases ≡ map (λ (k : CallCase). k .after) row-call-cases
-unfolding callOn callOf takeOf takeUnchecked takenAt takenFromOther takenFrom addressOf nextBlock acquiredOrder acquired otherPlaces freeOf freeUnchecked freedAt orderPushed markCleared isLiveAt isMisaligned isUnmapped blockOf
-    checked isProcessor withinLimits restValid superblockValid unusedFrom emptinessInvariant sparseIfGlobal invariantRestored excessTransferred transfersUpTo transferred foundTransferred mustMove bothConditions
-    prefer chosenBelow moreLive fewerLive neverPreferred hasFree emptyInGlobal fullest lowestEmpty lowestUnused emptiest total belongs oneIfBelongs liveIfBelongs superblocksOf blocksIn liveOf isUnused
-    placesValid placesInStorage eachOnce occurrences place lastFilled withPlace descending withRenewedPlaces renewed noMarkFrom bit markBit isMarked withMark withoutMark liveCount
-    sizes counts sizeOf blocksOf firstAtLeast classOf sumBelow allBelow
+unfolding callOn callOf takeOf checked withinLimits restValid superblockValid isUnused allBelow
 row-call-cases-are-computed = refl
 
+-- a call on 64 records leaves what the call on their state leaves: outcome, setup numbers, row and storage, whatever the row and the call
+pub call-on-64-is-computed : (row : List Superblock) (call : Call)
+    → (let a = callOf (stateOf example-setup row) storage-of-258 call in callOn 64 example-setup row storage-of-258 call ≡ row-after (a .answer .outcome) (a .answer .state .setup) (a .answer .state .table) (a .order))
+unfolding callOn withinLimits
+call-on-64-is-computed row call = refl
+
 -- ---- lists
-abbrev pub row-after-setup : RowAfter
-row-after-setup = row-after Ready example-setup (replicate 64 unused-superblock) storage-of-258
+abbrev pub refused-before : RowAfter
+refused-before = row-after (Refused 13) example-setup (replicate 63 unused-superblock) storage-of-258
 
-abbrev pub take-step : RowStep
-take-step = record { call = Take 2 2048; after = row-after-take }
+abbrev pub refused-step : Call → List Superblock → RowStep
+refused-step call row = record { call = call; after = row-after (Refused 13) example-setup row storage-of-258 }
 
-abbrev pub free-step : RowStep
-free-step = record { call = Free 1 0; after = row-after-free }
+-- each call gets the row that the one before it left
+pub refused-calls-linked : RowLinked refused-before (refused-step (Take 2 2048) (replicate 63 unused-superblock) ∷ refused-step (Free 1 0) (replicate 63 unused-superblock) ∷ [])
+unfolding RowLinked callOn withinLimits
+refused-calls-linked = (refl, (refl, tt))
 
--- each call gets the row and the storage that the one before it left
-pub take-then-free-linked : RowLinked row-after-setup (take-step ∷ free-step ∷ [])
-unfolding RowLinked callOn callOf takeOf takeUnchecked takenAt takenFromOther takenFrom addressOf nextBlock acquiredOrder acquired otherPlaces freeOf freeUnchecked freedAt orderPushed markCleared isLiveAt isMisaligned isUnmapped blockOf
-    checked isProcessor withinLimits restValid superblockValid unusedFrom emptinessInvariant sparseIfGlobal invariantRestored excessTransferred transfersUpTo transferred foundTransferred mustMove bothConditions
-    prefer chosenBelow moreLive fewerLive neverPreferred hasFree emptyInGlobal fullest lowestEmpty lowestUnused emptiest total belongs oneIfBelongs liveIfBelongs superblocksOf blocksIn liveOf isUnused
-    placesValid placesInStorage eachOnce occurrences place lastFilled withPlace descending withRenewedPlaces renewed noMarkFrom bit markBit isMarked withMark withoutMark liveCount
-    sizes counts sizeOf blocksOf firstAtLeast classOf sumBelow allBelow
-take-then-free-linked = (refl, (refl, tt))
-
--- a second take on the row that the setup wrote is no list: the same block is not taken twice
-pub same-take-twice-not-linked : RowLinked row-after-setup (take-step ∷ take-step ∷ []) → ⊥
-unfolding RowLinked callOn callOf takeOf takeUnchecked takenAt takenFromOther takenFrom addressOf nextBlock acquiredOrder acquired otherPlaces freeOf freeUnchecked freedAt orderPushed markCleared isLiveAt isMisaligned isUnmapped blockOf
-    checked isProcessor withinLimits restValid superblockValid unusedFrom emptinessInvariant sparseIfGlobal invariantRestored excessTransferred transfersUpTo transferred foundTransferred mustMove bothConditions
-    prefer chosenBelow moreLive fewerLive neverPreferred hasFree emptyInGlobal fullest lowestEmpty lowestUnused emptiest total belongs oneIfBelongs liveIfBelongs superblocksOf blocksIn liveOf isUnused
-    placesValid placesInStorage eachOnce occurrences place lastFilled withPlace descending withRenewedPlaces renewed noMarkFrom bit markBit isMarked withMark withoutMark liveCount
-    sizes counts sizeOf blocksOf firstAtLeast classOf sumBelow allBelow valuesOf
-same-take-twice-not-linked linked =
-    let z : _≡_ {A = ℕ} 0 2048 = ap (λ (x : RowAfter). getD (valuesOf (x .outcome)) 0 0) (linked .1 .0) in
+-- a call that got another row is of no list
+pub another-row-not-linked : RowLinked refused-before (refused-step (Take 2 2048) (replicate 63 invalid-superblock) ∷ []) → ⊥
+unfolding RowLinked callOn withinLimits
+another-row-not-linked linked =
+    let z : _≡_ {A = ℕ} 99 255 = ap (λ (x : RowAfter). getD (x .row) 0 unused-superblock .owner) (linked .0) in
     absurd (omega (arith, z))

@@ -1,2 +1,3 @@
 pub mod Row
 pub mod RowClaim
+pub mod LoadStore

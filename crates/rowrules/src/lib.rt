@@ -1,4 +1,4 @@
-// Calls on a table of superblocks that is lent as a row of records. The rules are in specs/, demand 3 of a lent row in proofs/.
+// Calls on a table of superblocks that is lent as a row of records. The rules are in specs/, computed cases of them in proofs/.
 use calls::Outcome;
 use heap::Setup;
 

@@ -7,8 +7,8 @@ use native.Mathlib.Omega.{arith}
 use lib.ListN.{length, List·getD-eq-default}
 use lib.Seq.{set-out}
 use Rattle.marks.specs.Marks.{markBit, isMarked}
-use Rattle.marks.proofs.BitLaws.{bit-of-zero}
-use Rattle.marks.proofs.MarkLaws.{no-mark-of-mark-bit-zero, live-count-zero-of-marks-clear}
+use Rattle.marklaws.proofs.BitLaws.{bit-of-zero}
+use Rattle.marklaws.proofs.MarkLaws.{no-mark-of-mark-bit-zero, live-count-zero-of-marks-clear}
 use Rattle.heap.specs.declared.Superblock.{Superblock}
 use Rattle.heap.specs.declared.State.{State}
 use Rattle.heap.specs.Table.{blank, superblockAt, withSuperblock, liveIn, isUnused}

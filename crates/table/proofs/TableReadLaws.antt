@@ -1,16 +1,12 @@
 -- What the code reads of a state and the mark that it sets, step by step as the code goes. Assumes nothing.
 use mathlib.Core.Path.{_≡_, ap, ap₂, _∙_}
-use mathlib.Core.Bool.{false}
 use mathlib.Core.List.{List}
-use Prim.Native.Nat.{ℕ, _-_, _≤_, _<_}
+use Prim.Native.Nat.{ℕ, _-_, _<_}
 use native.Mathlib.Omega.{arith}
-use borrow.Author.Tests.{le-leb, lt-leb}
-use lib.Dec.{leb}
 use Rattle.classes.specs.Classes.{blocksOf}
 use Rattle.marks.specs.Marks.{withMark}
 use Rattle.heap.specs.declared.State.{State}
 use Rattle.heap.specs.Table.{superblockAt, withSuperblock, liveIn, withMarkAt}
-use Rattle.calls.specs.Answers.{isProcessor}
 
 -- the filled places are n - live, none where more are live
 module _ (s : State) (k class n live : ℕ) (ec : class ≡ superblockAt s k .class) (en : n ≡ blocksOf class) (el : live ≡ liveIn (superblockAt s k)) where
@@ -24,13 +20,3 @@ module _ (s : State) (k class n live : ℕ) (ec : class ≡ superblockAt s k .cl
 pub with-superblock-marked : (s : State) (k j : ℕ) (live : List ℕ) → live ≡ withMark (superblockAt s k .live) j
     → withSuperblock s k (record { owner = superblockAt s k .owner; class = superblockAt s k .class; live = live }) ≡ withSuperblock s k (withMarkAt (superblockAt s k) j)
 with-superblock-marked s k j live e = rw e
-
--- refusal 2: 0, or above P
-module _ (s : State) (i : ℕ) where
-  pub is-processor-false-of-0 : i < 1 → false ≡ isProcessor s i
-  unfolding isProcessor
-  is-processor-false-of-0 l = rw (lt-leb 1 i l)
-
-  pub is-processor-is-le-test : 1 ≤ i → leb i (s .setup .processors) ≡ isProcessor s i
-  unfolding isProcessor
-  is-processor-is-le-test l = rw (le-leb 1 i l)

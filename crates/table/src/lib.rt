@@ -1,19 +1,12 @@
-// Superblock k of a state, whole states, and the answer that is a refusal.
+// Superblock k of a state.
 // Each function is total, as the definitions are: past the table's 64 superblocks the owner and the class read as 0 and nothing is
 // live, and a change there changes nothing.
 ghost use mathlib.Core.Path.{_≡_};
 ghost use Prim.Native.Nat.{_-_, _≤_};
 ghost use Rattle.classes.specs.Classes.{blocksOf};
-ghost use Rattle.heap.specs.Table.{superblockAt, withSuperblock, liveIn, withMarkAt, noState, newState};
-ghost use Rattle.calls.specs.declared.Outcome.the-variants.{Refused};
-ghost use Rattle.calls.specs.Answers.{isProcessor, HasNumberAndValuesOf};
-use calls::Answer;
-use calls::Outcome;
-use heap::Setup;
+ghost use Rattle.heap.specs.Table.{superblockAt, withSuperblock, liveIn, withMarkAt};
 use heap::State;
 use heap::Superblock;
-
-// ---- superblock k of a state
 
 // Its owner.
 pub fn owner_at(s: State, k: usize) -> u8
@@ -70,7 +63,7 @@ pub fn mark_at(s: State, k: usize, j: usize) -> State
     }
     let b = s.table[k];
     let old = b.live;
-    let taken = marks::set_live(old, j);
+    let taken = bitmap::set_live(old, j);
     let mut t = s;
     t.table[k] = Superblock {
         owner: b.owner,
@@ -78,57 +71,4 @@ pub fn mark_at(s: State, k: usize, j: usize) -> State
         live: taken,
     };
     t
-}
-
-// ---- whole states
-
-// The processor is one of the setup's.
-pub fn is_processor(s: State, processor: u8) -> bool
-    ensures { λ r. ⌜ r ≡ isProcessor s processor ⌝ }
-{
-    if processor < 1 {
-        return false;
-    }
-    processor <= s.setup.processors
-}
-
-// A new setup's state: its numbers and 64 unused superblocks.
-pub fn new_state(u: Setup) -> State
-    ensures { λ r. ⌜ r ≡ newState u ⌝ }
-{
-    let b = Superblock {
-        owner: 255,
-        class: 0,
-        live: [0u64; 4],
-    };
-    State {
-        setup: u,
-        table: [b; 64],
-    }
-}
-
-// What a refused setup hands back: five zeros and 64 unused superblocks.
-pub fn no_state() -> State
-    ensures { λ r. ⌜ r ≡ noState ⌝ }
-{
-    new_state(Setup {
-        processors: 0,
-        superblocks: 0,
-        spare: 0,
-        p: 0,
-        q: 0,
-    })
-}
-
-// ---- answers
-
-// The refusal with its number alone.
-pub fn refuse(s: State, number: u8) -> Answer
-    ensures { λ r. ⌜ r ≡ record { outcome = Refused number; state = s } ⌝ }
-    ensures number_and_values { λ r. ⌜ HasNumberAndValuesOf (r .outcome) (Refused number) ⌝ }
-{
-    Answer {
-        outcome: Outcome::Refused(number),
-        state: s,
-    }
 }

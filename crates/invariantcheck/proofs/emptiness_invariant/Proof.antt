@@ -1,6 +1,7 @@
 -- `invariantcheck::emptiness_invariant` meets its contract. The loop's invariant: the processor heaps below the next tally's first keep the invariant. The measure is the heaps left. Assumes nothing.
 use Prim.Native.Nat.{ℕ, _+_, _-_, _≤_, _<_}
 use native.Mathlib.Omega.{arith}
+use borrow.Author.Needs.{needs}
 use lib.Dec.{T}
 use Rattle.invariantcheck.proofs.EmptinessInvariantLaws.{noClassMustMove, no-class-must-move-start, no-class-must-move-step, emptiness-invariant-false-of-nine, emptiness-invariant-of-all-heaps}
 use Rattle.invariantcheck.proofs.emptiness_invariant.Statement.{statement}
@@ -18,8 +19,11 @@ cast-last c = omega arith
 loop-holds : tie.Need-loop-holds Inv-loop μ-loop
 loop-holds c = no-class-must-move-start (c .before .before .args .s)
 
+cast-tally-from : tie.Need-cast-tally-from Inv-loop μ-loop
+cast-tally-from c = omega arith
+
 tally-from-requires : tie.Need-tally-from-requires Inv-loop μ-loop
-tally-from-requires c κs = omega arith
+tally-from-requires c κs = search needs
 
 tally-invariant-requires : tie.Need-tally-invariant-requires Inv-loop μ-loop
 tally-invariant-requires c κs =
@@ -54,6 +58,7 @@ emptiness-invariant-spec =
     μ-loop
     cast-last
     loop-holds
+    cast-tally-from
     tally-from-requires
     tally-invariant-requires
     returns

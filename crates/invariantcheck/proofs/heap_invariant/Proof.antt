@@ -2,7 +2,7 @@
 use Prim.Native.Nat.{ℕ, _-_, _≤_, _<_}
 use native.Mathlib.Omega.{arith}
 use lib.Dec.{T}
-use Rattle.invariantcheck.specs.Tally.{classInvariant}
+use Rattle.invariantcheck.specs.TallyInvariant.{classInvariant}
 use Rattle.invariantcheck.proofs.EmptinessInvariantLaws.{heap-invariant-of-heap-0, heap-invariant-past-processors, heap-invariant-false-of-class, class-invariants-step, heap-invariant-of-all-classes}
 use Rattle.invariantcheck.proofs.heap_invariant.Statement.{statement}
 use Rattle.invariantcheck.proofs.heap_invariant.Tie as tie

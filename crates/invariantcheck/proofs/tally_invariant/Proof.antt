@@ -2,7 +2,7 @@
 use Prim.Native.Nat.{ℕ, _-_, _≤_, _<_}
 use native.Mathlib.Omega.{arith}
 use lib.Dec.{T}
-use Rattle.invariantcheck.specs.Tally.{heapInvariant}
+use Rattle.invariantcheck.specs.TallyInvariant.{heapInvariant}
 use Rattle.invariantcheck.proofs.EmptinessInvariantLaws.{tally-invariant-false-of-heap, heap-invariants-step, tally-invariant-of-all-heaps}
 use Rattle.invariantcheck.proofs.tally_invariant.Statement.{statement}
 use Rattle.invariantcheck.proofs.tally_invariant.Tie as tie

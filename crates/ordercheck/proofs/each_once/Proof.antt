@@ -7,7 +7,7 @@ use borrow.Author.Needs.{needs}
 use lib.Dec.{T}
 use Rattle.laws.proofs.TestLaws.{T-of-true}
 use Rattle.marks.specs.Marks.{bit, markBit, noMarkFrom, withMark}
-use Rattle.marks.proofs.BitLaws.{shl-one}
+use Rattle.marklaws.proofs.BitLaws.{shl-one}
 use Rattle.order.specs.Order.{place}
 use Rattle.ordercheck.proofs.SeenMarksLaws.{SeenMarks, each-once-false-of-high-block, each-once-false-of-repeated-block, each-once-true-of-all-seen, seen-marks-start, seen-marks-step}
 use Rattle.ordercheck.proofs.each_once.Statement.{statement}

@@ -3,7 +3,7 @@ use borrow.Author.Needs.{needs}
 use Rattle.laws.proofs.ReplacedElement.{length-of-length-map}
 use Rattle.calls.specs.Free.{markCleared}
 use Rattle.table.proofs.PastTableLaws.{with-superblock-past-table}
-use Rattle.release.proofs.FreedAddressLaws.{mark-cleared-by-steps}
+use Rattle.release.proofs.FreeStepLaws.{mark-cleared-by-steps}
 use Rattle.release.proofs.clear_mark.Statement.{statement}
 use Rattle.release.proofs.clear_mark.Tie as tie
 

@@ -1,6 +1,6 @@
 -- `release::push_block` meets its contract. Assumes nothing.
 use borrow.Author.Needs.{needs}
-use Rattle.release.proofs.FreedAddressLaws.{order-pushed-by-steps}
+use Rattle.release.proofs.FreeStepLaws.{order-pushed-by-steps}
 use Rattle.release.proofs.push_block.Statement.{statement}
 use Rattle.release.proofs.push_block.Tie as tie
 

@@ -1,0 +1,57 @@
+-- A free behind the check, in the forms that the code's proofs ask. Assumes nothing.
+use mathlib.Core.Path.{_≡_, sym, _∙_}
+use mathlib.Core.Bool.{Bool, true, false}
+use mathlib.Core.List.{List}
+use Prim.Native.Nat.{ℕ, _/_}
+use borrow.Author.Tests.{not-true, not-false}
+use Rattle.heap.specs.declared.State.{State}
+use Rattle.heap.specs.declared.Moved.{Moved}
+use Rattle.heap.specs.Table.{superblockAt}
+use Rattle.heap.specs.Moves.{invariantRestored}
+use Rattle.calls.specs.declared.Answer.{Answer}
+use Rattle.calls.specs.declared.Outcome.the-variants.{Moves, Refused}
+use Rattle.calls.specs.Answers.{After, HasNumberAndValuesOf, isProcessor}
+use Rattle.calls.specs.Free.{isUnmapped, isMisaligned, isLiveAt, markCleared, orderPushed, freedAt, freeUnchecked}
+use Rattle.calllaws.proofs.AcceptedCallLaws.{number-and-values-by-rules, refused-of-answer}
+
+abbrev answerAndOrder : Answer → List ℕ → After
+answerAndOrder r order = record { answer = r; order = order }
+
+-- ---- the two clauses of the contract, from the equation
+module _ (s : State) (order : List ℕ) (i n : ℕ) {r : Answer} {out : List ℕ} where
+  pub free-unchecked-clauses : answerAndOrder r out ≡ freeUnchecked s order i n → (answerAndOrder r out ≡ freeUnchecked s order i n) × HasNumberAndValuesOf (r .outcome) (freeUnchecked s order i n .answer .outcome)
+  free-unchecked-clauses e = (e, number-and-values-by-rules r out (freeUnchecked s order i n) e)
+
+-- ---- its ways out
+module _ (s : State) (order : List ℕ) (i a : ℕ) (t : Bool) (p : t ≡ isProcessor s i) where
+  pub free-unchecked-refused-2 : (r : Answer) → t ≡ false → r ≡ record { outcome = Refused 2; state = s } → answerAndOrder r order ≡ freeUnchecked s order i a
+  unfolding freeUnchecked
+  free-unchecked-refused-2 r f h = refused-of-answer s order 2 r h ∙ sym (rw (← p, f))
+
+  module _ (f : t ≡ true) (x : Bool) (g : x ≡ isUnmapped s a) where
+    pub free-unchecked-refused-5 : (r : Answer) → x ≡ true → r ≡ record { outcome = Refused 5; state = s } → answerAndOrder r order ≡ freeUnchecked s order i a
+    unfolding freeUnchecked
+    free-unchecked-refused-5 r k h = refused-of-answer s order 5 r h ∙ sym (rw (← p, f, ← g, k))
+
+    module _ (k : x ≡ false) (y : Bool) (l : y ≡ isMisaligned s a) where
+      pub free-unchecked-refused-6 : (r : Answer) → y ≡ true → r ≡ record { outcome = Refused 6; state = s } → answerAndOrder r order ≡ freeUnchecked s order i a
+      unfolding freeUnchecked
+      free-unchecked-refused-6 r m h = refused-of-answer s order 6 r h ∙ sym (rw (← p, f, ← g, k, ← l, m))
+
+      module _ (m : y ≡ false) (w : Bool) (n : w ≡ isLiveAt s a) where
+        pub free-unchecked-refused-7 : (r : Answer) → w ≡ false → r ≡ record { outcome = Refused 7; state = s } → answerAndOrder r order ≡ freeUnchecked s order i a
+        unfolding freeUnchecked
+        free-unchecked-refused-7 r o h = refused-of-answer s order 7 r h ∙ sym (rw (← p, f, ← g, k, ← l, m, ← n, o))
+
+        pub free-unchecked-is-freed-at : (after : After) → w ≡ true → after ≡ freedAt s order a → after ≡ freeUnchecked s order i a
+        unfolding freeUnchecked
+        free-unchecked-is-freed-at after o h = h ∙ sym (rw (← p, f, ← g, k, ← l, m, ← n, o))
+
+pub freed-at-by-steps : (s : State) (order new : List ℕ) (a owner class : ℕ) (t : State) (m : Moved) (count : ℕ) (next : State) → owner ≡ superblockAt s (a / 4096) .owner → class ≡ superblockAt s (a / 4096) .class
+    → new ≡ orderPushed s order a → t ≡ markCleared s a → m ≡ invariantRestored owner class t → count ≡ m .moves → next ≡ m .state
+    → record { answer = record { outcome = Moves count; state = next }; order = new } ≡ freedAt s order a
+unfolding freedAt
+freed-at-by-steps s order new a owner class t m count next e f g h i j k = rw (j, k, i, h, g, e, f)
+
+-- ---- how a proof finds which way out it is at
+pub ruleset free-outcomes = (free-unchecked-refused-2, free-unchecked-refused-5, free-unchecked-refused-6, free-unchecked-refused-7, free-unchecked-is-freed-at, not-true, not-false)

@@ -1,0 +1,42 @@
+-- `freeunchecked::free_at` meets its contract. Assumes nothing.
+use Rattle.freeunchecked.proofs.FreeUncheckedLaws.{freed-at-by-steps}
+use borrow.Author.Needs.{needs}
+use Rattle.freeunchecked.proofs.free_at.Statement.{statement}
+use Rattle.freeunchecked.proofs.free_at.Tie as tie
+
+cast-k : tie.Need-cast-k
+cast-k c = search needs
+
+owner-at-requires : tie.Need-owner-at-requires
+owner-at-requires c κs = search needs
+
+class-at-requires : tie.Need-class-at-requires
+class-at-requires c κs = search needs
+
+push-block-requires : tie.Need-push-block-requires
+push-block-requires c κs = search needs
+
+clear-mark-requires : tie.Need-clear-mark-requires
+clear-mark-requires c κs = search needs
+
+restore-invariant-requires : tie.Need-restore-invariant-requires
+restore-invariant-requires c κs = search needs
+
+same-length : tie.Need-same-length
+same-length c = search needs
+
+returns : tie.Need-returns
+returns c = search freed-at-by-steps
+
+pub free-at-spec : {M : Type 1} → statement M
+free-at-spec =
+    tie.close
+    (tie.spec
+    cast-k
+    owner-at-requires
+    class-at-requires
+    push-block-requires
+    clear-mark-requires
+    restore-invariant-requires
+    same-length
+    returns)

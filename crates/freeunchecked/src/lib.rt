@@ -1,0 +1,45 @@
+// Free behind the check, on a state by value and lent order storage of any length. What it answers is the page's answer where
+// the state passes the check, which is the caller's to make; it is total, and defined on every other state too.
+ghost use mathlib.Core.Path.{_≡_};
+ghost use Rattle.calls.specs.Answers.{After, HasNumberAndValuesOf};
+ghost use Rattle.calls.specs.Free.{freedAt, freeUnchecked};
+use calls::Answer;
+use calls::Outcome;
+use heap::State;
+
+// The block at the address is free again, and the move rule is followed; or refusal 2, 5, 6 or 7.
+pub fn free(s: State, order: &mut [u16], processor: u8, address: u32) -> Answer
+    ensures { λ r. ⌜ record { answer = r; order = now (order .exit) } ≡ freeUnchecked s (now (order .entry)) processor address ⌝ }
+    ensures number_and_values { λ r. ⌜ HasNumberAndValuesOf (r .outcome) (freeUnchecked s (now (order .entry)) processor address .answer .outcome) ⌝ }
+{
+    if !states::is_processor(s, processor) {
+        return states::refuse(s, 2);
+    }
+    if addresses::is_unmapped(s, address) {
+        return states::refuse(s, 5);
+    }
+    if addresses::is_misaligned(s, address) {
+        return states::refuse(s, 6);
+    }
+    if !addresses::is_live_at(s, address) {
+        return states::refuse(s, 7);
+    }
+    free_at(s, order, address)
+}
+
+// The mark is cleared, the number goes in the next place, and the emptiness invariant of the owner's heap and class is restored.
+fn free_at(s: State, order: &mut [u16], address: u32) -> Answer
+    ensures { λ r. ⌜ record { answer = r; order = now (order .exit) } ≡ freedAt s (now (order .entry)) address ⌝ }
+{
+    let k = (address / 4096) as usize;
+    let owner = table::owner_at(s, k);
+    let class = table::class_at(s, k);
+    release::push_block(s, order, address);
+    let t = release::clear_mark(s, address);
+    let m = moves::restore_invariant(t, owner, class);
+    let next = m.state;
+    Answer {
+        outcome: Outcome::Moves(m.moves),
+        state: next,
+    }
+}

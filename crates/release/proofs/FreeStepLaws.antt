@@ -1,0 +1,23 @@
+-- A free, step by step as the code goes. Assumes nothing.
+use mathlib.Core.Path.{_≡_}
+use mathlib.Core.List.{List}
+use Prim.Native.Nat.{ℕ, _-_, _/_}
+use Rattle.classes.specs.Classes.{blocksOf}
+use Rattle.marks.specs.Marks.{withoutMark}
+use Rattle.order.specs.Order.{withPlace}
+use Rattle.heap.specs.declared.State.{State}
+use Rattle.heap.specs.Table.{superblockAt, withSuperblock, liveIn}
+use Rattle.calls.specs.Free.{blockOf, markCleared, orderPushed}
+
+-- the freed block's number put in the next place
+pub order-pushed-by-steps : (s : State) (order left : List ℕ) (a filled j : ℕ) → filled ≡ blocksOf (superblockAt s (a / 4096) .class) - liveIn (superblockAt s (a / 4096)) → j ≡ blockOf s a
+    → left ≡ withPlace order (a / 4096) filled j → left ≡ orderPushed s order a
+unfolding orderPushed
+order-pushed-by-steps s order left a filled j ef ej e = rw (← ef, ← ej) e
+
+-- the block's mark cleared
+module _ (s : State) (a j : ℕ) (ej : j ≡ blockOf s a) where
+  pub mark-cleared-by-steps : (live : List ℕ) → live ≡ withoutMark (superblockAt s (a / 4096) .live) j
+      → withSuperblock s (a / 4096) (record { owner = superblockAt s (a / 4096) .owner; class = superblockAt s (a / 4096) .class; live = live }) ≡ markCleared s a
+  unfolding markCleared
+  mark-cleared-by-steps live e = rw (e, ej)

@@ -1,0 +1,277 @@
+-- One command of a replay: what stands and is still to come stays the same. Assumes nothing.
+use mathlib.Core.Path.{_≡_, refl, sym, ap, _∙_, subst}
+use mathlib.Core.Bool.{Bool, true, false}
+use mathlib.Core.List.{List, [], _∷_, _++_, append-nil}
+use Prim.Native.Nat.{ℕ, _+_, _-_, _^_, _≤_, _<_}
+use native.Mathlib.Nat.{lt-of-not-le}
+use native.Mathlib.Decide.{decLe}
+use native.Mathlib.Omega.{arith}
+use borrow.Author.Tests.{lt-ltb, le-ltb, eq-eqb, ne-eqb}
+use lib.ListN.{length}
+use lib.Dec.{eqb, ltb}
+use Rattle.laws.specs.Sums.{pick}
+use Rattle.text.specs.Text.{Pasted, pasted}
+use Rattle.text.proofs.PasteLaws.{paste-append, put-length, put-end-le}
+use Rattle.heap.specs.declared.Setup.{Setup}
+use Rattle.calls.specs.declared.Answer.{Answer}
+use Rattle.calls.specs.declared.Outcome.{Outcome}
+use Rattle.calls.specs.declared.Outcome.the-variants.{Ready, Address, Moves, Refused}
+use Rattle.calls.specs.Answers.{After, numberOf}
+use Rattle.calls.specs.Setup.{setupOf}
+use Rattle.calls.specs.Take.{takeOf}
+use Rattle.calls.specs.Free.{freeOf}
+use Rattle.commands.specs.declared.Command.{Command}
+use Rattle.commands.specs.declared.Command.the-variants as command
+use Rattle.commands.specs.Record.{commandAt}
+use Rattle.commandlaws.proofs.CommandLaws.{commandsAt, remaining, remaining-inside, remaining-end, commands-refused, commands-setup, commands-take, commands-free, setup-first-and-inside, take-later-and-inside, free-later-and-inside}
+use Rattle.linerules.specs.Lines.{setupLine, takeLine, freeLine, stopLine}
+use Rattle.replaystep.specs.declared.Replay.{Replay}
+use Rattle.keyrules.specs.Key.{stateAndStorage, setupText, textOf, orderAfter}
+use Rattle.replaystep.specs.Steps.{TextAndOrder, closingLines, textAhead, orderAhead, textAndOrderAhead, commandsLeft, InBounds, Stepped, SteppedIfGoing, nextOf, stopOf, Stopped}
+
+-- ---- of what a call left, the state and the storage count
+text-of-starting-from : (after : After) (cs : List Command) → textOf after cs ≡ textOf (stateAndStorage (after .answer .state) (after .order)) cs
+unfolding textOf
+text-of-starting-from after [] = refl
+text-of-starting-from after (command.Setup processors superblocks spare p q ∷ cs) = refl
+text-of-starting-from after (command.Take processor size ∷ cs) = refl
+text-of-starting-from after (command.Free processor address ∷ cs) = refl
+text-of-starting-from after (command.Refused number offset ∷ cs) = refl
+
+order-after-starting-from : (after : After) (cs : List Command) → orderAfter after cs ≡ orderAfter (stateAndStorage (after .answer .state) (after .order)) cs
+unfolding orderAfter
+order-after-starting-from after [] = refl
+order-after-starting-from after (command.Setup processors superblocks spare p q ∷ cs) = refl
+order-after-starting-from after (command.Take processor size ∷ cs) = refl
+order-after-starting-from after (command.Free processor address ∷ cs) = refl
+order-after-starting-from after (command.Refused number offset ∷ cs) = refl
+
+-- ---- a command, and the number of an outcome, in the arms of a match
+pub matched-command-is-command-at : (r : List ℕ) (at : ℕ) (c d : Command) → c ≡ commandAt r at → c ≡ d → d ≡ commandAt r at
+matched-command-is-command-at r at c d e f = sym f ∙ e
+
+module _ (o : Outcome) where
+  pub number-ready : o ≡ Ready → 0 ≡ numberOf o
+  unfolding numberOf
+  number-ready e = rw e
+
+  pub number-address : (a : ℕ) → o ≡ Address a → 0 ≡ numberOf o
+  unfolding numberOf
+  number-address a e = rw e
+
+  pub number-moves : (m : ℕ) → o ≡ Moves m → 0 ≡ numberOf o
+  unfolding numberOf
+  number-moves m e = rw e
+
+  pub number-refused : (n : ℕ) → o ≡ Refused n → n ≡ numberOf o
+  unfolding numberOf
+  number-refused n e = rw e
+
+-- ---- a text in the buffer with the storage
+abbrev text-and-order : Pasted → List ℕ → TextAndOrder
+text-and-order text order = record { text = text; order = order }
+
+-- what is to come after a command that left this
+ahead-of-next : (r : List ℕ) (after : After) (at end : ℕ) → (textAhead r (nextOf r (after .answer .state) at end) (after .order) ≡ textOf after (remaining r at))
+    × (orderAhead r (nextOf r (after .answer .state) at end) (after .order) ≡ orderAfter after (remaining r at))
+unfolding textAhead orderAhead closingLines textOf orderAfter
+ahead-of-next r after at end = go (decLe (length r) at)
+  where
+    Next : Type 0
+    Next = (textAhead r (nextOf r (after .answer .state) at end) (after .order) ≡ textOf after (remaining r at))
+        × (orderAhead r (nextOf r (after .answer .state) at end) (after .order) ≡ orderAfter after (remaining r at))
+
+    go : Dec (length r ≤ at) → Next
+    go (yes h) = rw (le-ltb at (length r) h, remaining-end r at h) (refl, refl)
+    go (no f) = rw (lt-ltb at (length r) (lt-of-not-le f), remaining-inside r at (lt-of-not-le f)) (sym (text-of-starting-from after (commandsAt r at)), sym (order-after-starting-from after (commandsAt r at)))
+
+text-and-order-ahead-of-next : (r : List ℕ) (after : After) (at end : ℕ) (text : List ℕ)
+    → textAndOrderAhead r (nextOf r (after .answer .state) at end) (after .order) text ≡ text-and-order (pasted text end (textOf after (remaining r at))) (orderAfter after (remaining r at))
+unfolding textAndOrderAhead
+text-and-order-ahead-of-next r after at end text =
+    let next = ahead-of-next r after at end in
+    ap (λ (l : List ℕ). text-and-order (pasted text end l) (orderAhead r (nextOf r (after .answer .state) at end) (after .order))) (next .0)
+    ∙ ap (text-and-order (pasted text end (textOf after (remaining r at)))) (next .1)
+
+module _ (r : List ℕ) (x : Replay) (order out : List ℕ) (held : InBounds x out) (going : x .going ≡ true) where
+  -- so far this stands and is to come
+  text-and-order-ahead-of-going : textAndOrderAhead r x order out ≡ text-and-order (pasted out (x .end) (textOf (stateAndStorage (x .state) order) (commandsAt r (x .at)))) (orderAfter (stateAndStorage (x .state) order) (commandsAt r (x .at)))
+  unfolding textAndOrderAhead textAhead orderAhead
+  text-and-order-ahead-of-going = rw going
+
+  commands-left-of-going : commandsLeft x ≡ 60001 - x .at
+  unfolding commandsLeft
+  commands-left-of-going = rw going
+
+  -- ---- a command that was read whole, of k bytes, and prints a line
+  module _ (line : List ℕ) (after : After) (k end : ℕ) (text : List ℕ) (put : record { end = end; buffer = text } ≡ pasted out (x .end) line) (some : 4 ≤ k)
+      (inside : x .at + k ≤ length r) (short : length r ≤ 60000) where
+    abbrev nextReplay : Replay
+    nextReplay = nextOf r (after .answer .state) (x .at + k) end
+
+    next-replay-in-bounds : InBounds nextReplay text
+    next-replay-in-bounds = record { position-bound = omega arith; text-end-bound = omega (arith, put-end-le out (x .end) line put, put-length out (x .end) line put) }
+
+    commands-left-of-next-lt : commandsLeft nextReplay < commandsLeft x
+    unfolding commandsLeft
+    commands-left-of-next-lt = subst (λ (n : ℕ). commandsLeft nextReplay < n) (sym commands-left-of-going) (go (ltb (x .at + k) (length r)))
+      where
+        go : (t : Bool) → pick t (60001 - (x .at + k)) 0 < 60001 - x .at
+        go true = omega arith
+        go false = omega arith
+
+    stepped-of-line : textOf (stateAndStorage (x .state) order) (commandsAt r (x .at)) ≡ line ++ textOf after (remaining r (x .at + k))
+        → orderAfter (stateAndStorage (x .state) order) (commandsAt r (x .at)) ≡ orderAfter after (remaining r (x .at + k))
+        → Stepped r x order out nextReplay (after .order) text
+    stepped-of-line e f = record { text-and-order-same = same; in-bounds = next-replay-in-bounds; fewer-commands-left = commands-left-of-next-lt }
+      where
+        rest : List Command
+        rest = remaining r (x .at + k)
+
+        same : textAndOrderAhead r (nextOf r (after .answer .state) (x .at + k) end) (after .order) text ≡ textAndOrderAhead r x order out
+        same =
+            text-and-order-ahead-of-next r after (x .at + k) end text
+            ∙ ap (λ (z : Pasted). text-and-order (pasted (z .buffer) (z .end) (textOf after rest)) (orderAfter after rest)) put
+            ∙ ap (λ (z : Pasted). text-and-order z (orderAfter after rest)) (paste-append out (x .end) line (textOf after rest))
+            ∙ ap (λ (l : List ℕ). text-and-order (pasted out (x .end) l) (orderAfter after rest)) (sym e)
+            ∙ ap (text-and-order (pasted out (x .end) (textOf (stateAndStorage (x .state) order) (commandsAt r (x .at))))) (sym f)
+            ∙ sym text-and-order-ahead-of-going
+
+  -- ---- a stop line
+  stepped-of-stop-line : (number offset : ℕ) (y : Replay) (new text : List ℕ) → textOf (stateAndStorage (x .state) order) (commandsAt r (x .at)) ≡ stopLine number offset
+      → orderAfter (stateAndStorage (x .state) order) (commandsAt r (x .at)) ≡ new → Stopped x out number offset y text → Stepped r x order out y new text
+  unfolding textAndOrderAhead textAhead orderAhead closingLines commandsLeft
+  stepped-of-stop-line number offset y new text e f s = subst (λ (z : Replay). Stepped r x order out z new text) (sym (s .replay-is)) (record { text-and-order-same = same; in-bounds = stays; fewer-commands-left = fewer })
+    where
+      line : List ℕ
+      line = stopLine number offset
+
+      same : text-and-order (pasted text (y .end) []) new ≡ textAndOrderAhead r x order out
+      same =
+          ap (λ (z : Pasted). text-and-order (pasted (z .buffer) (z .end) []) new) (s .line-written)
+          ∙ ap (λ (z : Pasted). text-and-order z new) (paste-append out (x .end) line [])
+          ∙ ap (λ (l : List ℕ). text-and-order (pasted out (x .end) l) new) (append-nil line ∙ sym e)
+          ∙ ap (text-and-order (pasted out (x .end) (textOf (stateAndStorage (x .state) order) (commandsAt r (x .at))))) (sym f)
+          ∙ sym text-and-order-ahead-of-going
+
+      stays : InBounds (stopOf x (y .end)) text
+      stays = record { position-bound = held .position-bound; text-end-bound = omega (arith, put-end-le out (x .end) line (s .line-written), put-length out (x .end) line (s .line-written)) }
+
+      fewer : 0 < commandsLeft x
+      fewer = subst (λ (n : ℕ). 0 < n) (sym commands-left-of-going) (omega (arith, held .position-bound))
+
+  -- ---- the commands
+  module _ (i size : ℕ) (c : command.Take i size ≡ commandAt r (x .at)) where
+    stepped-of-take : (a : Answer) (new : List ℕ) → record { answer = a; order = new } ≡ takeOf (x .state) order i size
+        → (end : ℕ) (text : List ℕ) → record { end = end; buffer = text } ≡ pasted out (x .end) (takeLine i size (a .outcome))
+        → (y : Replay) → y ≡ nextOf r (a .state) (x .at + 4) end → Stepped r x order out y new text
+    unfolding textOf orderAfter
+    stepped-of-take a new e end text put y is =
+        let after : After = record { answer = a; order = new } in
+        let rest = remaining r (x .at + 4) in
+        let told = take-later-and-inside r (x .at) (command.Take i size) c i size refl in
+        let commands = commands-take r (x .at) (command.Take i size) c i size refl in
+        subst (λ (z : Replay). Stepped r x order out z new text) (sym is)
+        (stepped-of-line (takeLine i size (a .outcome)) after 4 end text put (omega arith) (told .2) (told .0)
+        (ap (textOf (stateAndStorage (x .state) order)) commands ∙ ap (λ (z : After). takeLine i size (z .answer .outcome) ++ textOf z rest) (sym e))
+        (ap (orderAfter (stateAndStorage (x .state) order)) commands ∙ ap (λ (z : After). orderAfter z rest) (sym e)))
+
+  module _ (i address : ℕ) (c : command.Free i address ≡ commandAt r (x .at)) where
+    stepped-of-free : (a : Answer) (new : List ℕ) → record { answer = a; order = new } ≡ freeOf (x .state) order i address
+        → (end : ℕ) (text : List ℕ) → record { end = end; buffer = text } ≡ pasted out (x .end) (freeLine i address (a .outcome))
+        → (y : Replay) → y ≡ nextOf r (a .state) (x .at + 6) end → Stepped r x order out y new text
+    unfolding textOf orderAfter
+    stepped-of-free a new e end text put y is =
+        let after : After = record { answer = a; order = new } in
+        let rest = remaining r (x .at + 6) in
+        let told = free-later-and-inside r (x .at) (command.Free i address) c i address refl in
+        let commands = commands-free r (x .at) (command.Free i address) c i address refl in
+        subst (λ (z : Replay). Stepped r x order out z new text) (sym is)
+        (stepped-of-line (freeLine i address (a .outcome)) after 6 end text put (omega arith) (told .2) (told .0)
+        (ap (textOf (stateAndStorage (x .state) order)) commands ∙ ap (λ (z : After). freeLine i address (z .answer .outcome) ++ textOf z rest) (sym e))
+        (ap (orderAfter (stateAndStorage (x .state) order)) commands ∙ ap (λ (z : After). orderAfter z rest) (sym e)))
+
+  module _ (u : Setup) (c : command.Setup (u .processors) (u .superblocks) (u .spare) (u .p) (u .q) ≡ commandAt r (x .at))
+      (a : Answer) (new : List ℕ) (e : record { answer = a; order = new } ≡ setupOf u order) (number : ℕ) (n : number ≡ numberOf (a .outcome)) where
+    setup-after : After
+    setup-after = record { answer = a; order = new }
+
+    setup-rest : List Command
+    setup-rest = remaining r (x .at + 6)
+
+    commands-at-setup : commandsAt r (x .at) ≡ command.Setup (u .processors) (u .superblocks) (u .spare) (u .p) (u .q) ∷ setup-rest
+    unfolding setup-rest
+    commands-at-setup = commands-setup r (x .at) (command.Setup (u .processors) (u .superblocks) (u .spare) (u .p) (u .q)) c (u .processors) (u .superblocks) (u .spare) (u .p) (u .q) refl
+
+    text-of-setup-command : textOf (stateAndStorage (x .state) order) (commandsAt r (x .at)) ≡ pick (eqb number 0) (setupLine u ++ textOf setup-after setup-rest) (stopLine number 0)
+    unfolding textOf setupText setup-after
+    text-of-setup-command =
+        ap (textOf (stateAndStorage (x .state) order)) commands-at-setup
+        ∙ ap (λ (z : After). setupText u (z .answer .outcome) (textOf z setup-rest)) (sym e)
+        ∙ ap (λ (m : ℕ). pick (eqb m 0) (setupLine u ++ textOf setup-after setup-rest) (stopLine m 0)) (sym n)
+
+    order-after-setup-command : orderAfter (stateAndStorage (x .state) order) (commandsAt r (x .at)) ≡ pick (eqb number 0) (orderAfter setup-after setup-rest) new
+    unfolding orderAfter setup-after
+    order-after-setup-command =
+        ap (orderAfter (stateAndStorage (x .state) order)) commands-at-setup
+        ∙ ap (λ (z : After). pick (eqb (numberOf (z .answer .outcome)) 0) (orderAfter z setup-rest) (z .order)) (sym e)
+        ∙ ap (λ (m : ℕ). pick (eqb m 0) (orderAfter setup-after setup-rest) new) (sym n)
+
+    stepped-of-setup : number ≡ 0 → (end : ℕ) (text : List ℕ) → record { end = end; buffer = text } ≡ pasted out (x .end) (setupLine u)
+        → (y : Replay) → y ≡ nextOf r (a .state) (x .at + 6) end → Stepped r x order out y new text
+    unfolding setup-after setup-rest
+    stepped-of-setup zero end text put y is =
+        let told = setup-first-and-inside r (x .at) (command.Setup (u .processors) (u .superblocks) (u .spare) (u .p) (u .q)) c (u .processors) (u .superblocks) (u .spare) (u .p) (u .q) refl in
+        let yes : eqb number 0 ≡ true = eq-eqb number 0 zero in
+        subst (λ (z : Replay). Stepped r x order out z new text) (sym is)
+        (stepped-of-line (setupLine u) setup-after 6 end text put (omega arith) (told .2) (told .0)
+        (text-of-setup-command ∙ rw yes)
+        (order-after-setup-command ∙ rw yes))
+
+    stepped-of-refused-setup : (number ≡ 0 → ⊥) → (y : Replay) (text : List ℕ) → Stopped x out number 0 y text → Stepped r x order out y new text
+    stepped-of-refused-setup some y text s =
+        let no : eqb number 0 ≡ false = ne-eqb number 0 some in
+        stepped-of-stop-line number 0 y new text (text-of-setup-command ∙ rw no) (order-after-setup-command ∙ rw no) s
+
+  stepped-of-refused-command : (number offset : ℕ) → command.Refused number offset ≡ commandAt r (x .at) → (y : Replay) (text : List ℕ) → Stopped x out number offset y text → Stepped r x order out y order text
+  unfolding textOf orderAfter
+  stepped-of-refused-command number offset c y text s =
+      let commands = commands-refused r (x .at) (command.Refused number offset) number offset c refl in
+      stepped-of-stop-line number offset y order text (ap (textOf (stateAndStorage (x .state) order)) commands) (ap (orderAfter (stateAndStorage (x .state) order)) commands) s
+
+-- ---- the position after a command that was read whole fits
+module _ (r : List ℕ) (at n : ℕ) (few : n ≤ 60000) where
+  pub position-after-setup-fits : (processors superblocks spare p q : ℕ) → command.Setup processors superblocks spare p q ≡ commandAt r at → at + n < 2 ^ 64
+  position-after-setup-fits processors superblocks spare p q c = let inside = setup-first-and-inside r at (command.Setup processors superblocks spare p q) c processors superblocks spare p q refl in omega (arith, inside .0, inside .2)
+
+  pub position-after-take-fits : (i size : ℕ) → command.Take i size ≡ commandAt r at → at + n < 2 ^ 64
+  position-after-take-fits i size c = let inside = take-later-and-inside r at (command.Take i size) c i size refl in omega (arith, inside .0, inside .2)
+
+  pub position-after-free-fits : (i address : ℕ) → command.Free i address ≡ commandAt r at → at + n < 2 ^ 64
+  position-after-free-fits i address c = let inside = free-later-and-inside r at (command.Free i address) c i address refl in omega (arith, inside .0, inside .2)
+
+-- ---- the same as a step promises it
+module _ (r : List ℕ) (x : Replay) (order out : List ℕ) where
+  module _ (i size : ℕ) (c : command.Take i size ≡ commandAt r (x .at)) where
+    pub step-of-take : (a : Answer) (new : List ℕ) → record { answer = a; order = new } ≡ takeOf (x .state) order i size
+        → (end : ℕ) (text : List ℕ) → record { end = end; buffer = text } ≡ pasted out (x .end) (takeLine i size (a .outcome))
+        → (y : Replay) → y ≡ nextOf r (a .state) (x .at + 4) end → SteppedIfGoing r x order out y new text
+    step-of-take a new e end text put y is = record { stepped = λ held going. stepped-of-take r x order out held going i size c a new e end text put y is }
+
+  module _ (i address : ℕ) (c : command.Free i address ≡ commandAt r (x .at)) where
+    pub step-of-free : (a : Answer) (new : List ℕ) → record { answer = a; order = new } ≡ freeOf (x .state) order i address
+        → (end : ℕ) (text : List ℕ) → record { end = end; buffer = text } ≡ pasted out (x .end) (freeLine i address (a .outcome))
+        → (y : Replay) → y ≡ nextOf r (a .state) (x .at + 6) end → SteppedIfGoing r x order out y new text
+    step-of-free a new e end text put y is = record { stepped = λ held going. stepped-of-free r x order out held going i address c a new e end text put y is }
+
+  module _ (u : Setup) (c : command.Setup (u .processors) (u .superblocks) (u .spare) (u .p) (u .q) ≡ commandAt r (x .at)) where
+    module _ (a : Answer) (new : List ℕ) (e : record { answer = a; order = new } ≡ setupOf u order) (number : ℕ) (n : number ≡ numberOf (a .outcome)) where
+      pub step-of-setup : number ≡ 0 → (end : ℕ) (text : List ℕ) → record { end = end; buffer = text } ≡ pasted out (x .end) (setupLine u)
+          → (y : Replay) → y ≡ nextOf r (a .state) (x .at + 6) end → SteppedIfGoing r x order out y new text
+      step-of-setup zero end text put y is = record { stepped = λ held going. stepped-of-setup r x order out held going u c a new e number n zero end text put y is }
+
+      pub step-of-refused-setup : (number ≡ 0 → ⊥) → (y : Replay) (text : List ℕ) → Stopped x out number 0 y text → SteppedIfGoing r x order out y new text
+      step-of-refused-setup some y text s = record { stepped = λ held going. stepped-of-refused-setup r x order out held going u c a new e number n some y text s }
+
+  pub step-of-refused-command : (number offset : ℕ) → command.Refused number offset ≡ commandAt r (x .at) → (y : Replay) (text : List ℕ) → Stopped x out number offset y text → SteppedIfGoing r x order out y order text
+  step-of-refused-command number offset c y text s = record { stepped = λ held going. stepped-of-refused-command r x order out held going number offset c y text s }

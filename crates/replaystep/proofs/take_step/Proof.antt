@@ -1,0 +1,38 @@
+-- `replaystep::take_step` meets its contract. Assumes nothing.
+use Rattle.replaystep.proofs.CommandStepLaws.{position-after-take-fits, step-of-take}
+use borrow.Author.Needs.{needs}
+use Rattle.replaystep.proofs.take_step.Statement.{statement}
+use Rattle.replaystep.proofs.take_step.Tie as tie
+
+take-requires : tie.Need-take-requires
+take-requires c κs = search needs
+
+take-line-requires : tie.Need-take-line-requires
+take-line-requires c κs = search needs
+
+add-next : tie.Need-add-next
+add-next c = search (needs, position-after-take-fits)
+
+next-requires : tie.Need-next-requires
+next-requires c κs = search needs
+
+same-length : tie.Need-same-length
+same-length c = search needs
+
+same-length-2 : tie.Need-same-length-2
+same-length-2 c = search needs
+
+returns : tie.Need-returns
+returns c = search (step-of-take, c .before .before .before .before .before .take-line .ensures, c .before .before .before .before .before .before .before .before .before .take .ensures, c .before .before .before .before .before .before .before .before .before .before .before .before .before .before .before .pre)
+
+pub take-step-spec : {M : Type 1} → statement M
+take-step-spec =
+    tie.close
+    (tie.spec
+    take-requires
+    take-line-requires
+    add-next
+    next-requires
+    same-length
+    same-length-2
+    returns)

@@ -1,0 +1,76 @@
+-- Where the replay of a record stands, between two commands.
+use mathlib.Core.Path.{_≡_}
+use mathlib.Core.Bool.{true, false}
+use mathlib.Core.List.{List, []}
+use Prim.Native.Nat.{ℕ, suc, _-_, _≤_, _<_}
+use lib.ListN.{length}
+use lib.Dec.{ltb}
+use Rattle.laws.specs.Sums.{pick}
+use Rattle.text.specs.Text.{Pasted, pasted}
+use Rattle.heap.specs.declared.State.{State}
+use Rattle.commands.specs.Record.{commandsFrom}
+use Rattle.linerules.specs.Lines.{stopLine, finalLines}
+use Rattle.replaystep.specs.declared.Replay.{Replay}
+use Rattle.keyrules.specs.Key.{stateAndStorage, textOf, orderAfter, keyOf, storageOf}
+
+-- the lines at the end: none after a stop line
+unfoldable pub closingLines : Replay → List ℕ
+closingLines x = pick (x .stopped) [] (finalLines (x .state))
+
+-- the text still to come
+unfoldable pub textAhead : List ℕ → Replay → List ℕ → List ℕ
+textAhead r x order = pick (x .going) (textOf (stateAndStorage (x .state) order) (commandsFrom (suc (length r)) r (x .at))) (closingLines x)
+
+-- the storage that the commands still to be read leave
+unfoldable pub orderAhead : List ℕ → Replay → List ℕ → List ℕ
+orderAhead r x order = pick (x .going) (orderAfter (stateAndStorage (x .state) order) (commandsFrom (suc (length r)) r (x .at))) order
+
+-- a text in the buffer, and the order storage beside it
+pub record TextAndOrder : Type 0 where
+  pub text : Pasted
+  pub order : List ℕ
+
+-- the buffer with all that is still to come, and the storage
+unfoldable pub textAndOrderAhead : List ℕ → Replay → List ℕ → List ℕ → TextAndOrder
+textAndOrderAhead r x order out = record { text = pasted out (x .end) (textAhead r x order); order = orderAhead r x order }
+
+-- the whole key of a record in the buffer, and the storage that making it leaves
+unfoldable pub keyAndStorage : List ℕ → List ℕ → List ℕ → TextAndOrder
+keyAndStorage r order out = record { text = pasted out 0 (keyOf r order); order = storageOf r order }
+
+-- a bound on the commands still to be read
+unfoldable pub commandsLeft : Replay → ℕ
+commandsLeft x = pick (x .going) (60001 - x .at) 0
+
+-- the position is one of a record that is not too long, and the text ends in the buffer
+pub record InBounds (x : Replay) (out : List ℕ) : Type 0 where
+  pub position-bound : x .at ≤ 60000
+  pub text-end-bound : x .end ≤ length out
+
+-- one command on: what stands and is still to come stays the same
+pub record Stepped (r : List ℕ) (x : Replay) (order out : List ℕ) (y : Replay) (new text : List ℕ) : Type 0 where
+  pub text-and-order-same : textAndOrderAhead r y new text ≡ textAndOrderAhead r x order out
+  pub in-bounds : InBounds y text
+  pub fewer-commands-left : commandsLeft y < commandsLeft x
+
+-- what one step promises: of a replay that has ended, or whose text ends outside the buffer, nothing
+pub record SteppedIfGoing (r : List ℕ) (x : Replay) (order out : List ℕ) (y : Replay) (new text : List ℕ) : Type 0 where
+  pub stepped : InBounds x out → x .going ≡ true → Stepped r x order out y new text
+
+-- the replay is over: no command is left
+pub record Finished (r order out : List ℕ) (y : Replay) (new text : List ℕ) : Type 0 where
+  pub text-and-order-same : textAndOrderAhead r y new text ≡ keyAndStorage r order out
+  pub in-bounds : InBounds y text
+  pub not-going : y .going ≡ false
+
+-- after a command that was read whole
+abbrev pub nextOf : List ℕ → State → ℕ → ℕ → Replay
+nextOf r s at end = record { state = s; at = at; end = end; going = ltb at (length r); stopped = false }
+
+-- after a stop line that ends there
+abbrev pub stopOf : Replay → ℕ → Replay
+stopOf x end = record { state = x .state; at = x .at; end = end; going = false; stopped = true }
+
+pub record Stopped (x : Replay) (out : List ℕ) (number offset : ℕ) (y : Replay) (text : List ℕ) : Type 0 where
+  pub line-written : record { end = y .end; buffer = text } ≡ pasted out (x .end) (stopLine number offset)
+  pub replay-is : y ≡ stopOf x (y .end)

@@ -1,0 +1,42 @@
+-- Demand 3 of a lent row. Assumes nothing.
+use mathlib.Core.Path.{_≡_, refl, sym, ap, _∙_}
+use mathlib.Core.List.{List, [], _∷_, map}
+use Prim.Native.Nat.{ℕ}
+use lib.ListN.{length}
+use Rattle.heap.specs.declared.Superblock.{Superblock}
+use Rattle.heap.specs.declared.Setup.{Setup}
+use Rattle.calls.specs.declared.Outcome.the-variants.{Ready}
+use Rattle.calls.specs.declared.Call.{Call}
+use Rattle.bound.specs.Claim.{Linked}
+use Rattle.bound.proofs.Demand3.{demand-3}
+use Rattle.rowrules.specs.Row.{RowAfter, rowSetup, rowCall}
+use Rattle.rowrules.specs.RowClaim.{RowStep, RowLinked, RowClaims, asAfter, stepOf}
+use Rattle.rowlaws.proofs.RowLaws.{call-on-64-is-call-of, length-of-row-call, row-setup-ready}
+
+-- calls on one row of 64 records are a list of calls on states
+pub linked-of-row-linked : (before : RowAfter) (steps : List RowStep) → length (before .row) ≡ 64 → RowLinked before steps → Linked (asAfter before) (map stepOf steps)
+unfolding RowLinked Linked
+linked-of-row-linked before [] long linked = tt
+linked-of-row-linked before (step ∷ steps) long linked = (
+  ap asAfter (linked .0 ∙ call-on-64-is-call-of (length (before .row)) (before .setup) (before .row) (before .order) (step .call) long),
+  linked-of-row-linked (step .after) steps (ap (λ (x : RowAfter). length (x .row)) (linked .0) ∙ length-of-row-call (before .setup) (before .row) (before .order) (step .call) ∙ long) (linked .1),
+)
+
+-- For every accepted setup on a lent row, whatever stood in row and storage before, and every list of takes and frees on that row after it.
+pub row-demand-3 : (u : Setup) (row : List Superblock) (order : List ℕ) (start : RowAfter) → start ≡ rowSetup u row order → start .outcome ≡ Ready
+    → (steps : List RowStep) → RowLinked start steps → RowClaims u start [] (λ c. 0) steps
+row-demand-3 u row order start e ready steps linked =
+    let h = row-setup-ready u row order (ap (λ (x : RowAfter). x .outcome) (sym e) ∙ ready) in
+    demand-3 u order (asAfter start) (ap asAfter e ∙ h .1) ready (map stepOf steps) (linked-of-row-linked start steps (ap (λ (x : RowAfter). length (x .row)) e ∙ h .2) linked)
+
+-- the calls of a list with what each left: any calls make such a list
+unfoldable pub rowSteps : RowAfter → List Call → List RowStep
+rowSteps before [] = []
+rowSteps before (call ∷ calls) =
+    let after = rowCall (before .setup) (before .row) (before .order) call in
+    record { call = call; after = after } ∷ rowSteps after calls
+
+pub row-steps-linked : (before : RowAfter) (calls : List Call) → RowLinked before (rowSteps before calls)
+unfolding rowSteps RowLinked
+row-steps-linked before [] = tt
+row-steps-linked before (call ∷ calls) = (refl, row-steps-linked (rowCall (before .setup) (before .row) (before .order) call) calls)

@@ -1,0 +1,2 @@
+pub mod OtherPlacesLaws
+pub mod TakeUncheckedLaws

@@ -1,2 +1,0 @@
-pub mod OtherPlacesLaws
-pub mod UncheckedCallLaws
