@@ -1,8 +1,1 @@
 pub mod ClaimCases
-pub mod LedgerLaws
-pub mod LiveAtLaws
-pub mod BoundLaws
-pub mod CallInvariantLaws
-pub mod Demand3
-pub mod CallListLaws
-pub mod CallListCases

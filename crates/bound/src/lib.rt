@@ -1,1 +1,1 @@
-// Demand 3, over whole lists of calls. There is no code here: the claim is in specs/, the theorem in proofs/.
+// Demand 3's claim over whole lists of calls, in specs/, with values for which it holds and does not. The theorem is in crate boundlaws.

@@ -18,9 +18,9 @@ use Rattle.heap.specs.Table.{superblockAt}
 use Rattle.heap.specs.Counts.{blocksIn, liveOf, ownersChanged}
 use Rattle.heap.specs.Moves.{mustMove, excessTransferred}
 use Rattle.heaplaws.proofs.StateFacts.{Shape, WithinLimits, Sound, TransferredFrom}
-use Rattle.heaplaws.proofs.MoveLaws.{excess-transferred-from, moves-le-q-times-freed, owners-changed-is-moves, not-must-move-after-excess-transferred}
+use Rattle.heaplaws.proofs.MoveLaws.{transferred-from-self, owners-changed-self, excess-transferred-from, moves-le-q-times-freed, owners-changed-is-moves, not-must-move-after-excess-transferred}
 use Rattle.calllaws.proofs.CallEffects.{FreeEffect}
-use Rattle.calllaws.proofs.TransferredLaws.{transferred-live, transferred-class, transferred-owner, transferred-shape, sound-after-transfers, transferred-from-self, owners-changed-self}
+use Rattle.calllaws.proofs.TransferredLaws.{transferred-live, transferred-class, transferred-owner, transferred-shape, sound-after-transfers}
 use Rattle.calllaws.proofs.MarkClearedLaws.{LiveBlock, withMarkCleared, withBlockPushed, ownerAt, classAt, live-block-superblock-lt-64, live-block-superblock-owned, mark-cleared-shape, mark-cleared-class, mark-cleared-owner, mark-cleared-bit, mark-cleared-other-bits, mark-cleared-owned-of, mark-cleared-live-of-class, mark-cleared-live-of-other-classes, mark-cleared-owners-changed, mark-cleared-sound-except, mark-cleared-condition-fails}
 use Rattle.heap.specs.Moves.{invariantRestored}
 

@@ -101,11 +101,3 @@ module _ (h c : ℕ) (s t : State) (m : TransferredFrom h c s t) where
       held-now i d low high known (yes e) (yes g) must = done (subst (λ (x : ℕ). 1 ≤ x) e low) (subst (λ (x : ℕ). T (mustMove x c t)) e (subst (λ (x : ℕ). T (mustMove i x t)) g must))
       held-now i d low high known (yes e) (no g) must = other i d low high known (λ q. g (q .1)) must
       held-now i d low high known (no e) q must = other i d low high known (λ r. e (r .0)) must
-
--- ---- no move at all
-pub transferred-from-self : (h c : ℕ) (s : State) → length (s .table) ≡ 64 → TransferredFrom h c s s
-transferred-from-self h c s long = record { setup = refl; long = long; each = λ k l. inl refl; others = λ i d p apart. (refl, refl); owned = λ d. refl; live = λ d. refl }
-
-pub owners-changed-self : (s : State) → ownersChanged s s ≡ 0
-unfolding ownersChanged
-owners-changed-self s = sum-of-zeros (λ k. one (not (eqb (superblockAt s k .owner) (superblockAt s k .owner)))) 64 (λ k l. ap (λ (x : Bool). one (not x)) (eq-eqb (superblockAt s k .owner) (superblockAt s k .owner) refl))

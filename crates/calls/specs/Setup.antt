@@ -15,7 +15,8 @@ use Rattle.calls.specs.declared.Outcome.the-variants.{Ready}
 abbrev pub acceptedSetup : Setup → List ℕ → After
 acceptedSetup u order = record { answer = record { outcome = Ready; state = newState u }; order = cleared order (u .superblocks * 256) }
 
--- "setup 1, 12"; refusal 1 (bench word: setup): "a setup number outside its limits"; "A refused setup hands back five zeros and 64 unused superblocks"
+-- "setup 1, 12"; refusal 1 (bench word: setup): "a setup number outside its limits"; "A refused setup hands back five zeros and 64
+-- unused superblocks"
 unfoldable pub setupOf : Setup → List ℕ → After
 setupOf u order =
     pick (withinLimits u)

@@ -1,5 +1,5 @@
-// Free lists written whole, in the order storage, which is document 01's term for the memory of all free lists: a superblock's free list renewed, and
-// the storage cleared for a new setup.
+// Free lists written whole, in the order storage, which is document 01's term for the memory of all free lists: a superblock's list
+// renewed, and the storage cleared for a new setup.
 ghost use mathlib.Core.Path.{_≡_};
 ghost use Prim.Native.Nat.{min};
 ghost use Rattle.order.specs.Order.{renewed, cleared};

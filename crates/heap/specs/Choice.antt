@@ -15,14 +15,14 @@ use Rattle.heap.specs.Counts.{belongs}
 
 -- the one found so far; or superblock k, which meets the criterion, where there is none yet or it is preferred
 unfoldable pub prefer : (Superblock → Superblock → Bool) → List Superblock → Found → ℕ → Found
-prefer better table Nothing k = At k
-prefer better table (At m) k = pick (better (getD table k blank) (getD table m blank)) (At k) (At m)
+prefer preferred table Nothing k = At k
+prefer preferred table (At m) k = pick (preferred (getD table k blank) (getD table m blank)) (At k) (At m)
 
 -- of the superblocks below n that meet the criterion, the best; the lower number among equals
 unfoldable pub chosenBelow : (Superblock → Bool) → (Superblock → Superblock → Bool) → List Superblock → ℕ → Found
-chosenBelow wanted better table zero = Nothing
-chosenBelow wanted better table (suc k) =
-    pick (wanted (getD table k blank)) (prefer better table (chosenBelow wanted better table k) k) (chosenBelow wanted better table k)
+chosenBelow meets preferred table zero = Nothing
+chosenBelow meets preferred table (suc k) =
+    pick (meets (getD table k blank)) (prefer preferred table (chosenBelow meets preferred table k) k) (chosenBelow meets preferred table k)
 
 -- "most live first"
 unfoldable pub moreLive : Superblock → Superblock → Bool

@@ -158,13 +158,19 @@ pub transfers-up-to-step : (k h c m : ℕ) (s : State) → mustMove h c s ≡ tr
 unfolding transfersUpTo
 transfers-up-to-step k h c m s e = rw e
 
+-- a transfer keeps the table's length
+pub length-of-found-transferred : (f : Found) (s : State) → length (foundTransferred f s .table) ≡ length (s .table)
+unfolding foundTransferred transferred
+length-of-found-transferred (At k) s = length-set (s .table) k (withOwner 0 (superblockAt s k))
+length-of-found-transferred Nothing s = refl
+
 -- ---- several moves: from state s to t, and then one more
 -- superblock b of state s has become d: the two cases of TransferredFrom
 abbrev KeptOrTransferred : ℕ → ℕ → Setup → Superblock → Superblock → Type 0
 KeptOrTransferred h c u b d = (d ≡ b) ⊎ (T (belongs h c b) × Sparse u b × (d ≡ withOwner 0 b))
 
-transferred-from-start : (h c : ℕ) (s : State) → length (s .table) ≡ 64 → TransferredFrom h c s s
-transferred-from-start h c s long =
+pub transferred-from-self : (h c : ℕ) (s : State) → length (s .table) ≡ 64 → TransferredFrom h c s s
+transferred-from-self h c s long =
     record {
       setup = refl;
       long = long;
@@ -174,9 +180,9 @@ transferred-from-start h c s long =
       live = λ d. refl;
     }
 
-owners-changed-start : (s : State) → ownersChanged s s ≡ 0
+pub owners-changed-self : (s : State) → ownersChanged s s ≡ 0
 unfolding ownersChanged
-owners-changed-start s =
+owners-changed-self s =
     sum-of-zeros (λ k. one (not (eqb (superblockAt s k .owner) (superblockAt s k .owner)))) 64 (λ k l. ap (λ (x : Bool). one (not x)) (eq-eqb (superblockAt s k .owner) (superblockAt s k .owner) refl))
 
 module _ (h c : ℕ) (s t : State) (k : ℕ) (r : TransferredFrom h c s t) (pos : 0 < h) (low : h < 255) (must : T (mustMove h c t)) (e : emptiest h c t ≡ At k) where
@@ -316,7 +322,7 @@ module _ (h c freed : ℕ) (s : State) (numbers : WithinLimits (s .setup)) (pos 
 module _ (h c freed : ℕ) (s : State) (long : length (s .table) ≡ 64) (numbers : WithinLimits (s .setup)) (pos : 0 < h) (low : h < 255) (some : 1 ≤ freed)
     (held-before : (blocksIn h c s ≤ liveOf h c s + freed + s .setup .spare * blocksOf c) ⊎ ((s .setup .q - s .setup .p) * blocksIn h c s ≤ s .setup .q * (liveOf h c s + freed))) where
   after-no-move : AfterMoves h c freed s 0 s
-  after-no-move = record { from = transferred-from-start h c s long; changed = owners-changed-start s; bounded = go held-before; moves-bound = zero-le }
+  after-no-move = record { from = transferred-from-self h c s long; changed = owners-changed-self s; bounded = go held-before; moves-bound = zero-le }
     where
       go : (blocksIn h c s ≤ liveOf h c s + freed + s .setup .spare * blocksOf c) ⊎ ((s .setup .q - s .setup .p) * blocksIn h c s ≤ s .setup .q * (liveOf h c s + freed))
           → MovesBounded (s .setup .spare) (s .setup .p) (s .setup .q) (blocksOf c) freed (blocksIn h c s) (liveOf h c s) 0

@@ -20,8 +20,8 @@ use Rattle.calls.specs.Answers.{After, refused, numberOf}
 use Rattle.calls.specs.Setup.{acceptedSetup, setupOf}
 use Rattle.calls.specs.Calls.{callOf}
 use Rattle.bound.specs.Claim.{Step, Linked, Claims}
-use Rattle.bound.proofs.Demand3.{demand-3}
-use Rattle.bound.proofs.CallListLaws.{stepsBy, steps-linked}
+use Rattle.boundlaws.proofs.Demand3.{demand-3}
+use Rattle.boundlaws.proofs.CallListLaws.{stepsBy, steps-linked}
 use Rattle.commands.specs.declared.Command.{Command}
 use Rattle.commands.specs.declared.Command.the-variants as command
 use Rattle.commands.specs.Record.{commandAt, sizeOfCommand, isRefused, commandsFrom, commandsOf}

@@ -20,7 +20,7 @@ use Rattle.calls.specs.Take.{otherPlaces, acquired, acquiredOrder, nextBlock, a
 use Rattle.calls.specs.Free.{blockOf, isUnmapped, isMisaligned, isLiveAt, markCleared, orderPushed, freedAt, freeUnchecked}
 use Rattle.calls.specs.Calls.{callOf}
 use Rattle.bound.specs.Claim.{Step}
-use Rattle.bound.proofs.CallListLaws.{callPastCheck, stepsBy, steps-are-past-check}
+use Rattle.boundlaws.proofs.CallListLaws.{callPastCheck, stepsBy, steps-are-past-check}
 use Rattle.commands.specs.declared.Command.{Command}
 use Rattle.commands.specs.declared.Command.the-variants as command
 use Rattle.commands.specs.Record.{unlessTruncated, setupAt, unlessFirst, takeAt, freeAt, commandByFirstByte, commandAt, sizeOfCommand, isRefused, commandsFrom, commandsOf}

@@ -21,7 +21,7 @@ use Rattle.heap.specs.Counts.{belongs, oneIfBelongs, liveIfBelongs, superblocks
 use Rattle.heap.specs.Choice.{emptiest}
 use Rattle.heap.specs.Moves.{bothConditions, mustMove, transferred, foundTransferred, transfersUpTo, excessTransferred}
 use Rattle.heaplaws.proofs.CountLaws.{superblocks-of-le-64}
-use Rattle.heaplaws.proofs.MoveLaws.{superblocks-after-transfer, transfers-up-to-stop, transfers-up-to-step}
+use Rattle.heaplaws.proofs.MoveLaws.{length-of-found-transferred, superblocks-after-transfer, transfers-up-to-stop, transfers-up-to-step}
 
 -- one superblock more is counted where it belongs to the heap and class, and in no other case
 module _ (h c : ℕ) (b : Superblock) (r : Bool) (e : r ≡ belongs h c b) (n : ℕ) where
@@ -51,11 +51,6 @@ must-move-from-counts h c s n k u r p q e g = rw (← p, ← q, ← e) g
 pub transferred-past-table : (k : ℕ) (s : State) → length (s .table) ≡ 64 → 64 ≤ k → s ≡ transferred k s
 unfolding transferred
 transferred-past-table k s long h = sym (ap (λ (l : List Superblock). record { setup = s .setup; table = l }) (set-out (s .table) k (withOwner 0 (superblockAt s k)) (omega arith)))
-
-length-of-found-transferred : (f : Found) (s : State) → length (foundTransferred f s .table) ≡ length (s .table)
-unfolding foundTransferred transferred
-length-of-found-transferred (At k) s = length-set (s .table) k (withOwner 0 (superblockAt s k))
-length-of-found-transferred Nothing s = refl
 
 -- after m moves from state s, which left t: the moves still to be made are those from t
 pub record TransferInvariant (h c : ℕ) (s t : State) (m : ℕ) : Type 0 where

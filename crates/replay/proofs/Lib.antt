@@ -1,1 +1,2 @@
+pub mod CommandStepLaws
 pub mod ReplayLoopLaws

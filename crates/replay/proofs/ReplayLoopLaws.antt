@@ -12,10 +12,10 @@ use Rattle.heap.specs.Table.{noState}
 use Rattle.littleendian.specs.Bytes.{byteAt}
 use Rattle.commands.specs.Record.{commandsOf}
 use Rattle.linerules.specs.Lines.{finalLines}
-use Rattle.replaystep.specs.declared.Replay.{Replay}
+use Rattle.replay.specs.declared.Replay.{Replay}
 use Rattle.keyrules.specs.declared.Printed.the-variants.{Text, NoRoom}
 use Rattle.keyrules.specs.Key.{keyOf, storageOf, room, KeyOrNoRoom}
-use Rattle.replaystep.specs.Steps.{TextAndOrder, closingLines, textAhead, orderAhead, textAndOrderAhead, keyAndStorage, commandsLeft, InBounds, SteppedIfGoing, Finished}
+use Rattle.replay.specs.Steps.{TextAndOrder, closingLines, textAhead, orderAhead, textAndOrderAhead, keyAndStorage, InBounds, Stepped, Finished}
 use Rattle.keylaws.proofs.KeyRoomLaws.{key-fits-room}
 
 abbrev firstReplay : State → Replay
@@ -30,15 +30,8 @@ pub in-bounds-at-start : (out : List ℕ) (s : State) → InBounds (firstReplay 
 in-bounds-at-start out s = record { position-bound = omega arith; text-end-bound = omega arith }
 
 -- ---- after each command
-module _ (r order out : List ℕ) (x y : Replay) (new text : List ℕ) (s : SteppedIfGoing r x order out y new text) (held : InBounds x out) (going : x .going ≡ true) where
-  pub text-and-order-ahead-step : (order₀ out₀ : List ℕ) → textAndOrderAhead r x order out ≡ keyAndStorage r order₀ out₀ → textAndOrderAhead r y new text ≡ keyAndStorage r order₀ out₀
-  text-and-order-ahead-step order₀ out₀ e = s .stepped held going .text-and-order-same ∙ e
-
-  pub in-bounds-step : InBounds y text
-  in-bounds-step = s .stepped held going .in-bounds
-
-  pub fewer-commands-left-step : commandsLeft y < commandsLeft x
-  fewer-commands-left-step = s .stepped held going .fewer-commands-left
+pub text-and-order-ahead-step : (r order₀ out₀ order out new text : List ℕ) (x y : Replay) → textAndOrderAhead r x order out ≡ keyAndStorage r order₀ out₀ → Stepped r x order out y new text → textAndOrderAhead r y new text ≡ keyAndStorage r order₀ out₀
+text-and-order-ahead-step r order₀ out₀ order out new text x y e s = s .text-and-order-same ∙ e
 
 pub finished-of-not-going : (r order₀ out₀ order out : List ℕ) (x : Replay) → InBounds x out → textAndOrderAhead r x order out ≡ keyAndStorage r order₀ out₀ → x .going ≡ false → Finished r order₀ out₀ x order out
 finished-of-not-going r order₀ out₀ order out x held same done = record { text-and-order-same = same; in-bounds = held; not-going = done }

@@ -30,15 +30,7 @@ use denote.Memory.{cellAt, lone, partAt, shares, partOf}
 use denote.Array.{Array}
 use denote.ArrayMemory.{Single, array-apart, array-whole}
 use denote.Index.{row, opens-slice, closes-slice}
-
--- ---- truth values
-pub true-of-T : (t : Bool) → T t → t ≡ true
-true-of-T true _ = refl
-true-of-T false a = absurd a
-
-pub false-of-not-T : (t : Bool) → (T t → ⊥) → t ≡ false
-false-of-not-T true f = absurd (f tt)
-false-of-not-T false _ = refl
+use Rattle.laws.proofs.TestLaws.{true-of-T}
 
 -- ---- ys, with its first i elements from t
 module _ {X : Type 0} where

@@ -16,6 +16,7 @@ use Rattle.heap.specs.Table.{superblockAt, withSuperblock, withOwner, withMarkA
 use Rattle.heap.specs.Choice.{emptiest}
 use Rattle.heap.specs.Moves.{mustMove, transferred, foundTransferred, transfersUpTo, excessTransferred, invariantRestored}
 use Rattle.heaplaws.proofs.StateFacts.{Shape}
+use Rattle.heaplaws.proofs.MoveLaws.{length-of-found-transferred}
 use Rattle.calls.specs.declared.Call.{Call}
 use Rattle.calls.specs.declared.Call.the-variants.{Take, Free}
 use Rattle.calls.specs.declared.Outcome.{Outcome}
@@ -29,11 +30,6 @@ use Rattle.calllaws.proofs.TakeLaws.{take-refused-or-accepted, take-passed, tak
 use Rattle.calllaws.proofs.FreeLaws.{free-refused-or-accepted, free-passed, free-shape}
 
 -- ---- the moves
-length-of-found-transferred : (f : Found) (s : State) → length (foundTransferred f s .table) ≡ length (s .table)
-unfolding foundTransferred transferred
-length-of-found-transferred (At k) s = length-set (s .table) k (withOwner 0 (superblockAt s k))
-length-of-found-transferred Nothing s = refl
-
 length-of-transfers-up-to : (k h c m : ℕ) (s : State) → length (transfersUpTo k h c m s .state .table) ≡ length (s .table)
 unfolding transfersUpTo
 length-of-transfers-up-to zero h c m s = refl

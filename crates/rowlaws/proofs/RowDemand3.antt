@@ -8,7 +8,7 @@ use Rattle.heap.specs.declared.Setup.{Setup}
 use Rattle.calls.specs.declared.Outcome.the-variants.{Ready}
 use Rattle.calls.specs.declared.Call.{Call}
 use Rattle.bound.specs.Claim.{Linked}
-use Rattle.bound.proofs.Demand3.{demand-3}
+use Rattle.boundlaws.proofs.Demand3.{demand-3}
 use Rattle.rowrules.specs.Row.{RowAfter, rowSetup, rowCall}
 use Rattle.rowrules.specs.RowClaim.{RowStep, RowLinked, RowClaims, asAfter, stepOf}
 use Rattle.rowlaws.proofs.RowLaws.{call-on-64-is-call-of, length-of-row-call, row-setup-ready}

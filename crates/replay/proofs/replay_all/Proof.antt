@@ -1,8 +1,8 @@
 -- `replay::replay_all` meets its contract. Assumes nothing.
 use mathlib.Core.Path.{_≡_}
 use lib.ListN.{length}
-use Rattle.replaystep.specs.Steps.{InBounds, textAndOrderAhead, keyAndStorage, commandsLeft}
-use Rattle.replay.proofs.ReplayLoopLaws.{text-and-order-ahead-at-start, in-bounds-at-start, text-and-order-ahead-step, in-bounds-step, fewer-commands-left-step, finished-of-not-going}
+use Rattle.replay.specs.Steps.{InBounds, textAndOrderAhead, keyAndStorage, commandsLeft}
+use Rattle.replay.proofs.ReplayLoopLaws.{text-and-order-ahead-at-start, in-bounds-at-start, text-and-order-ahead-step, finished-of-not-going}
 use borrow.Author.Needs.{needs}
 use Rattle.replay.proofs.replay_all.Statement.{statement}
 use Rattle.replay.proofs.replay_all.Tie as tie
@@ -23,10 +23,10 @@ step-requires : tie.Need-step-requires Inv-loop μ-loop
 step-requires c κs = search needs
 
 loop-less : tie.Need-loop-less Inv-loop μ-loop
-loop-less c = search fewer-commands-left-step
+loop-less c = search needs
 
 loop-again : tie.Need-loop-again Inv-loop μ-loop
-loop-again c = (search in-bounds-step, search text-and-order-ahead-step, search needs, search needs)
+loop-again c = (search needs, search text-and-order-ahead-step, search needs, search needs)
 
 same-length : tie.Need-same-length Inv-loop μ-loop
 same-length c = search needs

@@ -1,8 +1,8 @@
--- `replaystep::number_of` meets its contract. Assumes nothing.
-use Rattle.replaystep.proofs.CommandStepLaws.{number-ready, number-address, number-moves, number-refused}
+-- `replay::number_of` meets its contract. Assumes nothing.
+use Rattle.replay.proofs.CommandStepLaws.{number-ready, number-address, number-moves, number-refused}
 use borrow.Author.Needs.{needs}
-use Rattle.replaystep.proofs.number_of.Statement.{statement}
-use Rattle.replaystep.proofs.number_of.Tie as tie
+use Rattle.replay.proofs.number_of.Statement.{statement}
+use Rattle.replay.proofs.number_of.Tie as tie
 
 enum-told : tie.Need-enum-told
 enum-told c = search needs

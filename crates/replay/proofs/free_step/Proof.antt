@@ -1,8 +1,8 @@
--- `replaystep::free_step` meets its contract. Assumes nothing.
-use Rattle.replaystep.proofs.CommandStepLaws.{position-after-free-fits, step-of-free}
+-- `replay::free_step` meets its contract. Assumes nothing.
+use Rattle.replay.proofs.CommandStepLaws.{stepped-of-free}
 use borrow.Author.Needs.{needs}
-use Rattle.replaystep.proofs.free_step.Statement.{statement}
-use Rattle.replaystep.proofs.free_step.Tie as tie
+use Rattle.replay.proofs.free_step.Statement.{statement}
+use Rattle.replay.proofs.free_step.Tie as tie
 
 free-requires : tie.Need-free-requires
 free-requires c κs = search needs
@@ -11,7 +11,7 @@ free-line-requires : tie.Need-free-line-requires
 free-line-requires c κs = search needs
 
 add-next : tie.Need-add-next
-add-next c = search (needs, position-after-free-fits)
+add-next c = search needs
 
 next-requires : tie.Need-next-requires
 next-requires c κs = search needs
@@ -23,7 +23,7 @@ same-length-2 : tie.Need-same-length-2
 same-length-2 c = search needs
 
 returns : tie.Need-returns
-returns c = search (step-of-free, c .before .before .before .before .before .free-line .ensures, c .before .before .before .before .before .before .before .before .before .free .ensures, c .before .before .before .before .before .before .before .before .before .before .before .before .before .before .before .pre)
+returns c = search (stepped-of-free, c .before .before .before .before .before .free-line .ensures, c .before .before .before .before .before .before .before .before .before .free .ensures, c .before .before .before .before .before .before .before .before .before .before .before .before .before .before .before .pre)
 
 pub free-step-spec : {M : Type 1} → statement M
 free-step-spec =

@@ -23,9 +23,9 @@ use Rattle.calls.specs.Setup.{setupOf}
 use Rattle.calls.specs.Take.{otherPlaces, acquired, acquiredOrder, nextBlock, addressOf, takenFrom, takenFromOther, takenAt, takeUnchecked}
 use Rattle.calls.specs.Free.{blockOf, isUnmapped, isMisaligned, isLiveAt, markCleared, orderPushed, freedAt, freeUnchecked}
 use Rattle.calls.specs.Calls.{callOf}
 use Rattle.bound.specs.Ledger.{Entry, removed, afterTake, afterFree, ledgerAfter, entriesOf}
 use Rattle.bound.specs.Claim.{Step, Claims}
-use Rattle.bound.proofs.CallListLaws.{callPastCheck, stepsBy, steps-are-past-check, demand-3-calls}
+use Rattle.boundlaws.proofs.CallListLaws.{callPastCheck, stepsBy, steps-are-past-check, demand-3-calls}
 
 -- What one call of a list answered, how many owners it changed, and after it, for some classes, the ledger's live blocks and
 -- the superblocks that any heap owns.

@@ -1,8 +1,8 @@
--- `replaystep::step` meets its contract. Assumes nothing.
-use Rattle.replaystep.proofs.CommandStepLaws.{matched-command-is-command-at, step-of-refused-command}
+-- `replay::step` meets its contract. Assumes nothing.
+use Rattle.replay.proofs.CommandStepLaws.{matched-command-is-command-at, stepped-of-refused-command}
 use borrow.Author.Needs.{needs}
-use Rattle.replaystep.proofs.step.Statement.{statement}
-use Rattle.replaystep.proofs.step.Tie as tie
+use Rattle.replay.proofs.step.Statement.{statement}
+use Rattle.replay.proofs.step.Tie as tie
 
 command-at-requires : tie.Need-command-at-requires
 command-at-requires c κs = search needs
@@ -62,7 +62,7 @@ same-length-7 : tie.Need-same-length-7
 same-length-7 c = search needs
 
 returns-4 : tie.Need-returns-4
-returns-4 c = search (step-of-refused-command, matched-command-is-command-at)
+returns-4 c = search (stepped-of-refused-command, matched-command-is-command-at)
 
 pub step-spec : {M : Type 1} → statement M
 step-spec =

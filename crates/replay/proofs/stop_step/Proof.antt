@@ -1,7 +1,7 @@
--- `replaystep::stop_step` meets its contract. Assumes nothing.
+-- `replay::stop_step` meets its contract. Assumes nothing.
 use borrow.Author.Needs.{needs}
-use Rattle.replaystep.proofs.stop_step.Statement.{statement}
-use Rattle.replaystep.proofs.stop_step.Tie as tie
+use Rattle.replay.proofs.stop_step.Statement.{statement}
+use Rattle.replay.proofs.stop_step.Tie as tie
 
 stop-line-requires : tie.Need-stop-line-requires
 stop-line-requires c κs = search needs

@@ -10,7 +10,7 @@ use Rattle.text.specs.Text.{Pasted, pasted}
 use Rattle.heap.specs.declared.State.{State}
 use Rattle.commands.specs.Record.{commandsFrom}
 use Rattle.linerules.specs.Lines.{stopLine, finalLines}
-use Rattle.replaystep.specs.declared.Replay.{Replay}
+use Rattle.replay.specs.declared.Replay.{Replay}
 use Rattle.keyrules.specs.Key.{stateAndStorage, textOf, orderAfter, keyOf, storageOf}
 
 -- the lines at the end: none after a stop line
@@ -52,10 +52,6 @@ pub record Stepped (r : List ℕ) (x : Replay) (order out : List ℕ) (y : Repla
   pub text-and-order-same : textAndOrderAhead r y new text ≡ textAndOrderAhead r x order out
   pub in-bounds : InBounds y text
   pub fewer-commands-left : commandsLeft y < commandsLeft x
-
--- what one step promises: of a replay that has ended, or whose text ends outside the buffer, nothing
-pub record SteppedIfGoing (r : List ℕ) (x : Replay) (order out : List ℕ) (y : Replay) (new text : List ℕ) : Type 0 where
-  pub stepped : InBounds x out → x .going ≡ true → Stepped r x order out y new text
 
 -- the replay is over: no command is left
 pub record Finished (r order out : List ℕ) (y : Replay) (new text : List ℕ) : Type 0 where

@@ -2,7 +2,7 @@
 use mathlib.Core.Path.{_≡_, refl, sym, ap, _∙_, subst}
 use mathlib.Core.Bool.{Bool, true, false}
 use mathlib.Core.List.{List, [], _∷_, _++_, append-nil}
-use Prim.Native.Nat.{ℕ, _+_, _-_, _^_, _≤_, _<_}
+use Prim.Native.Nat.{ℕ, _+_, _-_, _≤_, _<_}
 use native.Mathlib.Nat.{lt-of-not-le}
 use native.Mathlib.Decide.{decLe}
 use native.Mathlib.Omega.{arith}
@@ -25,9 +25,9 @@ use Rattle.commands.specs.declared.Command.the-variants as command
 use Rattle.commands.specs.Record.{commandAt}
 use Rattle.commandlaws.proofs.CommandLaws.{commandsAt, remaining, remaining-inside, remaining-end, commands-refused, commands-setup, commands-take, commands-free, setup-first-and-inside, take-later-and-inside, free-later-and-inside}
 use Rattle.linerules.specs.Lines.{setupLine, takeLine, freeLine, stopLine}
-use Rattle.replaystep.specs.declared.Replay.{Replay}
+use Rattle.replay.specs.declared.Replay.{Replay}
 use Rattle.keyrules.specs.Key.{stateAndStorage, setupText, textOf, orderAfter}
-use Rattle.replaystep.specs.Steps.{TextAndOrder, closingLines, textAhead, orderAhead, textAndOrderAhead, commandsLeft, InBounds, Stepped, SteppedIfGoing, nextOf, stopOf, Stopped}
+use Rattle.replay.specs.Steps.{TextAndOrder, closingLines, textAhead, orderAhead, textAndOrderAhead, commandsLeft, InBounds, Stepped, nextOf, stopOf, Stopped}
 
 -- ---- of what a call left, the state and the storage count
 text-of-starting-from : (after : After) (cs : List Command) → textOf after cs ≡ textOf (stateAndStorage (after .answer .state) (after .order)) cs
@@ -162,7 +162,7 @@ module _ (r : List ℕ) (x : Replay) (order out : List ℕ) (held : InBounds x o
 
   -- ---- the commands
   module _ (i size : ℕ) (c : command.Take i size ≡ commandAt r (x .at)) where
-    stepped-of-take : (a : Answer) (new : List ℕ) → record { answer = a; order = new } ≡ takeOf (x .state) order i size
+    pub stepped-of-take : (a : Answer) (new : List ℕ) → record { answer = a; order = new } ≡ takeOf (x .state) order i size
         → (end : ℕ) (text : List ℕ) → record { end = end; buffer = text } ≡ pasted out (x .end) (takeLine i size (a .outcome))
         → (y : Replay) → y ≡ nextOf r (a .state) (x .at + 4) end → Stepped r x order out y new text
     unfolding textOf orderAfter
@@ -177,7 +177,7 @@ module _ (r : List ℕ) (x : Replay) (order out : List ℕ) (held : InBounds x o
         (ap (orderAfter (stateAndStorage (x .state) order)) commands ∙ ap (λ (z : After). orderAfter z rest) (sym e)))
 
   module _ (i address : ℕ) (c : command.Free i address ≡ commandAt r (x .at)) where
-    stepped-of-free : (a : Answer) (new : List ℕ) → record { answer = a; order = new } ≡ freeOf (x .state) order i address
+    pub stepped-of-free : (a : Answer) (new : List ℕ) → record { answer = a; order = new } ≡ freeOf (x .state) order i address
         → (end : ℕ) (text : List ℕ) → record { end = end; buffer = text } ≡ pasted out (x .end) (freeLine i address (a .outcome))
         → (y : Replay) → y ≡ nextOf r (a .state) (x .at + 6) end → Stepped r x order out y new text
     unfolding textOf orderAfter
@@ -217,7 +217,7 @@ module _ (r : List ℕ) (x : Replay) (order out : List ℕ) (held : InBounds x o
         ∙ ap (λ (z : After). pick (eqb (numberOf (z .answer .outcome)) 0) (orderAfter z setup-rest) (z .order)) (sym e)
         ∙ ap (λ (m : ℕ). pick (eqb m 0) (orderAfter setup-after setup-rest) new) (sym n)
 
-    stepped-of-setup : number ≡ 0 → (end : ℕ) (text : List ℕ) → record { end = end; buffer = text } ≡ pasted out (x .end) (setupLine u)
+    pub stepped-of-setup : number ≡ 0 → (end : ℕ) (text : List ℕ) → record { end = end; buffer = text } ≡ pasted out (x .end) (setupLine u)
         → (y : Replay) → y ≡ nextOf r (a .state) (x .at + 6) end → Stepped r x order out y new text
     unfolding setup-after setup-rest
     stepped-of-setup zero end text put y is =
@@ -228,50 +228,13 @@ module _ (r : List ℕ) (x : Replay) (order out : List ℕ) (held : InBounds x o
         (text-of-setup-command ∙ rw yes)
         (order-after-setup-command ∙ rw yes))
 
-    stepped-of-refused-setup : (number ≡ 0 → ⊥) → (y : Replay) (text : List ℕ) → Stopped x out number 0 y text → Stepped r x order out y new text
+    pub stepped-of-refused-setup : (number ≡ 0 → ⊥) → (y : Replay) (text : List ℕ) → Stopped x out number 0 y text → Stepped r x order out y new text
     stepped-of-refused-setup some y text s =
         let no : eqb number 0 ≡ false = ne-eqb number 0 some in
         stepped-of-stop-line number 0 y new text (text-of-setup-command ∙ rw no) (order-after-setup-command ∙ rw no) s
 
-  stepped-of-refused-command : (number offset : ℕ) → command.Refused number offset ≡ commandAt r (x .at) → (y : Replay) (text : List ℕ) → Stopped x out number offset y text → Stepped r x order out y order text
+  pub stepped-of-refused-command : (number offset : ℕ) → command.Refused number offset ≡ commandAt r (x .at) → (y : Replay) (text : List ℕ) → Stopped x out number offset y text → Stepped r x order out y order text
   unfolding textOf orderAfter
   stepped-of-refused-command number offset c y text s =
       let commands = commands-refused r (x .at) (command.Refused number offset) number offset c refl in
       stepped-of-stop-line number offset y order text (ap (textOf (stateAndStorage (x .state) order)) commands) (ap (orderAfter (stateAndStorage (x .state) order)) commands) s
-
--- ---- the position after a command that was read whole fits
-module _ (r : List ℕ) (at n : ℕ) (few : n ≤ 60000) where
-  pub position-after-setup-fits : (processors superblocks spare p q : ℕ) → command.Setup processors superblocks spare p q ≡ commandAt r at → at + n < 2 ^ 64
-  position-after-setup-fits processors superblocks spare p q c = let inside = setup-first-and-inside r at (command.Setup processors superblocks spare p q) c processors superblocks spare p q refl in omega (arith, inside .0, inside .2)
-
-  pub position-after-take-fits : (i size : ℕ) → command.Take i size ≡ commandAt r at → at + n < 2 ^ 64
-  position-after-take-fits i size c = let inside = take-later-and-inside r at (command.Take i size) c i size refl in omega (arith, inside .0, inside .2)
-
-  pub position-after-free-fits : (i address : ℕ) → command.Free i address ≡ commandAt r at → at + n < 2 ^ 64
-  position-after-free-fits i address c = let inside = free-later-and-inside r at (command.Free i address) c i address refl in omega (arith, inside .0, inside .2)
-
--- ---- the same as a step promises it
-module _ (r : List ℕ) (x : Replay) (order out : List ℕ) where
-  module _ (i size : ℕ) (c : command.Take i size ≡ commandAt r (x .at)) where
-    pub step-of-take : (a : Answer) (new : List ℕ) → record { answer = a; order = new } ≡ takeOf (x .state) order i size
-        → (end : ℕ) (text : List ℕ) → record { end = end; buffer = text } ≡ pasted out (x .end) (takeLine i size (a .outcome))
-        → (y : Replay) → y ≡ nextOf r (a .state) (x .at + 4) end → SteppedIfGoing r x order out y new text
-    step-of-take a new e end text put y is = record { stepped = λ held going. stepped-of-take r x order out held going i size c a new e end text put y is }
-
-  module _ (i address : ℕ) (c : command.Free i address ≡ commandAt r (x .at)) where
-    pub step-of-free : (a : Answer) (new : List ℕ) → record { answer = a; order = new } ≡ freeOf (x .state) order i address
-        → (end : ℕ) (text : List ℕ) → record { end = end; buffer = text } ≡ pasted out (x .end) (freeLine i address (a .outcome))
-        → (y : Replay) → y ≡ nextOf r (a .state) (x .at + 6) end → SteppedIfGoing r x order out y new text
-    step-of-free a new e end text put y is = record { stepped = λ held going. stepped-of-free r x order out held going i address c a new e end text put y is }
-
-  module _ (u : Setup) (c : command.Setup (u .processors) (u .superblocks) (u .spare) (u .p) (u .q) ≡ commandAt r (x .at)) where
-    module _ (a : Answer) (new : List ℕ) (e : record { answer = a; order = new } ≡ setupOf u order) (number : ℕ) (n : number ≡ numberOf (a .outcome)) where
-      pub step-of-setup : number ≡ 0 → (end : ℕ) (text : List ℕ) → record { end = end; buffer = text } ≡ pasted out (x .end) (setupLine u)
-          → (y : Replay) → y ≡ nextOf r (a .state) (x .at + 6) end → SteppedIfGoing r x order out y new text
-      step-of-setup zero end text put y is = record { stepped = λ held going. stepped-of-setup r x order out held going u c a new e number n zero end text put y is }
-
-      pub step-of-refused-setup : (number ≡ 0 → ⊥) → (y : Replay) (text : List ℕ) → Stopped x out number 0 y text → SteppedIfGoing r x order out y new text
-      step-of-refused-setup some y text s = record { stepped = λ held going. stepped-of-refused-setup r x order out held going u c a new e number n some y text s }
-
-  pub step-of-refused-command : (number offset : ℕ) → command.Refused number offset ≡ commandAt r (x .at) → (y : Replay) (text : List ℕ) → Stopped x out number offset y text → SteppedIfGoing r x order out y order text
-  step-of-refused-command number offset c y text s = record { stepped = λ held going. stepped-of-refused-command r x order out held going number offset c y text s }

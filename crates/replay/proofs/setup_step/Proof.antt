@@ -1,8 +1,8 @@
--- `replaystep::setup_step` meets its contract. Assumes nothing.
-use Rattle.replaystep.proofs.CommandStepLaws.{position-after-setup-fits, step-of-setup, step-of-refused-setup}
+-- `replay::setup_step` meets its contract. Assumes nothing.
+use Rattle.replay.proofs.CommandStepLaws.{stepped-of-setup, stepped-of-refused-setup}
 use borrow.Author.Needs.{needs}
-use Rattle.replaystep.proofs.setup_step.Statement.{statement}
-use Rattle.replaystep.proofs.setup_step.Tie as tie
+use Rattle.replay.proofs.setup_step.Statement.{statement}
+use Rattle.replay.proofs.setup_step.Tie as tie
 
 setup-requires : tie.Need-setup-requires
 setup-requires c κs = search needs
@@ -20,13 +20,13 @@ same-length-2 : tie.Need-same-length-2
 same-length-2 c = search needs
 
 returns : tie.Need-returns
-returns c = search step-of-refused-setup
+returns c = search stepped-of-refused-setup
 
 setup-line-requires : tie.Need-setup-line-requires
 setup-line-requires c κs = search needs
 
 add-next : tie.Need-add-next
-add-next c = search (needs, position-after-setup-fits)
+add-next c = search needs
 
 next-requires : tie.Need-next-requires
 next-requires c κs = search needs
@@ -38,7 +38,7 @@ same-length-4 : tie.Need-same-length-4
 same-length-4 c = search needs
 
 returns-2 : tie.Need-returns-2
-returns-2 c = search (step-of-setup, c .before .before .before .before .before .setup-line .ensures, c .before .before .before .before .before .before .before .before .number-of .ensures, c .before .before .before .before .before .before .before .before .before .before .before .setup .ensures, c .before .before .before .before .before .before .before .before .before .before .before .before .before .before .before .before .pre)
+returns-2 c = search (stepped-of-setup, c .before .before .before .before .before .setup-line .ensures, c .before .before .before .before .before .before .before .before .number-of .ensures, c .before .before .before .before .before .before .before .before .before .before .before .setup .ensures, c .before .before .before .before .before .before .before .before .before .before .before .before .before .before .before .before .pre)
 
 pub setup-step-spec : {M : Type 1} → statement M
 setup-step-spec =

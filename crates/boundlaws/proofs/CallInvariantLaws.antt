@@ -17,6 +17,7 @@ use Rattle.heap.specs.declared.State.{State}
 use Rattle.heap.specs.Table.{superblockAt}
 use Rattle.heap.specs.Counts.{superblocksOf, superblocksOfClass, liveOfClass, ownersChanged}
 use Rattle.heaplaws.proofs.StateFacts.{Shape, WithinLimits}
+use Rattle.heaplaws.proofs.MoveLaws.{owners-changed-self}
 use Rattle.calls.specs.declared.Call.{Call}
 use Rattle.calls.specs.declared.Call.the-variants.{Take, Free}
 use Rattle.calls.specs.declared.Outcome.{Outcome}
@@ -26,13 +27,13 @@ use Rattle.calls.specs.Take.{addressOf, takeOf}
 use Rattle.calls.specs.Free.{superblockIndex, superblockHolding, blockOf, freeOf}
 use Rattle.calls.specs.Calls.{callOf}
 use Rattle.calllaws.proofs.CallEffects.{Passed, TakeAccepted, FreeAccepted, TakeEffect, FreeEffect}
 use Rattle.bound.specs.Ledger.{Entry, removed, afterTake, afterFree, ledgerAfter, entriesOf}
 use Rattle.bound.specs.Claim.{Bounded, OwnerChanges, peakWith}
 use Rattle.calllaws.proofs.TakeLaws.{take-refused-or-accepted, taken-block, take-address, take-effect, take-shape, take-passed}
 use Rattle.calllaws.proofs.FreeLaws.{free-refused-or-accepted, moves, free-outcome, free-address, free-effect, free-shape, free-passed}
-use Rattle.bound.proofs.LedgerLaws.{entriesAt, entries-at-added, entries-of-added, entries-at-removed, entries-at-others-removed, entries-of-removed}
-use Rattle.bound.proofs.LiveAtLaws.{liveAt, OneMoreLive, live-at-before-is-zero, live-at-one-more, one-more-live-of-take, one-more-live-of-free}
-use Rattle.bound.proofs.BoundLaws.{bound-of-none-in-global}
+use Rattle.boundlaws.proofs.LedgerLaws.{entriesAt, entries-at-added, entries-of-added, entries-at-removed, entries-at-others-removed, entries-of-removed}
+use Rattle.boundlaws.proofs.LiveAtLaws.{liveAt, OneMoreLive, live-at-before-is-zero, live-at-one-more, one-more-live-of-take, one-more-live-of-free}
+use Rattle.boundlaws.proofs.BoundLaws.{bound-of-none-in-global}
 
 -- ---- the ledger lists the live blocks
 pub record Listed (s : State) (ledger : List Entry) : Type 0 where
@@ -83,19 +84,19 @@ module _ (c k j : ℕ) (s t : State) (one-more-live : OneMoreLive c k j s t) (le
           omega arith
 
 -- ---- after the setup or a call
-pub record ListInvariant (u : Setup) (s : State) (order : List ℕ) (ledger : List Entry) (most : ℕ → ℕ) : Type 0 where
+pub record ListInvariant (u : Setup) (s : State) (order : List ℕ) (ledger : List Entry) (peak : ℕ → ℕ) : Type 0 where
   pub passed : Passed s order
   pub shape : Shape s
   pub setup : s .setup ≡ u
   pub listed : Listed s ledger
-  pub bounded : Bounded u s most
+  pub bounded : Bounded u s peak
 
 -- the next state: its setup is the same, and of each class there are no more superblocks, or none in heap 0
-list-invariant-next : (u : Setup) (s t : State) (order after-call : List ℕ) (ledger new : List Entry) (most : ℕ → ℕ) → ListInvariant u s order ledger most
+list-invariant-next : (u : Setup) (s t : State) (order after-call : List ℕ) (ledger new : List Entry) (peak : ℕ → ℕ) → ListInvariant u s order ledger peak
     → t .setup ≡ s .setup → Passed t after-call → Shape t → Listed t new → ((c : ℕ) → c < 27 → (superblocksOfClass c t ≤ superblocksOfClass c s) ⊎ (superblocksOf 0 c t ≡ 0))
-    → ListInvariant u t after-call new (peakWith most new)
+    → ListInvariant u t after-call new (peakWith peak new)
 unfolding Bounded
-list-invariant-next u s t order after-call ledger new most g e passed shape listed owned =
+list-invariant-next u s t order after-call ledger new peak g e passed shape listed owned =
     record {
       passed = passed;
       shape = shape;
@@ -106,11 +107,11 @@ list-invariant-next u s t order after-call ledger new most g e passed shape list
           (λ (h : superblocksOfClass c t ≤ superblocksOfClass c s).
           let before = g .bounded c l in
           let a = mul-le-mul-left ((u .q - u .p) * blocksOf c) h in
-          let m = mul-le-mul-left (u .q) (le-max-left (most c) (entriesOf c new)) in
+          let m = mul-le-mul-left (u .q) (le-max-left (peak c) (entriesOf c new)) in
           omega arith)
           (λ (none : superblocksOf 0 c t ≡ 0).
           let now = fresh c l none in
-          let m = mul-le-mul-left (u .q) (le-max-right (most c) (entriesOf c new)) in
+          let m = mul-le-mul-left (u .q) (le-max-right (peak c) (entriesOf c new)) in
           let n : u .q * entriesOf c new ≡ u .q * liveOfClass c t = ap (λ (x : ℕ). u .q * x) (listed .counted c l) in
           omega arith)
           (owned c l);
@@ -124,9 +125,9 @@ list-invariant-next u s t order after-call ledger new most g e passed shape list
 
 -- ---- a call
 -- what a call leaves, and the owners that it changed
-pub record AfterCall (u : Setup) (s : State) (ledger : List Entry) (most : ℕ → ℕ) (call : Call) (after : After) : Type 0 where
+pub record AfterCall (u : Setup) (s : State) (ledger : List Entry) (peak : ℕ → ℕ) (call : Call) (after : After) : Type 0 where
   pub owner-changes : OwnerChanges (u .q) (ownersChanged s (after .answer .state)) call (after .answer .outcome)
-  pub invariant : ListInvariant u (after .answer .state) (after .order) (ledgerAfter ledger call (after .answer .outcome)) (peakWith most (ledgerAfter ledger call (after .answer .outcome)))
+  pub invariant : ListInvariant u (after .answer .state) (after .order) (ledgerAfter ledger call (after .answer .outcome)) (peakWith peak (ledgerAfter ledger call (after .answer .outcome)))
 
 -- outcomes of different kinds differ, and so do different numbers of moves
 Refused-and-Moves-differ : (o : Outcome) (r m : ℕ) → o ≡ Refused r → o ≡ Moves m → ⊥
@@ -138,18 +139,12 @@ Refused-and-Address-differ o r a p q = let z : _≡_ {A = ℕ} 0 1 = cc in omega
 Moves-equal : (o : Outcome) (m n : ℕ) → o ≡ Moves m → o ≡ Moves n → m ≡ n
 Moves-equal o m n p q = cc
 
-owners-changed-self : (s : State) → ownersChanged s s ≡ 0
-unfolding ownersChanged
-owners-changed-self s =
-    sum-of-zeros (λ k. one (not (eqb (superblockAt s k .owner) (superblockAt s k .owner)))) 64
-    (λ k l. ap (λ (x : Bool). one (not x)) (eq-eqb (superblockAt s k .owner) (superblockAt s k .owner) refl))
-
-module _ (u : Setup) (s : State) (order : List ℕ) (ledger : List Entry) (most : ℕ → ℕ) (g : ListInvariant u s order ledger most) where
+module _ (u : Setup) (s : State) (order : List ℕ) (ledger : List Entry) (peak : ℕ → ℕ) (g : ListInvariant u s order ledger peak) where
   -- a refused call changes nothing, and adds nothing to the ledger
-  list-invariant-after-refusal : ListInvariant u s order ledger (peakWith most ledger)
-  list-invariant-after-refusal = list-invariant-next u s s order order ledger ledger most g refl (g .passed) (g .shape) (g .listed) (λ c l. inl (le-refl (superblocksOfClass c s)))
+  list-invariant-after-refusal : ListInvariant u s order ledger (peakWith peak ledger)
+  list-invariant-after-refusal = list-invariant-next u s s order order ledger ledger peak g refl (g .passed) (g .shape) (g .listed) (λ c l. inl (le-refl (superblocksOfClass c s)))
 
-  after-refused-call : (r : ℕ) (call : Call) → AfterCall u s ledger most call (refused r s order)
+  after-refused-call : (r : ℕ) (call : Call) → AfterCall u s ledger peak call (refused r s order)
   unfolding OwnerChanges ledgerAfter afterTake afterFree
   after-refused-call r (Take i size) = record { owner-changes = λ m e. owners-changed-self s; invariant = list-invariant-after-refusal }
   after-refused-call r (Free i a) =
@@ -179,13 +174,13 @@ module _ (u : Setup) (s : State) (order : List ℕ) (ledger : List Entry) (most 
         subst (λ (o : Outcome). Listed (takeOf s order i size .answer .state) (ledgerAfter ledger (Take i size) o)) (sym address)
         (listed-added (classOf size) k (taken-block s order i size k (g .shape) acc) s (takeOf s order i size .answer .state) one-more-live ledger (g .listed))
 
-    after-accepted-take : AfterCall u s ledger most (Take i size) (takeOf s order i size)
+    after-accepted-take : AfterCall u s ledger peak (Take i size) (takeOf s order i size)
     unfolding OwnerChanges
     after-accepted-take =
         record {
           owner-changes = λ r e. absurd (Refused-and-Address-differ (takeOf s order i size .answer .outcome) r (addressOf k (classOf size) (taken-block s order i size k (g .shape) acc)) e address);
           invariant =
-              list-invariant-next u s (takeOf s order i size .answer .state) order (takeOf s order i size .order) ledger (ledgerAfter ledger (Take i size) (takeOf s order i size .answer .outcome)) most g
+              list-invariant-next u s (takeOf s order i size .answer .state) order (takeOf s order i size .order) ledger (ledgerAfter ledger (Take i size) (takeOf s order i size .answer .outcome)) peak g
               (effect .setup) (take-passed s order i size k (g .shape) acc) (take-shape s order i size k (g .shape) acc) listed-after (λ c l. owned c (ℕ-discrete c (classOf size)));
         }
       where
@@ -214,7 +209,7 @@ module _ (u : Setup) (s : State) (order : List ℕ) (ledger : List Entry) (most 
         (subst (λ (b : ℕ). Listed (freeOf s order i a .answer .state) (removed b ledger)) (sym (free-address s order i a (g .shape) acc))
         (listed-removed (superblockHolding s a .class) (superblockIndex a) (blockOf s a) (freeOf s order i a .answer .state) s one-live-less ledger (g .listed)))
 
-    after-accepted-free : AfterCall u s ledger most (Free i a) (freeOf s order i a)
+    after-accepted-free : AfterCall u s ledger peak (Free i a) (freeOf s order i a)
     unfolding OwnerChanges
     after-accepted-free =
         record {
@@ -224,20 +219,20 @@ module _ (u : Setup) (s : State) (order : List ℕ) (ledger : List Entry) (most 
             λ r e. absurd (Refused-and-Moves-differ (freeOf s order i a .answer .outcome) r (moves s order i a (g .shape) acc) e outcome),
           );
           invariant =
-              list-invariant-next u s (freeOf s order i a .answer .state) order (freeOf s order i a .order) ledger (ledgerAfter ledger (Free i a) (freeOf s order i a .answer .outcome)) most g
+              list-invariant-next u s (freeOf s order i a .answer .state) order (freeOf s order i a .order) ledger (ledgerAfter ledger (Free i a) (freeOf s order i a .answer .outcome)) peak g
               (free-effect-of-call .setup) (free-passed s order i a (g .shape) acc) (free-shape s order i a (g .shape) acc) listed-after-free (λ c l. inl (le-of-eq (free-effect-of-call .owned c)));
         }
 
   -- whatever the call
-  pub after-call : (call : Call) → AfterCall u s ledger most call (callOf s order call)
+  pub after-call : (call : Call) → AfterCall u s ledger peak call (callOf s order call)
   unfolding callOf
   after-call (Take i size) = go (take-refused-or-accepted s order i size)
     where
-      go : ((r : ℕ) × (takeOf s order i size ≡ refused r s order)) ⊎ ((k : ℕ) × TakeAccepted s order i size k) → AfterCall u s ledger most (Take i size) (takeOf s order i size)
-      go (inl h) = subst (AfterCall u s ledger most (Take i size)) (sym (h .1)) (after-refused-call (h .0) (Take i size))
+      go : ((r : ℕ) × (takeOf s order i size ≡ refused r s order)) ⊎ ((k : ℕ) × TakeAccepted s order i size k) → AfterCall u s ledger peak (Take i size) (takeOf s order i size)
+      go (inl h) = subst (AfterCall u s ledger peak (Take i size)) (sym (h .1)) (after-refused-call (h .0) (Take i size))
       go (inr h) = after-accepted-take i size (h .0) (h .1)
   after-call (Free i a) = go (free-refused-or-accepted s order i a)
     where
-      go : ((r : ℕ) × (freeOf s order i a ≡ refused r s order)) ⊎ FreeAccepted s order i a → AfterCall u s ledger most (Free i a) (freeOf s order i a)
-      go (inl h) = subst (AfterCall u s ledger most (Free i a)) (sym (h .1)) (after-refused-call (h .0) (Free i a))
+      go : ((r : ℕ) × (freeOf s order i a ≡ refused r s order)) ⊎ FreeAccepted s order i a → AfterCall u s ledger peak (Free i a) (freeOf s order i a)
+      go (inl h) = subst (AfterCall u s ledger peak (Free i a)) (sym (h .1)) (after-refused-call (h .0) (Free i a))
       go (inr h) = after-accepted-free i a h

@@ -18,13 +18,13 @@ use Rattle.heap.specs.Counts.{superblocksOfClass}
 use Rattle.calls.specs.declared.Outcome.the-variants.{Ready, Refused}
 use Rattle.calls.specs.Answers.{After}
 use Rattle.calls.specs.Setup.{setupOf}
 use Rattle.bound.specs.Ledger.{Entry, ledgerAfter}
 use Rattle.bound.specs.Claim.{Step, Linked, Bounded, Claims, peakWith}
 use Rattle.calllaws.proofs.SetupLaws.{accepted-setup-of-ready, setup-refused-12-of-storage}
 use Rattle.heaplaws.proofs.CountLaws.{owned-of-new-state, live-of-class-of-new-state}
-use Rattle.bound.proofs.LedgerLaws.{entries-at-empty, entries-of-empty}
-use Rattle.bound.proofs.LiveAtLaws.{live-at-of-new-state}
-use Rattle.bound.proofs.CallInvariantLaws.{Listed, ListInvariant, AfterCall, after-call}
+use Rattle.boundlaws.proofs.LedgerLaws.{entries-at-empty, entries-of-empty}
+use Rattle.boundlaws.proofs.LiveAtLaws.{live-at-of-new-state}
+use Rattle.boundlaws.proofs.CallInvariantLaws.{Listed, ListInvariant, AfterCall, after-call}
 
 -- ---- after the setup
 ledger-of-new-state : (u : Setup) → Listed (newState u) []
@@ -59,14 +59,14 @@ list-invariant-after-setup u order ready =
     (record { passed = record { sound = h .2; room = room }; shape = h .3; setup = refl; listed = ledger-of-new-state u; bounded = bound-of-new-state u })
 
 -- ---- after each call
-claims-of-list-invariant : (u : Setup) (before : After) (ledger : List Entry) (most : ℕ → ℕ) (steps : List Step)
-    → ListInvariant u (before .answer .state) (before .order) ledger most → Linked before steps → Claims u before ledger most steps
+claims-of-list-invariant : (u : Setup) (before : After) (ledger : List Entry) (peak : ℕ → ℕ) (steps : List Step)
+    → ListInvariant u (before .answer .state) (before .order) ledger peak → Linked before steps → Claims u before ledger peak steps
 unfolding Linked Claims
-claims-of-list-invariant u before ledger most [] g linked = g .bounded
-claims-of-list-invariant u before ledger most (step ∷ steps) g linked = (g .bounded, n .owner-changes, claims-of-list-invariant u (step .after) (ledgerAfter ledger (step .call) (step .after .answer .outcome)) (peakWith most (ledgerAfter ledger (step .call) (step .after .answer .outcome))) steps (n .invariant) (linked .1))
+claims-of-list-invariant u before ledger peak [] g linked = g .bounded
+claims-of-list-invariant u before ledger peak (step ∷ steps) g linked = (g .bounded, n .owner-changes, claims-of-list-invariant u (step .after) (ledgerAfter ledger (step .call) (step .after .answer .outcome)) (peakWith peak (ledgerAfter ledger (step .call) (step .after .answer .outcome))) steps (n .invariant) (linked .1))
   where
-    n : AfterCall u (before .answer .state) ledger most (step .call) (step .after)
-    n = subst (AfterCall u (before .answer .state) ledger most (step .call)) (sym (linked .0)) (after-call u (before .answer .state) (before .order) ledger most g (step .call))
+    n : AfterCall u (before .answer .state) ledger peak (step .call) (step .after)
+    n = subst (AfterCall u (before .answer .state) ledger peak (step .call)) (sym (linked .0)) (after-call u (before .answer .state) (before .order) ledger peak g (step .call))
 
 -- For every accepted setup, whatever stood in the storage before, and every list of takes and frees after it.
 pub demand-3 : (u : Setup) (order : List ℕ) (start : After) → start ≡ setupOf u order → start .answer .outcome ≡ Ready

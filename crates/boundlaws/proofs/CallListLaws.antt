@@ -13,11 +13,11 @@ use Rattle.calls.specs.Take.{takeUnchecked}
 use Rattle.calls.specs.Free.{freeUnchecked}
 use Rattle.calls.specs.Calls.{callOf}
 use Rattle.calllaws.proofs.CallEffects.{Passed}
 use Rattle.bound.specs.Ledger.{Entry, ledgerAfter}
 use Rattle.bound.specs.Claim.{Step, Linked, Claims, peakWith}
 use Rattle.calllaws.proofs.RefusalOrder.{take-is-unchecked, free-is-unchecked}
-use Rattle.bound.proofs.CallInvariantLaws.{ListInvariant, after-call}
-use Rattle.bound.proofs.Demand3.{list-invariant-after-setup, demand-3}
+use Rattle.boundlaws.proofs.CallInvariantLaws.{ListInvariant, after-call}
+use Rattle.boundlaws.proofs.Demand3.{list-invariant-after-setup, demand-3}
 
 -- what a call leaves, where the check has passed
 unfoldable pub callPastCheck : State → List ℕ → Call → After
@@ -47,15 +47,15 @@ pub demand-3-calls : (u : Setup) (order : List ℕ) → setupOf u order .answer 
     → Claims u (setupOf u order) [] (λ c. 0) (stepsBy callOf (setupOf u order) calls)
 demand-3-calls u order ready calls = demand-3 u order (setupOf u order) refl ready (stepsBy callOf (setupOf u order) calls) (steps-linked (setupOf u order) calls)
 
-steps-are-past-check-from : (u : Setup) (before : After) (ledger : List Entry) (most : ℕ → ℕ) (calls : List Call) → ListInvariant u (before .answer .state) (before .order) ledger most
+steps-are-past-check-from : (u : Setup) (before : After) (ledger : List Entry) (peak : ℕ → ℕ) (calls : List Call) → ListInvariant u (before .answer .state) (before .order) ledger peak
     → stepsBy callOf before calls ≡ stepsBy callPastCheck before calls
 unfolding stepsBy
-steps-are-past-check-from u before ledger most [] g = refl
-steps-are-past-check-from u before ledger most (call ∷ calls) g =
+steps-are-past-check-from u before ledger peak [] g = refl
+steps-are-past-check-from u before ledger peak (call ∷ calls) g =
     let after = callOf (before .answer .state) (before .order) call in
-    let n = after-call u (before .answer .state) (before .order) ledger most g call in
+    let n = after-call u (before .answer .state) (before .order) ledger peak g call in
     let e = call-of-is-call-past-check (before .answer .state) (before .order) call (g .passed) in
-    ap (λ (l : List Step). record { call = call; after = after } ∷ l) (steps-are-past-check-from u after (ledgerAfter ledger call (after .answer .outcome)) (peakWith most (ledgerAfter ledger call (after .answer .outcome))) calls (n .invariant))
+    ap (λ (l : List Step). record { call = call; after = after } ∷ l) (steps-are-past-check-from u after (ledgerAfter ledger call (after .answer .outcome)) (peakWith peak (ledgerAfter ledger call (after .answer .outcome))) calls (n .invariant))
     ∙ ap (λ (x : After). let step : Step = record { call = call; after = x } in step ∷ stepsBy callPastCheck x calls) e
 
 -- after an accepted setup the check is never in the way
