@@ -1,35 +1,22 @@
 -- A take from one superblock, step by step as the code goes. Assumes nothing.
-use mathlib.Core.Path.{_≡_, ap₂, _∙_}
+use mathlib.Core.Path.{_≡_}
 use mathlib.Core.List.{List}
 use Prim.Native.Nat.{ℕ, _-_, _*_, _≤_}
 use native.Mathlib.Nat.{mul-le-mul}
 use native.Mathlib.Omega.{arith}
-use borrow.Author.Tests.{eq-eqb, ne-eqb}
 use Rattle.classes.specs.Classes.{sizeOf, blocksOf}
 use Rattle.classes.proofs.ClassTableLaws.{size-of-le-2048}
-use Rattle.order.specs.Order.{lastFilled, renewed}
-use Rattle.heap.specs.declared.Superblock.{Superblock}
+use Rattle.order.specs.Order.{lastFilled}
 use Rattle.heap.specs.declared.State.{State}
 use Rattle.heap.specs.Table.{superblockAt, withSuperblock, liveIn, withMarkAt}
-use Rattle.calls.specs.declared.Answer.{Answer}
 use Rattle.calls.specs.declared.Outcome.the-variants.{Address}
 use Rattle.calls.specs.Answers.{After, HasNumberAndValuesOf}
-use Rattle.calls.specs.Take.{acquired, acquiredOrder, nextBlock, addressOf, takenFrom, takenFromOther}
+use Rattle.calls.specs.Take.{nextBlock, addressOf, takenFrom}
 use Rattle.calllaws.proofs.AcceptedCallLaws.{number-and-values-by-rules}
 
 -- a block of a 16-bit number starts below 2 ^ 28 in its superblock
 pub block-offset-le : (class j size : ℕ) → size ≡ sizeOf class → j ≤ 65535 → j * size ≤ 65535 * 2048
 block-offset-le class j size e h = mul-le-mul {n₁ = j} {m₁ = size} {n₂ = 65535} {m₂ = 2048} h (let g = size-of-le-2048 class in omega arith)
-
--- the order places of a superblock that a heap acquires, with and without anything live
-module _ (order : List ℕ) (class k : ℕ) (b : Superblock) (live : ℕ) (el : live ≡ liveIn b) where
-  pub acquired-order-of-empty : (n : ℕ) (left : List ℕ) → live ≡ 0 → n ≡ blocksOf class → left ≡ renewed order k n → left ≡ acquiredOrder class k b order
-  unfolding acquiredOrder
-  acquired-order-of-empty n left e en eo = rw (← el, eq-eqb live 0 e, ← en) eo
-
-  pub acquired-order-of-live : (live ≡ 0 → ⊥) → order ≡ acquiredOrder class k b order
-  unfolding acquiredOrder
-  acquired-order-of-live f = rw (← el, ne-eqb live 0 f)
 
 -- what is taken from superblock k
 module _ (k : ℕ) (s : State) (order : List ℕ) (filled j class address : ℕ) (t : State)
@@ -41,13 +28,3 @@ module _ (k : ℕ) (s : State) (order : List ℕ) (filled j class address : ℕ)
 
   pub taken-from-number-and-values : HasNumberAndValuesOf (Address address) (takenFrom k s order .answer .outcome)
   taken-from-number-and-values = number-and-values-by-rules (record { outcome = Address address; state = t }) order (takenFrom k s order) taken-from-by-steps
-
--- what is taken from superblock k once a heap acquired it
-module _ (heap class k : ℕ) (s : State) (order left : List ℕ) (t : State) (r : Answer) (eo : left ≡ acquiredOrder class k (superblockAt s k) order)
-    (et : t ≡ withSuperblock s k (acquired heap class (superblockAt s k))) (e : _≡_ {A = After} (record { answer = r; order = left }) (takenFrom k t left)) where
-  pub taken-from-other-by-steps : _≡_ {A = After} (record { answer = r; order = left }) (takenFromOther heap class k s order)
-  unfolding takenFromOther
-  taken-from-other-by-steps = e ∙ ap₂ (takenFrom k) et eo
-
-  pub taken-from-other-number-and-values : HasNumberAndValuesOf (r .outcome) (takenFromOther heap class k s order .answer .outcome)
-  taken-from-other-number-and-values = number-and-values-by-rules r left (takenFromOther heap class k s order) taken-from-other-by-steps

@@ -12,7 +12,7 @@ use calls::Outcome;
 use heap::Setup;
 use heap::State;
 use heap::Superblock;
-use rowplain::RecordsAnswer;
+use rowrules::RecordsAnswer;
 use rowrules::RowAnswer;
 use stream::Input;
 

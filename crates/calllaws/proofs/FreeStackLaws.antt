@@ -19,7 +19,7 @@ use Rattle.marks.specs.Marks.{liveCount}
 use Rattle.marklaws.proofs.MarkLaws.{live-count-without-mark, live-count-of-no-marks}
 use Rattle.order.specs.Order.{place, lastFilled, withPlace, renewed}
 use Rattle.orderlaws.proofs.OrderLaws.{last-filled-is-place, renewed-place, renewed-other-superblock, with-place-same, with-place-other-place, with-place-other-superblock}
-use Rattle.ordercheck.proofs.PlacesValidLaws.{last-filled-of-renewed-is-0}
+use Rattle.filledplaces.proofs.PlacesValidLaws.{last-filled-of-renewed-is-0}
 use Rattle.heap.specs.declared.Superblock.{Superblock}
 use Rattle.heap.specs.declared.State.{State}
 use Rattle.heap.specs.declared.Found.{Found}

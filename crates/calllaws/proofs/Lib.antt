@@ -1,5 +1,3 @@
-pub mod MarkedCases
-pub mod WholeCallCases
 pub mod CallEffects
 pub mod CheckedLaws
 pub mod SetupLaws

@@ -19,8 +19,8 @@ use Rattle.classes.proofs.ClassTableLaws.{blocks-of-le-256}
 use Rattle.marks.specs.Marks.{markBit}
 use Rattle.marklaws.proofs.MarkLaws.{live-count-without-mark, length-without-mark, without-mark-same, without-mark-other}
 use Rattle.order.specs.Order.{withPlace}
-use Rattle.ordercheck.proofs.PlacesValidLaws.{places-valid-after-free}
-use Rattle.ordercheck.proofs.OwnPlacesOnly.{places-valid-other-with-place}
+use Rattle.filledplaces.proofs.PlacesValidLaws.{places-valid-after-free}
+use Rattle.filledplaces.proofs.OwnPlacesOnly.{places-valid-other-with-place}
 use Rattle.heap.specs.declared.Superblock.{Superblock}
 use Rattle.heap.specs.declared.State.{State}
 use Rattle.heap.specs.Table.{blank, superblockAt, withSuperblock, liveIn, withoutMarkAt}

@@ -15,9 +15,9 @@ use Rattle.classes.specs.Classes.{blocksOf}
 use Rattle.classes.proofs.ClassTableLaws.{blocks-of-le-256}
 use Rattle.marks.specs.Marks.{markBit, liveCount, withMark}
 use Rattle.marklaws.proofs.MarkLaws.{with-mark-same, with-mark-other, live-count-with-mark, length-with-mark}
-use Rattle.ordercheck.specs.FilledPlaces.{placesValid}
-use Rattle.ordercheck.proofs.PlacesValidLaws.{last-filled-below-n, last-filled-not-marked, places-valid-after-take}
-use Rattle.ordercheck.proofs.OwnPlacesOnly.{places-valid-cong}
+use Rattle.filledplaces.specs.FilledPlaces.{placesValid}
+use Rattle.filledplaces.proofs.PlacesValidLaws.{last-filled-below-n, last-filled-not-marked, places-valid-after-take}
+use Rattle.filledplaces.proofs.OwnPlacesOnly.{places-valid-cong}
 use Rattle.heap.specs.declared.Superblock.{Superblock}
 use Rattle.heap.specs.declared.State.{State}
 use Rattle.heap.specs.Table.{blank, superblockAt, withSuperblock, liveIn, withMarkAt}

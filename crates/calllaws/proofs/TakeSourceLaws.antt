@@ -17,8 +17,8 @@ use Rattle.marks.specs.Marks.{markBit}
 use Rattle.marklaws.proofs.MarkLaws.{marks-clear-of-live-count-zero, mark-bit-of-no-marks, live-count-of-no-marks}
 use Rattle.order.specs.Order.{place, lastFilled, renewed}
 use Rattle.orderlaws.proofs.OrderLaws.{length-renewed, renewed-other-superblock}
-use Rattle.ordercheck.specs.FilledPlaces.{placesValid}
-use Rattle.ordercheck.proofs.PlacesValidLaws.{places-valid-after-renewal}
+use Rattle.filledplaces.specs.FilledPlaces.{placesValid}
+use Rattle.filledplaces.proofs.PlacesValidLaws.{places-valid-after-renewal}
 use Rattle.heap.specs.declared.Superblock.{Superblock}
 use Rattle.heap.specs.declared.State.{State}
 use Rattle.heap.specs.declared.Found.{Found}

@@ -1,4 +1,4 @@
--- Whole calls, past the check: which refusal comes first, and an accepted take and free. By computation. Assumes nothing.
+-- Whole calls: the check first, then which refusal comes first, and an accepted take and free. By computation. Assumes nothing.
 use mathlib.Core.Path.{_≡_, refl}
 use mathlib.Core.List.{List, [], _∷_, _++_, map}
 use lib.ListN.{replicate}
@@ -7,7 +7,7 @@ use Rattle.laws.specs.Sums.{sumBelow, allBelow}
 use Rattle.classes.specs.Classes.{sizes, counts, sizeOf, blocksOf, firstAtLeast, classOf}
 use Rattle.marks.specs.Marks.{bit, markBit, isMarked, withMark, withoutMark, liveCount, noMarkFrom}
 use Rattle.order.specs.Order.{place, lastFilled, withPlace, descending, withRenewedPlaces, renewed}
-use Rattle.ordercheck.specs.FilledPlaces.{occurrences, placesInStorage, eachOnce, placesValid}
+use Rattle.filledplaces.specs.FilledPlaces.{occurrences, placesInStorage, eachOnce, placesValid}
 use Rattle.heap.specs.declared.State.{State}
 use Rattle.heap.specs.Table.{unused, isUnused}
 use Rattle.heap.specs.Counts.{total, belongs, oneIfBelongs, liveIfBelongs, superblocksOf, blocksIn, liveOf}
@@ -38,15 +38,26 @@ state-before = pair-state 1 2
 abbrev pub order-before : List ℕ
 order-before = pairOrder 1 66 0 67
 
+-- ---- behind the check: a call on that state and storage
+abbrev pub unchecked : Call → After
+unchecked (Take processor size) = takeUnchecked state-before order-before processor size
+unchecked (Free processor address) = freeUnchecked state-before order-before processor address
+
 -- 2 before 3; 3; a take of 2048 from heap 1's own superblock; 2 before 5; 5 before 6, where superblock 2 is unused; 6 before 7, where block 1 is not live;
 -- 7; and processor 1 frees a block of heap 2, whose superblock stays heap 2's
-pub call-of-cases :
-    map (callOf state-before order-before) (Take 0 0 ∷ Take 1 2049 ∷ Take 1 2048 ∷ Free 3 8192 ∷ Free 1 8193 ∷ Free 1 2049 ∷ Free 1 2048 ∷ Free 1 0 ∷ [])
+pub unchecked-call-cases :
+    map unchecked (Take 0 0 ∷ Take 1 2049 ∷ Take 1 2048 ∷ Free 3 8192 ∷ Free 1 8193 ∷ Free 1 2049 ∷ Free 1 2048 ∷ Free 1 0 ∷ [])
     ≡ refused 2 state-before order-before ∷ refused 3 state-before order-before ∷ after-with (Address 4096) (pair-state 1 3) order-before ∷ refused 2 state-before order-before ∷ refused 5 state-before order-before
     ∷ refused 6 state-before order-before ∷ refused 7 state-before order-before ∷ after-with (Moves 0) (pair-state 0 2) (pairOrder 1 0 0 67) ∷ []
-unfolding callOf takeOf takeUnchecked takenAt takenFromOther takenFrom addressOf nextBlock acquiredOrder acquired otherPlaces freeOf freeUnchecked freedAt orderPushed markCleared isLiveAt isMisaligned isUnmapped blockOf
-    checked isProcessor withinLimits restValid superblockValid unusedFrom emptinessInvariant sparseIfGlobal invariantRestored excessTransferred transfersUpTo transferred foundTransferred mustMove bothConditions
+unfolding takeUnchecked takenAt takenFromOther takenFrom addressOf nextBlock acquiredOrder acquired otherPlaces freeUnchecked freedAt orderPushed markCleared isLiveAt isMisaligned isUnmapped blockOf isProcessor
+    invariantRestored excessTransferred transfersUpTo transferred foundTransferred mustMove bothConditions
     prefer chosenBelow moreLive fewerLive neverPreferred hasFree emptyInGlobal fullest lowestEmpty lowestUnused emptiest total belongs oneIfBelongs liveIfBelongs superblocksOf blocksIn liveOf isUnused
-    placesValid placesInStorage eachOnce occurrences place lastFilled withPlace descending withRenewedPlaces renewed noMarkFrom bit markBit isMarked withMark withoutMark liveCount
-    sizes counts sizeOf blocksOf firstAtLeast classOf sumBelow allBelow
-call-of-cases = refl
+    place lastFilled withPlace descending withRenewedPlaces renewed bit markBit isMarked withMark withoutMark liveCount
+    sizes counts sizeOf blocksOf firstAtLeast classOf sumBelow
+unchecked-call-cases = refl
+
+-- ---- with the check before it: "Take or free: 13 for setup numbers, 12, the rest of 13, then ..", whatever the state and the storage
+pub call-of-checks-first : (s : State) (order : List ℕ) (processor n : ℕ)
+    → (callOf s order (Take processor n) ≡ checked s order (takeUnchecked s order processor n)) × (callOf s order (Free processor n) ≡ checked s order (freeUnchecked s order processor n))
+unfolding callOf takeOf freeOf
+call-of-checks-first s order processor n = (refl, refl)

@@ -8,7 +8,7 @@ use Rattle.laws.specs.Sums.{sumBelow, allBelow}
 use Rattle.classes.specs.Classes.{sizes, counts, sizeOf, blocksOf}
 use Rattle.marks.specs.Marks.{bit, markBit, isMarked, withMark, withoutMark, liveCount, noMarkFrom}
 use Rattle.order.specs.Order.{place, lastFilled, withPlace, descending, withRenewedPlaces, renewed, cleared}
-use Rattle.ordercheck.specs.FilledPlaces.{occurrences, placesInStorage, eachOnce, placesValid}
+use Rattle.filledplaces.specs.FilledPlaces.{occurrences, placesInStorage, eachOnce, placesValid}
 use Rattle.heap.specs.declared.Superblock.{Superblock}
 use Rattle.heap.specs.declared.Setup.{Setup}
 use Rattle.heap.specs.declared.State.{State}
@@ -18,7 +18,7 @@ use Rattle.heap.specs.Table.{unused, isUnused}
 use Rattle.heap.specs.Counts.{total, belongs, oneIfBelongs, liveIfBelongs, superblocksOf, blocksIn, liveOf}
 use Rattle.heap.specs.Choice.{prefer, chosenBelow, moreLive, fewerLive, neverPreferred, hasFree, emptyInGlobal, fullest, lowestEmpty, lowestUnused, emptiest}
 use Rattle.heap.specs.Moves.{bothConditions, mustMove, transferred, foundTransferred, transfersUpTo, excessTransferred, invariantRestored}
-use Rattle.heap.specs.Check.{within, withinLimits, superblockValid, restValid}
+use Rattle.heap.specs.Check.{within, withinLimits, superblockValid, unusedFrom, emptinessInvariant, sparseIfGlobal, restValid}
 use Rattle.calls.specs.declared.Outcome.{Outcome}
 use Rattle.calls.specs.declared.Outcome.the-variants.{Ready, Address, Moves, Refused}
 use Rattle.calls.specs.Answers.{After, numberOf, valuesOf, refused, checked, isProcessor}
@@ -92,6 +92,15 @@ pub checked-cases :
     ≡ refused 13 (state-with-wrong-owner 2) (used-order 0) ∷ refused 12 (state-with-wrong-owner 7) (used-order 0) ∷ refused 13 (state-with-wrong-owner 7) (used-order 1) ∷ []
 unfolding checked withinLimits restValid superblockValid isUnused liveCount sumBelow allBelow markBit bit
 checked-cases = refl
+
+-- a state that passes, with P = 1, and storage enough: what follows
+abbrev pub state-that-passes : State
+state-that-passes = record { setup = setup-with 1 1 1 3 7; table = of 1 26 1 ∷ replicate 63 unused }
+
+pub checked-passing-case : checked state-that-passes (1 ∷ replicate 255 77) after-check ≡ after-check
+unfolding checked withinLimits restValid superblockValid unusedFrom emptinessInvariant sparseIfGlobal mustMove bothConditions total oneIfBelongs liveIfBelongs belongs superblocksOf blocksIn liveOf isUnused
+    placesValid placesInStorage eachOnce occurrences place noMarkFrom isMarked sizeOf sizes blocksOf counts liveCount sumBelow allBelow markBit bit
+checked-passing-case = refl
 
 -- a refusal: its number, the state and the storage as they were
 pub refused-case : refused 9 (state-with-wrong-owner 7) (4 ∷ 5 ∷ []) ≡ record { answer = record { outcome = Refused 9; state = state-with-wrong-owner 7 }; order = 4 ∷ 5 ∷ [] }

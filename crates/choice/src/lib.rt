@@ -2,7 +2,7 @@
 // serves them all.
 ghost use mathlib.Core.Path.{_≡_};
 ghost use Prim.Native.Nat.{_≤_};
-ghost use Rattle.heap.specs.Choice.{chosenBelow, moreLive, fewerLive, hasFree, emptyInGlobal, fullest as fullestOf, lowestEmpty, lowestUnused, emptiest as emptiestOf};
+ghost use Rattle.heap.specs.Choice.{chosenBelow, fullest as fullestOf, lowestEmpty, lowestUnused, emptiest as emptiestOf};
 ghost use Rattle.choice.specs.Criteria.{meetsCriterion, preferredBy, bestAfter};
 use heap::Found;
 use heap::State;
@@ -23,43 +23,17 @@ struct Best {
     block: Superblock,
 }
 
-// A superblock of the heap and class, with a free block.
-fn has_free(b: Superblock, heap: u8, class: u8) -> bool
-    ensures { λ r. ⌜ r ≡ hasFree heap class b ⌝ }
-{
-    predicates::belongs(b, heap, class)
-        && predicates::live_in(b) < classes::block_count(class) as u32
-}
-
-// A superblock of heap 0 with nothing live.
-fn empty_in_global(b: Superblock) -> bool
-    ensures { λ r. ⌜ r ≡ emptyInGlobal b ⌝ }
-{
-    b.owner == 0 && predicates::live_in(b) == 0
-}
-
-// b has more live blocks than d.
-fn more_live(b: Superblock, d: Superblock) -> bool
-    ensures { λ r. ⌜ r ≡ moreLive b d ⌝ }
-{
-    predicates::live_in(d) < predicates::live_in(b)
-}
-
-// b has fewer live blocks than d.
-fn fewer_live(b: Superblock, d: Superblock) -> bool
-    ensures { λ r. ⌜ r ≡ fewerLive b d ⌝ }
-{
-    predicates::live_in(b) < predicates::live_in(d)
-}
-
 // The choice may fall on b.
 fn meets_criterion(w: Criterion, b: Superblock) -> bool
     ensures { λ r. ⌜ r ≡ meetsCriterion w b ⌝ }
 {
     match w {
-        Criterion::HasFree(heap, class) => has_free(b, heap, class),
+        Criterion::HasFree(heap, class) => {
+            predicates::belongs(b, heap, class)
+                && predicates::live_in(b) < classes::block_count(class) as u32
+        }
         Criterion::Belongs(heap, class) => predicates::belongs(b, heap, class),
-        Criterion::Empty => empty_in_global(b),
+        Criterion::Empty => b.owner == 0 && predicates::live_in(b) == 0,
         Criterion::Unused => predicates::is_unused(b),
     }
 }
@@ -69,8 +43,8 @@ fn preferred(w: Criterion, b: Superblock, d: Superblock) -> bool
     ensures { λ r. ⌜ r ≡ preferredBy w b d ⌝ }
 {
     match w {
-        Criterion::HasFree(heap, class) => more_live(b, d),
-        Criterion::Belongs(heap, class) => fewer_live(b, d),
+        Criterion::HasFree(heap, class) => predicates::live_in(d) < predicates::live_in(b),
+        Criterion::Belongs(heap, class) => predicates::live_in(b) < predicates::live_in(d),
         Criterion::Empty => false,
         Criterion::Unused => false,
     }

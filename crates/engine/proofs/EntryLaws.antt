@@ -11,17 +11,17 @@ use Rattle.order.specs.Order.{cleared}
 use Rattle.heap.specs.declared.Setup.{Setup}
 use Rattle.heap.specs.declared.State.{State}
 use Rattle.heap.specs.Table.{noState, newState}
-use Rattle.heap.specs.Check.{withinLimits}
+use Rattle.heap.specs.Check.{withinLimits, restValid}
 use Rattle.heaplaws.proofs.StateFacts.{Shape}
 use Rattle.calls.specs.declared.Answer.{Answer}
 use Rattle.calls.specs.declared.Outcome.the-variants.{Ready, Refused}
-use Rattle.calls.specs.Answers.{After, HasNumberAndValuesOf, PassesIfAccepted, refused}
+use Rattle.calls.specs.Answers.{After, HasNumberAndValuesOf, PassesIfAccepted, refused, checked}
 use Rattle.calls.specs.Setup.{acceptedSetup, setupOf}
 use Rattle.calls.specs.Take.{takeUnchecked, takeOf}
 use Rattle.calls.specs.Free.{freeUnchecked, freeOf}
 use Rattle.calllaws.proofs.AcceptedCallLaws.{take-passes-if-accepted, free-passes-if-accepted, setup-passes-if-accepted, number-and-values-by-rules, passes-if-accepted-by-rules, refused-of-answer}
-use Rattle.engine.specs.FirstRefusal.{setupRefusal, firstRefusal}
-use Rattle.engine.proofs.FirstRefusalLaws.{checked-is-first-refusal, checked-of-no-refusal}
+use Rattle.limits.specs.SetupRefusal.{setupRefusal}
+use Rattle.statecheck.specs.FirstRefusal.{firstRefusal}
 
 abbrev answerAndOrder : Answer → List ℕ → After
 answerAndOrder r order = record { answer = r; order = order }
@@ -57,6 +57,28 @@ module _ (u : Setup) (order : List ℕ) (first : ℕ) (st : State) (e : first �
       go true true q = refl
       go true false q = absurd (omega arith)
       go false b q = absurd (omega arith)
+
+-- ---- the check by the number of its refusal: a call that it refuses
+checked-is-first-refusal : (s : State) (order : List ℕ) (r : ℕ) (next : After) → r ≡ firstRefusal s order → (r ≡ 0 → ⊥) → checked s order next ≡ refused r s order
+unfolding firstRefusal checked
+checked-is-first-refusal s order r next e n = go (withinLimits (s .setup)) (leb (s .setup .superblocks * 256) (length order)) (restValid s order) e
+  where
+    go : (a b c : Bool) → r ≡ pick a (pick b (pick c 0 13) 12) 13 → pick a (pick b (pick c next (refused 13 s order)) (refused 12 s order)) (refused 13 s order) ≡ refused r s order
+    go true true true q = absurd (n q)
+    go true true false q = rw (← q)
+    go true false c q = rw (← q)
+    go false b c q = rw (← q)
+
+-- one that it lets pass
+checked-of-no-refusal : (s : State) (order : List ℕ) (r : ℕ) (next : After) → r ≡ firstRefusal s order → r ≡ 0 → checked s order next ≡ next
+unfolding firstRefusal checked
+checked-of-no-refusal s order r next e z = go (withinLimits (s .setup)) (leb (s .setup .superblocks * 256) (length order)) (restValid s order) (sym z ∙ e)
+  where
+    go : (a b c : Bool) → _≡_ {A = ℕ} 0 (pick a (pick b (pick c 0 13) 12) 13) → pick a (pick b (pick c next (refused 13 s order)) (refused 12 s order)) (refused 13 s order) ≡ next
+    go true true true q = refl
+    go true true false q = absurd (omega arith)
+    go true false c q = absurd (omega arith)
+    go false b c q = absurd (omega arith)
 
 -- ---- a take and a free: refused by the check, or what they are behind it
 module _ (s : State) (order : List ℕ) (i n first : ℕ) (e : first ≡ firstRefusal s order) where

@@ -1,2 +1,1 @@
-pub mod FirstRefusalLaws
 pub mod EntryLaws

@@ -5,26 +5,10 @@ ghost use Rattle.calls.specs.Answers.{After, HasNumberAndValuesOf, PassesIfAcce
 ghost use Rattle.calls.specs.Setup.{setupOf};
 ghost use Rattle.calls.specs.Take.{takeOf};
 ghost use Rattle.calls.specs.Free.{freeOf};
-ghost use Rattle.engine.specs.FirstRefusal.{setupRefusal, firstRefusal};
 use calls::Answer;
 use calls::Outcome;
 use heap::Setup;
 use heap::State;
-
-// The refusals of a setup: the number given for its numbers, then 12; 0 where neither applies.
-pub fn setup_refusal(numbers: u8, u: Setup, order: &[u16]) -> u8
-    ensures { λ r. ⌜ r ≡ setupRefusal numbers u (now (order .entry)) ⌝ }
-{
-    let lawful = statecheck::within_limits(u);
-    let places = u.superblocks as usize * 256;
-    if !lawful {
-        return numbers;
-    }
-    if order.len() < places {
-        return 12;
-    }
-    0
-}
 
 // A new state with its first N × 256 order places 0; or refusal 1, then 12.
 pub fn setup(u: Setup, order: &mut [u16]) -> Answer
@@ -32,7 +16,7 @@ pub fn setup(u: Setup, order: &mut [u16]) -> Answer
     ensures number_and_values { λ r. ⌜ HasNumberAndValuesOf (r .outcome) (setupOf u (now (order .entry)) .answer .outcome) ⌝ }
     ensures passes { λ r. ⌜ PassesIfAccepted (r .outcome) (r .state) (now (order .exit)) ⌝ }
 {
-    let first = setup_refusal(1, u, order);
+    let first = limits::setup_refusal(1, u, order);
     if first != 0 {
         return states::refuse(states::no_state(), first);
     }
@@ -44,27 +28,13 @@ pub fn setup(u: Setup, order: &mut [u16]) -> Answer
     }
 }
 
-// The refusals that take and free share: 13 for setup numbers, 12, the rest of 13; 0 where none applies.
-fn first_refusal(s: State, order: &[u16]) -> u8
-    ensures { λ r. ⌜ r ≡ firstRefusal s (now (order .entry)) ⌝ }
-{
-    let first = setup_refusal(13, s.setup, order);
-    if first != 0 {
-        return first;
-    }
-    if !statecheck::rest_valid(s, order) {
-        return 13;
-    }
-    0
-}
-
 // The address of a block for the size, in a superblock of the processor's heap; or the first refusal.
 pub fn take(s: State, order: &mut [u16], processor: u8, size: u16) -> Answer
     ensures { λ r. ⌜ record { answer = r; order = now (order .exit) } ≡ takeOf s (now (order .entry)) processor size ⌝ }
     ensures number_and_values { λ r. ⌜ HasNumberAndValuesOf (r .outcome) (takeOf s (now (order .entry)) processor size .answer .outcome) ⌝ }
     ensures passes { λ r. ⌜ PassesIfAccepted (r .outcome) (r .state) (now (order .exit)) ⌝ }
 {
-    let first = first_refusal(s, order);
+    let first = statecheck::first_refusal(s, order);
     if first != 0 {
         return states::refuse(s, first);
     }
@@ -77,7 +47,7 @@ pub fn free(s: State, order: &mut [u16], processor: u8, address: u32) -> Answer
     ensures number_and_values { λ r. ⌜ HasNumberAndValuesOf (r .outcome) (freeOf s (now (order .entry)) processor address .answer .outcome) ⌝ }
     ensures passes { λ r. ⌜ PassesIfAccepted (r .outcome) (r .state) (now (order .exit)) ⌝ }
 {
-    let first = first_refusal(s, order);
+    let first = statecheck::first_refusal(s, order);
     if first != 0 {
         return states::refuse(s, first);
     }

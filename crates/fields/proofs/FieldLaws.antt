@@ -2,8 +2,8 @@
 use mathlib.Core.Path.{_≡_}
 use mathlib.Core.List.{List, [], _++_, append-assoc}
 use Prim.Native.Nat.{ℕ}
-use Rattle.text.specs.Text.{pasted, letters, decimal}
-use Rattle.text.proofs.PasteLaws.{paste-then-paste}
+use Rattle.textrules.specs.Text.{pasted, letters, decimal}
+use Rattle.textrules.proofs.PasteLaws.{paste-then-paste}
 use Rattle.calls.specs.declared.Outcome.{Outcome}
 use Rattle.calls.specs.declared.Outcome.the-variants.{Ready, Address, Moves, Refused}
 use Rattle.linerules.specs.Lines.{field, result}

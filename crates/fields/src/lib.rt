@@ -4,7 +4,7 @@ use text::put_decimal;
 use text::put_text;
 ghost use mathlib.Core.Path.{_≡_};
 ghost use mathlib.Core.List.{[], _++_};
-ghost use Rattle.text.specs.Text.{letters, decimal, pasted};
+ghost use Rattle.textrules.specs.Text.{letters, decimal, pasted};
 ghost use Rattle.linerules.specs.Lines.{result};
 
 // A word and a number after it.

@@ -6,8 +6,8 @@ use native.Mathlib.Nat.{le-antisymm}
 use native.Mathlib.Omega.{arith}
 use native.Mathlib.Numerals.{add-one}
 use borrow.Author.Tests.{eq-eqb, ne-eqb}
-use Rattle.text.specs.Text.{pasted, letters}
-use Rattle.text.proofs.PasteLaws.{paste-then-paste}
+use Rattle.textrules.specs.Text.{pasted, letters}
+use Rattle.textrules.proofs.PasteLaws.{paste-then-paste}
 use Rattle.heap.specs.declared.State.{State}
 use Rattle.heap.specs.Counts.{superblocksOf, liveOf}
 use Rattle.linerules.specs.Lines.{heapLine, heapLineIf, classLines, heapLines, finalLines}

@@ -7,7 +7,7 @@ use heap::State;
 use text::put_text;
 ghost use mathlib.Core.Path.{_≡_};
 ghost use Prim.Native.Nat.{_≤_};
-ghost use Rattle.text.specs.Text.{pasted};
+ghost use Rattle.textrules.specs.Text.{pasted};
 ghost use Rattle.linerules.specs.Lines.{heapLine, heapLineIf, classLines, heapLines, finalLines};
 
 // The line of a heap and class, with the number of its superblocks and of their live blocks.
@@ -24,7 +24,7 @@ fn heap_line(out: &mut [u8], at: usize, heap: u8, class: u8, superblocks: u32, l
 fn heap_line_if(out: &mut [u8], at: usize, heap: u8, class: u8, s: State) -> usize
     ensures { λ r. ⌜ record { end = r; buffer = now (out .exit) } ≡ pasted (now (out .entry)) at (heapLineIf heap class s) ⌝ }
 {
-    let n = moves::count_of(s, heap, class);
+    let n = counts::count_of(s, heap, class);
     if n.superblocks == 0 {
         return put_nothing(out, at);
     }

@@ -3,12 +3,12 @@ use mathlib.Core.Path.{_≡_, refl}
 use mathlib.Core.Bool.{Bool, true, false, not}
 use mathlib.Core.List.{List, [], _∷_, _++_, map}
 use Prim.Native.Nat.{ℕ, _+_, _-_, _^_}
-use lib.ListN.{replicate}
+use lib.ListN.{length, replicate}
 use Rattle.laws.specs.Sums.{sumBelow, allBelow}
 use Rattle.classes.specs.Classes.{sizes, counts, sizeOf, blocksOf}
 use Rattle.marks.specs.Marks.{bit, markBit, isMarked, liveCount, noMarkFrom}
 use Rattle.order.specs.Order.{place}
-use Rattle.ordercheck.specs.FilledPlaces.{occurrences, placesInStorage, eachOnce, placesValid}
+use Rattle.filledplaces.specs.FilledPlaces.{occurrences, placesInStorage, eachOnce, placesValid}
 use Rattle.heap.specs.declared.Superblock.{Superblock}
 use Rattle.heap.specs.declared.Setup.{Setup}
 use Rattle.heap.specs.declared.State.{State}
@@ -59,13 +59,14 @@ pub sparse-if-global-cases :
 unfolding sparseIfGlobal blocksOf counts liveCount sumBelow markBit bit
 sparse-if-global-cases = (refl, refl)
 
--- ---- "no processor heap and class meets both conditions of the move rule": two empty superblocks of one heap and class do, for K = 1; not in heap 0,
--- nor of two heaps, nor of two classes
-abbrev pub two-superblocks : Superblock → Superblock → State
-two-superblocks a b = record { setup = small-setup; table = a ∷ b ∷ replicate 62 unused }
+-- ---- "no processor heap and class meets both conditions of the move rule": two empty superblocks of one heap and class do, for K = 1, of the first
+-- heap and class and of the last; not in heap 0, nor of two heaps, nor of two classes
+abbrev pub state-of-superblocks : List Superblock → State
+state-of-superblocks l = record { setup = small-setup; table = l ++ replicate (64 - length l) unused }
 
 pub emptiness-invariant-cases :
-    map emptinessInvariant (two-superblocks (of 1 0 0) (of 1 0 0) ∷ two-superblocks (of 2 26 0) (of 2 26 0) ∷ two-superblocks (of 0 26 0) (of 0 26 0) ∷ two-superblocks (of 1 26 0) (of 2 26 0) ∷ two-superblocks (of 1 26 0) (of 1 25 0) ∷ [])
-    ≡ false ∷ false ∷ true ∷ true ∷ true ∷ []
+    map (λ (l : List Superblock). emptinessInvariant (state-of-superblocks l))
+    ((of 1 0 0 ∷ of 1 0 0 ∷ []) ∷ (of 2 26 0 ∷ of 2 26 0 ∷ []) ∷ (of 0 26 0 ∷ of 0 26 0 ∷ of 1 26 0 ∷ of 2 26 0 ∷ of 1 25 0 ∷ []) ∷ [])
+    ≡ false ∷ false ∷ true ∷ []
 unfolding emptinessInvariant allBelow mustMove bothConditions total oneIfBelongs liveIfBelongs belongs superblocksOf blocksIn liveOf sizeOf sizes blocksOf counts liveCount sumBelow markBit bit
 emptiness-invariant-cases = refl

@@ -5,7 +5,7 @@ use mathlib.Core.List.{List}
 use lib.Dec.{eqb, leb, ltb}
 use Rattle.laws.specs.Sums.{both, either, allBelow}
 use Rattle.classes.specs.Classes.{blocksOf}
-use Rattle.ordercheck.specs.FilledPlaces.{placesValid}
+use Rattle.filledplaces.specs.FilledPlaces.{placesValid}
 use Rattle.heap.specs.declared.Superblock.{Superblock}
 use Rattle.heap.specs.declared.Setup.{Setup}
 use Rattle.heap.specs.declared.State.{State}

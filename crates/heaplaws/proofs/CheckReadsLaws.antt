@@ -12,7 +12,7 @@ use Rattle.laws.proofs.SumLaws.{all-at, all-cong}
 use Rattle.classes.specs.Classes.{blocksOf}
 use Rattle.classes.proofs.ClassTableLaws.{blocks-of-le-256}
 use Rattle.orderlaws.proofs.FirstPlaces.{SameFirst, same-first-place}
-use Rattle.ordercheck.proofs.StorageLengthLaws.{places-valid-cong-if-in-storage}
+use Rattle.filledplaces.proofs.StorageLengthLaws.{places-valid-cong-if-in-storage}
 use Rattle.heap.specs.declared.Superblock.{Superblock}
 use Rattle.heap.specs.declared.State.{State}
 use Rattle.heap.specs.Table.{superblockAt, isUnused}

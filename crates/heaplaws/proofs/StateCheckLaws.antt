@@ -16,7 +16,7 @@ use Rattle.laws.proofs.SumLaws.{all-at, all-of-each}
 use Rattle.classes.specs.Classes.{blocksOf}
 use Rattle.classes.proofs.ClassTableLaws.{blocks-of-le-256}
 use Rattle.marklaws.proofs.MarkLaws.{live-count-of-no-marks}
-use Rattle.ordercheck.proofs.PlacesValidLaws.{live-count-le-of-places-valid}
+use Rattle.filledplaces.proofs.PlacesValidLaws.{live-count-le-of-places-valid}
 use Rattle.heap.specs.declared.Superblock.{Superblock}
 use Rattle.heap.specs.declared.Setup.{Setup}
 use Rattle.heap.specs.declared.State.{State}

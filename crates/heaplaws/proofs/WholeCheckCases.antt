@@ -8,7 +8,7 @@ use Rattle.laws.specs.Sums.{sumBelow, allBelow}
 use Rattle.classes.specs.Classes.{sizes, counts, sizeOf, blocksOf}
 use Rattle.marks.specs.Marks.{bit, markBit, isMarked, liveCount, noMarkFrom}
 use Rattle.order.specs.Order.{place}
-use Rattle.ordercheck.specs.FilledPlaces.{occurrences, placesInStorage, eachOnce, placesValid}
+use Rattle.filledplaces.specs.FilledPlaces.{occurrences, placesInStorage, eachOnce, placesValid}
 use Rattle.heap.specs.declared.State.{State}
 use Rattle.heap.specs.Table.{unused, withSuperblock, isUnused}
 use Rattle.heap.specs.Counts.{total, belongs, oneIfBelongs, liveIfBelongs, superblocksOf, blocksIn, liveOf}

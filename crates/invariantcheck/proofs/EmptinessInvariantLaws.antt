@@ -18,7 +18,7 @@ use Rattle.heap.specs.declared.State.{State}
 use Rattle.heap.specs.Counts.{total, superblocksOf, blocksIn, liveOf}
 use Rattle.heap.specs.Moves.{bothConditions, mustMove}
 use Rattle.heap.specs.Check.{within, emptinessInvariant}
-use Rattle.predicates.proofs.MoveRuleLaws.{both-conditions-false-where-first-fails}
+use Rattle.thresholds.proofs.MoveRuleLaws.{both-conditions-false-where-first-fails}
 use Rattle.tally.specs.Tally.{Tallied}
 use Rattle.invariantcheck.specs.TallyInvariant.{pairInvariant, classInvariant, heapInvariant, tallyInvariant}
 

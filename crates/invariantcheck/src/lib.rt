@@ -19,7 +19,7 @@ fn pair_invariant(setup: Setup, class: u8, superblocks: u32, live: u32) -> bool
         return true;
     }
     let n = classes::block_count(class) as u32;
-    !predicates::both_conditions(setup, n, superblocks * n, live)
+    !thresholds::both_conditions(setup, n, superblocks * n, live)
 }
 
 // ---- by tallied numbers

@@ -28,7 +28,7 @@ use Rattle.littleendian.specs.Bytes.{byteAt}
 use Rattle.commands.specs.Record.{commandAt, sizeOfCommand, isRefused, commandsFrom, commandsOf}
 use Rattle.commandlaws.proofs.CommandLaws.{setup-fits, take-fits}
 use Rattle.commandlaws.proofs.RefusalOffsets.{bytesIn, bytes-in-commands-le-60000}
-use Rattle.text.proofs.DigitLaws.{length-of-decimal-le-10, length-of-byte-decimal-le-3, length-of-u16-decimal-le-5}
+use Rattle.textrules.proofs.DigitLaws.{length-of-decimal-le-10, length-of-byte-decimal-le-3, length-of-u16-decimal-le-5}
 use Rattle.linerules.specs.Lines.{result, takeLine, freeLine, stopLine}
 use Rattle.linerules.proofs.LineLengthLaws.{length-of-setup-line-le-26, length-of-final-lines-le}
 use Rattle.keyrules.specs.Key.{beforeFirst, setupText, textOf, keyOf, room}

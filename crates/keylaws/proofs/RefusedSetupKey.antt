@@ -15,7 +15,7 @@ use Rattle.calllaws.proofs.SetupLaws.{setup-refused-1-of-limits, setup-refused-
 use Rattle.commands.specs.declared.Command.{Command}
 use Rattle.commands.specs.declared.Command.the-variants as command
 use Rattle.commands.specs.Record.{commandsOf}
-use Rattle.text.specs.Text.{letters, digits, decimal}
+use Rattle.textrules.specs.Text.{letters, digits, decimal}
 use Rattle.linerules.specs.Lines.{stopLine}
 use Rattle.keyrules.specs.Key.{beforeFirst, setupText, textOf, keyOf}
 

@@ -24,7 +24,7 @@ use Rattle.boundlaws.proofs.CallListLaws.{callPastCheck, stepsBy, steps-are-pas
 use Rattle.commands.specs.declared.Command.{Command}
 use Rattle.commands.specs.declared.Command.the-variants as command
 use Rattle.commands.specs.Record.{unlessTruncated, setupAt, unlessFirst, takeAt, freeAt, commandByFirstByte, commandAt, sizeOfCommand, isRefused, commandsFrom, commandsOf}
-use Rattle.text.specs.Text.{letters, digits, decimal}
+use Rattle.textrules.specs.Text.{letters, digits, decimal}
 use Rattle.linerules.specs.Lines.{setupLine, result, takeLine, freeLine, heapLine, heapLineIf, classLines, heapLines, finalLines}
 use Rattle.keyrules.specs.Key.{keyOf}
 use Rattle.keylaws.proofs.KeyClaims.{callsIn, stepsIn, lastAfter, callLine, stepLines, endingLines, key-claims-of-accepted-setup}

@@ -9,7 +9,7 @@ use Rattle.laws.specs.Sums.{sumBelow, allBelow}
 use Rattle.classes.specs.Classes.{sizes, counts, sizeOf, blocksOf, firstAtLeast, classOf}
 use Rattle.marks.specs.Marks.{bit, markBit, isMarked, withMark, withoutMark, liveCount, noMarkFrom}
 use Rattle.order.specs.Order.{place, lastFilled, withPlace, descending, withRenewedPlaces, renewed, cleared}
-use Rattle.ordercheck.specs.FilledPlaces.{occurrences, placesInStorage, eachOnce, placesValid}
+use Rattle.filledplaces.specs.FilledPlaces.{occurrences, placesInStorage, eachOnce, placesValid}
 use Rattle.heap.specs.Table.{isUnused}
 use Rattle.heap.specs.Counts.{total, belongs, oneIfBelongs, liveIfBelongs, superblocksOf, blocksIn, liveOf}
 use Rattle.heap.specs.Choice.{prefer, chosenBelow, moreLive, fewerLive, neverPreferred, hasFree, emptyInGlobal, fullest, lowestEmpty, lowestUnused}
@@ -19,7 +19,7 @@ use Rattle.calls.specs.Answers.{numberOf, checked, isProcessor}
 use Rattle.calls.specs.Setup.{setupOf}
 use Rattle.calls.specs.Take.{otherPlaces, acquired, acquiredOrder, nextBlock, addressOf, takenFrom, takenFromOther, takenAt, takeUnchecked, takeOf}
 use Rattle.commands.specs.Record.{unlessTruncated, setupAt, unlessFirst, takeAt, freeAt, commandByFirstByte, commandAt, sizeOfCommand, isRefused, commandsFrom, commandsOf}
-use Rattle.text.specs.Text.{letters, digits, decimal}
+use Rattle.textrules.specs.Text.{letters, digits, decimal}
 use Rattle.linerules.specs.Lines.{setupLine, result, takeLine, freeLine, stopLine, heapLine, heapLineIf, classLines, heapLines, finalLines}
 use Rattle.keyrules.specs.Key.{setupText, textOf, orderAfter, keyOf, storageOf, room}
 

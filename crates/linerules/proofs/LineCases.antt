@@ -6,7 +6,7 @@ use Prim.Native.Nat.{ℕ}
 use lib.ListN.{replicate}
 use Rattle.laws.specs.Sums.{sumBelow}
 use Rattle.marks.specs.Marks.{liveCount, markBit, bit}
-use Rattle.text.specs.Text.{letters, decimal, digits}
+use Rattle.textrules.specs.Text.{letters, decimal, digits}
 use Rattle.heap.specs.declared.Superblock.{Superblock}
 use Rattle.heap.specs.declared.State.{State}
 use Rattle.heap.specs.Table.{unused}

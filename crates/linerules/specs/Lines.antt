@@ -3,7 +3,7 @@ use mathlib.Core.List.{List, [], _++_}
 use Prim.Native.Nat.{ℕ, zero, suc}
 use lib.Dec.{eqb}
 use Rattle.laws.specs.Sums.{pick}
-use Rattle.text.specs.Text.{letters, decimal}
+use Rattle.textrules.specs.Text.{letters, decimal}
 use Rattle.heap.specs.declared.Setup.{Setup}
 use Rattle.heap.specs.declared.State.{State}
 use Rattle.heap.specs.Counts.{superblocksOf, liveOf}

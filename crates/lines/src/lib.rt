@@ -9,7 +9,7 @@ use fields::put_short;
 use heap::Setup;
 use text::put_text;
 ghost use mathlib.Core.Path.{_≡_};
-ghost use Rattle.text.specs.Text.{pasted};
+ghost use Rattle.textrules.specs.Text.{pasted};
 ghost use Rattle.linerules.specs.Lines.{setupLine, takeLine, freeLine, stopLine};
 
 // The line of an accepted setup.

@@ -1,9 +1,8 @@
--- Laws of the move rule's code: one superblock counted, the test, one superblock passed on, and the loop of the moves. Assumes nothing.
+-- Laws of the move rule's code: the test, one superblock passed on, and the loop of the moves. Assumes nothing.
 use mathlib.Core.Path.{_≡_, refl, sym, ap, _∙_}
 use mathlib.Core.Bool.{Bool, true, false, _&&_}
 use mathlib.Core.List.{List}
 use Prim.Native.Nat.{ℕ, suc, _+_, _-_, _*_, _≤_, _<_}
-use native.Mathlib.Nat.{add-zero}
 use native.Mathlib.Omega.{arith}
 use mir.Syntax.{w8}
 use mir.Val.{Fits}
@@ -16,30 +15,12 @@ use Rattle.heap.specs.declared.State.{State}
 use Rattle.heap.specs.declared.Moved.{Moved}
 use Rattle.heap.specs.declared.Found.{Found}
 use Rattle.heap.specs.declared.Found.the-variants.{At, Nothing}
-use Rattle.heap.specs.Table.{superblockAt, withOwner, liveIn}
-use Rattle.heap.specs.Counts.{belongs, oneIfBelongs, liveIfBelongs, superblocksOf, blocksIn, liveOf}
+use Rattle.heap.specs.Table.{superblockAt, withOwner}
+use Rattle.heap.specs.Counts.{superblocksOf, blocksIn, liveOf}
 use Rattle.heap.specs.Choice.{emptiest}
 use Rattle.heap.specs.Moves.{bothConditions, mustMove, transferred, foundTransferred, transfersUpTo, excessTransferred}
 use Rattle.heaplaws.proofs.CountLaws.{superblocks-of-le-64}
 use Rattle.heaplaws.proofs.MoveLaws.{length-of-found-transferred, superblocks-after-transfer, transfers-up-to-stop, transfers-up-to-step}
-
--- one superblock more is counted where it belongs to the heap and class, and in no other case
-module _ (h c : ℕ) (b : Superblock) (r : Bool) (e : r ≡ belongs h c b) (n : ℕ) where
-  pub one-if-belongs-true : r ≡ true → n + 1 ≡ n + oneIfBelongs h c b
-  unfolding oneIfBelongs
-  one-if-belongs-true t = rw (← e, t)
-
-  pub live-if-belongs-true : (live : ℕ) → live ≡ liveIn b → r ≡ true → n + live ≡ n + liveIfBelongs h c b
-  unfolding liveIfBelongs
-  live-if-belongs-true live l t = rw (← e, t, ← l)
-
-  pub one-if-belongs-false : r ≡ false → n ≡ n + oneIfBelongs h c b
-  unfolding oneIfBelongs
-  one-if-belongs-false f = rw (← e, f) (sym (add-zero n))
-
-  pub live-if-belongs-false : r ≡ false → n ≡ n + liveIfBelongs h c b
-  unfolding liveIfBelongs
-  live-if-belongs-false f = rw (← e, f) (sym (add-zero n))
 
 -- the test, from the counts
 pub must-move-from-counts : (h c : ℕ) (s : State) (n k u : ℕ) (r : Bool) → n ≡ blocksOf c → k ≡ superblocksOf h c s → u ≡ liveOf h c s

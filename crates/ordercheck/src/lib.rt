@@ -5,17 +5,17 @@ ghost use Prim.Native.Nat.{_+_, _-_, _*_, _≤_};
 ghost use lib.ListN.{length};
 ghost use Rattle.classes.specs.Classes.{blocksOf};
 ghost use Rattle.marks.specs.Marks.{liveCount, noMarkFrom};
-ghost use Rattle.ordercheck.specs.FilledPlaces.{placesValid, eachOnce};
+ghost use Rattle.filledplaces.specs.FilledPlaces.{placesValid, eachOnce};
 
 // Superblock s of a class has no mark past its blocks, and its filled places are lent and hold each unmarked block once.
 pub fn places_valid(order: &[u16], live: [u64; 4], s: u8, class: u8) -> bool
     ensures { λ r. ⌜ r ≡ placesValid (now (order .entry)) live s (blocksOf class) ⌝ }
 {
     let n = classes::block_count(class) as usize;
-    if !bitmap::no_mark_from(live, n) {
+    if !bitcount::no_mark_from(live, n) {
         return false;
     }
-    let m = n - bitmap::live_count(live) as usize;
+    let m = n - bitcount::live_count(live) as usize;
     let base = s as usize * 256;
     if order.len() < base + m {
         return false;

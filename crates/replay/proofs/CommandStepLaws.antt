@@ -10,12 +10,11 @@ use borrow.Author.Tests.{lt-ltb, le-ltb, eq-eqb, ne-eqb}
 use lib.ListN.{length}
 use lib.Dec.{eqb, ltb}
 use Rattle.laws.specs.Sums.{pick}
-use Rattle.text.specs.Text.{Pasted, pasted}
-use Rattle.text.proofs.PasteLaws.{paste-append, put-length, put-end-le}
+use Rattle.textrules.specs.Text.{Pasted, pasted}
+use Rattle.textrules.proofs.PasteLaws.{paste-append, put-length, put-end-le}
 use Rattle.heap.specs.declared.Setup.{Setup}
 use Rattle.calls.specs.declared.Answer.{Answer}
 use Rattle.calls.specs.declared.Outcome.{Outcome}
-use Rattle.calls.specs.declared.Outcome.the-variants.{Ready, Address, Moves, Refused}
 use Rattle.calls.specs.Answers.{After, numberOf}
 use Rattle.calls.specs.Setup.{setupOf}
 use Rattle.calls.specs.Take.{takeOf}
@@ -46,26 +45,9 @@ order-after-starting-from after (command.Take processor size ∷ cs) = refl
 order-after-starting-from after (command.Free processor address ∷ cs) = refl
 order-after-starting-from after (command.Refused number offset ∷ cs) = refl
 
--- ---- a command, and the number of an outcome, in the arms of a match
+-- ---- a command in the arms of a match
 pub matched-command-is-command-at : (r : List ℕ) (at : ℕ) (c d : Command) → c ≡ commandAt r at → c ≡ d → d ≡ commandAt r at
 matched-command-is-command-at r at c d e f = sym f ∙ e
-
-module _ (o : Outcome) where
-  pub number-ready : o ≡ Ready → 0 ≡ numberOf o
-  unfolding numberOf
-  number-ready e = rw e
-
-  pub number-address : (a : ℕ) → o ≡ Address a → 0 ≡ numberOf o
-  unfolding numberOf
-  number-address a e = rw e
-
-  pub number-moves : (m : ℕ) → o ≡ Moves m → 0 ≡ numberOf o
-  unfolding numberOf
-  number-moves m e = rw e
-
-  pub number-refused : (n : ℕ) → o ≡ Refused n → n ≡ numberOf o
-  unfolding numberOf
-  number-refused n e = rw e
 
 -- ---- a text in the buffer with the storage
 abbrev text-and-order : Pasted → List ℕ → TextAndOrder

@@ -5,8 +5,8 @@ use mathlib.Core.List.{List}
 use Prim.Native.Nat.{ℕ, _+_, _≤_, _<_, min}
 use native.Mathlib.Omega.{arith}
 use lib.ListN.{length}
-use Rattle.text.specs.Text.{pasted}
-use Rattle.text.proofs.PasteLaws.{paste-nothing, put-end, put-upto, put-behind}
+use Rattle.textrules.specs.Text.{pasted}
+use Rattle.textrules.proofs.PasteLaws.{paste-nothing, put-end, put-upto, put-behind}
 use Rattle.heap.specs.declared.State.{State}
 use Rattle.heap.specs.Table.{noState}
 use Rattle.littleendian.specs.Bytes.{byteAt}

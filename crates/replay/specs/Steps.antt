@@ -6,7 +6,7 @@ use Prim.Native.Nat.{ℕ, suc, _-_, _≤_, _<_}
 use lib.ListN.{length}
 use lib.Dec.{ltb}
 use Rattle.laws.specs.Sums.{pick}
-use Rattle.text.specs.Text.{Pasted, pasted}
+use Rattle.textrules.specs.Text.{Pasted, pasted}
 use Rattle.heap.specs.declared.State.{State}
 use Rattle.commands.specs.Record.{commandsFrom}
 use Rattle.linerules.specs.Lines.{stopLine, finalLines}

@@ -1,13 +1,11 @@
 // The printed key of a record.
 ghost use mathlib.Core.Path.{_≡_};
 ghost use mathlib.Core.Bool.{true};
-ghost use Rattle.text.specs.Text.{pasted};
-ghost use Rattle.calls.specs.Answers.{numberOf};
+ghost use Rattle.textrules.specs.Text.{pasted};
 ghost use Rattle.commands.specs.Record.{commandAt};
 ghost use Rattle.commands.specs.declared.Command.the-variants as command;
 ghost use Rattle.keyrules.specs.Key.{KeyOrNoRoom};
 ghost use Rattle.replay.specs.Steps.{InBounds, Stepped, Finished, Stopped, closingLines, nextOf};
-use calls::Outcome;
 use commands::Command;
 use heap::Setup;
 use heap::State;
@@ -108,7 +106,7 @@ fn setup_step(bytes: &[u8], order: &mut [u16], out: &mut [u8], x: Replay, u: Set
 {
     let a = engine::setup(u, order);
     let outcome = a.outcome;
-    let number = number_of(outcome);
+    let number = states::number_of(outcome);
     if number != 0 {
         return stop_step(out, x, number, 0);
     }
@@ -183,17 +181,5 @@ fn next(bytes: &[u8], s: State, at: usize, end: usize) -> Replay
         end,
         going: at < bytes.len(),
         stopped: false,
-    }
-}
-
-// Document 01's number for an outcome: 0 where the call is accepted.
-fn number_of(outcome: Outcome) -> u8
-    ensures { λ r. ⌜ r ≡ numberOf outcome ⌝ }
-{
-    match outcome {
-        Outcome::Ready => 0,
-        Outcome::Address(a) => 0,
-        Outcome::Moves(m) => 0,
-        Outcome::Refused(r) => r,
     }
 }

@@ -1,3 +1,2 @@
-pub mod WalkLaws
 pub mod LoadStoreLaws
 pub mod LoadStoreContracts

@@ -29,14 +29,14 @@ use denote.Triple.Spec.{tripleOf}
 use denote.Triple.Statement.{Contract}
 use denote.Triple.Clauses.{ensured, lasts}
 use Rattle.heap.specs.declared.Superblock.{Superblock}
-use Rattle.rowcore.specs.declared.TableCall.{TableCall}
+use Rattle.tablecall.specs.declared.TableCall.{TableCall}
 use Rattle.rowrules.specs.LoadStore.{loadOf}
 use Rattle.heap.proofs.Superblock as T
 use Rattle.heap.proofs.Superblock.Laws as T′
-use Rattle.rowcore.proofs.TableCall as R
-use Rattle.rowcore.proofs.TableCall.Laws as R′
-use Rattle.row.proofs.load as load′
-use Rattle.row.proofs.store as store
+use Rattle.tablecall.proofs.TableCall as R
+use Rattle.tablecall.proofs.TableCall.Laws as R′
+use Rattle.rowaccess.proofs.load as load′
+use Rattle.rowaccess.proofs.store as store
 
 abbrev pub Array64 : Ty
 Array64 = tyArray T′.mir 64

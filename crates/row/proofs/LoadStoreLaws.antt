@@ -17,8 +17,8 @@ use Rattle.calls.specs.declared.Call.{Call}
 use Rattle.calls.specs.Answers.{numberOf, PassesIfAccepted}
 use Rattle.calls.specs.Calls.{callOf}
 use Rattle.rowrules.specs.Row.{RowAfter, rowAfter, stateOf, asRowAfter, rowRefused, rowAcceptedSetup, setupOn, callOn, rowSetup, rowCall}
-use Rattle.rowcore.specs.declared.TableCall.{TableCall}
-use Rattle.rowcore.specs.Tables.{isAccepted, rowAfterCall}
+use Rattle.tablecall.specs.declared.TableCall.{TableCall}
+use Rattle.tablecall.specs.Tables.{isAccepted, rowAfterCall}
 use Rattle.rowlaws.proofs.RowLaws.{setup-on-other-length-not-accepted, call-on-other-length-not-accepted, row-setup-row-if-accepted, row-call-row-if-accepted}
 use Rattle.rowrules.specs.LoadStore.{loadOf, storeOf}
 

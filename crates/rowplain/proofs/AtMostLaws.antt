@@ -14,8 +14,8 @@ use Rattle.calls.specs.Answers.{HasNumberAndValuesOf, PassesIfAccepted}
 use Rattle.rowrules.specs.Row.{RowAfter, stateOf, rowSetup, rowCall}
 use Rattle.rowlaws.proofs.RowLaws.{has-number-and-values-of-equal}
 use Rattle.rowrules.specs.declared.RowAnswer.{RowAnswer}
-use Rattle.rowplain.specs.declared.RecordsAnswer.{RecordsAnswer}
-use Rattle.rowplain.specs.Borrowed.{RecordsAfter, recordsWith, recordsAfter}
+use Rattle.rowrules.specs.declared.RecordsAnswer.{RecordsAnswer}
+use Rattle.rowrules.specs.Borrowed.{RecordsAfter, recordsWith, recordsAfter}
 
 -- as many as there are records
 pub at-most-of-fewer : (n : ℕ) → n ≤ 65 → (n ≡ min n 65) × (n ≤ 65)

@@ -1,4 +1,3 @@
-pub mod RecordsAfterCases
 pub mod SplitCells
 pub mod RecordsAnswerLaws
 pub mod AtMostLaws

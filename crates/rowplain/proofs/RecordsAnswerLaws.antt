@@ -19,12 +19,12 @@ use denote.Slice.{sliceTy, Room}
 use denote.Struct.Laws as LL
 use Rattle.heap.specs.declared.Superblock.{Superblock}
 use Rattle.rowrules.specs.declared.RowAnswer.{RowAnswer}
-use Rattle.rowplain.specs.declared.RecordsAnswer.{RecordsAnswer}
+use Rattle.rowrules.specs.declared.RecordsAnswer.{RecordsAnswer}
 use Rattle.heap.proofs.Superblock as T
 use Rattle.heap.proofs.Superblock.Laws as T′
 use Rattle.rowrules.proofs.RowAnswer as N
-use Rattle.rowplain.proofs.RecordsAnswer as R
-use Rattle.rowplain.proofs.RecordsAnswer.Laws as R′
+use Rattle.rowrules.proofs.RecordsAnswer as R
+use Rattle.rowrules.proofs.RecordsAnswer.Laws as R′
 use Rattle.laws.proofs.FieldArrays.{field-array-of-declared-array}
 
 abbrev pub Array65 : Ty

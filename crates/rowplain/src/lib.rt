@@ -4,17 +4,11 @@ ghost use Prim.Native.Nat.{_≤_, min};
 ghost use lib.ListN.{take};
 ghost use Rattle.calls.specs.Answers.{HasNumberAndValuesOf, PassesIfAccepted};
 ghost use Rattle.rowrules.specs.Row.{stateOf, rowSetup, rowCall};
-ghost use Rattle.rowplain.specs.Borrowed.{RecordsAfter, recordsAfter};
+ghost use Rattle.rowrules.specs.Borrowed.{RecordsAfter, recordsAfter};
 use calls::Call;
 use heap::Setup;
 use heap::Superblock;
-use rowrules::RowAnswer;
-
-// The records as the call left them, and its answer.
-pub struct RecordsAnswer {
-    pub records: [Superblock; 65],
-    pub answer: RowAnswer,
-}
+use rowrules::RecordsAnswer;
 
 // As many as there are records.
 fn at_most(n: usize) -> usize

@@ -1,2 +1,3 @@
 pub mod RowCases
 pub mod LoadStoreCases
+pub mod RecordsAfterCases

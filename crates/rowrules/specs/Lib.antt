@@ -1,3 +1,4 @@
 pub mod Row
 pub mod RowClaim
 pub mod LoadStore
+pub mod Borrowed

@@ -1,9 +1,16 @@
 // Calls on a table of superblocks that is lent as a row of records. The rules are in specs/, computed cases of them in proofs/.
 use calls::Outcome;
 use heap::Setup;
+use heap::Superblock;
 
 // What a call on a lent row hands back: its outcome and the setup numbers after it. The superblocks are in the row.
 pub struct RowAnswer {
     pub outcome: Outcome,
     pub setup: Setup,
+}
+
+// The records that a row was lent from the front of, as the call left them, and its answer.
+pub struct RecordsAnswer {
+    pub records: [Superblock; 65],
+    pub answer: RowAnswer,
 }

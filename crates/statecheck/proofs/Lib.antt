@@ -1,2 +1,2 @@
 pub mod RestValidLaws
-pub mod WithinLimitsLaws
+pub mod FirstRefusalLaws

@@ -1,47 +1,30 @@
-// The check of a state handed in: the setup numbers, then all the rest with the order storage.
-// The rest is what is asked of each superblock alone, and the emptiness invariant.
+// The check of a state handed in: the setup numbers, the order places lent, then the rest. The rest is what is asked of each
+// superblock alone, and the emptiness invariant.
 ghost use mathlib.Core.Path.{_≡_};
-ghost use Rattle.heap.specs.Check.{within, withinLimits, restValid};
-use heap::Setup;
+ghost use Rattle.heap.specs.Check.{restValid};
+ghost use Rattle.statecheck.specs.FirstRefusal.{firstRefusal};
 use heap::State;
 
-// The setup numbers are within their limits.
-pub fn within_limits(u: Setup) -> bool
-    ensures { λ r. ⌜ r ≡ withinLimits u ⌝ }
-{
-    if !between(1, 8, u.processors) {
-        return false;
-    }
-    if !between(1, 64, u.superblocks) {
-        return false;
-    }
-    if !between(1, 16, u.spare) {
-        return false;
-    }
-    if u.p < 1 {
-        return false;
-    }
-    if u.p >= u.q {
-        return false;
-    }
-    between(2, 8, u.q)
-}
-
-fn between(a: u8, b: u8, x: u8) -> bool
-    ensures { λ r. ⌜ r ≡ within a b x ⌝ }
-{
-    if x < a {
-        return false;
-    }
-    x <= b
-}
-
 // The rest of the check. What is asked of each superblock alone comes first: it is the longer part.
-pub fn rest_valid(s: State, order: &[u16]) -> bool
+fn rest_valid(s: State, order: &[u16]) -> bool
     ensures { λ r. ⌜ r ≡ restValid s (now (order .entry)) ⌝ }
 {
     if !superblockcheck::each_valid(s, order) {
         return false;
     }
     invariantcheck::emptiness_invariant(s)
+}
+
+// The refusals that take and free share: 13 for setup numbers, 12, the rest of 13; 0 where none applies.
+pub fn first_refusal(s: State, order: &[u16]) -> u8
+    ensures { λ r. ⌜ r ≡ firstRefusal s (now (order .entry)) ⌝ }
+{
+    let first = limits::setup_refusal(13, s.setup, order);
+    if first != 0 {
+        return first;
+    }
+    if !rest_valid(s, order) {
+        return 13;
+    }
+    0
 }

@@ -1,1 +1,2 @@
 pub mod ProcessorLaws
+pub mod NumberLaws

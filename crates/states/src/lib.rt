@@ -1,8 +1,9 @@
-// Whole states, and the answer that is a refusal.
+// Whole states, the number of an outcome, and the answer that is a refusal.
 ghost use mathlib.Core.Path.{_≡_};
-ghost use Rattle.heap.specs.Table.{noState, newState};
+ghost use lib.ListN.{replicate};
+ghost use Rattle.heap.specs.Table.{unused, noState, newState};
 ghost use Rattle.calls.specs.declared.Outcome.the-variants.{Refused};
-ghost use Rattle.calls.specs.Answers.{isProcessor, HasNumberAndValuesOf};
+ghost use Rattle.calls.specs.Answers.{isProcessor, numberOf, HasNumberAndValuesOf};
 use calls::Answer;
 use calls::Outcome;
 use heap::Setup;
@@ -49,7 +50,27 @@ pub fn no_state() -> State
     })
 }
 
+// A table of unused superblocks.
+pub fn unused_table() -> [Superblock; 64]
+    ensures { λ r. ⌜ r ≡ replicate 64 unused ⌝ }
+{
+    let s = no_state();
+    s.table
+}
+
 // ---- answers
+
+// Document 01's number for an outcome: 0 where the call is accepted.
+pub fn number_of(outcome: Outcome) -> u8
+    ensures { λ r. ⌜ r ≡ numberOf outcome ⌝ }
+{
+    match outcome {
+        Outcome::Ready => 0,
+        Outcome::Address(a) => 0,
+        Outcome::Moves(m) => 0,
+        Outcome::Refused(r) => r,
+    }
+}
 
 // The refusal with its number alone.
 pub fn refuse(s: State, number: u8) -> Answer

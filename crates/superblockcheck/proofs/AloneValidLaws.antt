@@ -11,7 +11,7 @@ use Rattle.laws.specs.Sums.{both, either}
 use Rattle.laws.proofs.TestLaws.{T-of-true, both-false-right, both-true-right}
 use Rattle.laws.proofs.SumLaws.{all-false, all-true}
 use Rattle.classes.specs.Classes.{blocksOf}
-use Rattle.ordercheck.specs.FilledPlaces.{placesValid}
+use Rattle.filledplaces.specs.FilledPlaces.{placesValid}
 use Rattle.heap.specs.declared.Superblock.{Superblock}
 use Rattle.heap.specs.declared.Setup.{Setup}
 use Rattle.heap.specs.declared.State.{State}

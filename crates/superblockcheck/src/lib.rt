@@ -55,5 +55,5 @@ fn sparse_if_global(setup: Setup, b: Superblock) -> bool
     }
     let n = classes::block_count(b.class) as u32;
     let live = predicates::live_in(b);
-    predicates::is_sparse(setup, live, n)
+    thresholds::is_sparse(setup, live, n)
 }

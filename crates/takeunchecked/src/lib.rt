@@ -36,7 +36,7 @@ fn take_elsewhere(s: State, order: &mut [u16], heap: u8, class: u8) -> Answer
 {
     let other = other_places(s, class);
     match other {
-        Found::At(k) => allocation::take_from_other(s, order, heap, class, k as u8),
+        Found::At(k) => acquisition::take_from_other(s, order, heap, class, k as u8),
         Found::Nothing => states::refuse(s, 4),
     }
 }

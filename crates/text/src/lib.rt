@@ -2,7 +2,7 @@
 ghost use mathlib.Core.Path.{_≡_};
 ghost use mathlib.Core.List.{[], _∷_};
 ghost use Prim.Native.Nat.{_^_, _≤_, _<_, min};
-ghost use Rattle.text.specs.Text.{decimal, digits, pasted};
+ghost use Rattle.textrules.specs.Text.{decimal, digits, pasted};
 
 // Puts the text at a place of the buffer; the place after it.
 pub fn put_text(out: &mut [u8], at: usize, text: &[u8]) -> usize

@@ -2,7 +2,7 @@
 use mathlib.Core.Path.{sym}
 use native.Mathlib.Omega.{arith}
 use lib.Seq.{length-take-le}
-use Rattle.text.proofs.PasteLaws.{put-end}
+use Rattle.textrules.proofs.PasteLaws.{put-end}
 use borrow.Author.Needs.{needs}
 use Rattle.call.proofs.put_end.Statement.{statement}
 use Rattle.call.proofs.put_end.Tie as tie

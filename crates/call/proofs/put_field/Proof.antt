@@ -4,7 +4,7 @@ use mathlib.Core.Path.{_≡_, subst}
 use Prim.Native.Nat.{ℕ, _+_, _-_, _^_, _≤_, _<_}
 use lib.ListN.{length}
 use native.Mathlib.Omega.{arith}
-use Rattle.text.proofs.PasteLaws.{put-end}
+use Rattle.textrules.proofs.PasteLaws.{put-end}
 use borrow.Author.Needs.{needs}
 use Rattle.call.proofs.put_field.Statement.{statement}
 use Rattle.call.proofs.put_field.Tie as tie

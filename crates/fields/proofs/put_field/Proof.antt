@@ -1,5 +1,5 @@
 -- `fields::put_field` meets its contract: the word, then the number. Assumes nothing.
-use Rattle.text.proofs.PasteLaws.{paste-then-paste}
+use Rattle.textrules.proofs.PasteLaws.{paste-then-paste}
 use borrow.Author.Needs.{needs}
 use Rattle.fields.proofs.put_field.Statement.{statement}
 use Rattle.fields.proofs.put_field.Tie as tie

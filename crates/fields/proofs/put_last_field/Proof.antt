@@ -1,7 +1,7 @@
 -- `fields::put_last_field` meets its contract: the field, then the end of the line. Assumes nothing.
 use mathlib.Core.Path.{refl}
-use Rattle.text.specs.Text.{letters}
-use Rattle.text.proofs.PasteLaws.{paste-then-paste}
+use Rattle.textrules.specs.Text.{letters}
+use Rattle.textrules.proofs.PasteLaws.{paste-then-paste}
 use Rattle.fields.proofs.FieldLaws.{word-put}
 use borrow.Author.Needs.{needs}
 use Rattle.fields.proofs.put_last_field.Statement.{statement}

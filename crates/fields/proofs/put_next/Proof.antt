@@ -1,6 +1,6 @@
 -- `fields::put_next` meets its contract: the word is a space. Assumes nothing.
 use mathlib.Core.Path.{refl}
-use Rattle.text.specs.Text.{letters}
+use Rattle.textrules.specs.Text.{letters}
 use Rattle.fields.proofs.FieldLaws.{field-put}
 use borrow.Author.Needs.{needs}
 use Rattle.fields.proofs.put_next.Statement.{statement}

@@ -1,6 +1,6 @@
 -- `fields::put_result` meets its contract: one arm for each outcome. Assumes nothing.
 use mathlib.Core.Path.{refl}
-use Rattle.text.specs.Text.{letters}
+use Rattle.textrules.specs.Text.{letters}
 use Rattle.fields.proofs.FieldLaws.{field-put, result-of-ready-put, result-of-address-put, result-of-moves-put, result-of-refused-put}
 use borrow.Author.Needs.{needs}
 use Rattle.fields.proofs.put_result.Statement.{statement}

@@ -1,7 +1,7 @@
 -- `fields::put_result_end` meets its contract: the result, then the end of the line. Assumes nothing.
 use mathlib.Core.Path.{refl}
-use Rattle.text.specs.Text.{letters}
-use Rattle.text.proofs.PasteLaws.{paste-then-paste}
+use Rattle.textrules.specs.Text.{letters}
+use Rattle.textrules.proofs.PasteLaws.{paste-then-paste}
 use Rattle.fields.proofs.FieldLaws.{word-put}
 use borrow.Author.Needs.{needs}
 use Rattle.fields.proofs.put_result_end.Statement.{statement}

@@ -4,8 +4,8 @@ use Prim.Native.Nat.{_≤_, _-_}
 use native.Mathlib.Omega.{arith}
 use lib.ListN.{length}
 use borrow.Author.Needs.{needs}
-use Rattle.text.specs.Text.{pasted}
-use Rattle.text.proofs.PasteLaws.{paste-then-paste, paste-nothing-after}
+use Rattle.textrules.specs.Text.{pasted}
+use Rattle.textrules.proofs.PasteLaws.{paste-then-paste, paste-nothing-after}
 use Rattle.linerules.specs.Lines.{classLines}
 use Rattle.finallines.proofs.FinalLinesLaws.{class-lines-start, class-lines-step, class-lines-end}
 use Rattle.finallines.proofs.class_lines.Statement.{statement}

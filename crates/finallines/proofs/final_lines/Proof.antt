@@ -2,7 +2,7 @@
 use mathlib.Core.Path.{refl}
 use native.Mathlib.Omega.{arith}
 use borrow.Author.Needs.{needs}
-use Rattle.text.specs.Text.{letters}
+use Rattle.textrules.specs.Text.{letters}
 use Rattle.fields.proofs.FieldLaws.{word-put}
 use Rattle.finallines.proofs.FinalLinesLaws.{final-lines-after-heap-lines}
 use Rattle.finallines.proofs.final_lines.Statement.{statement}

@@ -4,8 +4,8 @@ use Prim.Native.Nat.{_≤_, _-_}
 use native.Mathlib.Omega.{arith}
 use lib.ListN.{length}
 use borrow.Author.Needs.{needs}
-use Rattle.text.specs.Text.{pasted}
-use Rattle.text.proofs.PasteLaws.{paste-then-paste, paste-nothing-after}
+use Rattle.textrules.specs.Text.{pasted}
+use Rattle.textrules.proofs.PasteLaws.{paste-then-paste, paste-nothing-after}
 use Rattle.linerules.specs.Lines.{heapLines}
 use Rattle.finallines.proofs.FinalLinesLaws.{heap-lines-start, heap-lines-step, heap-lines-end}
 use Rattle.finallines.proofs.heap_lines.Statement.{statement}

@@ -1,5 +1,5 @@
 -- `invariantcheck::pair_invariant` meets its contract: without superblocks the first condition fails. Assumes nothing.
-use Rattle.predicates.proofs.MoveRuleLaws.{blocks-fit}
+use Rattle.thresholds.proofs.MoveRuleLaws.{blocks-fit}
 use Rattle.invariantcheck.proofs.EmptinessInvariantLaws.{pair-invariant-of-no-superblocks, pair-invariant-by-both-conditions}
 use borrow.Author.Needs.{needs}
 use Rattle.invariantcheck.proofs.pair_invariant.Statement.{statement}

@@ -1,8 +1,8 @@
 -- `lines::setup_line` meets its contract: the fields one after another. Assumes nothing.
 use native.Mathlib.Omega.{arith}
 use mathlib.Core.Path.{refl}
-use Rattle.text.specs.Text.{letters}
-use Rattle.text.proofs.PasteLaws.{paste-then-paste}
+use Rattle.textrules.specs.Text.{letters}
+use Rattle.textrules.proofs.PasteLaws.{paste-then-paste}
 use Rattle.fields.proofs.FieldLaws.{word-put, field-put}
 use Rattle.linerules.specs.Lines.{setupLine}
 use borrow.Author.Needs.{needs}

@@ -1,7 +1,7 @@
 -- `lines::stop_line` meets its contract: the fields one after another. Assumes nothing.
 use native.Mathlib.Omega.{arith}
 use mathlib.Core.Path.{refl}
-use Rattle.text.specs.Text.{letters}
+use Rattle.textrules.specs.Text.{letters}
 use Rattle.fields.proofs.FieldLaws.{field-put, last-field-put, put-then-last-field}
 use Rattle.linerules.specs.Lines.{stopLine}
 use borrow.Author.Needs.{needs}

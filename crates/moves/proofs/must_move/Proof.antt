@@ -1,5 +1,5 @@
 -- `moves::must_move` meets its contract: the conditions are tested on the counts. Assumes nothing.
-use Rattle.predicates.proofs.MoveRuleLaws.{blocks-fit}
+use Rattle.thresholds.proofs.MoveRuleLaws.{blocks-fit}
 use Rattle.moves.proofs.TransferLoopLaws.{must-move-from-counts}
 use borrow.Author.Needs.{needs}
 use Rattle.moves.proofs.must_move.Statement.{statement}

@@ -9,7 +9,7 @@ use Rattle.laws.proofs.TestLaws.{T-of-true}
 use Rattle.marks.specs.Marks.{bit, markBit, noMarkFrom, withMark}
 use Rattle.marklaws.proofs.BitLaws.{shl-one}
 use Rattle.order.specs.Order.{place}
-use Rattle.ordercheck.proofs.SeenMarksLaws.{SeenMarks, each-once-false-of-high-block, each-once-false-of-repeated-block, each-once-true-of-all-seen, seen-marks-start, seen-marks-step}
+use Rattle.filledplaces.proofs.SeenMarksLaws.{SeenMarks, each-once-false-of-high-block, each-once-false-of-repeated-block, each-once-true-of-all-seen, seen-marks-start, seen-marks-step}
 use Rattle.ordercheck.proofs.each_once.Statement.{statement}
 use Rattle.ordercheck.proofs.each_once.Tie as tie
 

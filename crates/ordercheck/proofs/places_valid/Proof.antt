@@ -3,7 +3,7 @@ use mathlib.Core.Path.{sym, ap, _∙_}
 use Prim.Native.Nat.{ℕ, _-_}
 use borrow.Author.Tests.{not-false}
 use native.Mathlib.Omega.{arith}
-use Rattle.ordercheck.proofs.PlacesCheckLaws.{places-invalid-of-marks, live-count-le-blocks, places-invalid-of-short-storage, places-valid-is-each-once}
+use Rattle.filledplaces.proofs.PlacesCheckLaws.{places-invalid-of-marks, live-count-le-blocks, places-invalid-of-short-storage, places-valid-is-each-once}
 use borrow.Author.Needs.{needs}
 use Rattle.ordercheck.proofs.places_valid.Statement.{statement}
 use Rattle.ordercheck.proofs.places_valid.Tie as tie

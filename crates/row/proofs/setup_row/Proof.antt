@@ -44,8 +44,8 @@ use Rattle.heap.specs.declared.Setup.{Setup}
 use Rattle.rowrules.specs.declared.RowAnswer.{RowAnswer}
 use Rattle.calls.specs.Answers.{HasNumberAndValuesOf, PassesIfAccepted}
 use Rattle.rowrules.specs.Row.{RowAfter, stateOf, rowAfter, setupOn, rowSetup}
-use Rattle.rowcore.specs.declared.TableCall.{TableCall}
-use Rattle.rowcore.specs.Tables.{isAccepted, rowAfterCall}
+use Rattle.tablecall.specs.declared.TableCall.{TableCall}
+use Rattle.tablecall.specs.Tables.{isAccepted, rowAfterCall}
 use Rattle.rowrules.specs.LoadStore.{loadOf, storeOf}
 use Rattle.rowlaws.proofs.RowLaws.{has-number-and-values-of-equal}
 use Rattle.row.proofs.LoadStoreLaws.{stored-setup-is-row-setup, stored-setup-passes-if-accepted}
@@ -54,23 +54,23 @@ use Rattle.heap.proofs.Setup as S
 use Rattle.heap.proofs.Setup.Laws as S′
 use Rattle.rowrules.proofs.RowAnswer as N
 use Rattle.rowrules.proofs.RowAnswer.Laws as N′
-use Rattle.rowcore.proofs.TableCall as R
-use Rattle.rowcore.proofs.TableCall.Laws as R′
+use Rattle.tablecall.proofs.TableCall as R
+use Rattle.tablecall.proofs.TableCall.Laws as R′
 use Rattle.row.proofs.LoadStoreContracts.{Load, Store, load-ensures-load-of, array64-typed, load-ghosts, load-precondition, answer-val, store-ghosts, store-precondition}
 use Rattle.laws.proofs.FieldArrays.{declared-array-of-field-array}
-use Rattle.row.proofs.WalkLaws.{goal-with-three-facts, KeptWhileShared, mut-slice-shared, mut-slice-restored}
-use Rattle.row.proofs.load as load′
-use Rattle.row.proofs.load.Symbol as load-def
-use Rattle.row.proofs.load.Symbol.{name as #load}
-use Rattle.row.proofs.load.Met as load-thm
+use Rattle.rowaccess.proofs.WalkLaws.{goal-with-three-facts, KeptWhileShared, mut-slice-shared, mut-slice-restored}
+use Rattle.rowaccess.proofs.load as load′
+use Rattle.rowaccess.proofs.load.Symbol as load-def
+use Rattle.rowaccess.proofs.load.Symbol.{name as #load}
+use Rattle.rowaccess.proofs.load.Met as load-thm
 use Rattle.rowcore.proofs.setup_table as work
 use Rattle.rowcore.proofs.setup_table.Symbol as work-def
 use Rattle.rowcore.proofs.setup_table.Symbol.{name as #work}
 use Rattle.rowcore.proofs.setup_table.Met as work-thm
-use Rattle.row.proofs.store as store
-use Rattle.row.proofs.store.Symbol as store-def
-use Rattle.row.proofs.store.Symbol.{name as #store}
-use Rattle.row.proofs.store.Met as store-thm
+use Rattle.rowaccess.proofs.store as store
+use Rattle.rowaccess.proofs.store.Symbol as store-def
+use Rattle.rowaccess.proofs.store.Symbol.{name as #store}
+use Rattle.rowaccess.proofs.store.Met as store-thm
 use Rattle.row.proofs.setup_row.Key.{name as #setup-row}
 use Rattle.row.proofs.setup_row as f
 use Rattle.row.proofs.setup_row.Statement as stated
@@ -214,6 +214,6 @@ setup-row-spec 𝓤 H 𝓜 𝓖 𝓡 =
     entered 𝓤 H (tripleOf 𝓤 H (𝓖 .A) f.signature (f.spec 𝓤 H (𝓖 .A) (𝓜 .mem) (𝓡 .run)))
     (tables 𝓤 H 𝓜 𝓡 code.env .C) (tables 𝓤 H 𝓜 𝓡 code.env .Λ) #setup-row code.function (code.unfolded 𝓤 H 𝓜 𝓡)
     (setup-row-meets 𝓤 H (𝓖 .A) (givenOf 𝓤 H 𝓜 𝓖) (𝓜 .mem) (𝓡 .run) (tablesOf 𝓤 H 𝓜 (tables 𝓤 H 𝓜 𝓡 code.env))
-    (cited 𝓤 H (Load 𝓤 H (𝓖 .A) (𝓜 .mem) (𝓡 .run)) 𝓜 𝓡 code.env #load load-def.routine code.calls-row·load (load-thm.met 𝓤 H 𝓜 𝓖 𝓡))
+    (cited 𝓤 H (Load 𝓤 H (𝓖 .A) (𝓜 .mem) (𝓡 .run)) 𝓜 𝓡 code.env #load load-def.routine code.calls-rowaccess·load (load-thm.met 𝓤 H 𝓜 𝓖 𝓡))
     (cited 𝓤 H (Work 𝓤 H (𝓖 .A) (𝓜 .mem) (𝓡 .run)) 𝓜 𝓡 code.env #work work-def.routine code.calls-rowcore·setup-table (work-thm.met 𝓤 H 𝓜 𝓖 𝓡))
-    (cited 𝓤 H (Store 𝓤 H (𝓖 .A) (𝓜 .mem) (𝓡 .run)) 𝓜 𝓡 code.env #store store-def.routine code.calls-row·store (store-thm.met 𝓤 H 𝓜 𝓖 𝓡)))
+    (cited 𝓤 H (Store 𝓤 H (𝓖 .A) (𝓜 .mem) (𝓡 .run)) 𝓜 𝓡 code.env #store store-def.routine code.calls-rowaccess·store (store-thm.met 𝓤 H 𝓜 𝓖 𝓡)))

@@ -1,5 +1,5 @@
 -- `rowcore::call_state` meets its contract. Assumes nothing.
-use Rattle.rowcore.proofs.TableCallLaws.{take-is-call-of, free-is-call-of}
+use Rattle.rowcore.proofs.RowCallLaws.{take-is-call-of, free-is-call-of}
 use borrow.Author.Needs.{needs}
 use Rattle.rowcore.proofs.call_state.Statement.{statement}
 use Rattle.rowcore.proofs.call_state.Tie as tie

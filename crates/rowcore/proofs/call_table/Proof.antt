@@ -1,5 +1,5 @@
 -- `rowcore::call_table` meets its contract. Assumes nothing.
-use Rattle.rowcore.proofs.TableCallLaws.{refused-call-is-call-on, answered-call-is-call-on, table-call-clauses, accepted-flag-of-refused-call, accepted-flag-of-answered-call, refused-call-passes-if-accepted, answered-call-passes-if-accepted}
+use Rattle.rowcore.proofs.RowCallLaws.{refused-call-is-call-on, answered-call-is-call-on, table-call-clauses, accepted-flag-of-refused-call, accepted-flag-of-answered-call, refused-call-passes-if-accepted, answered-call-passes-if-accepted}
 use borrow.Author.Needs.{needs}
 use Rattle.rowcore.proofs.call_table.Statement.{statement}
 use Rattle.rowcore.proofs.call_table.Tie as tie

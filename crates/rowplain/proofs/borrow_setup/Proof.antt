@@ -48,18 +48,18 @@ use Rattle.heap.specs.declared.Setup.{Setup}
 use Rattle.rowrules.specs.declared.RowAnswer.{RowAnswer}
 use Rattle.calls.specs.Answers.{HasNumberAndValuesOf, PassesIfAccepted}
 use Rattle.rowrules.specs.Row.{stateOf, rowAfter, rowSetup}
-use Rattle.rowplain.specs.declared.RecordsAnswer.{RecordsAnswer}
-use Rattle.rowplain.specs.Borrowed.{recordsAfter}
+use Rattle.rowrules.specs.declared.RecordsAnswer.{RecordsAnswer}
+use Rattle.rowrules.specs.Borrowed.{recordsAfter}
 use Rattle.heap.proofs.Superblock as T
 use Rattle.heap.proofs.Superblock.Laws as T′
 use Rattle.heap.proofs.Setup as S
 use Rattle.heap.proofs.Setup.Laws as S′
 use Rattle.rowrules.proofs.RowAnswer as N
 use Rattle.rowrules.proofs.RowAnswer.Laws as N′
-use Rattle.rowplain.proofs.RecordsAnswer as R
-use Rattle.rowplain.proofs.RecordsAnswer.Laws as R′
+use Rattle.rowrules.proofs.RecordsAnswer as R
+use Rattle.rowrules.proofs.RecordsAnswer.Laws as R′
 use Rattle.rowplain.proofs.AtMostLaws.{passes-if-accepted-of-first-records}
-use Rattle.row.proofs.WalkLaws.{goal-with-two-facts, array-cell-to-elements, elements-to-array-cell}
+use Rattle.rowaccess.proofs.WalkLaws.{goal-with-two-facts, array-cell-to-elements, elements-to-array-cell}
 use Rattle.rowplain.proofs.RecordsAnswerLaws.{Array65, Slice, count-fits-w64, length-of-records, length-of-first-records, room-for-first-records, records-answer, machine-value, machine-value-of-records, machine-value-of-answer, records-answer-has-machine-value, array65-typed}
 use Rattle.rowplain.proofs.SplitCells.{cells-split, cells-joined}
 use Rattle.row.proofs.setup_row as setup-row

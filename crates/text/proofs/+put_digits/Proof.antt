@@ -1,7 +1,7 @@
 -- `text::put_digits` meets its contract: the digits before the last one are put by the call of itself, one fewer at most, which is the measure. Assumes nothing.
 use native.Mathlib.Omega.{arith}
 use borrow.Author.Needs.{needs}
-use Rattle.text.proofs.DigitLaws.{div-10-lt-pow-pred, paste-one-digit, paste-last-digit}
+use Rattle.textrules.proofs.DigitLaws.{div-10-lt-pow-pred, paste-one-digit, paste-last-digit}
 use Prim.Native.Nat.{ℕ, _<_}
 use borrow.Fn.Kinds.{In}
 use borrow.Fn.PlainCycle.{Measures, is, falls, and}

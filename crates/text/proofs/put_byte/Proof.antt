@@ -1,5 +1,5 @@
 -- `text::put_byte` meets its contract: there is such a place, or not. Assumes nothing.
-use Rattle.text.proofs.PasteLaws.{paste-byte-inside, paste-byte-past-end}
+use Rattle.textrules.proofs.PasteLaws.{paste-byte-inside, paste-byte-past-end}
 use native.Mathlib.Omega.{arith}
 use borrow.Author.Needs.{needs}
 use Rattle.text.proofs.put_byte.Statement.{statement}

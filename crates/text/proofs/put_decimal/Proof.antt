@@ -1,5 +1,5 @@
 -- `text::put_decimal` meets its contract: ten digits are enough for 32 bits. Assumes nothing.
-use Rattle.text.specs.Text.{decimal}
+use Rattle.textrules.specs.Text.{decimal}
 use borrow.Author.Needs.{needs}
 use Rattle.text.proofs.put_decimal.Statement.{statement}
 use Rattle.text.proofs.put_decimal.Tie as tie

@@ -4,8 +4,8 @@ use Prim.Native.Nat.{_≤_, _-_}
 use lib.ListN.{length, take}
 use native.Mathlib.Omega.{arith}
 use borrow.Author.Needs.{needs}
-use Rattle.text.specs.Text.{pasted}
-use Rattle.text.proofs.PasteLaws.{paste-first-0, paste-first-suc, paste-first-all}
+use Rattle.textrules.specs.Text.{pasted}
+use Rattle.textrules.proofs.PasteLaws.{paste-first-0, paste-first-suc, paste-first-all}
 use Rattle.text.proofs.put_text.Statement.{statement}
 use Rattle.text.proofs.put_text.Tie as tie
 

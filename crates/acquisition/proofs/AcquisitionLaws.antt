@@ -1,0 +1,34 @@
+-- A superblock acquired and a block taken from it, step by step as the code goes. Assumes nothing.
+use mathlib.Core.Path.{_≡_, ap₂, _∙_}
+use mathlib.Core.List.{List}
+use Prim.Native.Nat.{ℕ}
+use borrow.Author.Tests.{eq-eqb, ne-eqb}
+use Rattle.classes.specs.Classes.{blocksOf}
+use Rattle.order.specs.Order.{renewed}
+use Rattle.heap.specs.declared.Superblock.{Superblock}
+use Rattle.heap.specs.declared.State.{State}
+use Rattle.heap.specs.Table.{superblockAt, withSuperblock, liveIn}
+use Rattle.calls.specs.declared.Answer.{Answer}
+use Rattle.calls.specs.Answers.{After, HasNumberAndValuesOf}
+use Rattle.calls.specs.Take.{acquired, acquiredOrder, takenFrom, takenFromOther}
+use Rattle.calllaws.proofs.AcceptedCallLaws.{number-and-values-by-rules}
+
+-- the order places of a superblock that a heap acquires, with and without anything live
+module _ (order : List ℕ) (class k : ℕ) (b : Superblock) (live : ℕ) (el : live ≡ liveIn b) where
+  pub acquired-order-of-empty : (n : ℕ) (left : List ℕ) → live ≡ 0 → n ≡ blocksOf class → left ≡ renewed order k n → left ≡ acquiredOrder class k b order
+  unfolding acquiredOrder
+  acquired-order-of-empty n left e en eo = rw (← el, eq-eqb live 0 e, ← en) eo
+
+  pub acquired-order-of-live : (live ≡ 0 → ⊥) → order ≡ acquiredOrder class k b order
+  unfolding acquiredOrder
+  acquired-order-of-live f = rw (← el, ne-eqb live 0 f)
+
+-- what is taken from superblock k once a heap acquired it
+module _ (heap class k : ℕ) (s : State) (order left : List ℕ) (t : State) (r : Answer) (eo : left ≡ acquiredOrder class k (superblockAt s k) order)
+    (et : t ≡ withSuperblock s k (acquired heap class (superblockAt s k))) (e : _≡_ {A = After} (record { answer = r; order = left }) (takenFrom k t left)) where
+  pub taken-from-other-by-steps : _≡_ {A = After} (record { answer = r; order = left }) (takenFromOther heap class k s order)
+  unfolding takenFromOther
+  taken-from-other-by-steps = e ∙ ap₂ (takenFrom k) et eo
+
+  pub taken-from-other-number-and-values : HasNumberAndValuesOf (r .outcome) (takenFromOther heap class k s order .answer .outcome)
+  taken-from-other-number-and-values = number-and-values-by-rules r left (takenFromOther heap class k s order) taken-from-other-by-steps

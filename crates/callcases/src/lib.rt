@@ -1,0 +1,1 @@
+// Whole calls in computed cases, with all that they leave: they tell the rules from near misses.

@@ -1,0 +1,2 @@
+pub mod WithinLimitsLaws
+pub mod SetupRefusalLaws

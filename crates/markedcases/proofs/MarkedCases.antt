@@ -1,0 +1,113 @@
+-- The cases marked in document 01, "Edges", as one theorem over one list. Assumes nothing.
+use mathlib.Core.Path.{_≡_, refl, sym, ap, _∙_}
+use mathlib.Core.Bool.{Bool, true, false, not}
+use mathlib.Core.List.{List, [], _∷_, _++_, map}
+use Prim.Native.Nat.{ℕ, zero, suc, _+_, _-_, _*_, _/_, _%_, _^_}
+use lib.ListN.{length, getD, set, replicate}
+use lib.Dec.{T, eqb, leb, ltb}
+use Rattle.laws.specs.Sums.{pick, both, either, one, sumBelow, allBelow}
+use Rattle.classes.specs.Classes.{sizes, counts, sizeOf, blocksOf, firstAtLeast, classOf}
+use Rattle.marks.specs.Marks.{bit, markBit, isMarked, withMark, withoutMark, liveCount, noMarkFrom}
+use Rattle.order.specs.Order.{place, lastFilled, withPlace, descending, withRenewedPlaces, renewed}
+use Rattle.filledplaces.specs.FilledPlaces.{occurrences, placesInStorage, eachOnce, placesValid}
+use Rattle.heap.specs.declared.Superblock.{Superblock}
+use Rattle.heap.specs.declared.State.{State}
+use Rattle.heap.specs.Table.{unused, superblockAt, liveIn, isUnused}
+use Rattle.heap.specs.Counts.{total, belongs, oneIfBelongs, liveIfBelongs, superblocksOf, blocksIn, liveOf}
+use Rattle.heap.specs.Choice.{prefer, chosenBelow, moreLive, fewerLive, neverPreferred, hasFree, emptyInGlobal, fullest, lowestEmpty, lowestUnused, emptiest}
+use Rattle.heap.specs.Moves.{bothConditions, mustMove, transferred, foundTransferred, transfersUpTo, excessTransferred, invariantRestored}
+use Rattle.heap.specs.Check.{within, withinLimits, superblockValid, unusedFrom, emptinessInvariant, sparseIfGlobal, restValid, passes}
+use Rattle.calls.specs.declared.Call.{Call}
+use Rattle.calls.specs.declared.Call.the-variants.{Take, Free}
+use Rattle.calls.specs.declared.Outcome.{Outcome}
+use Rattle.calls.specs.declared.Outcome.the-variants.{Ready, Address, Moves, Refused}
+use Rattle.calls.specs.Answers.{After, refused, checked, isProcessor}
+use Rattle.calls.specs.Take.{otherPlaces, acquired, acquiredOrder, nextBlock, addressOf, takenFrom, takenFromOther, takenAt, takeUnchecked, takeOf}
+use Rattle.calls.specs.Free.{superblockIndex, offsetOf, superblockHolding, blockOf, isUnmapped, isMisaligned, isLiveAt, markCleared, orderPushed, freedAt, freeUnchecked, freeOf}
+use Rattle.calls.specs.Calls.{callOf}
+
+-- a call on a state and storage; its outcome, and then superblock 0's class and what stands in its first order place
+pub record MarkedCase : Type 0 where
+  pub state : State
+  pub order : List ℕ
+  pub call : Call
+  pub outcome : Outcome
+  pub class-after : ℕ
+  pub place-after : ℕ
+
+-- a superblock of heap 1 and class c with these marks
+abbrev pub heap-1-superblock : ℕ → List ℕ → Superblock
+heap-1-superblock c live = record { owner = 1; class = c; live = live }
+
+-- heap 1 with these superblocks: P = 1, K = 1, p/q = 1/4, and as many superblocks as there are
+abbrev pub stateWith : List Superblock → State
+stateWith table =
+    record {
+      setup = record { processors = 1; superblocks = length table; spare = 1; p = 1; q = 4 };
+      table = table ++ replicate (64 - length table) unused;
+    }
+
+-- one unused superblock
+abbrev pub one-unused-state : State
+one-unused-state = stateWith (unused ∷ [])
+
+-- "size 1, 16: class 0; 17: 1; 64: 6; 65, 80: 7; 81: 8; 2048: 26": a take of the size renews superblock 0 for the class, so that its
+-- first place holds the class's last block
+abbrev pub class-case : ℕ → ℕ → ℕ → MarkedCase
+class-case size c last =
+    record { state = one-unused-state; order = replicate 256 0; call = Take 1 size; outcome = Address 0; class-after = c; place-after = last }
+
+-- "0, 2049: refusal 3"
+abbrev pub refused-size-case : ℕ → MarkedCase
+refused-size-case size =
+    record { state = one-unused-state; order = replicate 256 0; call = Take 1 size; outcome = Refused 3; class-after = 0; place-after = 0 }
+
+-- "Class 1 in superblock 0": all its 170 blocks live, so that a block that is freed goes in the first place
+abbrev pub all-live-state : State
+all-live-state = stateWith (heap-1-superblock 1 ((2 ^ 64 - 1) ∷ (2 ^ 64 - 1) ∷ (2 ^ 42 - 1) ∷ 0 ∷ []) ∷ [])
+
+-- "address 4056 is block 169"
+abbrev pub last-block-case : MarkedCase
+last-block-case =
+    record { state = all-live-state; order = replicate 256 0; call = Free 1 4056; outcome = Moves 0; class-after = 1; place-after = 169 }
+
+-- "4080 is refusal 6"
+abbrev pub misaligned-case : MarkedCase
+misaligned-case =
+    record { state = all-live-state; order = replicate 256 0; call = Free 1 4080; outcome = Refused 6; class-after = 1; place-after = 0 }
+
+-- "p/q = 1/4, K = 1, heap 1 class 16 with live counts 7, 7, 7, 8, 8, 8: freeing from an 8 moves two superblocks"
+abbrev pub sevens-and-eights : State
+sevens-and-eights =
+    let seven : Superblock = heap-1-superblock 16 ((2 ^ 7 - 1) ∷ 0 ∷ 0 ∷ 0 ∷ []) in
+    let eight : Superblock = heap-1-superblock 16 ((2 ^ 8 - 1) ∷ 0 ∷ 0 ∷ 0 ∷ []) in
+    stateWith (seven ∷ seven ∷ seven ∷ eight ∷ eight ∷ eight ∷ [])
+
+abbrev pub sevens-and-eights-order : List ℕ
+sevens-and-eights-order =
+    let three : List ℕ = 9 ∷ 8 ∷ 7 ∷ replicate 253 0 in
+    let two : List ℕ = 9 ∷ 8 ∷ replicate 254 0 in
+    three ++ three ++ three ++ two ++ two ++ two
+
+abbrev pub two-moves-case : ℕ → MarkedCase
+two-moves-case address =
+    record { state = sevens-and-eights; order = sevens-and-eights-order; call = Free 1 address; outcome = Moves 2; class-after = 16; place-after = 9 }
+
+abbrev pub marked-cases : List MarkedCase
+marked-cases =
+    class-case 1 0 255 ∷ class-case 16 0 255 ∷ class-case 17 1 169 ∷ class-case 64 6 63 ∷ class-case 65 7 50 ∷ class-case 80 7 50 ∷ class-case 81 8 41
+    ∷ class-case 2048 26 1 ∷ refused-size-case 0 ∷ refused-size-case 2049 ∷ last-block-case ∷ misaligned-case ∷ two-moves-case 12288 ∷ two-moves-case 20480 ∷ []
+
+abbrev pub result-of : MarkedCase → Outcome × ℕ × ℕ
+result-of k =
+    let after : After = callOf (k .state) (k .order) (k .call) in
+    (after .answer .outcome, superblockAt (after .answer .state) 0 .class, getD (after .order) 0 0)
+
+-- the rules give each case its outcome, class and place
+pub marked-cases-are-computed : map result-of marked-cases ≡ map (λ (k : MarkedCase). (k .outcome, k .class-after, k .place-after)) marked-cases
+unfolding callOf takeOf takeUnchecked takenAt takenFromOther takenFrom addressOf nextBlock acquiredOrder acquired otherPlaces freeOf freeUnchecked freedAt orderPushed markCleared isLiveAt isMisaligned isUnmapped blockOf
+    checked isProcessor withinLimits restValid superblockValid unusedFrom emptinessInvariant sparseIfGlobal invariantRestored excessTransferred transfersUpTo transferred foundTransferred mustMove bothConditions
+    prefer chosenBelow moreLive fewerLive neverPreferred hasFree emptyInGlobal fullest lowestEmpty lowestUnused emptiest total belongs oneIfBelongs liveIfBelongs superblocksOf blocksIn liveOf isUnused
+    placesValid placesInStorage eachOnce occurrences place lastFilled withPlace descending withRenewedPlaces renewed noMarkFrom bit markBit isMarked withMark withoutMark liveCount
+    sizes counts sizeOf blocksOf firstAtLeast classOf sumBelow allBelow
+marked-cases-are-computed = refl

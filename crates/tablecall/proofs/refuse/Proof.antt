@@ -1,0 +1,14 @@
+-- `tablecall::refuse` meets its contract. Assumes nothing.
+use Rattle.tablecall.proofs.TableCallLaws.{refused-call-from-parts}
+use borrow.Author.Needs.{needs}
+use Rattle.tablecall.proofs.refuse.Statement.{statement}
+use Rattle.tablecall.proofs.refuse.Tie as tie
+
+accepted-requires : tie.Need-accepted-requires
+accepted-requires c κs = search needs
+
+returns : tie.Need-returns
+returns c = search refused-call-from-parts
+
+pub refuse-spec : {M : Type 1} → statement M
+refuse-spec = tie.close (tie.spec accepted-requires returns)

@@ -1,0 +1,68 @@
+// What a call on a lent row comes to, on a table by value: a refusal before any superblock is looked at, or the engine's answer taken
+// apart. The row's length is a number among the arguments.
+ghost use mathlib.Core.Path.{_≡_};
+ghost use Rattle.tablecall.specs.Tables.{isAccepted, rowFirstRefusal, refusedCall, answeredCall};
+use calls::Answer;
+use calls::Outcome;
+use heap::Setup;
+use heap::Superblock;
+use rowrules::RowAnswer;
+
+// What is to be stored in the row where the call was accepted, the answer, and whether it was.
+pub struct TableCall {
+    pub table: [Superblock; 64],
+    pub answer: RowAnswer,
+    pub accepted: bool,
+}
+
+// The refusals before any superblock is looked at: setup numbers, 12, 13 for the row's length; 0 where none applies.
+pub fn first_refusal(numbers: u8, n: usize, order: &[u16], u: Setup) -> u8
+    ensures { λ r. ⌜ r ≡ rowFirstRefusal numbers n (now (order .entry)) u ⌝ }
+{
+    let first = limits::setup_refusal(numbers, u, order);
+    if first != 0 {
+        return first;
+    }
+    if n != 64 {
+        return 13;
+    }
+    0
+}
+
+// Whether a call was accepted.
+fn accepted(outcome: Outcome) -> bool
+    ensures { λ r. ⌜ r ≡ isAccepted outcome ⌝ }
+{
+    states::number_of(outcome) == 0
+}
+
+// A refusal, with the setup numbers and the table as they are to be.
+pub fn refuse(number: u8, u: Setup, table: [Superblock; 64]) -> TableCall
+    ensures { λ r. ⌜ r ≡ refusedCall number u table ⌝ }
+{
+    let outcome = Outcome::Refused(number);
+    let accepted = accepted(outcome);
+    let answer = RowAnswer { outcome, setup: u };
+    TableCall {
+        table,
+        answer,
+        accepted,
+    }
+}
+
+// The engine's answer, its state taken apart.
+pub fn answered(a: Answer) -> TableCall
+    ensures { λ r. ⌜ r ≡ answeredCall a ⌝ }
+{
+    let s = a.state;
+    let table = s.table;
+    let outcome = a.outcome;
+    let setup = s.setup;
+    let accepted = accepted(outcome);
+    let answer = RowAnswer { outcome, setup };
+    TableCall {
+        table,
+        answer,
+        accepted,
+    }
+}
