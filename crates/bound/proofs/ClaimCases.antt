@@ -16,7 +16,7 @@ use Rattle.heap.specs.declared.Setup.{Setup}
 use Rattle.heap.specs.declared.State.{State}
 use Rattle.heap.specs.Table.{unused}
 use Rattle.heap.specs.Counts.{total, isOwnedOfClass, superblocksOfClass, ownersChanged}
-use Rattle.heap.specs.Check.{withinLimits}
+use Rattle.checkrules.specs.Check.{withinLimits}
 use Rattle.calls.specs.declared.Call.{Call}
 use Rattle.calls.specs.declared.Call.the-variants.{Take, Free}
 use Rattle.calls.specs.declared.Outcome.{Outcome}

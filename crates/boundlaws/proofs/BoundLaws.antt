@@ -13,7 +13,7 @@ use Rattle.laws.proofs.Counting.{sum-add}
 use Rattle.classes.specs.Classes.{blocksOf}
 use Rattle.heap.specs.declared.State.{State}
 use Rattle.heap.specs.Counts.{superblocksOf, blocksIn, liveOf, superblocksOfClass, liveOfClass}
-use Rattle.heap.specs.Moves.{bothConditions, mustMove}
+use Rattle.moverules.specs.Moves.{bothConditions, mustMove}
 use Rattle.heaplaws.proofs.StateFacts.{Sound}
 use Rattle.heaplaws.proofs.CountLaws.{owned-is-sum-over-heaps, live-of-heaps-le-live-of-class}
 use Rattle.heaplaws.proofs.StateCheckLaws.{owned-of-owner}

@@ -13,7 +13,7 @@ use Rattle.order.specs.Order.{cleared}
 use Rattle.orderlaws.proofs.OrderLaws.{length-cleared}
 use Rattle.heap.specs.declared.Setup.{Setup}
 use Rattle.heap.specs.Table.{newState}
-use Rattle.heap.specs.Check.{withinLimits}
+use Rattle.checkrules.specs.Check.{withinLimits}
 use Rattle.heap.specs.Counts.{superblocksOfClass}
 use Rattle.calls.specs.declared.Outcome.the-variants.{Ready, Refused}
 use Rattle.calls.specs.Answers.{After}

@@ -16,8 +16,8 @@ use Rattle.heap.specs.declared.State.{State}
 use Rattle.heap.specs.declared.Found.{Found}
 use Rattle.heap.specs.declared.Found.the-variants.{At, Nothing}
 use Rattle.heap.specs.Table.{noState, newState}
-use Rattle.heap.specs.Choice.{fullest}
-use Rattle.heap.specs.Check.{within, withinLimits, restValid, passes}
+use Rattle.choicerules.specs.Choice.{fullest}
+use Rattle.checkrules.specs.Check.{within, withinLimits, restValid, passes}
 use Rattle.heaplaws.proofs.StateFacts.{Sound, Shape}
 use Rattle.heaplaws.proofs.StateCheckLaws.{passes-of-sound, new-state-sound}
 use Rattle.calls.specs.declared.Answer.{Answer}

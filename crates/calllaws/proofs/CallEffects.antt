@@ -11,7 +11,7 @@ use Rattle.heap.specs.declared.State.{State}
 use Rattle.heap.specs.Table.{superblockAt, liveIn}
 use Rattle.heap.specs.Counts.{superblocksOf, superblocksOfClass, liveOfClass, ownersChanged}
 use Rattle.heap.specs.declared.Found.the-variants.{At, Nothing}
-use Rattle.heap.specs.Choice.{fullest}
+use Rattle.choicerules.specs.Choice.{fullest}
 use Rattle.heaplaws.proofs.StateFacts.{Sound}
 use Rattle.calls.specs.Take.{otherPlaces, takenFrom, takenFromOther, takeOf}
 use Rattle.calls.specs.Free.{isUnmapped, isMisaligned, isLiveAt, freedAt, freeOf}

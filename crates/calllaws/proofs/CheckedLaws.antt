@@ -10,7 +10,7 @@ use borrow.Author.Tests.{leb-true, le-leb, lt-leb}
 use Rattle.laws.specs.Sums.{pick, both}
 use Rattle.laws.proofs.TestLaws.{T-of-true, true-of-T, both-left, both-right}
 use Rattle.heap.specs.declared.State.{State}
-use Rattle.heap.specs.Check.{withinLimits, restValid, passes}
+use Rattle.checkrules.specs.Check.{withinLimits, restValid, passes}
 use Rattle.heaplaws.proofs.StateCheckLaws.{passes-of-sound, sound-of-limits-and-rest}
 use Rattle.calllaws.proofs.CallEffects.{Passed}
 use Rattle.calls.specs.Answers.{After, refused, checked, isProcessor}

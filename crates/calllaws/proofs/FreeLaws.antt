@@ -22,7 +22,7 @@ use Rattle.calls.specs.declared.Outcome.the-variants.{Moves}
 use Rattle.calls.specs.Answers.{After, refused, isProcessor}
 use Rattle.calls.specs.Take.{addressOf}
 use Rattle.calls.specs.Free.{superblockIndex, offsetOf, superblockHolding, blockOf, isUnmapped, isMisaligned, isLiveAt, markCleared, orderPushed, freedAt, freeUnchecked, freeOf}
-use Rattle.heap.specs.Moves.{invariantRestored}
+use Rattle.moverules.specs.Moves.{invariantRestored}
 use Rattle.calllaws.proofs.CheckedLaws.{checked-refused-or-passed, bounds-of-is-processor}
 use Rattle.calllaws.proofs.CallEffects.{Passed, FreeAccepted, FreeEffect}
 use Rattle.heaplaws.proofs.StateCheckLaws.{is-unused-of-facts}

@@ -25,8 +25,8 @@ use Rattle.heap.specs.declared.State.{State}
 use Rattle.heap.specs.declared.Found.{Found}
 use Rattle.heap.specs.declared.Found.the-variants.{At, Nothing}
 use Rattle.heap.specs.Table.{blank, superblockAt, withSuperblock, liveIn, withOwner, withoutMarkAt}
-use Rattle.heap.specs.Choice.{fullest, emptiest}
-use Rattle.heap.specs.Moves.{mustMove, transferred, foundTransferred, transfersUpTo, excessTransferred, invariantRestored}
+use Rattle.choicerules.specs.Choice.{fullest, emptiest}
+use Rattle.moverules.specs.Moves.{mustMove, transferred, foundTransferred, transfersUpTo, excessTransferred, invariantRestored}
 use Rattle.heaplaws.proofs.StateFacts.{Shape}
 use Rattle.heaplaws.proofs.StateCheckLaws.{live-le-blocks-of-owned}
 use Rattle.heaplaws.proofs.ChoiceLaws.{best-of-fullest, facts-of-has-free}
@@ -182,13 +182,13 @@ module _ (s : State) (order : List ℕ) (i a : ℕ) (shape : Shape s) (acc : Fre
 
   mark-cleared-at-home : superblockAt (markCleared s a) home ≡ withoutMarkAt (superblockHolding s a) (blockOf s a)
   unfolding markCleared
-  mark-cleared-at-home = superblock-at-replaced s home (withoutMarkAt (superblockHolding s a) (blockOf s a)) (shape .long) home-lt-64
+  mark-cleared-at-home = superblock-at-replaced s home (withoutMarkAt (superblockHolding s a) (blockOf s a)) (shape .length-is) home-lt-64
 
   one-more-place-filled : filledIn (superblockAt (markCleared s a) home) ≡ suc filled
   one-more-place-filled =
       let eff = free-effect s order i a shape acc in
       let fits = live-le-blocks-of-owned s order (acc .passed .sound) home home-lt-64 (eff .owned-before) in
-      let fewer = live-count-without-mark (superblockHolding s a .live) (blockOf s a) (shape .four home home-lt-64) (omega (arith, eff .block, blocks-of-le-256 (superblockHolding s a .class))) (eff .was-marked) in
+      let fewer = live-count-without-mark (superblockHolding s a .live) (blockOf s a) (shape .marks-length home home-lt-64) (omega (arith, eff .block, blocks-of-le-256 (superblockHolding s a .class))) (eff .was-marked) in
       ap filledIn mark-cleared-at-home ∙ omega arith
 
   next-place-in-storage : home * 256 + filled < length order
@@ -197,7 +197,7 @@ module _ (s : State) (order : List ℕ) (i a : ℕ) (shape : Shape s) (acc : Fre
   next-place-lt-256 : filled < 256
   next-place-lt-256 =
       let eff = free-effect s order i a shape acc in
-      let fewer = live-count-without-mark (superblockHolding s a .live) (blockOf s a) (shape .four home home-lt-64) (omega (arith, eff .block, blocks-of-le-256 (superblockHolding s a .class))) (eff .was-marked) in
+      let fewer = live-count-without-mark (superblockHolding s a .live) (blockOf s a) (shape .marks-length home home-lt-64) (omega (arith, eff .block, blocks-of-le-256 (superblockHolding s a .class))) (eff .was-marked) in
       omega (arith, blocks-of-le-256 (superblockHolding s a .class))
 
   block-pushed : stackOf (markCleared s a) (orderPushed s order a) home ≡ blockOf s a ∷ stackOf s order home
@@ -270,11 +270,11 @@ module _ (s : State) (order : List ℕ) (i size k : ℕ) (shape : Shape s) (acc 
       go (inl (f, e)) =
           let e2 = e ∙ taken-from-is-taken-with k s order in
           record {
-            class = facts-of-has-free i (classOf size) (superblockAt s k) (best-of-fullest i (classOf size) s k f .is-wanted) .1;
+            class = facts-of-has-free i (classOf size) (superblockAt s k) (best-of-fullest i (classOf size) s k f .meets-criterion) .1;
             stays = ap (λ (x : After). x .order) e2;
             last = ap (λ (x : After). x .answer .outcome) e2;
           }
-      go (inr (f, g, e)) = by-live f (eqb (liveIn (superblockAt s k)) 0) refl (e ∙ taken-from-other-is-taken-with i (classOf size) k s order (omega (arith, taken-superblock-lt-64, shape .long)))
+      go (inr (f, g, e)) = by-live f (eqb (liveIn (superblockAt s k)) 0) refl (e ∙ taken-from-other-is-taken-with i (classOf size) k s order (omega (arith, taken-superblock-lt-64, shape .length-is)))
 
   module _ (not-renewed : RenewedByTake s i size k → ⊥) where
     abbrev places-left : ℕ
@@ -317,7 +317,7 @@ module _ (s : State) (order : List ℕ) (i size k : ℕ) (shape : Shape s) (acc 
             found-one : At k ≡ Nothing → ⊥
             found-one q = let z : _≡_ {A = ℕ} 0 1 = cc in omega arith
         go (inr (f, g, e)) =
-            e ∙ taken-from-other-is-taken-with i (classOf size) k s order (omega (arith, taken-superblock-lt-64, shape .long))
+            e ∙ taken-from-other-is-taken-with i (classOf size) k s order (omega (arith, taken-superblock-lt-64, shape .length-is))
             ∙ ap (λ (t : Bool). takenWith k s (pick t (renewedFor i (classOf size)) (withOwner i (superblockAt s k))) (pick t (renewed order k blocks) order))
             (eq-eqb (liveIn (superblockAt s k)) 0 (renewing .empty))
 

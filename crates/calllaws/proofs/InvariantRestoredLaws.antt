@@ -16,13 +16,13 @@ use Rattle.heap.specs.declared.State.{State}
 use Rattle.heap.specs.declared.Moved.{Moved}
 use Rattle.heap.specs.Table.{superblockAt}
 use Rattle.heap.specs.Counts.{blocksIn, liveOf, ownersChanged}
-use Rattle.heap.specs.Moves.{mustMove, excessTransferred}
+use Rattle.moverules.specs.Moves.{mustMove, excessTransferred}
 use Rattle.heaplaws.proofs.StateFacts.{Shape, WithinLimits, Sound, TransferredFrom}
 use Rattle.heaplaws.proofs.MoveLaws.{transferred-from-self, owners-changed-self, excess-transferred-from, moves-le-q-times-freed, owners-changed-is-moves, not-must-move-after-excess-transferred}
 use Rattle.calllaws.proofs.CallEffects.{FreeEffect}
 use Rattle.calllaws.proofs.TransferredLaws.{transferred-live, transferred-class, transferred-owner, transferred-shape, sound-after-transfers}
 use Rattle.calllaws.proofs.MarkClearedLaws.{LiveBlock, withMarkCleared, withBlockPushed, ownerAt, classAt, live-block-superblock-lt-64, live-block-superblock-owned, mark-cleared-shape, mark-cleared-class, mark-cleared-owner, mark-cleared-bit, mark-cleared-other-bits, mark-cleared-owned-of, mark-cleared-live-of-class, mark-cleared-live-of-other-classes, mark-cleared-owners-changed, mark-cleared-sound-except, mark-cleared-condition-fails}
-use Rattle.heap.specs.Moves.{invariantRestored}
+use Rattle.moverules.specs.Moves.{invariantRestored}
 
 -- the move rule followed to its end, for heap h and class c, from state s
 pub record InvariantRestored (h c : ℕ) (s : State) (m : Moved) : Type 0 where
@@ -53,7 +53,7 @@ module _ (s : State) (order : List ℕ) (k j : ℕ) (live : LiveBlock s order k 
   low = let o = live-block-superblock-owned s order k j live .owner in let p = live .passed .sound .numbers .processors-high in omega arith
 
   long : length (withMarkCleared s k j .table) ≡ 64
-  long = mark-cleared-shape s order k j live .long
+  long = mark-cleared-shape s order k j live .length-is
 
   pub invariant-restored-after-free : InvariantRestored (ownerAt s k) (classAt s k) (withMarkCleared s k j) (invariantRestored (ownerAt s k) (classAt s k) (withMarkCleared s k j))
   unfolding invariantRestored

@@ -25,7 +25,7 @@ use Rattle.heap.specs.declared.Superblock.{Superblock}
 use Rattle.heap.specs.declared.State.{State}
 use Rattle.heap.specs.Table.{blank, superblockAt, withSuperblock, liveIn, withoutMarkAt}
 use Rattle.heap.specs.Counts.{total, belongs, isOwnedOfClass, oneIfBelongs, liveIfBelongs, superblocksOf, blocksIn, liveOf, superblocksOfClass, liveOfClass, ownersChanged}
-use Rattle.heap.specs.Moves.{mustMove}
+use Rattle.moverules.specs.Moves.{mustMove}
 use Rattle.heaplaws.proofs.StateFacts.{Shape, Unused, Owned, Sparse}
 use Rattle.heaplaws.proofs.CountLaws.{total-with-superblock, live-if-belongs-is-live-in, live-if-belongs-other-owner, live-if-belongs-other-class}
 use Rattle.heaplaws.proofs.StateCheckLaws.{shape-with-superblock, owned-of-owner}
@@ -82,10 +82,10 @@ module _ (s : State) (order : List ℕ) (k j : ℕ) (live : LiveBlock s order k 
   live-block-superblock-lt-64 = let h = live .passed .sound .numbers .superblocks-high in let l = live .below in omega arith
 
   in-table : k < length (s .table)
-  in-table = let e = live .shape .long in let l = live-block-superblock-lt-64 in omega arith
+  in-table = let e = live .shape .length-is in let l = live-block-superblock-lt-64 in omega arith
 
   four : length (superblockAt s k .live) ≡ 4
-  four = live .shape .four k live-block-superblock-lt-64
+  four = live .shape .marks-length k live-block-superblock-lt-64
 
   pub live-block-superblock-owned : Owned (s .setup) order k (superblockAt s k)
   live-block-superblock-owned = owned-of-owner s order (live .passed .sound) k live-block-superblock-lt-64 (live .owned)
@@ -130,10 +130,10 @@ module _ (s : State) (order : List ℕ) (k j : ℕ) (live : LiveBlock s order k 
 
   -- ---- the counts
   mark-cleared-total-same : (f : Superblock → ℕ) → f (withoutMarkAt (superblockAt s k) j) ≡ f (superblockAt s k) → total f (withMarkCleared s k j .table) ≡ total f (s .table)
-  mark-cleared-total-same f e = let t = total-with-superblock f s k (withoutMarkAt (superblockAt s k) j) (live .shape .long) live-block-superblock-lt-64 in omega arith
+  mark-cleared-total-same f e = let t = total-with-superblock f s k (withoutMarkAt (superblockAt s k) j) (live .shape .length-is) live-block-superblock-lt-64 in omega arith
 
   mark-cleared-total-less : (f : Superblock → ℕ) → f (superblockAt s k) ≡ suc (f (withoutMarkAt (superblockAt s k) j)) → total f (s .table) ≡ suc (total f (withMarkCleared s k j .table))
-  mark-cleared-total-less f e = let t = total-with-superblock f s k (withoutMarkAt (superblockAt s k) j) (live .shape .long) live-block-superblock-lt-64 in omega arith
+  mark-cleared-total-less f e = let t = total-with-superblock f s k (withoutMarkAt (superblockAt s k) j) (live .shape .length-is) live-block-superblock-lt-64 in omega arith
 
   pub mark-cleared-superblocks-of : (h c : ℕ) → superblocksOf h c (withMarkCleared s k j) ≡ superblocksOf h c s
   unfolding superblocksOf oneIfBelongs belongs

@@ -8,7 +8,7 @@ use Rattle.heap.specs.declared.Superblock.{Superblock}
 use Rattle.heap.specs.declared.State.{State}
 use Rattle.heap.specs.declared.Found.the-variants.{Nothing}
 use Rattle.heap.specs.Table.{superblockAt, liveIn, isUnused}
-use Rattle.heap.specs.Choice.{moreLive, neverPreferred, hasFree, emptyInGlobal, fullest, lowestEmpty, lowestUnused}
+use Rattle.choicerules.specs.Choice.{moreLive, neverPreferred, hasFree, emptyInGlobal, fullest, lowestEmpty, lowestUnused}
 use Rattle.heaplaws.proofs.StateFacts.{Unused}
 use Rattle.heaplaws.proofs.StateCheckLaws.{facts-of-is-unused, is-unused-of-facts}
 use Rattle.heaplaws.proofs.ChoiceLaws.{chosen-nothing-of-none-meets, facts-of-has-free, has-free-of-facts, facts-of-empty-in-global, empty-in-global-of-facts, none-free-of-fullest-nothing, none-empty-of-lowest-empty-nothing, none-unused-of-lowest-unused-nothing}

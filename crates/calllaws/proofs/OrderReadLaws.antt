@@ -20,8 +20,8 @@ use Rattle.heap.specs.declared.State.{State}
 use Rattle.heap.specs.declared.Found.{Found}
 use Rattle.heap.specs.declared.Found.the-variants.{At, Nothing}
 use Rattle.heap.specs.Table.{superblockAt, withSuperblock, liveIn, withMarkAt}
-use Rattle.heap.specs.Choice.{fullest}
-use Rattle.heap.specs.Check.{within, withinLimits, restValid}
+use Rattle.choicerules.specs.Choice.{fullest}
+use Rattle.checkrules.specs.Check.{within, withinLimits, restValid}
 use Rattle.heaplaws.proofs.StateCheckLaws.{sound-of-limits-and-rest}
 use Rattle.heaplaws.proofs.CheckReadsLaws.{rest-valid-reads-only-first-places}
 use Rattle.calls.specs.declared.Call.{Call}
@@ -88,9 +88,9 @@ module _ (s : State) (x y : List ℕ) (h : SameFirst (s .setup .superblocks * 25
   checked-agree : (a b : After) → (Passed s x → Agree n a b) → Agree n (checked s x a) (checked s y b)
   unfolding checked
   checked-agree a b f =
-      rw (le-leb n (length x) (h .long), le-leb n (length y) (h .also-long), ← (rest-valid-reads-only-first-places s x y h))
+      rw (le-leb n (length x) (h .first-covers), le-leb n (length y) (h .second-covers), ← (rest-valid-reads-only-first-places s x y h))
       (agree-pick n (withinLimits (s .setup))
-      (λ l. agree-pick n (restValid s x) (λ g. f (record { sound = sound-of-limits-and-rest s x (T-of-true (withinLimits (s .setup)) l) (T-of-true (restValid s x) g); room = h .long })) (λ g. same-refusal 13))
+      (λ l. agree-pick n (restValid s x) (λ g. f (record { sound = sound-of-limits-and-rest s x (T-of-true (withinLimits (s .setup)) l) (T-of-true (restValid s x) g); room = h .first-covers })) (λ g. same-refusal 13))
       (λ l. same-refusal 13))
 
   -- a take
@@ -134,7 +134,7 @@ module _ (s : State) (x y : List ℕ) (h : SameFirst (s .setup .superblocks * 25
 setup-agrees : (u : Setup) (x y : List ℕ) → SameFirst (u .superblocks * 256) x y → Agree (u .superblocks * 256) (setupOf u x) (setupOf u y)
 unfolding setupOf
 setup-agrees u x y h =
-    rw (le-leb (u .superblocks * 256) (length x) (h .long), le-leb (u .superblocks * 256) (length y) (h .also-long))
+    rw (le-leb (u .superblocks * 256) (length x) (h .first-covers), le-leb (u .superblocks * 256) (length y) (h .second-covers))
     (agree-pick (u .superblocks * 256) (withinLimits u) (λ e. record { answer = refl; order = same-first-cleared (u .superblocks * 256) x y h }) (λ e. record { answer = refl; order = h }))
 
 same-call-of-agree : (n : ℕ) (a b : After) → Agree n a b → SameCall n a b

@@ -21,8 +21,8 @@ use Rattle.heap.specs.declared.State.{State}
 use Rattle.heap.specs.declared.Found.{Found}
 use Rattle.heap.specs.declared.Found.the-variants.{At, Nothing}
 use Rattle.heap.specs.Table.{superblockAt, liveIn, isUnused, noState}
-use Rattle.heap.specs.Choice.{fullest, lowestEmpty, lowestUnused, orElse}
-use Rattle.heap.specs.Check.{withinLimits}
+use Rattle.choicerules.specs.Choice.{fullest, lowestEmpty, lowestUnused, orElse}
+use Rattle.checkrules.specs.Check.{withinLimits}
 use Rattle.heaplaws.proofs.StateCheckLaws.{owned-below-superblocks}
 use Rattle.heaplaws.proofs.ChoiceLaws.{best-of-fullest, facts-of-has-free, facts-of-empty-in-global, best-of-lowest-empty, best-of-lowest-unused}
 use Rattle.calls.specs.declared.Call.{Call}
@@ -41,7 +41,7 @@ use Rattle.calllaws.proofs.FreeLaws.{free-refused-or-accepted}
 pub record WritesRenewedPlaces (k n : ℕ) (before after : List ℕ) : Type 0 where
   pub written : (x : ℕ) → k * 256 ≤ x → x < k * 256 + n → getD after x 0 ≡ n - 1 - (x - k * 256)
   pub kept : (x : ℕ) → (x < k * 256) ⊎ (k * 256 + n ≤ x) → getD after x 0 ≡ getD before x 0
-  pub long : length after ≡ length before
+  pub length-is : length after ≡ length before
 
 -- an accepted take that renews: place 1 offers nothing, places 2 to 4 offer superblock k, and it has nothing live
 pub record Renewal (s : State) (order : List ℕ) (i size k : ℕ) : Type 0 where
@@ -56,7 +56,7 @@ pub record Renewal (s : State) (order : List ℕ) (i size k : ℕ) : Type 0 wher
 pub record WritesOne (x v : ℕ) (before after : List ℕ) : Type 0 where
   pub written : getD after x 0 ≡ v
   pub kept : (y : ℕ) → (y ≡ x → ⊥) → getD after y 0 ≡ getD before y 0
-  pub long : length after ≡ length before
+  pub length-is : length after ≡ length before
 
 -- the next place of the order of the address's superblock
 abbrev pub nextPlace : State → ℕ → ℕ
@@ -66,7 +66,7 @@ nextPlace s a = superblockIndex a * 256 + (blocksOf (superblockHolding s a .clas
 pub record ClearsFirst (n : ℕ) (before after : List ℕ) : Type 0 where
   pub written : (x : ℕ) → x < n → getD after x 0 ≡ 0
   pub kept : (x : ℕ) → n ≤ x → getD after x 0 ≡ getD before x 0
-  pub long : length after ≡ length before
+  pub length-is : length after ≡ length before
 
 -- ---- a take
 module _ (s : State) (order : List ℕ) (passed : Passed s order) where
@@ -74,13 +74,13 @@ module _ (s : State) (order : List ℕ) (passed : Passed s order) where
   pub fullest-below-superblocks : (h c k : ℕ) → h ≤ s .setup .processors → fullest h c s ≡ At k → k < s .setup .superblocks
   fullest-below-superblocks h c k l e =
       let best = best-of-fullest h c s k e in
-      let w = facts-of-has-free h c (superblockAt s k) (best .is-wanted) in
+      let w = facts-of-has-free h c (superblockAt s k) (best .meets-criterion) in
       owned-below-superblocks s order (passed .sound) k (best .below) (λ (q : superblockAt s k .owner ≡ 255). omega (arith, w .0, passed .sound .numbers .processors-high))
 
   lowest-empty-below-superblocks : (k : ℕ) → lowestEmpty s ≡ At k → k < s .setup .superblocks
   lowest-empty-below-superblocks k e =
       let best = best-of-lowest-empty s k e in
-      let w = facts-of-empty-in-global (superblockAt s k) (best .is-wanted) in
+      let w = facts-of-empty-in-global (superblockAt s k) (best .meets-criterion) in
       owned-below-superblocks s order (passed .sound) k (best .below) (λ (q : superblockAt s k .owner ≡ 255). omega (arith, w .0))
 
   pub other-places-below-superblocks : (c k : ℕ) → otherPlaces c s ≡ At k → k < s .setup .superblocks
@@ -98,7 +98,7 @@ module _ (s : State) (order : List ℕ) (i size : ℕ) where
       record {
         written = λ x l h. renewed-at-index order k n x (blocks-of-le-256 (classOf size)) (omega (arith, passed .room, blocks-of-le-256 (classOf size))) l h;
         kept = kept;
-        long = length-renewed order k n;
+        length-is = length-renewed order k n;
       }
     where
       n : ℕ
@@ -199,7 +199,7 @@ module _ (s : State) (order : List ℕ) (i a : ℕ) where
         record {
           written = with-place-same order (superblockIndex a) p (blockOf s a) (omega (arith, next-place-below-superblocks, acc .passed .room));
           kept = λ y f. with-place-other-index order (superblockIndex a) p (blockOf s a) y f;
-          long = length-with-place order (superblockIndex a) p (blockOf s a);
+          length-is = length-with-place order (superblockIndex a) p (blockOf s a);
         }
 
   -- a refused free leaves all as it was; an accepted one writes the block's number in the next place of its superblock's order, and no other place
@@ -221,7 +221,7 @@ setup-writes u order = go (withinLimits u) (leb (u .superblocks * 256) (length o
     clears = record {
       written = cleared-index-below order (u .superblocks * 256);
       kept = cleared-index-above order (u .superblocks * 256);
-      long = length-cleared order (u .superblocks * 256);
+      length-is = length-cleared order (u .superblocks * 256);
     }
 
     go : (x y : Bool) → ((r : ℕ) × (pick x (pick y (acceptedSetup u order) (refused 12 noState order)) (refused 1 noState order) ≡ refused r noState order))
@@ -238,7 +238,7 @@ take-writes-no-place-past-N s order i size = go (take-writes s order i size)
     go : (takeOf s order i size .order ≡ order) ⊎ ((k : ℕ) × Renewal s order i size k) → drop (s .setup .superblocks * 256) (takeOf s order i size .order) ≡ drop (s .setup .superblocks * 256) order
     go (inl e) = ap (drop (s .setup .superblocks * 256)) e
     go (inr (k, r)) =
-        drop-equal-of-same-rest (s .setup .superblocks * 256) (takeOf s order i size .order) order (r .places .long)
+        drop-equal-of-same-rest (s .setup .superblocks * 256) (takeOf s order i size .order) order (r .places .length-is)
         (λ x l. r .places .kept x (inr (omega (arith, r .below, blocks-of-le-256 (classOf size)))))
 
 free-writes-no-place-past-N : (s : State) (order : List ℕ) (i a : ℕ) → drop (s .setup .superblocks * 256) (freeOf s order i a .order) ≡ drop (s .setup .superblocks * 256) order
@@ -248,7 +248,7 @@ free-writes-no-place-past-N s order i a = go (free-writes s order i a)
         → drop (s .setup .superblocks * 256) (freeOf s order i a .order) ≡ drop (s .setup .superblocks * 256) order
     go (inl (r, e)) = ap (λ (x : After). drop (s .setup .superblocks * 256) (x .order)) e
     go (inr (acc, w)) =
-        drop-equal-of-same-rest (s .setup .superblocks * 256) (freeOf s order i a .order) order (w .long)
+        drop-equal-of-same-rest (s .setup .superblocks * 256) (freeOf s order i a .order) order (w .length-is)
         (λ x l. w .kept x (λ (q : x ≡ nextPlace s a). omega (arith, next-place-below-superblocks s order i a acc)))
 
 -- a call writes no place from N × 256 on
@@ -263,4 +263,4 @@ setup-writes-only-first-places u order = go (setup-writes u order)
     go : ((r : ℕ) × (setupOf u order ≡ refused r noState order)) ⊎ ((setupOf u order ≡ acceptedSetup u order) × ClearsFirst (u .superblocks * 256) order (setupOf u order .order))
         → drop (u .superblocks * 256) (setupOf u order .order) ≡ drop (u .superblocks * 256) order
     go (inl (r, e)) = ap (λ (x : After). drop (u .superblocks * 256) (x .order)) e
-    go (inr (e, c)) = drop-equal-of-same-rest (u .superblocks * 256) (setupOf u order .order) order (c .long) (c .kept)
+    go (inr (e, c)) = drop-equal-of-same-rest (u .superblocks * 256) (setupOf u order .order) order (c .length-is) (c .kept)

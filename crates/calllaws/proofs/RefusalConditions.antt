@@ -19,8 +19,8 @@ use Rattle.heap.specs.declared.State.{State}
 use Rattle.heap.specs.declared.Found.{Found}
 use Rattle.heap.specs.declared.Found.the-variants.{At, Nothing}
 use Rattle.heap.specs.Table.{isUnused, noState}
-use Rattle.heap.specs.Choice.{fullest}
-use Rattle.heap.specs.Check.{within, withinLimits, restValid}
+use Rattle.choicerules.specs.Choice.{fullest}
+use Rattle.checkrules.specs.Check.{within, withinLimits, restValid}
 use Rattle.heaplaws.proofs.StateFacts.{WithinLimits, Unused, Sound}
 use Rattle.heaplaws.proofs.StateCheckLaws.{facts-of-within-limits, within-limits-of-facts, sound-of-limits-and-rest, rest-valid-of-sound, facts-of-is-unused, is-unused-of-facts}
 use Rattle.calls.specs.declared.Outcome.the-variants.{Ready, Address, Moves, Refused}

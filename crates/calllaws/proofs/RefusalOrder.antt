@@ -7,8 +7,8 @@ use Prim.Native.Nat.{ℕ, _≤_, _<_}
 use Rattle.laws.specs.Sums.{pick}
 use Rattle.classes.specs.Classes.{classOf}
 use Rattle.heap.specs.declared.State.{State}
-use Rattle.heap.specs.Choice.{fullest}
-use Rattle.heap.specs.Check.{within}
+use Rattle.choicerules.specs.Choice.{fullest}
+use Rattle.checkrules.specs.Check.{within}
 use Rattle.calls.specs.Answers.{After, refused, checked, isProcessor}
 use Rattle.calls.specs.Take.{otherPlaces, takenAt, takeUnchecked, takeOf}
 use Rattle.calls.specs.Free.{isUnmapped, isMisaligned, isLiveAt, freedAt, freeUnchecked, freeOf}

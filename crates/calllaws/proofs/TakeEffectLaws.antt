@@ -22,7 +22,7 @@ use Rattle.heap.specs.declared.Superblock.{Superblock}
 use Rattle.heap.specs.declared.State.{State}
 use Rattle.heap.specs.Table.{blank, superblockAt, withSuperblock, liveIn, withMarkAt}
 use Rattle.heap.specs.Counts.{total, oneIfBelongs, liveIfBelongs, isOwnedOfClass, superblocksOf, blocksIn, liveOf, superblocksOfClass, liveOfClass}
-use Rattle.heap.specs.Moves.{bothConditions, mustMove}
+use Rattle.moverules.specs.Moves.{bothConditions, mustMove}
 use Rattle.heaplaws.proofs.StateFacts.{Shape, Unused, Owned, Sparse, Sound}
 use Rattle.heaplaws.proofs.CountLaws.{total-with-superblock, one-if-belongs-is-1, one-if-belongs-other-owner, one-if-belongs-other-class, live-if-belongs-is-live-in, live-if-belongs-other-owner, live-if-belongs-other-class}
 use Rattle.heaplaws.proofs.StateCheckLaws.{shape-with-superblock}
@@ -57,22 +57,22 @@ module _ (s : State) (order : List ℕ) (i c k : ℕ) (b : Superblock) (places :
 
   in-class : j < blocksOf (b .class)
   unfolding lastBlockOf
-  in-class = last-filled-below-n places (b .live) k (blocksOf (b .class)) (blocks-of-le-256 (b .class)) (gives .places-valid) (gives .four) (gives .room)
+  in-class = last-filled-below-n places (b .live) k (blocksOf (b .class)) (blocks-of-le-256 (b .class)) (gives .places-valid) (gives .marks-length) (gives .room)
 
   in-marks : j < 256
   in-marks = omega (arith, in-class, blocks-of-le-256 (b .class))
 
   clear : markBit (b .live) j ≡ 0
   unfolding lastBlockOf
-  clear = last-filled-not-marked places (b .live) k (blocksOf (b .class)) (blocks-of-le-256 (b .class)) (gives .places-valid) (gives .four) (gives .room)
+  clear = last-filled-not-marked places (b .live) k (blocksOf (b .class)) (blocks-of-le-256 (b .class)) (gives .places-valid) (gives .marks-length) (gives .room)
 
   places-valid-after : T (placesValid places (new .live) k (blocksOf (b .class)))
   unfolding lastBlockOf
-  places-valid-after = places-valid-after-take places (b .live) k (blocksOf (b .class)) (blocks-of-le-256 (b .class)) (gives .places-valid) (gives .four) (gives .room)
+  places-valid-after = places-valid-after-take places (b .live) k (blocksOf (b .class)) (blocks-of-le-256 (b .class)) (gives .places-valid) (gives .marks-length) (gives .room)
 
   -- ---- the superblocks afterwards
   after-at-superblock : superblockAt after k ≡ new
-  after-at-superblock = getD-set-same (s .table) k new blank (omega (arith, in-table, shape .long))
+  after-at-superblock = getD-set-same (s .table) k new blank (omega (arith, in-table, shape .length-is))
 
   after-at-others : (m : ℕ) → (m ≡ k → ⊥) → superblockAt after m ≡ superblockAt s m
   after-at-others m f = getD-set-other (s .table) k m new blank f
@@ -82,11 +82,11 @@ module _ (s : State) (order : List ℕ) (i c k : ℕ) (b : Superblock) (places :
   live-in-same = sum-cong (markBit (b .live)) (markBit (old .live)) 256 (λ m l. gives .marks m l)
 
   live-in-one-more : liveIn new ≡ suc (liveIn old)
-  live-in-one-more = live-count-with-mark (b .live) j (gives .four) in-marks clear ∙ ap suc live-in-same
+  live-in-one-more = live-count-with-mark (b .live) j (gives .marks-length) in-marks clear ∙ ap suc live-in-same
 
   -- ---- the counts
   total-after : (f : Superblock → ℕ) → total f (after .table) + f old ≡ total f (s .table) + f new
-  total-after f = total-with-superblock f s k new (shape .long) in-table
+  total-after f = total-with-superblock f s k new (shape .length-is) in-table
 
   new-owner-not-255 : new .owner ≡ 255 → ⊥
   new-owner-not-255 q = omega (arith, gives .owner, high, passed .sound .numbers .processors-high)
@@ -166,7 +166,7 @@ module _ (s : State) (order : List ℕ) (i c k : ℕ) (b : Superblock) (places :
   each-after m l (no f) = subst (λ (x : Superblock). Unused x ⊎ Owned (s .setup) places m x) (sym (after-at-others m f)) (go (passed .sound .each m l))
     where
       framed : (x : Superblock) → placesValid places (x .live) m (blocksOf (x .class)) ≡ placesValid order (x .live) m (blocksOf (x .class))
-      framed x = places-valid-cong places order (x .live) m (blocksOf (x .class)) (gives .long) (λ p h. gives .others m p f (omega (arith, blocks-of-le-256 (x .class))))
+      framed x = places-valid-cong places order (x .live) m (blocksOf (x .class)) (gives .length-is) (λ p h. gives .others m p f (omega (arith, blocks-of-le-256 (x .class))))
 
       go : Unused (superblockAt s m) ⊎ Owned (s .setup) order m (superblockAt s m) → Unused (superblockAt s m) ⊎ Owned (s .setup) places m (superblockAt s m)
       go (inl u) = inl u
@@ -193,10 +193,10 @@ module _ (s : State) (order : List ℕ) (i c k : ℕ) (b : Superblock) (places :
       at-sparse m l e (no f) = subst (Sparse (s .setup)) (sym (after-at-others m f)) (passed .sound .sparse m l (sym (ap (λ (x : Superblock). x .owner) (after-at-others m f)) ∙ e))
 
   passed-after : Passed after places
-  passed-after = record { sound = sound-after; room = omega (arith, passed .room, gives .long) }
+  passed-after = record { sound = sound-after; room = omega (arith, passed .room, gives .length-is) }
 
   shape-after : Shape after
-  shape-after = shape-with-superblock s k new shape in-table (length-with-mark (b .live) j ∙ gives .four)
+  shape-after = shape-with-superblock s k new shape in-table (length-with-mark (b .live) j ∙ gives .marks-length)
 
   -- ---- a class's counts
   owned-after : (d : ℕ) → superblocksOfClass d after + one (isOwnedOfClass d old) ≡ superblocksOfClass d s + one (isOwnedOfClass d new)
@@ -253,10 +253,10 @@ module _ (s : State) (order : List ℕ) (i c k : ℕ) (b : Superblock) (places :
     class = ap (λ (x : Superblock). x .class) after-at-superblock ∙ gives .class;
     before = gives .before;
     not-marked = sym (gives .marks j in-marks) ∙ clear;
-    is-marked = marks-after j ∙ with-mark-same (b .live) j (gives .four) in-marks;
+    is-marked = marks-after j ∙ with-mark-same (b .live) j (gives .marks-length) in-marks;
     marks = λ m l f. marks-after m ∙ with-mark-other (b .live) j m f ∙ gives .marks m l;
     live = ap liveIn after-at-superblock ∙ live-in-one-more;
-    one-owner-changed = owners-changed-with-superblock-le-1 s k new (shape .long) in-table;
+    one-owner-changed = owners-changed-with-superblock-le-1 s k new (shape .length-is) in-table;
     owned-of-others = owned-others;
     owned-of-class = owned-class;
     live-of-class = live-class-after;

@@ -17,8 +17,8 @@ use Rattle.heap.specs.declared.State.{State}
 use Rattle.heap.specs.declared.Found.{Found}
 use Rattle.heap.specs.declared.Found.the-variants.{At, Nothing}
 use Rattle.heap.specs.Table.{superblockAt}
-use Rattle.heap.specs.Choice.{fullest, lowestEmpty, lowestUnused, orElse}
-use Rattle.heap.specs.Check.{within, withinLimits, restValid}
+use Rattle.choicerules.specs.Choice.{fullest, lowestEmpty, lowestUnused, orElse}
+use Rattle.checkrules.specs.Check.{within, withinLimits, restValid}
 use Rattle.heaplaws.proofs.StateFacts.{Shape}
 use Rattle.calls.specs.declared.Outcome.the-variants.{Address}
 use Rattle.calls.specs.Answers.{After, numberOf, refused, checked, isProcessor}
@@ -144,7 +144,7 @@ module _ (s : State) (order : List ℕ) (i size k : ℕ) (shape : Shape s) (acc 
         home = acquired i (classOf size) (superblockAt s k);
         places = acquiredOrder (classOf size) k (superblockAt s k) order;
         source = source-of-other-places s order shape (acc .passed) i (classOf size) k class-lt-27 (h .0) offered;
-        result-is = h .2 ∙ taken-from-other-is-taken-with i (classOf size) k s order (omega (arith, offered .below, shape .long, acc .passed .sound .numbers .superblocks-high));
+        result-is = h .2 ∙ taken-from-other-is-taken-with i (classOf size) k s order (omega (arith, offered .below, shape .length-is, acc .passed .sound .numbers .superblocks-high));
       })
       (acc .place)
 

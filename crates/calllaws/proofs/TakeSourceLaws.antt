@@ -25,7 +25,7 @@ use Rattle.heap.specs.declared.Found.{Found}
 use Rattle.heap.specs.declared.Found.the-variants.{At, Nothing}
 use Rattle.heap.specs.Table.{blank, superblockAt, withSuperblock, liveIn, withOwner, withMarkAt}
 use Rattle.heap.specs.Counts.{superblocksOf, liveOf}
-use Rattle.heap.specs.Choice.{fullest, lowestEmpty, lowestUnused, orElse}
+use Rattle.choicerules.specs.Choice.{fullest, lowestEmpty, lowestUnused, orElse}
 use Rattle.heaplaws.proofs.StateFacts.{Shape}
 use Rattle.calls.specs.Answers.{After}
 use Rattle.calls.specs.declared.Outcome.the-variants.{Address}
@@ -72,12 +72,12 @@ pub record TakeSource (s : State) (order : List ℕ) (i c k : ℕ) (b : Superblo
   pub owner : b .owner ≡ i
   pub class : b .class ≡ c
   pub room : liveIn b < blocksOf (b .class)
-  pub four : length (b .live) ≡ 4
+  pub marks-length : length (b .live) ≡ 4
   pub places-valid : T (placesValid places (b .live) k (blocksOf (b .class)))
   -- nothing is marked or cleared yet
   pub marks : (m : ℕ) → m < 256 → markBit (b .live) m ≡ markBit (superblockAt s k .live) m
   -- no other superblock's places are touched
-  pub long : length places ≡ length order
+  pub length-is : length places ≡ length order
   pub others : (m p : ℕ) → (m ≡ k → ⊥) → p < 256 → place places m p ≡ place order m p
   pub before : (liveIn (superblockAt s k) ≡ 0) ⊎ ((superblockAt s k .class ≡ c) × (superblockAt s k .owner ≡ 255 → ⊥))
   -- it was heap i's of the class, or no processor heap's, and then heap i's superblocks of the class are full
@@ -100,16 +100,16 @@ module _ (s : State) (order : List ℕ) (shape : Shape s) (passed : Passed s ord
   pub source-of-own-heap : (i c k : ℕ) → i ≤ s .setup .processors → fullest i c s ≡ At k → TakeSource s order i c k (superblockAt s k) order
   source-of-own-heap i c k l e =
       let best = best-of-fullest i c s k e in
-      let h = facts-of-has-free i c (superblockAt s k) (best .is-wanted) in
+      let h = facts-of-has-free i c (superblockAt s k) (best .meets-criterion) in
       record {
         below = owned-below-superblocks s order (passed .sound) k (best .below) (owner-not-255 k i l (h .0));
         owner = h .0;
         class = h .1;
         room = subst (λ (d : ℕ). liveIn (superblockAt s k) < blocksOf d) (sym (h .1)) (h .2);
-        four = shape .four k (best .below);
+        marks-length = shape .marks-length k (best .below);
         places-valid = owned-of-owner s order (passed .sound) k (best .below) (owner-not-255 k i l (h .0)) .places;
         marks = λ m lm. refl;
-        long = refl;
+        length-is = refl;
         others = λ m p f lp. refl;
         before = inr (h .1, owner-not-255 k i l (h .0));
         source = inl (h .0, h .1);
@@ -134,7 +134,7 @@ module _ (s : State) (order : List ℕ) (shape : Shape s) (passed : Passed s ord
   offered-by-place-2 : (c k : ℕ) → fullest 0 c s ≡ At k → OfferedByOthers s c k
   offered-by-place-2 c k e =
       let best = best-of-fullest 0 c s k e in
-      let h = facts-of-has-free 0 c (superblockAt s k) (best .is-wanted) in
+      let h = facts-of-has-free 0 c (superblockAt s k) (best .meets-criterion) in
       record {
         below = global-below-superblocks k (best .below) (h .0);
         owner = inl (h .0);
@@ -145,13 +145,13 @@ module _ (s : State) (order : List ℕ) (shape : Shape s) (passed : Passed s ord
   offered-by-place-3 : (c k : ℕ) → fullest 0 c s ≡ Nothing → lowestEmpty s ≡ At k → OfferedByOthers s c k
   offered-by-place-3 c k none e =
       let best = best-of-lowest-empty s k e in
-      let h = facts-of-empty-in-global (superblockAt s k) (best .is-wanted) in
+      let h = facts-of-empty-in-global (superblockAt s k) (best .meets-criterion) in
       record { below = global-below-superblocks k (best .below) (h .0); owner = inl (h .0); live = inl (h .1); supply = inr (none-in-global-of-fullest-nothing c none) }
 
   offered-by-place-4 : (c k : ℕ) → fullest 0 c s ≡ Nothing → lowestUnused s ≡ At k → OfferedByOthers s c k
   offered-by-place-4 c k none e =
       let best = best-of-lowest-unused s k e in
-      let h = facts-of-is-unused (superblockAt s k) (best .is-wanted) in
+      let h = facts-of-is-unused (superblockAt s k) (best .meets-criterion) in
       record { below = best .below; owner = inr (h .owner); live = inl (h .live); supply = inr (none-in-global-of-fullest-nothing c none) }
 
   pub offered-of-other-places : (c k : ℕ) → otherPlaces c s ≡ At k → OfferedByOthers s c k
@@ -177,10 +177,10 @@ module _ (s : State) (order : List ℕ) (shape : Shape s) (passed : Passed s ord
       owner = refl;
       class = refl;
       room = omega (arith, live-count-of-no-marks, blocks-of-pos c known);
-      four = refl;
+      marks-length = refl;
       places-valid = places-valid-after-renewal order k (blocksOf c) (blocks-of-le-256 c) places-fit;
       marks = λ m l. mark-bit-of-no-marks m ∙ sym (marks-clear-of-live-count-zero (superblockAt s k .live) e m l);
-      long = length-renewed order k (blocksOf c);
+      length-is = length-renewed order k (blocksOf c);
       others = λ m p f l. renewed-other-superblock order k (blocksOf c) m p f l;
       before = inl e;
       source = inr (offered .owner, heap-full-of-fullest-nothing i c none);
@@ -194,10 +194,10 @@ module _ (s : State) (order : List ℕ) (shape : Shape s) (passed : Passed s ord
       owner = refl;
       class = h .1;
       room = h .2;
-      four = shape .four k in-table;
+      marks-length = shape .marks-length k in-table;
       places-valid = owned-of-owner s order (passed .sound) k in-table somebody .places;
       marks = λ m l. refl;
-      long = refl;
+      length-is = refl;
       others = λ m p f l. refl;
       before = inr (h .1, somebody);
       source = inr (offered .owner, heap-full-of-fullest-nothing i c none);

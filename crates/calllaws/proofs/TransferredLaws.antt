@@ -17,7 +17,7 @@ use Rattle.heap.specs.declared.Setup.{Setup}
 use Rattle.heap.specs.declared.State.{State}
 use Rattle.heap.specs.Table.{superblockAt, withOwner}
 use Rattle.heap.specs.Counts.{belongs, superblocksOf, blocksIn, liveOf, ownersChanged}
-use Rattle.heap.specs.Moves.{bothConditions, mustMove}
+use Rattle.moverules.specs.Moves.{bothConditions, mustMove}
 use Rattle.heaplaws.proofs.StateFacts.{Shape, WithinLimits, Unused, Owned, Sparse, Sound, TransferredFrom}
 use Rattle.heaplaws.proofs.CountLaws.{owner-and-class-of-belongs}
 
@@ -62,7 +62,7 @@ module _ (h c : ℕ) (s t : State) (m : TransferredFrom h c s t) (k : ℕ) (l : 
       go (inr (mine, sparse, now)) = inr (owner-and-class-of-belongs h c (superblockAt s k) mine .0, ap (λ (b : Superblock). b .owner) now)
 
 pub transferred-shape : (h c : ℕ) (s t : State) → TransferredFrom h c s t → Shape s → Shape t
-transferred-shape h c s t m shape = record { long = m .long; four = λ k l. ap length (transferred-live h c s t m k l) ∙ shape .four k l }
+transferred-shape h c s t m shape = record { length-is = m .length-is; marks-length = λ k l. ap length (transferred-live h c s t m k l) ∙ shape .marks-length k l }
 
 -- ---- the check
 -- What holds of each superblock still does, if it holds of a sparse one that passes to heap 0.

@@ -7,7 +7,7 @@ use lib.ListN.{length}
 use lib.Dec.{leb}
 use Rattle.laws.specs.Sums.{pick}
 use Rattle.heap.specs.declared.State.{State}
-use Rattle.heap.specs.Check.{within, withinLimits, restValid, passes}
+use Rattle.checkrules.specs.Check.{within, withinLimits, restValid, passes}
 use Rattle.calls.specs.declared.Answer.{Answer}
 use Rattle.calls.specs.declared.Outcome.{Outcome}
 use Rattle.calls.specs.declared.Outcome.the-variants.{Ready, Address, Moves, Refused}

@@ -12,8 +12,8 @@ use Rattle.heap.specs.declared.State.{State}
 use Rattle.heap.specs.declared.Found.{Found}
 use Rattle.heap.specs.declared.Found.the-variants.{At, Nothing}
 use Rattle.heap.specs.Table.{superblockAt, withSuperblock, liveIn, withOwner, withMarkAt}
-use Rattle.heap.specs.Choice.{fullest, lowestEmpty, lowestUnused, orElse}
-use Rattle.heap.specs.Check.{within}
+use Rattle.choicerules.specs.Choice.{fullest, lowestEmpty, lowestUnused, orElse}
+use Rattle.checkrules.specs.Check.{within}
 use Rattle.calls.specs.Answers.{After, refused, checked, isProcessor}
 use Rattle.calls.specs.declared.Outcome.the-variants.{Address}
 

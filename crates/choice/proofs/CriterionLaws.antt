@@ -8,7 +8,7 @@ use Rattle.classes.specs.Classes.{blocksOf}
 use Rattle.heap.specs.declared.Superblock.{Superblock}
 use Rattle.heap.specs.Table.{liveIn, isUnused}
 use Rattle.heap.specs.Counts.{belongs}
-use Rattle.heap.specs.Choice.{moreLive, fewerLive, neverPreferred, hasFree, emptyInGlobal}
+use Rattle.choicerules.specs.Choice.{moreLive, fewerLive, neverPreferred, hasFree, emptyInGlobal}
 use Rattle.choice.specs.declared.Criterion.{Criterion}
 use Rattle.choice.specs.declared.Criterion.the-variants.{HasFree, Belongs, Empty, Unused}
 use Rattle.choice.specs.Criteria.{meetsCriterion, preferredBy}

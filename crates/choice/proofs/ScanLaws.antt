@@ -14,7 +14,7 @@ use Rattle.heap.specs.declared.Superblock.{Superblock}
 use Rattle.heap.specs.declared.Found.{Found}
 use Rattle.heap.specs.declared.Found.the-variants.{At, Nothing}
 use Rattle.heap.specs.Table.{blank, isUnused}
-use Rattle.heap.specs.Choice.{prefer, chosenBelow, neverPreferred}
+use Rattle.choicerules.specs.Choice.{prefer, chosenBelow, neverPreferred}
 use Rattle.choice.specs.declared.Criterion.{Criterion}
 use Rattle.choice.specs.declared.Best.{Best}
 use Rattle.choice.specs.Criteria.{meetsCriterion, preferredBy, replacesBest, bestAfter}

@@ -7,7 +7,7 @@ use Rattle.heap.specs.declared.Found.{Found}
 use Rattle.heap.specs.declared.Found.the-variants.{At, Nothing}
 use Rattle.heap.specs.Table.{isUnused}
 use Rattle.heap.specs.Counts.{belongs}
-use Rattle.heap.specs.Choice.{moreLive, fewerLive, neverPreferred, hasFree, emptyInGlobal}
+use Rattle.choicerules.specs.Choice.{moreLive, fewerLive, neverPreferred, hasFree, emptyInGlobal}
 use Rattle.choice.specs.declared.Criterion.{Criterion}
 use Rattle.choice.specs.declared.Criterion.the-variants.{HasFree, Belongs, Empty, Unused}
 use Rattle.choice.specs.declared.Best.{Best}

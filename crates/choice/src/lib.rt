@@ -2,7 +2,7 @@
 // serves them all.
 ghost use mathlib.Core.Path.{_≡_};
 ghost use Prim.Native.Nat.{_≤_};
-ghost use Rattle.heap.specs.Choice.{chosenBelow, fullest as fullestOf, lowestEmpty, lowestUnused, emptiest as emptiestOf};
+ghost use Rattle.choicerules.specs.Choice.{chosenBelow, fullest as fullestOf, lowestEmpty, lowestUnused, emptiest as emptiestOf};
 ghost use Rattle.choice.specs.Criteria.{meetsCriterion, preferredBy, bestAfter};
 use heap::Found;
 use heap::State;

@@ -21,10 +21,10 @@ use Rattle.commands.specs.Record.{commandAt, sizeOfCommand, isRefused, commands
 
 -- a command that is not refused lies whole in a record that is not too long, and has 4 to 6 bytes
 pub record CommandInside (r : List ℕ) (at : ℕ) (c : Command) : Type 0 where
-  pub short : length r ≤ 60000
+  pub record-le-60000 : length r ≤ 60000
   pub inside : at + sizeOfCommand c ≤ length r
-  pub some : 4 ≤ sizeOfCommand c
-  pub few : sizeOfCommand c ≤ 6
+  pub size-ge-4 : 4 ≤ sizeOfCommand c
+  pub size-le-6 : sizeOfCommand c ≤ 6
 
 -- what is known of the command at a position, by its kind
 CommandFacts : List ℕ → ℕ → Command → Type 0
@@ -57,9 +57,9 @@ module _ (r : List ℕ) (at : ℕ) (c : Command) (e : c ≡ commandAt r at) wher
   command-inside f = go c f command-facts
     where
       go : (d : Command) → isRefused d ≡ false → CommandFacts r at d → CommandInside r at d
-      go (Setup processors superblocks spare p q) f t = record { short = t .0; inside = t .2; some = omega arith; few = le-refl 6 }
-      go (Take processor size) f t = record { short = t .0; inside = t .2; some = le-refl 4; few = omega arith }
-      go (Free processor address) f t = record { short = t .0; inside = t .2; some = omega arith; few = le-refl 6 }
+      go (Setup processors superblocks spare p q) f t = record { record-le-60000 = t .0; inside = t .2; size-ge-4 = omega arith; size-le-6 = le-refl 6 }
+      go (Take processor size) f t = record { record-le-60000 = t .0; inside = t .2; size-ge-4 = le-refl 4; size-le-6 = omega arith }
+      go (Free processor address) f t = record { record-le-60000 = t .0; inside = t .2; size-ge-4 = omega arith; size-le-6 = le-refl 6 }
       go (Refused number offset) f t = absurd (subst T f tt)
 
   setup-facts : (processors superblocks spare p q : ℕ) → c ≡ Setup processors superblocks spare p q → CommandFacts r at (Setup processors superblocks spare p q)

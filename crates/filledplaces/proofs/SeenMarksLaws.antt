@@ -23,7 +23,7 @@ use Rattle.filledplaces.proofs.OccurrenceLaws.{occurrences-zero, occurr
 
 -- after p places: the live marks and the blocks of those places are seen, all below n, each once
 pub record SeenMarks (order live : List ℕ) (s n : ℕ) (seen : List ℕ) (p : ℕ) : Type 0 where
-  pub long : length seen ≡ 4
+  pub length-is : length seen ≡ 4
   pub marks : (j : ℕ) → markBit seen j ≡ markBit live j + occurrences (place order s) p j
   pub low : (q : ℕ) → q < p → place order s q < n
 
@@ -101,20 +101,20 @@ module _ (order live : List ℕ) (s n : ℕ) where
             omega arith
 
   pub seen-marks-start : length live ≡ 4 → SeenMarks order live s n live 0
-  seen-marks-start e = record { long = e; marks = λ j. omega (arith, occurrences-zero (place order s) j); low = λ q l. absurd (not-suc-le-zero l) }
+  seen-marks-start e = record { length-is = e; marks = λ j. omega (arith, occurrences-zero (place order s) j); low = λ q l. absurd (not-suc-le-zero l) }
 
   pub seen-marks-step : (seen : List ℕ) (p : ℕ) → n ≤ 256 → SeenMarks order live s n seen p → place order s p < n → markBit seen (place order s p) ≡ 0
       → SeenMarks order live s n (withMark seen (place order s p)) (p + 1)
   seen-marks-step seen p small h b e =
       record {
-        long = length-with-mark seen (place order s p) ∙ h .long;
+        length-is = length-with-mark seen (place order s p) ∙ h .length-is;
         marks = λ j. at j (ℕ-discrete j (place order s p));
         low = below-more (λ q. place order s q < n) p (h .low) b;
       }
     where
       at : (j : ℕ) → Dec (j ≡ place order s p) → markBit (withMark seen (place order s p)) j ≡ markBit live j + occurrences (place order s) (p + 1) j
       at j (yes q) =
-          ap (markBit (withMark seen (place order s p))) q ∙ with-mark-same seen (place order s p) (h .long) (omega arith) ∙ (
+          ap (markBit (withMark seen (place order s p))) q ∙ with-mark-same seen (place order s p) (h .length-is) (omega arith) ∙ (
           let a = h .marks (place order s p) in
           let u = occurrences-suc (place order s) p (place order s p) in
           let o = one-of-equal (place order s p) in

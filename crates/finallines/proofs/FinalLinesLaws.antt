@@ -1,5 +1,6 @@
 -- The lines at the end of a record, put one after another. Assumes nothing.
 use mathlib.Core.Path.{_≡_, ap, _∙_}
+use mathlib.Core.Bool.{Bool, true, false}
 use mathlib.Core.List.{List, []}
 use Prim.Native.Nat.{ℕ, suc, _+_, _≤_}
 use native.Mathlib.Nat.{le-antisymm}
@@ -10,7 +11,7 @@ use Rattle.textrules.specs.Text.{pasted, letters}
 use Rattle.textrules.proofs.PasteLaws.{paste-then-paste}
 use Rattle.heap.specs.declared.State.{State}
 use Rattle.heap.specs.Counts.{superblocksOf, liveOf}
-use Rattle.linerules.specs.Lines.{heapLine, heapLineIf, classLines, heapLines, finalLines}
+use Rattle.linerules.specs.Lines.{heapLine, heapLineIf, classLines, heapLines, finalLines, closingLines}
 
 module _ (l₀ : List ℕ) {l : List ℕ} (at : ℕ) {r : ℕ} (s : State) where
   -- a heap and class without a superblock has no line
@@ -23,6 +24,15 @@ module _ (l₀ : List ℕ) {l : List ℕ} (at : ℕ) {r : ℕ} (s : State) where
       → record { end = r; buffer = l } ≡ pasted l₀ at (heapLineIf h c s)
   unfolding heapLineIf
   heap-line-if-of-superblocks h c n m p e f z = rw (← e, ← f, ne-eqb n 0 (λ (k : n ≡ 0). omega arith)) p
+
+  -- no line after a stop line, and else the final ones
+  pub closing-lines-of-stopped : (stopped : Bool) → stopped ≡ true → record { end = r; buffer = l } ≡ pasted l₀ at [] → record { end = r; buffer = l } ≡ pasted l₀ at (closingLines stopped s)
+  unfolding closingLines
+  closing-lines-of-stopped stopped e p = rw e p
+
+  pub closing-lines-of-going-on : (stopped : Bool) → stopped ≡ false → record { end = r; buffer = l } ≡ pasted l₀ at (finalLines s) → record { end = r; buffer = l } ≡ pasted l₀ at (closingLines stopped s)
+  unfolding closingLines
+  closing-lines-of-going-on stopped e p = rw e p
 
   -- the classes of a heap, and the heaps: none yet, all
   pub class-lines-start : (h : ℕ) → record { end = r; buffer = l } ≡ pasted l₀ at [] → record { end = r; buffer = l } ≡ pasted l₀ at (classLines h 0 s)

@@ -1,4 +1,4 @@
-// The lines at the end of a record that does not stop, written into a lent buffer, as far as they reach.
+// The lines after the last command of a record, written into a lent buffer, as far as they reach.
 use fields::put_byte;
 use fields::put_field;
 use fields::put_last_field;
@@ -8,7 +8,7 @@ use text::put_text;
 ghost use mathlib.Core.Path.{_≡_};
 ghost use Prim.Native.Nat.{_≤_};
 ghost use Rattle.textrules.specs.Text.{pasted};
-ghost use Rattle.linerules.specs.Lines.{heapLine, heapLineIf, classLines, heapLines, finalLines};
+ghost use Rattle.linerules.specs.Lines.{heapLine, heapLineIf, classLines, heapLines, finalLines, closingLines};
 
 // The line of a heap and class, with the number of its superblocks and of their live blocks.
 fn heap_line(out: &mut [u8], at: usize, heap: u8, class: u8, superblocks: u32, live: u32) -> usize
@@ -59,9 +59,19 @@ fn heap_lines(out: &mut [u8], at: usize, heaps: usize, s: State) -> usize
 }
 
 // The lines at the end of a record that does not stop.
-pub fn final_lines(out: &mut [u8], at: usize, s: State) -> usize
+fn final_lines(out: &mut [u8], at: usize, s: State) -> usize
     ensures { λ r. ⌜ record { end = r; buffer = now (out .exit) } ≡ pasted (now (out .entry)) at (finalLines s) ⌝ }
 {
     let end = heap_lines(out, at, s.setup.processors as usize + 1, s);
     put_text(out, end, b"end\n")
+}
+
+// The lines after the last command of a record: none after a stop line.
+pub fn closing_lines(out: &mut [u8], at: usize, stopped: bool, s: State) -> usize
+    ensures { λ r. ⌜ record { end = r; buffer = now (out .exit) } ≡ pasted (now (out .entry)) at (closingLines stopped s) ⌝ }
+{
+    if !stopped {
+        return final_lines(out, at, s);
+    }
+    put_nothing(out, at)
 }

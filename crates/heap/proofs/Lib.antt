@@ -1,4 +1,1 @@
 pub mod TableCases
-pub mod ChoiceCases
-pub mod MoveCases
-pub mod CheckCases

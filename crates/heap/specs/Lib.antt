@@ -1,5 +1,2 @@
 pub mod Table
 pub mod Counts
-pub mod Choice
-pub mod Moves
-pub mod Check

@@ -1,4 +1,5 @@
-// The state of the allocator: five setup numbers and a table of 64 superblocks. The rules on it are in specs/.
+// The state of the allocator: five setup numbers and a table of 64 superblocks. Its table and the counts over it are defined in specs/; the
+// rules on it have crates of their own (choicerules, moverules, checkrules).
 
 // Owner (0 the global heap, 1 to 8 a processor's heap, 255 none), size class, and live marks: block j is bit j mod 64 of
 // number j / 64.

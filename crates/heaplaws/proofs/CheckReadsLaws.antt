@@ -16,7 +16,7 @@ use Rattle.filledplaces.proofs.StorageLengthLaws.{places-valid-cong-if-in-stora
 use Rattle.heap.specs.declared.Superblock.{Superblock}
 use Rattle.heap.specs.declared.State.{State}
 use Rattle.heap.specs.Table.{superblockAt, isUnused}
-use Rattle.heap.specs.Check.{superblockValid, unusedFrom, emptinessInvariant, sparseIfGlobal, restValid}
+use Rattle.checkrules.specs.Check.{superblockValid, unusedFrom, emptinessInvariant, sparseIfGlobal, restValid}
 
 module _ (s : State) (x y : List ℕ) (h : SameFirst (s .setup .superblocks * 256) x y) where
   superblock-valid-same-first : (k : ℕ) (b : Superblock) → T (unusedFrom (s .setup .superblocks) k b) → superblockValid (s .setup) x k b ≡ superblockValid (s .setup) y k b
@@ -27,7 +27,7 @@ module _ (s : State) (x y : List ℕ) (h : SameFirst (s .setup .superblocks * 25
       go true e u =
           let l : k < s .setup .superblocks = ltb-true k (s .setup .superblocks) e in
           ap (λ (g : Bool). either (isUnused b) (both (leb (b .owner) (s .setup .processors)) (both (ltb (b .class) 27) g)))
-          (places-valid-cong-if-in-storage x y (b .live) k (blocksOf (b .class)) (omega (arith, h .long, blocks-of-le-256 (b .class))) (omega (arith, h .also-long, blocks-of-le-256 (b .class)))
+          (places-valid-cong-if-in-storage x y (b .live) k (blocksOf (b .class)) (omega (arith, h .first-covers, blocks-of-le-256 (b .class))) (omega (arith, h .second-covers, blocks-of-le-256 (b .class)))
           (λ p lp. same-first-place (s .setup .superblocks * 256) x y h k p (omega (arith, blocks-of-le-256 (b .class)))))
       go false e u = rw (true-of-T (isUnused b) u)
 

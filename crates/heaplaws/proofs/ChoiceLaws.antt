@@ -20,7 +20,7 @@ use Rattle.heap.specs.declared.Found.{Found}
 use Rattle.heap.specs.declared.Found.the-variants.{At, Nothing}
 use Rattle.heap.specs.Table.{blank, superblockAt, liveIn, isUnused}
 use Rattle.heap.specs.Counts.{belongs}
-use Rattle.heap.specs.Choice.{prefer, chosenBelow, moreLive, fewerLive, neverPreferred, hasFree, emptyInGlobal, fullest, lowestEmpty, lowestUnused, emptiest}
+use Rattle.choicerules.specs.Choice.{prefer, chosenBelow, moreLive, fewerLive, neverPreferred, hasFree, emptyInGlobal, fullest, lowestEmpty, lowestUnused, emptiest}
 use Rattle.heaplaws.proofs.StateFacts.{StrictWeakOrder, IsBest}
 use Rattle.heaplaws.proofs.CountLaws.{owner-and-class-of-belongs, belongs-of-owner-and-class}
 
@@ -61,106 +61,106 @@ At-injective m k e = cc
 At-not-Nothing : (k : ℕ) → At k ≡ Nothing → ⊥
 At-not-Nothing k e = let z : _≡_ {A = ℕ} 0 1 = cc in omega arith
 
-module _ (wanted : Superblock → Bool) (better : Superblock → Superblock → Bool) (table : List Superblock) where
+module _ (meets : Superblock → Bool) (preferred : Superblock → Superblock → Bool) (table : List Superblock) where
   -- superblock n beside the best of those below it
-  module _ (r : StrictWeakOrder better) (n : ℕ) where
+  module _ (r : StrictWeakOrder preferred) (n : ℕ) where
     -- it does not meet the criterion, or is not preferred
-    best-kept : (k : ℕ) → (T (wanted (getD table n blank)) → T (better (getD table n blank) (getD table k blank)) → ⊥) → IsBest wanted better table n k → IsBest wanted better table (suc n) k
-    best-kept k h b = record { below = omega (arith, b .below); is-wanted = b .is-wanted; none-better = λ m l t. none m (eq-or-lt-of-le (le-of-suc-le-suc l)) t; first = b .first }
+    best-kept : (k : ℕ) → (T (meets (getD table n blank)) → T (preferred (getD table n blank) (getD table k blank)) → ⊥) → IsBest meets preferred table n k → IsBest meets preferred table (suc n) k
+    best-kept k h b = record { below = omega (arith, b .below); meets-criterion = b .meets-criterion; none-preferred = λ m l t. none m (eq-or-lt-of-le (le-of-suc-le-suc l)) t; preferred-to-earlier = b .preferred-to-earlier }
       where
-        none : (m : ℕ) → (m ≡ n) ⊎ (m < n) → T (wanted (getD table m blank)) → T (better (getD table m blank) (getD table k blank)) → ⊥
-        none m (inl q) t u = h (subst (λ (i : ℕ). T (wanted (getD table i blank))) q t) (subst (λ (i : ℕ). T (better (getD table i blank) (getD table k blank))) q u)
-        none m (inr q) t u = b .none-better m q t u
+        none : (m : ℕ) → (m ≡ n) ⊎ (m < n) → T (meets (getD table m blank)) → T (preferred (getD table m blank) (getD table k blank)) → ⊥
+        none m (inl q) t u = h (subst (λ (i : ℕ). T (meets (getD table i blank))) q t) (subst (λ (i : ℕ). T (preferred (getD table i blank) (getD table k blank))) q u)
+        none m (inr q) t u = b .none-preferred m q t u
 
     -- it meets the criterion, and is preferred to each below it that meets the criterion
-    best-new : T (wanted (getD table n blank)) → ((m : ℕ) → m < n → T (wanted (getD table m blank)) → T (better (getD table m blank) (getD table n blank)) → ⊥)
-        → ((m : ℕ) → m < n → T (wanted (getD table m blank)) → T (better (getD table n blank) (getD table m blank))) → IsBest wanted better table (suc n) n
-    best-new w h first = record { below = lt-suc-self n; is-wanted = w; none-better = λ m l t. none m (eq-or-lt-of-le (le-of-suc-le-suc l)) t; first = first }
+    best-new : T (meets (getD table n blank)) → ((m : ℕ) → m < n → T (meets (getD table m blank)) → T (preferred (getD table m blank) (getD table n blank)) → ⊥)
+        → ((m : ℕ) → m < n → T (meets (getD table m blank)) → T (preferred (getD table n blank) (getD table m blank))) → IsBest meets preferred table (suc n) n
+    best-new w h first = record { below = lt-suc-self n; meets-criterion = w; none-preferred = λ m l t. none m (eq-or-lt-of-le (le-of-suc-le-suc l)) t; preferred-to-earlier = first }
       where
-        none : (m : ℕ) → (m ≡ n) ⊎ (m < n) → T (wanted (getD table m blank)) → T (better (getD table m blank) (getD table n blank)) → ⊥
-        none m (inl q) t u = r .is-irreflexive (getD table n blank) (subst (λ (i : ℕ). T (better (getD table i blank) (getD table n blank))) q u)
+        none : (m : ℕ) → (m ≡ n) ⊎ (m < n) → T (meets (getD table m blank)) → T (preferred (getD table m blank) (getD table n blank)) → ⊥
+        none m (inl q) t u = r .is-irreflexive (getD table n blank) (subst (λ (i : ℕ). T (preferred (getD table i blank) (getD table n blank))) q u)
         none m (inr q) t u = h m q t u
 
-    best-replaced : (k : ℕ) → T (wanted (getD table n blank)) → T (better (getD table n blank) (getD table k blank)) → IsBest wanted better table n k → IsBest wanted better table (suc n) n
+    best-replaced : (k : ℕ) → T (meets (getD table n blank)) → T (preferred (getD table n blank) (getD table k blank)) → IsBest meets preferred table n k → IsBest meets preferred table (suc n) n
     best-replaced k w more b =
-        best-new w (λ m l t u. b .none-better m l t (r .is-transitive (getD table m blank) (getD table n blank) (getD table k blank) u more))
-        (λ m l t. r .is-negatively-transitive (getD table n blank) (getD table m blank) (getD table k blank) more (b .none-better m l t))
+        best-new w (λ m l t u. b .none-preferred m l t (r .is-transitive (getD table m blank) (getD table n blank) (getD table k blank) u more))
+        (λ m l t. r .is-negatively-transitive (getD table n blank) (getD table m blank) (getD table k blank) more (b .none-preferred m l t))
 
-    best-step : (k : ℕ) (w : Bool) → wanted (getD table n blank) ≡ w → (f : Found) → ((m : ℕ) → f ≡ At m → IsBest wanted better table n m)
-        → (f ≡ Nothing → (m : ℕ) → m < n → T (wanted (getD table m blank)) → ⊥) → pick w (prefer better table f n) f ≡ At k → IsBest wanted better table (suc n) k
+    best-step : (k : ℕ) (w : Bool) → meets (getD table n blank) ≡ w → (f : Found) → ((m : ℕ) → f ≡ At m → IsBest meets preferred table n m)
+        → (f ≡ Nothing → (m : ℕ) → m < n → T (meets (getD table m blank)) → ⊥) → pick w (prefer preferred table f n) f ≡ At k → IsBest meets preferred table (suc n) k
     unfolding prefer
-    best-step k false w f some none e = best-kept k (λ t u. not-T-of-false (wanted (getD table n blank)) w t) (some k e)
+    best-step k false w f some none e = best-kept k (λ t u. not-T-of-false (meets (getD table n blank)) w t) (some k e)
     best-step k true w Nothing some none e =
-        subst (IsBest wanted better table (suc n)) (At-injective n k e)
-        (best-new (T-of-true (wanted (getD table n blank)) w) (λ m l t u. none refl m l t) (λ m l t. absurd (none refl m l t)))
-    best-step k true w (At m) some none e = go (better (getD table n blank) (getD table m blank)) refl e
+        subst (IsBest meets preferred table (suc n)) (At-injective n k e)
+        (best-new (T-of-true (meets (getD table n blank)) w) (λ m l t u. none refl m l t) (λ m l t. absurd (none refl m l t)))
+    best-step k true w (At m) some none e = go (preferred (getD table n blank) (getD table m blank)) refl e
       where
-        go : (x : Bool) → better (getD table n blank) (getD table m blank) ≡ x → pick x (At n) (At m) ≡ At k → IsBest wanted better table (suc n) k
+        go : (x : Bool) → preferred (getD table n blank) (getD table m blank) ≡ x → pick x (At n) (At m) ≡ At k → IsBest meets preferred table (suc n) k
         go true q found =
-            subst (IsBest wanted better table (suc n)) (At-injective n k found)
-            (best-replaced m (T-of-true (wanted (getD table n blank)) w) (T-of-true (better (getD table n blank) (getD table m blank)) q) (some m refl))
-        go false q found = subst (IsBest wanted better table (suc n)) (At-injective m k found) (best-kept m (λ t u. not-T-of-false (better (getD table n blank) (getD table m blank)) q u) (some m refl))
+            subst (IsBest meets preferred table (suc n)) (At-injective n k found)
+            (best-replaced m (T-of-true (meets (getD table n blank)) w) (T-of-true (preferred (getD table n blank) (getD table m blank)) q) (some m refl))
+        go false q found = subst (IsBest meets preferred table (suc n)) (At-injective m k found) (best-kept m (λ t u. not-T-of-false (preferred (getD table n blank) (getD table m blank)) q u) (some m refl))
 
-  prefer-not-nothing : (f : Found) (k : ℕ) → prefer better table f k ≡ Nothing → ⊥
+  prefer-not-nothing : (f : Found) (k : ℕ) → prefer preferred table f k ≡ Nothing → ⊥
   unfolding prefer
   prefer-not-nothing Nothing k e = At-not-Nothing k e
-  prefer-not-nothing (At m) k e = go (better (getD table k blank) (getD table m blank)) e
+  prefer-not-nothing (At m) k e = go (preferred (getD table k blank) (getD table m blank)) e
     where
       go : (t : Bool) → pick t (At k) (At m) ≡ Nothing → ⊥
       go true q = At-not-Nothing k q
       go false q = At-not-Nothing m q
 
   -- nothing is found exactly if none meets the criterion
-  pub none-meets-of-chosen-nothing : (n : ℕ) → chosenBelow wanted better table n ≡ Nothing → (m : ℕ) → m < n → T (wanted (getD table m blank)) → ⊥
+  pub none-meets-of-chosen-nothing : (n : ℕ) → chosenBelow meets preferred table n ≡ Nothing → (m : ℕ) → m < n → T (meets (getD table m blank)) → ⊥
   unfolding chosenBelow
   none-meets-of-chosen-nothing zero e m l t = omega arith
-  none-meets-of-chosen-nothing (suc n) e m l t = go (λ q. none-meets-of-chosen-nothing n q m) (wanted (getD table n blank)) refl e (eq-or-lt-of-le (le-of-suc-le-suc l))
+  none-meets-of-chosen-nothing (suc n) e m l t = go (λ q. none-meets-of-chosen-nothing n q m) (meets (getD table n blank)) refl e (eq-or-lt-of-le (le-of-suc-le-suc l))
     where
-      go : (chosenBelow wanted better table n ≡ Nothing → m < n → T (wanted (getD table m blank)) → ⊥) → (w : Bool) → wanted (getD table n blank) ≡ w
-          → pick w (prefer better table (chosenBelow wanted better table n) n) (chosenBelow wanted better table n) ≡ Nothing → (m ≡ n) ⊎ (m < n) → ⊥
-      go ih true w q d = prefer-not-nothing (chosenBelow wanted better table n) n q
-      go ih false w q (inl same) = not-T-of-false (wanted (getD table m blank)) (ap (λ (i : ℕ). wanted (getD table i blank)) same ∙ w) t
+      go : (chosenBelow meets preferred table n ≡ Nothing → m < n → T (meets (getD table m blank)) → ⊥) → (w : Bool) → meets (getD table n blank) ≡ w
+          → pick w (prefer preferred table (chosenBelow meets preferred table n) n) (chosenBelow meets preferred table n) ≡ Nothing → (m ≡ n) ⊎ (m < n) → ⊥
+      go ih true w q d = prefer-not-nothing (chosenBelow meets preferred table n) n q
+      go ih false w q (inl same) = not-T-of-false (meets (getD table m blank)) (ap (λ (i : ℕ). meets (getD table i blank)) same ∙ w) t
       go ih false w q (inr less) = ih q less t
 
-  pub chosen-nothing-of-none-meets : (n : ℕ) → ((m : ℕ) → m < n → T (wanted (getD table m blank)) → ⊥) → chosenBelow wanted better table n ≡ Nothing
+  pub chosen-nothing-of-none-meets : (n : ℕ) → ((m : ℕ) → m < n → T (meets (getD table m blank)) → ⊥) → chosenBelow meets preferred table n ≡ Nothing
   unfolding chosenBelow
   chosen-nothing-of-none-meets zero h = refl
   chosen-nothing-of-none-meets (suc n) h =
-      pick-false (wanted (getD table n blank)) (prefer better table (chosenBelow wanted better table n) n) (chosenBelow wanted better table n) (false-of-not-T (wanted (getD table n blank)) (h n (lt-suc-self n)))
+      pick-false (meets (getD table n blank)) (prefer preferred table (chosenBelow meets preferred table n) n) (chosenBelow meets preferred table n) (false-of-not-T (meets (getD table n blank)) (h n (lt-suc-self n)))
       ∙ chosen-nothing-of-none-meets n (λ m l. h m (omega arith))
 
-  pub best-of-chosen : StrictWeakOrder better → (n k : ℕ) → chosenBelow wanted better table n ≡ At k → IsBest wanted better table n k
+  pub best-of-chosen : StrictWeakOrder preferred → (n k : ℕ) → chosenBelow meets preferred table n ≡ At k → IsBest meets preferred table n k
   unfolding chosenBelow
   best-of-chosen r zero k e = absurd (At-not-Nothing k (sym e))
-  best-of-chosen r (suc n) k e = best-step r n k (wanted (getD table n blank)) refl (chosenBelow wanted better table n) (best-of-chosen r n) (none-meets-of-chosen-nothing n) e
+  best-of-chosen r (suc n) k e = best-step r n k (meets (getD table n blank)) refl (chosenBelow meets preferred table n) (best-of-chosen r n) (none-meets-of-chosen-nothing n) e
 
-  pub chosen-lt-bound : (n k : ℕ) → chosenBelow wanted better table n ≡ At k → k < n
+  pub chosen-lt-bound : (n k : ℕ) → chosenBelow meets preferred table n ≡ At k → k < n
   unfolding chosenBelow prefer
   chosen-lt-bound zero k e = absurd (At-not-Nothing k (sym e))
-  chosen-lt-bound (suc n) k e = go (wanted (getD table n blank)) (chosenBelow wanted better table n) (chosen-lt-bound n) e
+  chosen-lt-bound (suc n) k e = go (meets (getD table n blank)) (chosenBelow meets preferred table n) (chosen-lt-bound n) e
     where
       pass : (x : Bool) (m : ℕ) → m < n → pick x (At n) (At m) ≡ At k → k < suc n
       pass true m l q = omega (arith, At-injective n k q)
       pass false m l q = omega (arith, At-injective m k q)
 
-      go : (w : Bool) (f : Found) → ((m : ℕ) → f ≡ At m → m < n) → pick w (prefer better table f n) f ≡ At k → k < suc n
+      go : (w : Bool) (f : Found) → ((m : ℕ) → f ≡ At m → m < n) → pick w (prefer preferred table f n) f ≡ At k → k < suc n
       go true Nothing below q = omega (arith, At-injective n k q)
-      go true (At m) below q = pass (better (getD table n blank) (getD table m blank)) m (below m refl) q
+      go true (At m) below q = pass (preferred (getD table n blank) (getD table m blank)) m (below m refl) q
       go false f below q = omega (arith, below k q)
 
   -- where one meets the criterion, one is found
-  pub chosen-of-meets : (n m : ℕ) → m < n → T (wanted (getD table m blank)) → (k : ℕ) × (chosenBelow wanted better table n ≡ At k)
-  chosen-of-meets n m l t = go (chosenBelow wanted better table n) refl
+  pub chosen-of-meets : (n m : ℕ) → m < n → T (meets (getD table m blank)) → (k : ℕ) × (chosenBelow meets preferred table n ≡ At k)
+  chosen-of-meets n m l t = go (chosenBelow meets preferred table n) refl
     where
-      go : (f : Found) → chosenBelow wanted better table n ≡ f → (k : ℕ) × (chosenBelow wanted better table n ≡ At k)
+      go : (f : Found) → chosenBelow meets preferred table n ≡ f → (k : ℕ) × (chosenBelow meets preferred table n ≡ At k)
       go (At k) e = (k, e)
       go Nothing e = absurd (none-meets-of-chosen-nothing n e m l t)
 
   -- only one superblock is the best, and it is the one found
-  best-not-two : (n k m : ℕ) → IsBest wanted better table n k → IsBest wanted better table n m → k < m → ⊥
-  best-not-two n k m b d l = b .none-better m (d .below) (d .is-wanted) (d .first k l (b .is-wanted))
+  best-not-two : (n k m : ℕ) → IsBest meets preferred table n k → IsBest meets preferred table n m → k < m → ⊥
+  best-not-two n k m b d l = b .none-preferred m (d .below) (d .meets-criterion) (d .preferred-to-earlier k l (b .meets-criterion))
 
-  pub best-unique : (n k m : ℕ) → IsBest wanted better table n k → IsBest wanted better table n m → k ≡ m
+  pub best-unique : (n k m : ℕ) → IsBest meets preferred table n k → IsBest meets preferred table n m → k ≡ m
   best-unique n k m b d = go (decLt k m) (decLt m k)
     where
       go : Dec (k < m) → Dec (m < k) → k ≡ m
@@ -168,26 +168,26 @@ module _ (wanted : Superblock → Bool) (better : Superblock → Superblock → 
       go (no f) (yes l) = absurd (best-not-two n m k d b l)
       go (no f) (no g) = omega arith
 
-  pub chosen-of-best : StrictWeakOrder better → (n k : ℕ) → IsBest wanted better table n k → chosenBelow wanted better table n ≡ At k
+  pub chosen-of-best : StrictWeakOrder preferred → (n k : ℕ) → IsBest meets preferred table n k → chosenBelow meets preferred table n ≡ At k
   chosen-of-best r n k b =
-      let found = chosen-of-meets n k (b .below) (b .is-wanted) in
+      let found = chosen-of-meets n k (b .below) (b .meets-criterion) in
       found .1 ∙ ap At (best-unique n (found .0) k (best-of-chosen r n (found .0) (found .1)) b)
 
   -- forms for a loop over the table
-  pub chosen-below-zero : Nothing ≡ chosenBelow wanted better table 0
+  pub chosen-below-zero : Nothing ≡ chosenBelow meets preferred table 0
   unfolding chosenBelow
   chosen-below-zero = refl
 
-  pub chosen-below-suc : (n : ℕ) → chosenBelow wanted better table (n + 1) ≡ pick (wanted (getD table n blank)) (prefer better table (chosenBelow wanted better table n) n) (chosenBelow wanted better table n)
+  pub chosen-below-suc : (n : ℕ) → chosenBelow meets preferred table (n + 1) ≡ pick (meets (getD table n blank)) (prefer preferred table (chosenBelow meets preferred table n) n) (chosenBelow meets preferred table n)
   unfolding chosenBelow
   chosen-below-suc n = rw add-one
 
-  pub chosen-loop-step : (n : ℕ) (found r : Found) (w : Bool) → found ≡ chosenBelow wanted better table n → w ≡ wanted (getD table n blank) → r ≡ pick w (prefer better table found n) found
-      → r ≡ chosenBelow wanted better table (n + 1)
+  pub chosen-loop-step : (n : ℕ) (found r : Found) (w : Bool) → found ≡ chosenBelow meets preferred table n → w ≡ meets (getD table n blank) → r ≡ pick w (prefer preferred table found n) found
+      → r ≡ chosenBelow meets preferred table (n + 1)
   chosen-loop-step n found r w p q e = rw (chosen-below-suc, ← p, ← q) e
 
-  pub chosen-loop-end : (i n : ℕ) (found : Found) → found ≡ chosenBelow wanted better table i → i ≤ n → n ≤ i → found ≡ chosenBelow wanted better table n
-  chosen-loop-end i n found e h g = e ∙ ap (chosenBelow wanted better table) (le-antisymm h g)
+  pub chosen-loop-end : (i n : ℕ) (found : Found) → found ≡ chosenBelow meets preferred table i → i ≤ n → n ≤ i → found ≡ chosenBelow meets preferred table n
+  chosen-loop-end i n found e h g = e ∙ ap (chosenBelow meets preferred table) (le-antisymm h g)
 
 -- ---- what meets the criterion
 -- class c with a free block, in heap h
@@ -218,11 +218,11 @@ best-of-fullest h c s k e = best-of-chosen (hasFree h c) moreLive (s .table) mor
 -- an offered superblock such that none offered has more live, nor as many with a lower number
 pub fullest-has-most-live : (h c : ℕ) (s : State) (k m : ℕ) → fullest h c s ≡ At k → m < 64 → T (hasFree h c (superblockAt s m)) → liveIn (superblockAt s m) ≤ liveIn (superblockAt s k)
 unfolding moreLive
-fullest-has-most-live h c s k m e l t = le-of-not-ltb (liveIn (superblockAt s k)) (liveIn (superblockAt s m)) (best-of-fullest h c s k e .none-better m l t)
+fullest-has-most-live h c s k m e l t = le-of-not-ltb (liveIn (superblockAt s k)) (liveIn (superblockAt s m)) (best-of-fullest h c s k e .none-preferred m l t)
 
 pub fullest-lowest-among-equals : (h c : ℕ) (s : State) (k m : ℕ) → fullest h c s ≡ At k → m < k → T (hasFree h c (superblockAt s m)) → liveIn (superblockAt s m) < liveIn (superblockAt s k)
 unfolding moreLive
-fullest-lowest-among-equals h c s k m e l t = ltb→lt (liveIn (superblockAt s m)) (liveIn (superblockAt s k)) (best-of-fullest h c s k e .first m l t)
+fullest-lowest-among-equals h c s k m e l t = ltb→lt (liveIn (superblockAt s m)) (liveIn (superblockAt s k)) (best-of-fullest h c s k e .preferred-to-earlier m l t)
 
 pub none-free-of-fullest-nothing : (h c : ℕ) (s : State) → fullest h c s ≡ Nothing → (m : ℕ) → m < 64 → T (hasFree h c (superblockAt s m)) → ⊥
 unfolding fullest
@@ -243,7 +243,7 @@ none-empty-of-lowest-empty-nothing s e m l t = none-meets-of-chosen-nothing empt
 -- none with a lower number is offered
 pub none-empty-below-lowest-empty : (s : State) (k m : ℕ) → lowestEmpty s ≡ At k → m < k → T (emptyInGlobal (superblockAt s m)) → ⊥
 unfolding neverPreferred
-none-empty-below-lowest-empty s k m e l t = best-of-lowest-empty s k e .first m l t
+none-empty-below-lowest-empty s k m e l t = best-of-lowest-empty s k e .preferred-to-earlier m l t
 
 pub best-of-lowest-unused : (s : State) (k : ℕ) → lowestUnused s ≡ At k → IsBest isUnused neverPreferred (s .table) (s .setup .superblocks) k
 unfolding lowestUnused
@@ -255,7 +255,7 @@ none-unused-of-lowest-unused-nothing s e m l t = none-meets-of-chosen-nothing is
 
 pub none-unused-below-lowest-unused : (s : State) (k m : ℕ) → lowestUnused s ≡ At k → m < k → T (isUnused (superblockAt s m)) → ⊥
 unfolding neverPreferred
-none-unused-below-lowest-unused s k m e l t = best-of-lowest-unused s k e .first m l t
+none-unused-below-lowest-unused s k m e l t = best-of-lowest-unused s k e .preferred-to-earlier m l t
 
 pub best-of-emptiest : (h c : ℕ) (s : State) (k : ℕ) → emptiest h c s ≡ At k → IsBest (belongs h c) fewerLive (s .table) 64 k
 unfolding emptiest
@@ -263,11 +263,11 @@ best-of-emptiest h c s k e = best-of-chosen (belongs h c) fewerLive (s .table) f
 
 pub emptiest-has-fewest-live : (h c : ℕ) (s : State) (k m : ℕ) → emptiest h c s ≡ At k → m < 64 → T (belongs h c (superblockAt s m)) → liveIn (superblockAt s k) ≤ liveIn (superblockAt s m)
 unfolding fewerLive
-emptiest-has-fewest-live h c s k m e l t = le-of-not-ltb (liveIn (superblockAt s m)) (liveIn (superblockAt s k)) (best-of-emptiest h c s k e .none-better m l t)
+emptiest-has-fewest-live h c s k m e l t = le-of-not-ltb (liveIn (superblockAt s m)) (liveIn (superblockAt s k)) (best-of-emptiest h c s k e .none-preferred m l t)
 
 pub emptiest-lowest-among-equals : (h c : ℕ) (s : State) (k m : ℕ) → emptiest h c s ≡ At k → m < k → T (belongs h c (superblockAt s m)) → liveIn (superblockAt s k) < liveIn (superblockAt s m)
 unfolding fewerLive
-emptiest-lowest-among-equals h c s k m e l t = ltb→lt (liveIn (superblockAt s k)) (liveIn (superblockAt s m)) (best-of-emptiest h c s k e .first m l t)
+emptiest-lowest-among-equals h c s k m e l t = ltb→lt (liveIn (superblockAt s k)) (liveIn (superblockAt s m)) (best-of-emptiest h c s k e .preferred-to-earlier m l t)
 
 pub none-belongs-of-emptiest-nothing : (h c : ℕ) (s : State) → emptiest h c s ≡ Nothing → (m : ℕ) → m < 64 → T (belongs h c (superblockAt s m)) → ⊥
 unfolding emptiest

@@ -1,4 +1,3 @@
-pub mod WholeCheckCases
 pub mod StateFacts
 pub mod ChoiceLaws
 pub mod CountLaws

@@ -23,8 +23,8 @@ use Rattle.heap.specs.declared.Found.the-variants.{At, Nothing}
 use Rattle.heap.specs.declared.Moved.{Moved}
 use Rattle.heap.specs.Table.{blank, superblockAt, liveIn, withOwner}
 use Rattle.heap.specs.Counts.{total, belongs, isOwnedOfClass, oneIfBelongs, liveIfBelongs, superblocksOf, blocksIn, liveOf, superblocksOfClass, liveOfClass, ownersChanged}
-use Rattle.heap.specs.Choice.{emptiest}
-use Rattle.heap.specs.Moves.{bothConditions, mustMove, transferred, foundTransferred, transfersUpTo, excessTransferred}
+use Rattle.choicerules.specs.Choice.{emptiest}
+use Rattle.moverules.specs.Moves.{bothConditions, mustMove, transferred, foundTransferred, transfersUpTo, excessTransferred}
 use Rattle.heaplaws.proofs.ChoiceLaws.{best-of-emptiest, emptiest-has-fewest-live, none-belongs-of-emptiest-nothing}
 use Rattle.heaplaws.proofs.CountLaws.{total-with-superblock, owner-and-class-of-belongs, belongs-of-owner-and-class, one-if-belongs-is-1, one-if-belongs-other-owner, one-if-belongs-other-class, live-if-belongs-is-live-in, live-if-belongs-other-owner, live-if-belongs-other-class, belongs-of-superblocks-pos, superblocks-of-le-64, live-of-at-least-each}
 use Rattle.heaplaws.proofs.StateFacts.{WithinLimits, Sparse, TransferredFrom}
@@ -78,7 +78,7 @@ module _ (h c : ℕ) (s : State) (k : ℕ) (long : length (s .table) ≡ 64) (po
   transfer-lt-64 = best-of-emptiest h c s k e .below
 
   transfer-owner-and-class : (superblockAt s k .owner ≡ h) × (superblockAt s k .class ≡ c)
-  transfer-owner-and-class = owner-and-class-of-belongs h c (superblockAt s k) (best-of-emptiest h c s k e .is-wanted)
+  transfer-owner-and-class = owner-and-class-of-belongs h c (superblockAt s k) (best-of-emptiest h c s k e .meets-criterion)
 
   transfer-at-superblock : superblockAt (transferred k s) k ≡ withOwner 0 (superblockAt s k)
   unfolding transferred
@@ -173,7 +173,7 @@ pub transferred-from-self : (h c : ℕ) (s : State) → length (s .table) ≡ 64
 transferred-from-self h c s long =
     record {
       setup = refl;
-      long = long;
+      length-is = long;
       each = λ k l. inl refl;
       others = λ i d p f. (refl, refl);
       owned = λ d. refl;
@@ -187,11 +187,11 @@ owners-changed-self s =
 
 module _ (h c : ℕ) (s t : State) (k : ℕ) (r : TransferredFrom h c s t) (pos : 0 < h) (low : h < 255) (must : T (mustMove h c t)) (e : emptiest h c t ≡ At k) where
   next-owner-and-class : (superblockAt t k .owner ≡ h) × (superblockAt t k .class ≡ c)
-  next-owner-and-class = transfer-owner-and-class h c t k (r .long) pos e
+  next-owner-and-class = transfer-owner-and-class h c t k (r .length-is) pos e
 
   -- a superblock that has moved is heap 0's, so the one that moves now is as it was
   next-not-moved-before : superblockAt t k ≡ superblockAt s k
-  next-not-moved-before = go (r .each k (transfer-lt-64 h c t k (r .long) pos e))
+  next-not-moved-before = go (r .each k (transfer-lt-64 h c t k (r .length-is) pos e))
     where
       go : KeptOrTransferred h c (s .setup) (superblockAt s k) (superblockAt t k) → superblockAt t k ≡ superblockAt s k
       go (inl q) = q
@@ -213,12 +213,12 @@ module _ (h c : ℕ) (s t : State) (k : ℕ) (r : TransferredFrom h c s t) (pos 
   next-each j l = go (ℕ-discrete j k)
     where
       go : Dec (j ≡ k) → KeptOrTransferred h c (s .setup) (superblockAt s j) (superblockAt (transferred k t) j)
-      go (yes q) = rw q (inr (belongs-of-owner-and-class h c (superblockAt s k) next-owner next-class, next-sparse, transfer-at-superblock h c t k (r .long) pos e ∙ ap (withOwner 0) next-not-moved-before))
-      go (no f) = rw (transfer-at-others h c t k (r .long) pos e j f) (r .each j l)
+      go (yes q) = rw q (inr (belongs-of-owner-and-class h c (superblockAt s k) next-owner next-class, next-sparse, transfer-at-superblock h c t k (r .length-is) pos e ∙ ap (withOwner 0) next-not-moved-before))
+      go (no f) = rw (transfer-at-others h c t k (r .length-is) pos e j f) (r .each j l)
 
   next-others : (i d : ℕ) → 0 < i → ((i ≡ h) × (d ≡ c) → ⊥) → (superblocksOf i d (transferred k t) ≡ superblocksOf i d s) × (liveOf i d (transferred k t) ≡ liveOf i d s)
   next-others i d p f =
-      (transfer-superblocks-of-other-pair h c t k (r .long) pos e i d p f ∙ r .others i d p f .0, transfer-live-of-other-pair h c t k (r .long) pos e i d p f ∙ r .others i d p f .1)
+      (transfer-superblocks-of-other-pair h c t k (r .length-is) pos e i d p f ∙ r .others i d p f .0, transfer-live-of-other-pair h c t k (r .length-is) pos e i d p f ∙ r .others i d p f .1)
 
   next-setup : transferred k t .setup ≡ s .setup
   unfolding transferred
@@ -228,11 +228,11 @@ module _ (h c : ℕ) (s t : State) (k : ℕ) (r : TransferredFrom h c s t) (pos 
   transferred-from-next =
       record {
         setup = next-setup;
-        long = transfer-length h c t k (r .long) pos e;
+        length-is = transfer-length h c t k (r .length-is) pos e;
         each = next-each;
         others = next-others;
-        owned = λ d. transfer-owned h c t k (r .long) pos e low d ∙ r .owned d;
-        live = λ d. transfer-live-of-class h c t k (r .long) pos e low d ∙ r .live d;
+        owned = λ d. transfer-owned h c t k (r .length-is) pos e low d ∙ r .owned d;
+        live = λ d. transfer-live-of-class h c t k (r .length-is) pos e low d ∙ r .live d;
       }
 
   -- one owner more has changed
@@ -242,8 +242,8 @@ module _ (h c : ℕ) (s t : State) (k : ℕ) (r : TransferredFrom h c s t) (pos 
       let f : ℕ → Superblock → ℕ = λ j b. one (not (eqb (superblockAt s j .owner) (b .owner))) in
       let new : f k (withOwner 0 (superblockAt t k)) ≡ 1 = ap (λ (x : Bool). one (not x)) (ne-eqb (superblockAt s k .owner) 0 (λ z. zero-not-processor-heap h pos (sym z ∙ next-owner))) in
       let old : f k (superblockAt t k) ≡ 0 = ap (λ (x : Bool). one (not x)) (eq-eqb (superblockAt s k .owner) (superblockAt t k .owner) (next-owner ∙ sym (next-owner-and-class .0))) in
-      let l = transfer-lt-64 h c t k (r .long) pos e in
-      let g = r .long in
+      let l = transfer-lt-64 h c t k (r .length-is) pos e in
+      let g = r .length-is in
       omega (arith, sum-set-indexed (t .table) blank k (withOwner 0 (superblockAt t k)) f 64 l (omega arith))
 
 -- ---- how many moves
@@ -287,8 +287,8 @@ module _ (h c freed : ℕ) (s : State) (numbers : WithinLimits (s .setup)) (pos 
       let a = superblocksOf h c t * blocksOf c in
       let b = superblocksOf h c (transferred k t) * blocksOf c in
       let met : (liveOf h c t + s .setup .spare * blocksOf c < a) × (s .setup .q * liveOf h c t < (s .setup .q - s .setup .p) * a) = rw (← (r .from .setup)) (conditions-of-must-move h c t must) in
-      let count : b + blocksOf c ≡ a = omega (arith, ap (λ (x : ℕ). x * blocksOf c) (transfer-superblocks h c t k (r .from .long) pos e)) in
-      let live = transfer-live h c t k (r .from .long) pos e in
+      let count : b + blocksOf c ≡ a = omega (arith, ap (λ (x : ℕ). x * blocksOf c) (transfer-superblocks h c t k (r .from .length-is) pos e)) in
+      let live = transfer-live h c t k (r .from .length-is) pos e in
       let sparse = next-live-is-sparse h c s t k (r .from) pos low must e in
       record {
         from = transferred-from-next h c s t k (r .from) pos low must e;
@@ -310,7 +310,7 @@ module _ (h c freed : ℕ) (s : State) (numbers : WithinLimits (s .setup)) (pos 
       go (λ must. after-all-moves k (m + 1) (foundTransferred (emptiest h c t) t) (fewer must) (after-one-move m t r must)) (mustMove h c t) refl
     where
       fewer : T (mustMove h c t) → superblocksOf h c (foundTransferred (emptiest h c t) t) ≤ k
-      fewer must = let e = superblocks-after-transfer h c t (r .from .long) pos must in omega arith
+      fewer must = let e = superblocks-after-transfer h c t (r .from .length-is) pos must in omega arith
 
       go : (T (mustMove h c t) → MovesEnded h c freed s (transfersUpTo k h c (m + 1) (foundTransferred (emptiest h c t) t))) → (b : Bool) → mustMove h c t ≡ b
           → MovesEnded h c freed s (pick b (transfersUpTo k h c (m + 1) (foundTransferred (emptiest h c t) t)) (record { moves = m; state = t }))
@@ -320,9 +320,9 @@ module _ (h c freed : ℕ) (s : State) (numbers : WithinLimits (s .setup)) (pos 
 -- The whole of the moves of heap h and class c, from a state s in which so many of its blocks were freed since the emptiness invariant
 -- of heap and class last held: before, u was higher by `freed`, so that a ≤ u + freed + K × n, or (q - p) × a ≤ q × (u + freed).
 module _ (h c freed : ℕ) (s : State) (long : length (s .table) ≡ 64) (numbers : WithinLimits (s .setup)) (pos : 0 < h) (low : h < 255) (some : 1 ≤ freed)
-    (held-before : (blocksIn h c s ≤ liveOf h c s + freed + s .setup .spare * blocksOf c) ⊎ ((s .setup .q - s .setup .p) * blocksIn h c s ≤ s .setup .q * (liveOf h c s + freed))) where
+    (invariant-before : (blocksIn h c s ≤ liveOf h c s + freed + s .setup .spare * blocksOf c) ⊎ ((s .setup .q - s .setup .p) * blocksIn h c s ≤ s .setup .q * (liveOf h c s + freed))) where
   after-no-move : AfterMoves h c freed s 0 s
-  after-no-move = record { from = transferred-from-self h c s long; changed = owners-changed-self s; bounded = go held-before; moves-bound = zero-le }
+  after-no-move = record { from = transferred-from-self h c s long; changed = owners-changed-self s; bounded = go invariant-before; moves-bound = zero-le }
     where
       go : (blocksIn h c s ≤ liveOf h c s + freed + s .setup .spare * blocksOf c) ⊎ ((s .setup .q - s .setup .p) * blocksIn h c s ≤ s .setup .q * (liveOf h c s + freed))
           → MovesBounded (s .setup .spare) (s .setup .p) (s .setup .q) (blocksOf c) freed (blocksIn h c s) (liveOf h c s) 0

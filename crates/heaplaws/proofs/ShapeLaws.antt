@@ -31,7 +31,7 @@ marks-length-of-each (b ∷ table) (v ∷ vals) g (suc k) l = marks-length-of-ea
 
 -- of a table, with any setup
 pub shape-of-table : (u : Setup) (table : List Superblock) (vals : List Val) → Is (Array B.the-row 64) table vals → Shape (record { setup = u; table = table })
-shape-of-table u table vals g = record { long = g .1 .0 .1; four = λ k l. marks-length-of-each table (g .0) (g .1 .1) k (rw (g .1 .0 .1) l) }
+shape-of-table u table vals g = record { length-is = g .1 .0 .1; marks-length = λ k l. marks-length-of-each table (g .0) (g .1 .1) k (rw (g .1 .0 .1) l) }
 
 -- of a state, whose type has the superblocks of its table as tuples
 pub shape-of-state : (s : State) (vals : List Val) → Is S.the-row s vals → Shape s

@@ -22,8 +22,8 @@ use Rattle.heap.specs.declared.Setup.{Setup}
 use Rattle.heap.specs.declared.State.{State}
 use Rattle.heap.specs.Table.{blank, unused, superblockAt, withSuperblock, liveIn, isUnused, newState}
 use Rattle.heap.specs.Counts.{superblocksOf, liveOf, blocksIn, belongs}
-use Rattle.heap.specs.Moves.{bothConditions, mustMove}
-use Rattle.heap.specs.Check.{within, withinLimits, superblockValid, unusedFrom, emptinessInvariant, sparseIfGlobal, restValid, passes}
+use Rattle.moverules.specs.Moves.{bothConditions, mustMove}
+use Rattle.checkrules.specs.Check.{within, withinLimits, superblockValid, unusedFrom, emptinessInvariant, sparseIfGlobal, restValid, passes}
 use Rattle.heaplaws.proofs.StateFacts.{Shape, WithinLimits, Unused, Owned, Sparse, Sound}
 use Rattle.heaplaws.proofs.CountLaws.{superblock-at-replaced, superblock-at-others, owner-and-class-of-belongs, superblocks-of-new-state}
 
@@ -215,7 +215,7 @@ new-state-sound u order t = record {
   numbers = numbers;
   each = λ k l. inl (free k l);
   past-unused = λ k l m. free k l;
-  invariant = held;
+  invariant = none-must-move;
   sparse = λ k l e. absurd (owned k l e);
 }
   where
@@ -228,19 +228,19 @@ new-state-sound u order t = record {
     owned : (k : ℕ) → k < 64 → superblockAt (newState u) k .owner ≡ 0 → ⊥
     owned k l e = omega (arith, free k l .owner)
 
-    held : (h c : ℕ) → 1 ≤ h → h ≤ u .processors → c < 27 → T (mustMove h c (newState u)) → ⊥
-    held h c low high lc m = new-state-not-must-move u h c (omega (arith, numbers .processors-high)) m
+    none-must-move : (h c : ℕ) → 1 ≤ h → h ≤ u .processors → c < 27 → T (mustMove h c (newState u)) → ⊥
+    none-must-move h c low high lc m = new-state-not-must-move u h c (omega (arith, numbers .processors-high)) m
 
 pub new-state-shape : (u : Setup) → Shape (newState u)
-new-state-shape u = record { long = length-replicate 64 unused; four = λ k l. ap (λ (b : Superblock). length (b .live)) (superblock-at-new-state-unused u k l) }
+new-state-shape u = record { length-is = length-replicate 64 unused; marks-length = λ k l. ap (λ (b : Superblock). length (b .live)) (superblock-at-new-state-unused u k l) }
 
 -- a superblock replaced by one with four numbers of marks keeps the shape
 pub shape-with-superblock : (s : State) (k : ℕ) (b : Superblock) → Shape s → k < 64 → length (b .live) ≡ 4 → Shape (withSuperblock s k b)
-shape-with-superblock s k b h l e = record { long = length-set (s .table) k b ∙ h .long; four = λ j lj. at j lj (ℕ-discrete j k) }
+shape-with-superblock s k b h l e = record { length-is = length-set (s .table) k b ∙ h .length-is; marks-length = λ j lj. at j lj (ℕ-discrete j k) }
   where
     at : (j : ℕ) → j < 64 → Dec (j ≡ k) → length (superblockAt (withSuperblock s k b) j .live) ≡ 4
-    at j lj (yes q) = ap (λ (i : ℕ). length (superblockAt (withSuperblock s k b) i .live)) q ∙ ap (λ (d : Superblock). length (d .live)) (superblock-at-replaced s k b (h .long) l) ∙ e
-    at j lj (no f) = ap (λ (d : Superblock). length (d .live)) (superblock-at-others s k b j f) ∙ h .four j lj
+    at j lj (yes q) = ap (λ (i : ℕ). length (superblockAt (withSuperblock s k b) i .live)) q ∙ ap (λ (d : Superblock). length (d .live)) (superblock-at-replaced s k b (h .length-is) l) ∙ e
+    at j lj (no f) = ap (λ (d : Superblock). length (d .live)) (superblock-at-others s k b j f) ∙ h .marks-length j lj
 
 -- ---- what a state that passes says of one superblock
 -- fewer live than the share of n that sparse allows are fewer than n

@@ -13,25 +13,25 @@ use Rattle.heap.specs.declared.Setup.{Setup}
 use Rattle.heap.specs.declared.State.{State}
 use Rattle.heap.specs.Table.{blank, superblockAt, liveIn, withOwner}
 use Rattle.heap.specs.Counts.{belongs, superblocksOf, liveOf, superblocksOfClass, liveOfClass}
-use Rattle.heap.specs.Moves.{mustMove}
+use Rattle.moverules.specs.Moves.{mustMove}
 
 -- a way to compare superblocks, by which some are preferred and the others equal
-pub record StrictWeakOrder (better : Superblock → Superblock → Bool) : Type 0 where
-  pub is-irreflexive : (b : Superblock) → T (better b b) → ⊥
-  pub is-transitive : (a b d : Superblock) → T (better a b) → T (better b d) → T (better a d)
-  pub is-negatively-transitive : (a b d : Superblock) → T (better a d) → (T (better b d) → ⊥) → T (better a b)
+pub record StrictWeakOrder (preferred : Superblock → Superblock → Bool) : Type 0 where
+  pub is-irreflexive : (b : Superblock) → T (preferred b b) → ⊥
+  pub is-transitive : (a b d : Superblock) → T (preferred a b) → T (preferred b d) → T (preferred a d)
+  pub is-negatively-transitive : (a b d : Superblock) → T (preferred a d) → (T (preferred b d) → ⊥) → T (preferred a b)
 
 -- superblock k meets the criterion, none that meets it is preferred, and it is preferred to each that meets it and has a lower number
-pub record IsBest (wanted : Superblock → Bool) (better : Superblock → Superblock → Bool) (table : List Superblock) (n k : ℕ) : Type 0 where
+pub record IsBest (meets : Superblock → Bool) (preferred : Superblock → Superblock → Bool) (table : List Superblock) (n k : ℕ) : Type 0 where
   pub below : k < n
-  pub is-wanted : T (wanted (getD table k blank))
-  pub none-better : (m : ℕ) → m < n → T (wanted (getD table m blank)) → T (better (getD table m blank) (getD table k blank)) → ⊥
-  pub first : (m : ℕ) → m < k → T (wanted (getD table m blank)) → T (better (getD table k blank) (getD table m blank))
+  pub meets-criterion : T (meets (getD table k blank))
+  pub none-preferred : (m : ℕ) → m < n → T (meets (getD table m blank)) → T (preferred (getD table m blank) (getD table k blank)) → ⊥
+  pub preferred-to-earlier : (m : ℕ) → m < k → T (meets (getD table m blank)) → T (preferred (getD table k blank) (getD table m blank))
 
 -- what the type of a state says of its lists
 pub record Shape (s : State) : Type 0 where
-  pub long : length (s .table) ≡ 64
-  pub four : (k : ℕ) → k < 64 → length (superblockAt s k .live) ≡ 4
+  pub length-is : length (s .table) ≡ 64
+  pub marks-length : (k : ℕ) → k < 64 → length (superblockAt s k .live) ≡ 4
 
 -- setup numbers within their limits
 pub record WithinLimits (u : Setup) : Type 0 where
@@ -73,7 +73,7 @@ pub record Sound (s : State) (order : List ℕ) : Type 0 where
 -- what the moves of heap h and class c, from state s, have come to: t is s with some superblocks of (h, c) passed to heap 0
 pub record TransferredFrom (h c : ℕ) (s t : State) : Type 0 where
   pub setup : t .setup ≡ s .setup
-  pub long : length (t .table) ≡ 64
+  pub length-is : length (t .table) ≡ 64
   -- a superblock is as it was, or it was heap h's of class c, is sparse, and only its owner has become 0: "a moved superblock's owner was i and is 0, the others keep theirs"
   pub each : (k : ℕ) → k < 64 → (superblockAt t k ≡ superblockAt s k) ⊎ (T (belongs h c (superblockAt s k)) × Sparse (s .setup) (superblockAt s k) × (superblockAt t k ≡ withOwner 0 (superblockAt s k)))
   -- no other processor heap or class is touched

@@ -16,8 +16,8 @@ use Rattle.classes.specs.Classes.{blocksOf}
 use Rattle.heap.specs.declared.Setup.{Setup}
 use Rattle.heap.specs.declared.State.{State}
 use Rattle.heap.specs.Counts.{total, superblocksOf, blocksIn, liveOf}
-use Rattle.heap.specs.Moves.{bothConditions, mustMove}
-use Rattle.heap.specs.Check.{within, emptinessInvariant}
+use Rattle.moverules.specs.Moves.{bothConditions, mustMove}
+use Rattle.checkrules.specs.Check.{within, emptinessInvariant}
 use Rattle.thresholds.proofs.MoveRuleLaws.{both-conditions-false-where-first-fails}
 use Rattle.tally.specs.Tally.{Tallied}
 use Rattle.invariantcheck.specs.TallyInvariant.{pairInvariant, classInvariant, heapInvariant, tallyInvariant}
@@ -92,7 +92,7 @@ class-invariants-of-tally s first superblocks live t j lj =
     (classInvariant (s .setup) superblocks live j)
     (λ c. not (mustMove (first + j) c s))
     27
-    (λ c lc. ap₂ (λ (m l : ℕ). not (bothConditions (s .setup .spare) (s .setup .p) (s .setup .q) (blocksOf c) (m * blocksOf c) l)) (t .superblocks-are j c lj lc) (t .live-are j c lj lc))
+    (λ c lc. ap₂ (λ (m l : ℕ). not (bothConditions (s .setup .spare) (s .setup .p) (s .setup .q) (blocksOf c) (m * blocksOf c) l)) (t .superblocks-counted j c lj lc) (t .live-counted j c lj lc))
 
 module _ (s : State) (first : ℕ) (superblocks live : List ℕ) (t : Tallied (s .table) first 64 superblocks live) where
   -- one of the nine

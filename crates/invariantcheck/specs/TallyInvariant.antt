@@ -6,8 +6,8 @@ use lib.ListN.{getD}
 use Rattle.laws.specs.Sums.{either, allBelow}
 use Rattle.classes.specs.Classes.{blocksOf}
 use Rattle.heap.specs.declared.Setup.{Setup}
-use Rattle.heap.specs.Moves.{bothConditions}
-use Rattle.heap.specs.Check.{within}
+use Rattle.moverules.specs.Moves.{bothConditions}
+use Rattle.checkrules.specs.Check.{within}
 
 -- so many superblocks of class c, with so many live blocks in them, do not meet both conditions of the move rule
 unfoldable pub pairInvariant : Setup → ℕ → ℕ → ℕ → Bool

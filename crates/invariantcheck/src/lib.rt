@@ -3,7 +3,7 @@
 ghost use mathlib.Core.Path.{_≡_};
 ghost use Prim.Native.Nat.{ℕ, _≤_, _<_};
 ghost use lib.ListN.{getD};
-ghost use Rattle.heap.specs.Check.{emptinessInvariant};
+ghost use Rattle.checkrules.specs.Check.{emptinessInvariant};
 ghost use Rattle.invariantcheck.specs.TallyInvariant.{pairInvariant, heapInvariant, tallyInvariant};
 use heap::Setup;
 use heap::State;

@@ -11,7 +11,7 @@ use lib.Dec.{eqb, leb}
 use Rattle.laws.specs.Sums.{pick, either}
 use Rattle.heap.specs.declared.Setup.{Setup}
 use Rattle.heap.specs.Table.{noState}
-use Rattle.heap.specs.Check.{withinLimits}
+use Rattle.checkrules.specs.Check.{withinLimits}
 use Rattle.calls.specs.declared.Call.{Call}
 use Rattle.calls.specs.declared.Call.the-variants as call
 use Rattle.calls.specs.declared.Outcome.{Outcome}
@@ -88,7 +88,7 @@ no-setup-in-commands-from (suc m) r at later = go (commandAt r at) refl (λ (k :
     go : (c : Command) → c ≡ commandAt r at → ((k : ℕ) → NoSetup (commandsFrom m r (at + k)))
         → NoSetup (c ∷ pick (over c) [] (commandsFrom m r (at + sizeOfCommand c)))
     go (command.Setup processors superblocks spare p q) e more =
-        let told = setup-first-and-inside r at (command.Setup processors superblocks spare p q) e processors superblocks spare p q refl in omega arith
+        let inside-record = setup-first-and-inside r at (command.Setup processors superblocks spare p q) e processors superblocks spare p q refl in omega arith
     go (command.Take processor size) e more = no-setup-of-pick (over (command.Take processor size)) (commandsFrom m r (at + 4)) (more 4)
     go (command.Free processor address) e more = no-setup-of-pick (over (command.Free processor address)) (commandsFrom m r (at + 6)) (more 6)
     go (command.Refused number offset) e more = no-setup-of-pick (over (command.Refused number offset)) (commandsFrom m r (at + 0)) (more 0)
@@ -200,7 +200,7 @@ key-demand-3 r order = go (commandAt r 0) refl
     go (command.Setup processors superblocks spare p q) e =
         first (record { processors = processors; superblocks = superblocks; spare = spare; p = p; q = q })
         (commands-of-is-commands-at-0 r ∙ commands-setup r 0 (command.Setup processors superblocks spare p q) e processors superblocks spare p q refl)
-    go (command.Take processor size) e = let told = take-later-and-inside r 0 (command.Take processor size) e processor size refl in absurd (omega arith)
-    go (command.Free processor address) e = let told = free-later-and-inside r 0 (command.Free processor address) e processor address refl in absurd (omega arith)
+    go (command.Take processor size) e = let inside-record = take-later-and-inside r 0 (command.Take processor size) e processor size refl in absurd (omega arith)
+    go (command.Free processor address) e = let inside-record = free-later-and-inside r 0 (command.Free processor address) e processor address refl in absurd (omega arith)
     go (command.Refused number offset) e =
         inr (number, offset, ap (textOf (beforeFirst order)) (commands-of-is-commands-at-0 r ∙ commands-refused r 0 (command.Refused number offset) number offset e refl))

@@ -14,8 +14,8 @@ use Rattle.heap.specs.declared.Setup.{Setup}
 use Rattle.heap.specs.declared.State.{State}
 use Rattle.heap.specs.declared.Found.{Found}
 use Rattle.heap.specs.declared.Found.the-variants.{At, Nothing}
-use Rattle.heap.specs.Choice.{fullest}
-use Rattle.heap.specs.Check.{within, withinLimits, restValid}
+use Rattle.choicerules.specs.Choice.{fullest}
+use Rattle.checkrules.specs.Check.{within, withinLimits, restValid}
 use Rattle.calls.specs.declared.Outcome.{Outcome}
 use Rattle.calls.specs.declared.Outcome.the-variants.{Ready, Address, Moves, Refused}
 use Rattle.calls.specs.Answers.{After, numberOf, refused, checked, isProcessor}

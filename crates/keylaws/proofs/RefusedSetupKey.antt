@@ -7,7 +7,7 @@ use Prim.Native.Nat.{ℕ, _*_, _<_}
 use lib.ListN.{length}
 use Rattle.heap.specs.declared.Setup.{Setup}
 use Rattle.heap.specs.Table.{noState}
-use Rattle.heap.specs.Check.{withinLimits}
+use Rattle.checkrules.specs.Check.{withinLimits}
 use Rattle.calls.specs.declared.Outcome.the-variants.{Refused}
 use Rattle.calls.specs.Answers.{After, numberOf, refused}
 use Rattle.calls.specs.Setup.{setupOf}

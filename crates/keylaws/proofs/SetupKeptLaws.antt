@@ -13,9 +13,9 @@ use Rattle.heap.specs.declared.State.{State}
 use Rattle.heap.specs.declared.Found.{Found}
 use Rattle.heap.specs.declared.Found.the-variants.{At, Nothing}
 use Rattle.heap.specs.Table.{noState}
-use Rattle.heap.specs.Choice.{emptiest}
-use Rattle.heap.specs.Moves.{mustMove, transferred, foundTransferred, transfersUpTo, excessTransferred, invariantRestored}
-use Rattle.heap.specs.Check.{withinLimits}
+use Rattle.choicerules.specs.Choice.{emptiest}
+use Rattle.moverules.specs.Moves.{mustMove, transferred, foundTransferred, transfersUpTo, excessTransferred, invariantRestored}
+use Rattle.checkrules.specs.Check.{withinLimits}
 use Rattle.heaplaws.proofs.StateCheckLaws.{facts-of-within-limits}
 use Rattle.calls.specs.Answers.{After, refused}
 use Rattle.calls.specs.Setup.{acceptedSetup, setupOf}

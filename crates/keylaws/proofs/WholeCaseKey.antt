@@ -10,9 +10,9 @@ use Rattle.order.specs.Order.{place, lastFilled, withPlace, descending, withRen
 use Rattle.heap.specs.declared.Setup.{Setup}
 use Rattle.heap.specs.Table.{isUnused}
 use Rattle.heap.specs.Counts.{total, belongs, oneIfBelongs, liveIfBelongs, superblocksOf, blocksIn, liveOf}
-use Rattle.heap.specs.Choice.{prefer, chosenBelow, moreLive, fewerLive, neverPreferred, hasFree, emptyInGlobal, fullest, lowestEmpty, lowestUnused, emptiest}
-use Rattle.heap.specs.Moves.{bothConditions, mustMove, transferred, foundTransferred, transfersUpTo, excessTransferred, invariantRestored}
-use Rattle.heap.specs.Check.{withinLimits}
+use Rattle.choicerules.specs.Choice.{prefer, chosenBelow, moreLive, fewerLive, neverPreferred, hasFree, emptyInGlobal, fullest, lowestEmpty, lowestUnused, emptiest}
+use Rattle.moverules.specs.Moves.{bothConditions, mustMove, transferred, foundTransferred, transfersUpTo, excessTransferred, invariantRestored}
+use Rattle.checkrules.specs.Check.{withinLimits}
 use Rattle.calls.specs.declared.Outcome.the-variants.{Ready}
 use Rattle.calls.specs.Answers.{isProcessor}
 use Rattle.calls.specs.Setup.{setupOf}

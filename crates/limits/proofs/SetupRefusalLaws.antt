@@ -6,7 +6,7 @@ use Prim.Native.Nat.{ℕ, _*_, _≤_, _<_}
 use lib.ListN.{length}
 use borrow.Author.Tests.{le-leb, lt-leb, not-true, not-false}
 use Rattle.heap.specs.declared.Setup.{Setup}
-use Rattle.heap.specs.Check.{withinLimits}
+use Rattle.checkrules.specs.Check.{withinLimits}
 use Rattle.limits.specs.SetupRefusal.{setupRefusal}
 
 module _ (numbers : ℕ) (u : Setup) (order : List ℕ) (t : Bool) (e : t ≡ withinLimits u) where

@@ -7,7 +7,7 @@ use borrow.Author.Tests.{not-true, not-false, le-leb, lt-leb, lt-ltb, le-ltb}
 use lib.Dec.{T, leb, leb→le}
 use Rattle.laws.proofs.TestLaws.{T-of-true, not-T-of-false, false-of-not-T, both-left, both-right, both-make, both-false-right}
 use Rattle.heap.specs.declared.Setup.{Setup}
-use Rattle.heap.specs.Check.{within, withinLimits}
+use Rattle.checkrules.specs.Check.{within, withinLimits}
 
 -- what is outside wider limits is outside these
 within-false-of-wider : (a b m n x : ℕ) (r : Bool) → m ≤ a → b ≤ n → r ≡ within m n x → not r ≡ true → within a b x ≡ false

@@ -5,7 +5,7 @@ use lib.ListN.{length}
 use lib.Dec.{leb}
 use Rattle.laws.specs.Sums.{pick}
 use Rattle.heap.specs.declared.Setup.{Setup}
-use Rattle.heap.specs.Check.{withinLimits}
+use Rattle.checkrules.specs.Check.{withinLimits}
 
 -- "a setup number outside its limits", by the number that the call gives it (1, or 13 where a state carries the setup);
 -- 12, "fewer than N × 256 order places lent"; 0 where neither applies

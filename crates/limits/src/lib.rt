@@ -1,6 +1,6 @@
 // What a setup is tested for before anything else: its numbers, and the order places lent for them.
 ghost use mathlib.Core.Path.{_≡_};
-ghost use Rattle.heap.specs.Check.{within, withinLimits};
+ghost use Rattle.checkrules.specs.Check.{within, withinLimits};
 ghost use Rattle.limits.specs.SetupRefusal.{setupRefusal};
 use heap::Setup;
 

@@ -1,6 +1,7 @@
 -- Lines computed, and held against the text that is to be printed: those of document 01's whole case, and lines whose numbers all differ.
 -- Assumes nothing.
 use mathlib.Core.Path.{_≡_, refl}
+use mathlib.Core.Bool.{true, false}
 use mathlib.Core.List.{[], _∷_}
 use Prim.Native.Nat.{ℕ}
 use lib.ListN.{replicate}
@@ -12,7 +13,7 @@ use Rattle.heap.specs.declared.State.{State}
 use Rattle.heap.specs.Table.{unused}
 use Rattle.heap.specs.Counts.{total, belongs, oneIfBelongs, liveIfBelongs, superblocksOf, liveOf}
 use Rattle.calls.specs.declared.Outcome.the-variants.{Address, Moves, Refused}
-use Rattle.linerules.specs.Lines.{setupLine, result, takeLine, freeLine, stopLine, heapLine, heapLineIf, classLines, heapLines, finalLines}
+use Rattle.linerules.specs.Lines.{setupLine, result, takeLine, freeLine, stopLine, heapLine, heapLineIf, classLines, heapLines, finalLines, closingLines}
 
 -- ---- the whole case
 setup-printed : setupLine (record { processors = 1; superblocks = 2; spare = 1; p = 1; q = 4 }) ≡ letters "setup 1 2 1 1 4\n"
@@ -93,3 +94,8 @@ final-lines-of-whole-case : finalLines (record { setup = record { processors = 1
     ≡ letters "heap 1 class 0 superblocks 1 live 1\nheap 1 class 26 superblocks 1 live 1\nend\n"
 unfolding finalLines heapLines classLines heapLineIf heapLine decimal digits superblocksOf liveOf total belongs oneIfBelongs liveIfBelongs sumBelow liveCount markBit bit
 final-lines-of-whole-case = refl
+
+-- after a stop line nothing follows
+closing-lines-cases : (closingLines true several-superblocks ≡ []) × (closingLines false several-superblocks ≡ finalLines several-superblocks)
+unfolding closingLines
+closing-lines-cases = (refl, refl)

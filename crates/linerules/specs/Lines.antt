@@ -1,4 +1,5 @@
 -- "Record and printed key": the printed lines.
+use mathlib.Core.Bool.{Bool}
 use mathlib.Core.List.{List, [], _++_}
 use Prim.Native.Nat.{ℕ, zero, suc}
 use lib.Dec.{eqb}
@@ -61,3 +62,7 @@ heapLines (suc h) s = heapLines h s ++ classLines h 27 s
 -- "Otherwise a line for each heap and class with a superblock follows, .. then `end`": heaps 0 to P
 unfoldable pub finalLines : State → List ℕ
 finalLines s = heapLines (suc (s .setup .processors)) s ++ letters "end\n"
+
+-- the lines after the last command: none where a stop line is "the last line"
+unfoldable pub closingLines : Bool → State → List ℕ
+closingLines stopped s = pick stopped [] (finalLines s)

@@ -17,8 +17,8 @@ use Rattle.heap.specs.declared.Found.{Found}
 use Rattle.heap.specs.declared.Found.the-variants.{At, Nothing}
 use Rattle.heap.specs.Table.{superblockAt, withOwner}
 use Rattle.heap.specs.Counts.{superblocksOf, blocksIn, liveOf}
-use Rattle.heap.specs.Choice.{emptiest}
-use Rattle.heap.specs.Moves.{bothConditions, mustMove, transferred, foundTransferred, transfersUpTo, excessTransferred}
+use Rattle.choicerules.specs.Choice.{emptiest}
+use Rattle.moverules.specs.Moves.{bothConditions, mustMove, transferred, foundTransferred, transfersUpTo, excessTransferred}
 use Rattle.heaplaws.proofs.CountLaws.{superblocks-of-le-64}
 use Rattle.heaplaws.proofs.MoveLaws.{length-of-found-transferred, superblocks-after-transfer, transfers-up-to-stop, transfers-up-to-step}
 
@@ -35,20 +35,20 @@ transferred-past-table k s long h = sym (ap (λ (l : List Superblock). record { 
 
 -- after m moves from state s, which left t: the moves still to be made are those from t
 pub record TransferInvariant (h c : ℕ) (s t : State) (m : ℕ) : Type 0 where
-  pub rest : transfersUpTo (64 - m) h c m t ≡ excessTransferred h c s
-  pub left : superblocksOf h c t + m ≡ superblocksOf h c s
-  pub long : length (t .table) ≡ 64
+  pub transfers-left : transfersUpTo (64 - m) h c m t ≡ excessTransferred h c s
+  pub superblocks-left : superblocksOf h c t + m ≡ superblocksOf h c s
+  pub length-is : length (t .table) ≡ 64
 
 pub transfer-invariant-start : (h c : ℕ) (s : State) → length (s .table) ≡ 64 → TransferInvariant h c s s 0
 unfolding excessTransferred
-transfer-invariant-start h c s long = record { rest = refl; left = omega arith; long = long }
+transfer-invariant-start h c s long = record { transfers-left = refl; superblocks-left = omega arith; length-is = long }
 
 -- no more moves than superblocks, so the count fits
 pub transfer-count-fits-w8 : (h c : ℕ) (s t : State) (m : ℕ) → TransferInvariant h c s t m → Fits w8 (m + 1)
 transfer-count-fits-w8 h c s t m d = omega (arith, superblocks-of-le-64 h c s)
 
 pub excess-transferred-at-loop-end : (h c : ℕ) (s t : State) (m : ℕ) (must : Bool) → TransferInvariant h c s t m → must ≡ mustMove h c t → must ≡ false → _≡_ {A = Moved} (record { moves = m; state = t }) (excessTransferred h c s)
-excess-transferred-at-loop-end h c s t m must d e f = sym (transfers-up-to-stop (64 - m) h c m t (sym e ∙ f)) ∙ d .rest
+excess-transferred-at-loop-end h c s t m must d e f = sym (transfers-up-to-stop (64 - m) h c m t (sym e ∙ f)) ∙ d .transfers-left
 
 -- the first of two tests that both hold; so a loop that asks more than the rule still makes the rule's moves, and only ends too early
 pub left-true-of-and : (must more : Bool) → (must && more) ≡ true → must ≡ true
@@ -57,9 +57,9 @@ left-true-of-and false more e = e
 
 -- one move: a superblock less, and the state that it leaves
 module _ (h c : ℕ) (t next : State) (must : Bool) (found : Found) (long : length (t .table) ≡ 64) (pos : 0 < h) (asked : must ≡ mustMove h c t) (holds : must ≡ true)
-    (chosen : found ≡ emptiest h c t) (gave : next ≡ foundTransferred found t) where
+    (chosen : found ≡ emptiest h c t) (next-is : next ≡ foundTransferred found t) where
   next-is-emptiest-transferred : next ≡ foundTransferred (emptiest h c t) t
-  next-is-emptiest-transferred = gave ∙ ap (λ (f : Found). foundTransferred f t) chosen
+  next-is-emptiest-transferred = next-is ∙ ap (λ (f : Found). foundTransferred f t) chosen
 
   must-move-true : mustMove h c t ≡ true
   must-move-true = sym asked ∙ holds
@@ -75,7 +75,7 @@ module _ (h c : ℕ) (t next : State) (must : Bool) (found : Found) (long : leng
       let low : m < 64 = omega (arith, superblocks-of-le-64 h c s, one-superblock-less) in
       let fuel : suc (64 - (m + 1)) ≡ 64 - m = omega arith in
       record {
-        rest = ap (λ (x : State). transfersUpTo (64 - (m + 1)) h c (m + 1) x) next-is-emptiest-transferred ∙ sym (transfers-up-to-step (64 - (m + 1)) h c m t must-move-true) ∙ ap (λ (k : ℕ). transfersUpTo k h c m t) fuel ∙ d .rest;
-        left = omega (arith, one-superblock-less);
-        long = ap (λ (x : State). length (x .table)) gave ∙ length-of-found-transferred found t ∙ long;
+        transfers-left = ap (λ (x : State). transfersUpTo (64 - (m + 1)) h c (m + 1) x) next-is-emptiest-transferred ∙ sym (transfers-up-to-step (64 - (m + 1)) h c m t must-move-true) ∙ ap (λ (k : ℕ). transfersUpTo k h c m t) fuel ∙ d .transfers-left;
+        superblocks-left = omega (arith, one-superblock-less);
+        length-is = ap (λ (x : State). length (x .table)) next-is ∙ length-of-found-transferred found t ∙ long;
       }

@@ -2,7 +2,7 @@
 // heap 0.
 ghost use mathlib.Core.Path.{_≡_};
 ghost use Prim.Native.Nat.{_<_};
-ghost use Rattle.heap.specs.Moves.{mustMove, transferred, foundTransferred, excessTransferred, invariantRestored};
+ghost use Rattle.moverules.specs.Moves.{mustMove, transferred, foundTransferred, excessTransferred, invariantRestored};
 use heap::Found;
 use heap::Moved;
 use heap::State;

@@ -12,14 +12,14 @@ use Rattle.orderlaws.proofs.OrderLaws.{length-renewed, renewed-place, r
 
 -- both storages have the first n places, and hold the same there
 pub record SameFirst (n : ℕ) (x y : List ℕ) : Type 0 where
-  pub long : n ≤ length x
-  pub also-long : n ≤ length y
+  pub first-covers : n ≤ length x
+  pub second-covers : n ≤ length y
   pub same : (i : ℕ) → i < n → getD x i 0 ≡ getD y i 0
 
 pub take-equal-of-same-first : (n : ℕ) (x y : List ℕ) → SameFirst n x y → take n x ≡ take n y
 take-equal-of-same-first n x y h =
-    ext-getD 0 (take n x) (take n y) (length-take-le n x (h .long) ∙ sym (length-take-le n y (h .also-long)))
-    (λ i l. let g : i < n = omega (arith, length-take-le n x (h .long)) in getD-take n x i 0 g ∙ h .same i g ∙ sym (getD-take n y i 0 g))
+    ext-getD 0 (take n x) (take n y) (length-take-le n x (h .first-covers) ∙ sym (length-take-le n y (h .second-covers)))
+    (λ i l. let g : i < n = omega (arith, length-take-le n x (h .first-covers)) in getD-take n x i 0 g ∙ h .same i g ∙ sym (getD-take n y i 0 g))
 
 -- two storages with the same first part are one and shorter than n, or have the n places and hold the same there
 pub same-first-of-take-equal : (n : ℕ) (x y : List ℕ) → take n x ≡ take n y → (x ≡ y) ⊎ SameFirst n x y
@@ -32,7 +32,7 @@ same-first-of-take-equal n x y e = go (decLt (length x) n)
     go (yes l) = let q = lengths in inl (sym (take-all n x (omega arith)) ∙ e ∙ take-all n y (omega arith))
     go (no f) =
         let q = lengths in
-        inr (record { long = omega arith; also-long = omega arith; same = λ i l. sym (getD-take n x i 0 l) ∙ ap (λ (z : List ℕ). getD z i 0) e ∙ getD-take n y i 0 l })
+        inr (record { first-covers = omega arith; second-covers = omega arith; same = λ i l. sym (getD-take n x i 0 l) ∙ ap (λ (z : List ℕ). getD z i 0) e ∙ getD-take n y i 0 l })
 
 pub drop-equal-of-same-rest : (n : ℕ) (x y : List ℕ) → length x ≡ length y → ((i : ℕ) → n ≤ i → getD x i 0 ≡ getD y i 0) → drop n x ≡ drop n y
 drop-equal-of-same-rest n x y long h =
@@ -57,8 +57,8 @@ module _ (n : ℕ) (x y : List ℕ) (h : SameFirst n x y) where
   pub same-first-renewed : (s m : ℕ) → m ≤ 256 → s * 256 + m ≤ n → SameFirst n (renewed x s m) (renewed y s m)
   same-first-renewed s m small fits =
       record {
-        long = omega (arith, length-renewed x s m, h .long);
-        also-long = omega (arith, length-renewed y s m, h .also-long);
+        first-covers = omega (arith, length-renewed x s m, h .first-covers);
+        second-covers = omega (arith, length-renewed y s m, h .second-covers);
         same = λ i l. go i l (decLt i (s * 256)) (decLe (s * 256 + m) i);
       }
     where
@@ -66,31 +66,31 @@ module _ (n : ℕ) (x y : List ℕ) (h : SameFirst n x y) where
       go i l (yes q) d = renewed-index-below x s m i q ∙ h .same i l ∙ sym (renewed-index-below y s m i q)
       go i l (no f) (yes q) = renewed-index-above x s m i q ∙ h .same i l ∙ sym (renewed-index-above y s m i q)
       go i l (no f) (no g) =
-          renewed-at-index x s m i small (omega (arith, h .long)) (omega arith) (omega arith)
-          ∙ sym (renewed-at-index y s m i small (omega (arith, h .also-long)) (omega arith) (omega arith))
+          renewed-at-index x s m i small (omega (arith, h .first-covers)) (omega arith) (omega arith)
+          ∙ sym (renewed-at-index y s m i small (omega (arith, h .second-covers)) (omega arith) (omega arith))
 
   -- one place written in both
   pub same-first-with-place : (s p b : ℕ) → SameFirst n (withPlace x s p b) (withPlace y s p b)
   unfolding withPlace
   same-first-with-place s p b =
       record {
-        long = omega (arith, length-with-place x s p b, h .long);
-        also-long = omega (arith, length-with-place y s p b, h .also-long);
+        first-covers = omega (arith, length-with-place x s p b, h .first-covers);
+        second-covers = omega (arith, length-with-place y s p b, h .second-covers);
         same = λ i l. go i l (ℕ-discrete i (s * 256 + p));
       }
     where
       go : (i : ℕ) → i < n → Dec (i ≡ s * 256 + p) → getD (withPlace x s p b) i 0 ≡ getD (withPlace y s p b) i 0
       go i l (yes q) =
           ap (λ (j : ℕ). getD (withPlace x s p b) j 0) q
-          ∙ getD-set-same x (s * 256 + p) b 0 (omega (arith, h .long))
-          ∙ sym (getD-set-same y (s * 256 + p) b 0 (omega (arith, h .also-long)))
+          ∙ getD-set-same x (s * 256 + p) b 0 (omega (arith, h .first-covers))
+          ∙ sym (getD-set-same y (s * 256 + p) b 0 (omega (arith, h .second-covers)))
           ∙ ap (λ (j : ℕ). getD (withPlace y s p b) j 0) (sym q)
       go i l (no f) = getD-set-other x (s * 256 + p) i b 0 f ∙ h .same i l ∙ sym (getD-set-other y (s * 256 + p) i b 0 f)
 
   -- the first n places cleared in both
   pub same-first-cleared : SameFirst n (cleared x n) (cleared y n)
   same-first-cleared = record {
-    long = omega (arith, length-cleared x n, h .long);
-    also-long = omega (arith, length-cleared y n, h .also-long);
+    first-covers = omega (arith, length-cleared x n, h .first-covers);
+    second-covers = omega (arith, length-cleared y n, h .second-covers);
     same = λ i l. cleared-index-below x n i l ∙ sym (cleared-index-below y n i l);
   }

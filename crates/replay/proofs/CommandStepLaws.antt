@@ -23,10 +23,10 @@ use Rattle.commands.specs.declared.Command.{Command}
 use Rattle.commands.specs.declared.Command.the-variants as command
 use Rattle.commands.specs.Record.{commandAt}
 use Rattle.commandlaws.proofs.CommandLaws.{commandsAt, remaining, remaining-inside, remaining-end, commands-refused, commands-setup, commands-take, commands-free, setup-first-and-inside, take-later-and-inside, free-later-and-inside}
-use Rattle.linerules.specs.Lines.{setupLine, takeLine, freeLine, stopLine}
+use Rattle.linerules.specs.Lines.{setupLine, takeLine, freeLine, stopLine, closingLines}
 use Rattle.replay.specs.declared.Replay.{Replay}
 use Rattle.keyrules.specs.Key.{stateAndStorage, setupText, textOf, orderAfter}
-use Rattle.replay.specs.Steps.{TextAndOrder, closingLines, textAhead, orderAhead, textAndOrderAhead, commandsLeft, InBounds, Stepped, nextOf, stopOf, Stopped}
+use Rattle.replay.specs.Steps.{TextAndOrder, textAhead, orderAhead, textAndOrderAhead, commandsLeft, InBounds, Stepped, nextOf, stopOf, Stopped}
 
 -- ---- of what a call left, the state and the storage count
 text-of-starting-from : (after : After) (cs : List Command) → textOf after cs ≡ textOf (stateAndStorage (after .answer .state) (after .order)) cs
@@ -75,7 +75,7 @@ text-and-order-ahead-of-next r after at end text =
     ap (λ (l : List ℕ). text-and-order (pasted text end l) (orderAhead r (nextOf r (after .answer .state) at end) (after .order))) (next .0)
     ∙ ap (text-and-order (pasted text end (textOf after (remaining r at)))) (next .1)
 
-module _ (r : List ℕ) (x : Replay) (order out : List ℕ) (held : InBounds x out) (going : x .going ≡ true) where
+module _ (r : List ℕ) (x : Replay) (order out : List ℕ) (bounds : InBounds x out) (going : x .going ≡ true) where
   -- so far this stands and is to come
   text-and-order-ahead-of-going : textAndOrderAhead r x order out ≡ text-and-order (pasted out (x .end) (textOf (stateAndStorage (x .state) order) (commandsAt r (x .at)))) (orderAfter (stateAndStorage (x .state) order) (commandsAt r (x .at)))
   unfolding textAndOrderAhead textAhead orderAhead
@@ -137,10 +137,10 @@ module _ (r : List ℕ) (x : Replay) (order out : List ℕ) (held : InBounds x o
           ∙ sym text-and-order-ahead-of-going
 
       stays : InBounds (stopOf x (y .end)) text
-      stays = record { position-bound = held .position-bound; text-end-bound = omega (arith, put-end-le out (x .end) line (s .line-written), put-length out (x .end) line (s .line-written)) }
+      stays = record { position-bound = bounds .position-bound; text-end-bound = omega (arith, put-end-le out (x .end) line (s .line-written), put-length out (x .end) line (s .line-written)) }
 
       fewer : 0 < commandsLeft x
-      fewer = subst (λ (n : ℕ). 0 < n) (sym commands-left-of-going) (omega (arith, held .position-bound))
+      fewer = subst (λ (n : ℕ). 0 < n) (sym commands-left-of-going) (omega (arith, bounds .position-bound))
 
   -- ---- the commands
   module _ (i size : ℕ) (c : command.Take i size ≡ commandAt r (x .at)) where
@@ -151,10 +151,10 @@ module _ (r : List ℕ) (x : Replay) (order out : List ℕ) (held : InBounds x o
     stepped-of-take a new e end text put y is =
         let after : After = record { answer = a; order = new } in
         let rest = remaining r (x .at + 4) in
-        let told = take-later-and-inside r (x .at) (command.Take i size) c i size refl in
+        let inside-record = take-later-and-inside r (x .at) (command.Take i size) c i size refl in
         let commands = commands-take r (x .at) (command.Take i size) c i size refl in
         subst (λ (z : Replay). Stepped r x order out z new text) (sym is)
-        (stepped-of-line (takeLine i size (a .outcome)) after 4 end text put (omega arith) (told .2) (told .0)
+        (stepped-of-line (takeLine i size (a .outcome)) after 4 end text put (omega arith) (inside-record .2) (inside-record .0)
         (ap (textOf (stateAndStorage (x .state) order)) commands ∙ ap (λ (z : After). takeLine i size (z .answer .outcome) ++ textOf z rest) (sym e))
         (ap (orderAfter (stateAndStorage (x .state) order)) commands ∙ ap (λ (z : After). orderAfter z rest) (sym e)))
 
@@ -166,10 +166,10 @@ module _ (r : List ℕ) (x : Replay) (order out : List ℕ) (held : InBounds x o
     stepped-of-free a new e end text put y is =
         let after : After = record { answer = a; order = new } in
         let rest = remaining r (x .at + 6) in
-        let told = free-later-and-inside r (x .at) (command.Free i address) c i address refl in
+        let inside-record = free-later-and-inside r (x .at) (command.Free i address) c i address refl in
         let commands = commands-free r (x .at) (command.Free i address) c i address refl in
         subst (λ (z : Replay). Stepped r x order out z new text) (sym is)
-        (stepped-of-line (freeLine i address (a .outcome)) after 6 end text put (omega arith) (told .2) (told .0)
+        (stepped-of-line (freeLine i address (a .outcome)) after 6 end text put (omega arith) (inside-record .2) (inside-record .0)
         (ap (textOf (stateAndStorage (x .state) order)) commands ∙ ap (λ (z : After). freeLine i address (z .answer .outcome) ++ textOf z rest) (sym e))
         (ap (orderAfter (stateAndStorage (x .state) order)) commands ∙ ap (λ (z : After). orderAfter z rest) (sym e)))
 
@@ -203,10 +203,10 @@ module _ (r : List ℕ) (x : Replay) (order out : List ℕ) (held : InBounds x o
         → (y : Replay) → y ≡ nextOf r (a .state) (x .at + 6) end → Stepped r x order out y new text
     unfolding setup-after setup-rest
     stepped-of-setup zero end text put y is =
-        let told = setup-first-and-inside r (x .at) (command.Setup (u .processors) (u .superblocks) (u .spare) (u .p) (u .q)) c (u .processors) (u .superblocks) (u .spare) (u .p) (u .q) refl in
+        let inside-record = setup-first-and-inside r (x .at) (command.Setup (u .processors) (u .superblocks) (u .spare) (u .p) (u .q)) c (u .processors) (u .superblocks) (u .spare) (u .p) (u .q) refl in
         let yes : eqb number 0 ≡ true = eq-eqb number 0 zero in
         subst (λ (z : Replay). Stepped r x order out z new text) (sym is)
-        (stepped-of-line (setupLine u) setup-after 6 end text put (omega arith) (told .2) (told .0)
+        (stepped-of-line (setupLine u) setup-after 6 end text put (omega arith) (inside-record .2) (inside-record .0)
         (text-of-setup-command ∙ rw yes)
         (order-after-setup-command ∙ rw yes))
 

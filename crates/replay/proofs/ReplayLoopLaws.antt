@@ -2,20 +2,20 @@
 use mathlib.Core.Path.{_≡_, refl, sym, ap, _∙_}
 use mathlib.Core.Bool.{true, false}
 use mathlib.Core.List.{List}
-use Prim.Native.Nat.{ℕ, _+_, _≤_, _<_, min}
+use Prim.Native.Nat.{ℕ, _+_, _≤_, _<_}
 use native.Mathlib.Omega.{arith}
 use lib.ListN.{length}
 use Rattle.textrules.specs.Text.{pasted}
-use Rattle.textrules.proofs.PasteLaws.{paste-nothing, put-end, put-upto, put-behind}
+use Rattle.textrules.proofs.PasteLaws.{put-end, put-upto, put-behind}
 use Rattle.heap.specs.declared.State.{State}
 use Rattle.heap.specs.Table.{noState}
 use Rattle.littleendian.specs.Bytes.{byteAt}
 use Rattle.commands.specs.Record.{commandsOf}
-use Rattle.linerules.specs.Lines.{finalLines}
+use Rattle.linerules.specs.Lines.{closingLines}
 use Rattle.replay.specs.declared.Replay.{Replay}
 use Rattle.keyrules.specs.declared.Printed.the-variants.{Text, NoRoom}
 use Rattle.keyrules.specs.Key.{keyOf, storageOf, room, KeyOrNoRoom}
-use Rattle.replay.specs.Steps.{TextAndOrder, closingLines, textAhead, orderAhead, textAndOrderAhead, keyAndStorage, InBounds, Stepped, Finished}
+use Rattle.replay.specs.Steps.{TextAndOrder, textAhead, orderAhead, textAndOrderAhead, keyAndStorage, InBounds, Stepped, Finished}
 use Rattle.keylaws.proofs.KeyRoomLaws.{key-fits-room}
 
 abbrev firstReplay : State → Replay
@@ -34,28 +34,19 @@ pub text-and-order-ahead-step : (r order₀ out₀ order out new text : List ℕ
 text-and-order-ahead-step r order₀ out₀ order out new text x y e s = s .text-and-order-same ∙ e
 
 pub finished-of-not-going : (r order₀ out₀ order out : List ℕ) (x : Replay) → InBounds x out → textAndOrderAhead r x order out ≡ keyAndStorage r order₀ out₀ → x .going ≡ false → Finished r order₀ out₀ x order out
-finished-of-not-going r order₀ out₀ order out x held same done = record { text-and-order-same = same; in-bounds = held; not-going = done }
+finished-of-not-going r order₀ out₀ order out x bounds same done = record { text-and-order-same = same; in-bounds = bounds; not-going = done }
 
 -- ---- after the last command
-pub closing-of-stopped : (x : Replay) (out : List ℕ) → InBounds x out → x .stopped ≡ true → record { end = x .end; buffer = out } ≡ pasted out (x .end) (closingLines x)
-unfolding closingLines
-closing-of-stopped x out held e = rw e (let m : min (x .end) (length out) ≡ x .end = omega (arith, held .text-end-bound) in sym (paste-nothing out (x .end) ∙ rw m))
-
-pub closing-of-not-stopped : (x : Replay) (out new : List ℕ) (n : ℕ) → x .stopped ≡ false → record { end = n; buffer = new } ≡ pasted out (x .end) (finalLines (x .state))
-    → record { end = n; buffer = new } ≡ pasted out (x .end) (closingLines x)
-unfolding closingLines
-closing-of-not-stopped x out new n e put = rw e put
-
 -- the closing lines in the buffer: the whole key, and the storage
-closing-lines-complete-key : (r order out : List ℕ) (x : Replay) (new mid : List ℕ) → Finished r order out x new mid → (pasted mid (x .end) (closingLines x) ≡ pasted out 0 (keyOf r order)) × (new ≡ storageOf r order)
-unfolding textAndOrderAhead textAhead orderAhead keyAndStorage closingLines
+closing-lines-complete-key : (r order out : List ℕ) (x : Replay) (new mid : List ℕ) → Finished r order out x new mid → (pasted mid (x .end) (closingLines (x .stopped) (x .state)) ≡ pasted out 0 (keyOf r order)) × (new ≡ storageOf r order)
+unfolding textAndOrderAhead textAhead orderAhead keyAndStorage
 closing-lines-complete-key r order out x new mid o = (ap (λ (z : TextAndOrder). z .text) same, ap (λ (z : TextAndOrder). z .order) same)
   where
-    same : _≡_ {A = TextAndOrder} (record { text = pasted mid (x .end) (closingLines x); order = new }) (record { text = pasted out 0 (keyOf r order); order = storageOf r order })
+    same : _≡_ {A = TextAndOrder} (record { text = pasted mid (x .end) (closingLines (x .stopped) (x .state)); order = new }) (record { text = pasted out 0 (keyOf r order); order = storageOf r order })
     same = rw (o .not-going) at (o .text-and-order-same)
 
 pub key-written-of-finished : (r order out : List ℕ) (x : Replay) (new mid text : List ℕ) (n : ℕ) → ((i : ℕ) → byteAt r i < 256) → room ≤ length out → Finished r order out x new mid
-    → record { end = n; buffer = text } ≡ pasted mid (x .end) (closingLines x) → KeyOrNoRoom r order out (Text n) new text
+    → record { end = n; buffer = text } ≡ pasted mid (x .end) (closingLines (x .stopped) (x .state)) → KeyOrNoRoom r order out (Text n) new text
 unfolding KeyOrNoRoom
 key-written-of-finished r order out x new mid text n bytes big finished-of-not-going put =
     let is = closing-lines-complete-key r order out x new mid finished-of-not-going in

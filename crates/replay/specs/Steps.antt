@@ -1,7 +1,7 @@
 -- Where the replay of a record stands, between two commands.
 use mathlib.Core.Path.{_≡_}
 use mathlib.Core.Bool.{true, false}
-use mathlib.Core.List.{List, []}
+use mathlib.Core.List.{List}
 use Prim.Native.Nat.{ℕ, suc, _-_, _≤_, _<_}
 use lib.ListN.{length}
 use lib.Dec.{ltb}
@@ -9,17 +9,13 @@ use Rattle.laws.specs.Sums.{pick}
 use Rattle.textrules.specs.Text.{Pasted, pasted}
 use Rattle.heap.specs.declared.State.{State}
 use Rattle.commands.specs.Record.{commandsFrom}
-use Rattle.linerules.specs.Lines.{stopLine, finalLines}
+use Rattle.linerules.specs.Lines.{stopLine, closingLines}
 use Rattle.replay.specs.declared.Replay.{Replay}
 use Rattle.keyrules.specs.Key.{stateAndStorage, textOf, orderAfter, keyOf, storageOf}
 
--- the lines at the end: none after a stop line
-unfoldable pub closingLines : Replay → List ℕ
-closingLines x = pick (x .stopped) [] (finalLines (x .state))
-
 -- the text still to come
 unfoldable pub textAhead : List ℕ → Replay → List ℕ → List ℕ
-textAhead r x order = pick (x .going) (textOf (stateAndStorage (x .state) order) (commandsFrom (suc (length r)) r (x .at))) (closingLines x)
+textAhead r x order = pick (x .going) (textOf (stateAndStorage (x .state) order) (commandsFrom (suc (length r)) r (x .at))) (closingLines (x .stopped) (x .state))
 
 -- the storage that the commands still to be read leave
 unfoldable pub orderAhead : List ℕ → Replay → List ℕ → List ℕ

@@ -1,11 +1,10 @@
 // The printed key of a record.
 ghost use mathlib.Core.Path.{_≡_};
 ghost use mathlib.Core.Bool.{true};
-ghost use Rattle.textrules.specs.Text.{pasted};
 ghost use Rattle.commands.specs.Record.{commandAt};
 ghost use Rattle.commands.specs.declared.Command.the-variants as command;
 ghost use Rattle.keyrules.specs.Key.{KeyOrNoRoom};
-ghost use Rattle.replay.specs.Steps.{InBounds, Stepped, Finished, Stopped, closingLines, nextOf};
+ghost use Rattle.replay.specs.Steps.{InBounds, Stepped, Finished, Stopped, nextOf};
 use commands::Command;
 use heap::Setup;
 use heap::State;
@@ -33,7 +32,8 @@ pub fn key(bytes: &[u8], order: &mut [u16], out: &mut [u8]) -> Printed
         return Printed::NoRoom;
     }
     let x = replay_all(bytes, order, out);
-    let n = finish(out, x);
+    let s = x.state;
+    let n = finallines::closing_lines(out, x.end, x.stopped, s);
     Printed::Text(n)
 }
 
@@ -53,18 +53,6 @@ fn replay_all(bytes: &[u8], order: &mut [u16], out: &mut [u8]) -> Replay
         x = step(bytes, order, out, x);
     }
     x
-}
-
-// The lines at the end of a record that did not stop.
-fn finish(out: &mut [u8], x: Replay) -> usize
-    requires { ⌜ InBounds x (now out) ⌝ }
-    ensures { λ n. ⌜ record { end = n; buffer = now (out .exit) } ≡ pasted (now (out .entry)) (x .end) (closingLines x) ⌝ }
-{
-    if x.stopped {
-        return x.end;
-    }
-    let s = x.state;
-    finallines::final_lines(out, x.end, s)
 }
 
 // The command at the position.

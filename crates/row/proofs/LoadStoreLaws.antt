@@ -12,7 +12,7 @@ use Rattle.laws.proofs.TestLaws.{pick-true, pick-false, true-not-false}
 use Rattle.heap.specs.declared.Superblock.{Superblock}
 use Rattle.heap.specs.declared.Setup.{Setup}
 use Rattle.heap.specs.Table.{noState}
-use Rattle.heap.specs.Check.{withinLimits, passes}
+use Rattle.checkrules.specs.Check.{withinLimits, passes}
 use Rattle.calls.specs.declared.Call.{Call}
 use Rattle.calls.specs.Answers.{numberOf, PassesIfAccepted}
 use Rattle.calls.specs.Calls.{callOf}

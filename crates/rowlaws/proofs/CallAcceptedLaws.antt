@@ -13,8 +13,8 @@ use Rattle.heap.specs.declared.State.{State}
 use Rattle.heap.specs.declared.Found.{Found}
 use Rattle.heap.specs.declared.Found.the-variants.{At, Nothing}
 use Rattle.heap.specs.Table.{superblockAt, withSuperblock, withOwner, withMarkAt, withoutMarkAt}
-use Rattle.heap.specs.Choice.{emptiest}
-use Rattle.heap.specs.Moves.{mustMove, transferred, foundTransferred, transfersUpTo, excessTransferred, invariantRestored}
+use Rattle.choicerules.specs.Choice.{emptiest}
+use Rattle.moverules.specs.Moves.{mustMove, transferred, foundTransferred, transfersUpTo, excessTransferred, invariantRestored}
 use Rattle.heaplaws.proofs.StateFacts.{Shape}
 use Rattle.heaplaws.proofs.MoveLaws.{length-of-found-transferred}
 use Rattle.calls.specs.declared.Call.{Call}
@@ -73,7 +73,7 @@ isRefusal (Refused r) = 1
 -- ---- an accepted call: the state passes, and so does the one after it; the table keeps its length
 pub record CallAccepted (s : State) (order : List ℕ) (result : After) : Type 0 where
   pub passed : Passed s order
-  pub long : length (result .answer .state .table) ≡ length (s .table)
+  pub length-is : length (result .answer .state .table) ≡ length (s .table)
   pub not-refused : (r : ℕ) → result .answer .outcome ≡ Refused r → ⊥
   pub passes : Shape s → Passed (result .answer .state) (result .order) × Shape (result .answer .state)
 
@@ -83,7 +83,7 @@ unfolding isRefusal
 call-accepted-of-result s order result x e p l n after =
     record {
       passed = p;
-      long = ap (λ (y : After). length (y .answer .state .table)) e ∙ l;
+      length-is = ap (λ (y : After). length (y .answer .state .table)) e ∙ l;
       not-refused = λ r f. let z : _≡_ {A = ℕ} 1 0 = sym (ap isRefusal f) ∙ ap (λ (y : After). isRefusal (y .answer .outcome)) e ∙ n in omega arith;
       passes = after;
     }

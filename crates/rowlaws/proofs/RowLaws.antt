@@ -17,7 +17,7 @@ use Rattle.heap.specs.declared.Superblock.{Superblock}
 use Rattle.heap.specs.declared.Setup.{Setup}
 use Rattle.heap.specs.declared.State.{State}
 use Rattle.heap.specs.Table.{unused, noState}
-use Rattle.heap.specs.Check.{withinLimits}
+use Rattle.checkrules.specs.Check.{withinLimits}
 use Rattle.heaplaws.proofs.StateFacts.{Shape}
 use Rattle.heaplaws.proofs.StateCheckLaws.{new-state-sound, new-state-shape}
 use Rattle.calls.specs.declared.Call.{Call}
@@ -242,7 +242,7 @@ module _ (u : Setup) (row : List Superblock) (order : List ℕ) (call : Call) wh
 
   -- no call changes the row's length, and an accepted one leaves 64 records
   pub length-of-row-call : length (rowCall u row order call .row) ≡ length row
-  length-of-row-call = ⊎-elim (λ h. ap (λ (x : RowAfter). length (x .row)) (h .1)) (λ h. ap (λ (x : RowAfter). length (x .row)) (h .2) ∙ h .1 .long) row-call-refused-or-accepted
+  length-of-row-call = ⊎-elim (λ h. ap (λ (x : RowAfter). length (x .row)) (h .1)) (λ h. ap (λ (x : RowAfter). length (x .row)) (h .2) ∙ h .1 .length-is) row-call-refused-or-accepted
 
   module _ (goes : (r : ℕ) → rowCall u row order call .outcome ≡ Refused r → ⊥) where
     row-call-accepted : RowCallAccepted

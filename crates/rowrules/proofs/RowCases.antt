@@ -9,7 +9,7 @@ use Rattle.order.specs.Order.{cleared}
 use Rattle.heap.specs.declared.Superblock.{Superblock}
 use Rattle.heap.specs.declared.Setup.{Setup}
 use Rattle.heap.specs.Table.{isUnused}
-use Rattle.heap.specs.Check.{withinLimits, superblockValid, restValid}
+use Rattle.checkrules.specs.Check.{withinLimits, superblockValid, restValid}
 use Rattle.calls.specs.declared.Call.{Call}
 use Rattle.calls.specs.declared.Call.the-variants.{Take, Free}
 use Rattle.calls.specs.declared.Outcome.{Outcome}

@@ -9,7 +9,7 @@ use lib.Dec.{leb}
 use borrow.Author.Tests.{not-true, not-false}
 use Rattle.laws.specs.Sums.{pick}
 use Rattle.heap.specs.declared.State.{State}
-use Rattle.heap.specs.Check.{withinLimits, restValid}
+use Rattle.checkrules.specs.Check.{withinLimits, restValid}
 use Rattle.limits.specs.SetupRefusal.{setupRefusal}
 use Rattle.statecheck.specs.FirstRefusal.{firstRefusal}
 

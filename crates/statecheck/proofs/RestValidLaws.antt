@@ -9,7 +9,7 @@ use Rattle.laws.proofs.TestLaws.{both-false-right, both-true-right}
 use Rattle.laws.proofs.SumLaws.{all-both}
 use Rattle.heap.specs.declared.State.{State}
 use Rattle.heap.specs.Table.{superblockAt}
-use Rattle.heap.specs.Check.{superblockValid, unusedFrom, sparseIfGlobal, emptinessInvariant, restValid}
+use Rattle.checkrules.specs.Check.{superblockValid, unusedFrom, sparseIfGlobal, emptinessInvariant, restValid}
 use Rattle.superblockcheck.specs.Alone.{aloneValid, eachValid}
 
 -- the rest of the check: each superblock alone, and the heaps

@@ -5,7 +5,7 @@ use lib.ListN.{length}
 use lib.Dec.{leb}
 use Rattle.laws.specs.Sums.{pick}
 use Rattle.heap.specs.declared.State.{State}
-use Rattle.heap.specs.Check.{withinLimits, restValid}
+use Rattle.checkrules.specs.Check.{withinLimits, restValid}
 
 -- "Take or free: 13 for setup numbers, 12, the rest of 13"; 0 where none applies
 unfoldable pub firstRefusal : State → List ℕ → ℕ

@@ -1,7 +1,7 @@
 // The check of a state handed in: the setup numbers, the order places lent, then the rest. The rest is what is asked of each
 // superblock alone, and the emptiness invariant.
 ghost use mathlib.Core.Path.{_≡_};
-ghost use Rattle.heap.specs.Check.{restValid};
+ghost use Rattle.checkrules.specs.Check.{restValid};
 ghost use Rattle.statecheck.specs.FirstRefusal.{firstRefusal};
 use heap::State;
 

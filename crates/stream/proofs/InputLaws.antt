@@ -20,9 +20,9 @@ pub count-is-length-of-take : (n : ℕ) (xs : List ℕ) → n ≤ length xs → 
 count-is-length-of-take n xs h = sym (length-take-le n xs h)
 
 -- the bytes of an input lie in the buffer, as many as are counted
-module _ (r : Input) (buf : List ℕ) (n : ℕ) (held : WithinBuffer r buf) (e : r ≡ Bytes n) where
+module _ (r : Input) (buf : List ℕ) (n : ℕ) (within : WithinBuffer r buf) (e : r ≡ Bytes n) where
   input-counts-buffer : Counts n buf
-  input-counts-buffer = subst (λ (z : Input). WithinBuffer z buf) e held
+  input-counts-buffer = subst (λ (z : Input). WithinBuffer z buf) e within
 
   pub input-bytes-within-buffer : n ≤ length buf
   input-bytes-within-buffer = input-counts-buffer .0
@@ -32,8 +32,8 @@ module _ (r : Input) (buf : List ℕ) (n : ℕ) (held : WithinBuffer r buf) (e :
 
 -- the bytes that one read puts behind those that stand in a buffer lie within the buffer
 pub read-bytes-within-buffer : (buf part new : List ℕ) (done got : ℕ) (r : Input) → WithinBuffer r part → r ≡ Bytes got → done < length buf → length part ≡ length (take (length buf - done) (drop done buf)) → length new ≡ length buf → done + got ≤ length new
-read-bytes-within-buffer buf part new done got r held e before whole same =
-    omega (arith, input-bytes-within-buffer r part got held e, length-take (length buf - done) (drop done buf), length-drop done buf)
+read-bytes-within-buffer buf part new done got r within e before whole same =
+    omega (arith, input-bytes-within-buffer r part got within e, length-take (length buf - done) (drop done buf), length-drop done buf)
 
 -- an answer of a read that is not negative is a count of bytes, held to the buffer; `read` is the answer as the machine reads it back
 -- from its bits

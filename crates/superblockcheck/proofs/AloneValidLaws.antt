@@ -16,7 +16,7 @@ use Rattle.heap.specs.declared.Superblock.{Superblock}
 use Rattle.heap.specs.declared.Setup.{Setup}
 use Rattle.heap.specs.declared.State.{State}
 use Rattle.heap.specs.Table.{superblockAt, liveIn, isUnused}
-use Rattle.heap.specs.Check.{superblockValid, unusedFrom, sparseIfGlobal}
+use Rattle.checkrules.specs.Check.{superblockValid, unusedFrom, sparseIfGlobal}
 use Rattle.superblockcheck.specs.Alone.{aloneValid, eachValid}
 
 module _ (u : Setup) (order : List ℕ) (k : ℕ) (b : Superblock) (r : Bool) (unused : r ≡ isUnused b) where

@@ -7,7 +7,7 @@ use Rattle.heap.specs.declared.Superblock.{Superblock}
 use Rattle.heap.specs.declared.Setup.{Setup}
 use Rattle.heap.specs.declared.State.{State}
 use Rattle.heap.specs.Table.{superblockAt}
-use Rattle.heap.specs.Check.{superblockValid, unusedFrom, sparseIfGlobal}
+use Rattle.checkrules.specs.Check.{superblockValid, unusedFrom, sparseIfGlobal}
 
 -- what the check asks of superblock k alone
 unfoldable pub aloneValid : Setup → List ℕ → ℕ → Superblock → Bool

@@ -1,6 +1,6 @@
 // What the check of a state handed in asks of each superblock alone.
 ghost use mathlib.Core.Path.{_≡_};
-ghost use Rattle.heap.specs.Check.{sparseIfGlobal};
+ghost use Rattle.checkrules.specs.Check.{sparseIfGlobal};
 ghost use Rattle.superblockcheck.specs.Alone.{aloneValid, eachValid};
 use heap::Setup;
 use heap::State;

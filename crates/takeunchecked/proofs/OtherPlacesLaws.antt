@@ -6,7 +6,7 @@ use native.Mathlib.Omega.{arith}
 use Rattle.heap.specs.declared.State.{State}
 use Rattle.heap.specs.declared.Found.{Found}
 use Rattle.heap.specs.declared.Found.the-variants.{At, Nothing}
-use Rattle.heap.specs.Choice.{fullest, lowestEmpty, lowestUnused, orElse}
+use Rattle.choicerules.specs.Choice.{fullest, lowestEmpty, lowestUnused, orElse}
 use Rattle.heaplaws.proofs.ChoiceLaws.{best-of-fullest, best-of-lowest-empty, best-of-lowest-unused}
 use Rattle.calls.specs.declared.Answer.{Answer}
 use Rattle.calls.specs.declared.Outcome.the-variants.{Refused}

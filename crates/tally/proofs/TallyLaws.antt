@@ -113,12 +113,12 @@ zero-in-zeros (suc n) (suc x) = zero-in-zeros n x
 pub tallied-none : (table : List Superblock) (first k : ℕ) (superblocks live : List ℕ) → k ≡ 0 → superblocks ≡ replicate 243 0 → live ≡ replicate 243 0 → Tallied table first k superblocks live
 tallied-none table first k superblocks live z p q =
     rw (z, p, q) (record {
-      superblocks-long = length-replicate {A = ℕ} 243 0;
-      live-long = length-replicate {A = ℕ} 243 0;
-      superblocks-few = λ x. omega (arith, zero-in-zeros 243 x);
-      live-few = λ x. omega (arith, zero-in-zeros 243 x);
-      superblocks-are = λ j c lj lc. zero-in-zeros 243 (j * 27 + c) ∙ sym (sum-below-zero (λ i. oneIfBelongs (first + j) c (getD table i blank)));
-      live-are = λ j c lj lc. zero-in-zeros 243 (j * 27 + c) ∙ sym (sum-below-zero (λ i. liveIfBelongs (first + j) c (getD table i blank)));
+      superblocks-length = length-replicate {A = ℕ} 243 0;
+      live-length = length-replicate {A = ℕ} 243 0;
+      superblocks-bound = λ x. omega (arith, zero-in-zeros 243 x);
+      live-bound = λ x. omega (arith, zero-in-zeros 243 x);
+      superblocks-counted = λ j c lj lc. zero-in-zeros 243 (j * 27 + c) ∙ sym (sum-below-zero (λ i. oneIfBelongs (first + j) c (getD table i blank)));
+      live-counted = λ j c lj lc. zero-in-zeros 243 (j * 27 + c) ∙ sym (sum-below-zero (λ i. liveIfBelongs (first + j) c (getD table i blank)));
     })
 
 module _ (table : List Superblock) (first k x : ℕ) (superblocks live : List ℕ) (t : Tallied table first k superblocks live)
@@ -130,12 +130,12 @@ module _ (table : List Superblock) (first k x : ℕ) (superblocks live : List �
       let b = getD table k blank in
       let at = tally-slot-of-slot-lt-243 first (b .owner) (b .class) x slot l in
       rw (p, q) (record {
-        superblocks-long = length-set superblocks x (getD superblocks x 0 + 1) ∙ t .superblocks-long;
-        live-long = length-set live x (getD live x 0 + count) ∙ t .live-long;
-        superblocks-few = added-numbers-bounded superblocks x 1 (t .superblocks-long) l k 1 (le-refl 1) (t .superblocks-few);
-        live-few = λ y. let m = added-numbers-bounded live x count (t .live-long) l (k * 256) 256 (subst (λ (n : ℕ). n ≤ 256) (sym e) (live-count-le-256 (b .live))) (t .live-few) y in omega arith;
-        superblocks-are = added-numbers-are-sums superblocks x 1 (t .superblocks-long) l oneIfBelongs table first k at (one-if-belongs-is-1 (b .owner) (b .class) b refl refl) (one-if-belongs-of-others b) (t .superblocks-are);
-        live-are = added-numbers-are-sums live x count (t .live-long) l liveIfBelongs table first k at (live-if-belongs-is-live-in (b .owner) (b .class) b refl refl ∙ sym e) (live-if-belongs-of-others b) (t .live-are);
+        superblocks-length = length-set superblocks x (getD superblocks x 0 + 1) ∙ t .superblocks-length;
+        live-length = length-set live x (getD live x 0 + count) ∙ t .live-length;
+        superblocks-bound = added-numbers-bounded superblocks x 1 (t .superblocks-length) l k 1 (le-refl 1) (t .superblocks-bound);
+        live-bound = λ y. let m = added-numbers-bounded live x count (t .live-length) l (k * 256) 256 (subst (λ (n : ℕ). n ≤ 256) (sym e) (live-count-le-256 (b .live))) (t .live-bound) y in omega arith;
+        superblocks-counted = added-numbers-are-sums superblocks x 1 (t .superblocks-length) l oneIfBelongs table first k at (one-if-belongs-is-1 (b .owner) (b .class) b refl refl) (one-if-belongs-of-others b) (t .superblocks-counted);
+        live-counted = added-numbers-are-sums live x count (t .live-length) l liveIfBelongs table first k at (live-if-belongs-is-live-in (b .owner) (b .class) b refl refl ∙ sym e) (live-if-belongs-of-others b) (t .live-counted);
       })
 
   -- any other
@@ -144,20 +144,20 @@ module _ (table : List Superblock) (first k x : ℕ) (superblocks live : List �
       let b = getD table k blank in
       let away : (j c : ℕ) → j < 9 → c < 27 → (b .owner ≡ first + j) × (b .class ≡ c) → ⊥ = λ j c lj lc z. no-tally-slot-of-slot-ge-243 first (b .owner) (b .class) x slot l (omega (arith, z .0)) (omega (arith, z .0)) (omega (arith, z .1)) in
       rw (p, q) (record {
-        superblocks-long = t .superblocks-long;
-        live-long = t .live-long;
-        superblocks-few = λ y. omega (arith, t .superblocks-few y);
-        live-few = λ y. omega (arith, t .live-few y);
-        superblocks-are = λ j c lj lc. omega (arith, t .superblocks-are j c lj lc, sum-below-suc (λ i. oneIfBelongs (first + j) c (getD table i blank)) k, one-if-belongs-of-others b (first + j) c (away j c lj lc));
-        live-are = λ j c lj lc. omega (arith, t .live-are j c lj lc, sum-below-suc (λ i. liveIfBelongs (first + j) c (getD table i blank)) k, live-if-belongs-of-others b (first + j) c (away j c lj lc));
+        superblocks-length = t .superblocks-length;
+        live-length = t .live-length;
+        superblocks-bound = λ y. omega (arith, t .superblocks-bound y);
+        live-bound = λ y. omega (arith, t .live-bound y);
+        superblocks-counted = λ j c lj lc. omega (arith, t .superblocks-counted j c lj lc, sum-below-suc (λ i. oneIfBelongs (first + j) c (getD table i blank)) k, one-if-belongs-of-others b (first + j) c (away j c lj lc));
+        live-counted = λ j c lj lc. omega (arith, t .live-counted j c lj lc, sum-below-suc (λ i. liveIfBelongs (first + j) c (getD table i blank)) k, live-if-belongs-of-others b (first + j) c (away j c lj lc));
       })
 
 -- the numbers stay small
 pub tallied-superblocks-fit-w32 : (table : List Superblock) (first k x : ℕ) (superblocks live : List ℕ) → Tallied table first k superblocks live → k < 64 → Fits w32 (getD superblocks x 0 + 1)
-tallied-superblocks-fit-w32 table first k x superblocks live t l = omega (arith, t .superblocks-few x)
+tallied-superblocks-fit-w32 table first k x superblocks live t l = omega (arith, t .superblocks-bound x)
 
 pub tallied-live-fits-w32 : (table : List Superblock) (first k x v : ℕ) (superblocks live : List ℕ) → Tallied table first k superblocks live → k < 64 → v ≤ 256 → Fits w32 (getD live x 0 + v)
-tallied-live-fits-w32 table first k x v superblocks live t l h = omega (arith, t .live-few x)
+tallied-live-fits-w32 table first k x v superblocks live t l h = omega (arith, t .live-bound x)
 
 pub tallied-end : (table : List Superblock) (first k n : ℕ) (superblocks live : List ℕ) → Tallied table first k superblocks live → k ≤ n → n ≤ k → Tallied table first n superblocks live
 tallied-end table first k n superblocks live t p q = subst (λ (m : ℕ). Tallied table first m superblocks live) (le-antisymm p q) t

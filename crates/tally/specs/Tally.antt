@@ -15,9 +15,9 @@ slotOf first owner class = pick (both (both (leb first owner) (ltb owner (first 
 
 -- what the tally has at heap first + j and class c, after the superblocks below k: how many of those are theirs, and the live blocks in these
 pub record Tallied (table : List Superblock) (first k : ℕ) (superblocks live : List ℕ) : Type 0 where
-  pub superblocks-long : length superblocks ≡ 243
-  pub live-long : length live ≡ 243
-  pub superblocks-few : (x : ℕ) → getD superblocks x 0 ≤ k
-  pub live-few : (x : ℕ) → getD live x 0 ≤ k * 256
-  pub superblocks-are : (j c : ℕ) → j < 9 → c < 27 → getD superblocks (j * 27 + c) 0 ≡ sumBelow (λ i. oneIfBelongs (first + j) c (getD table i blank)) k
-  pub live-are : (j c : ℕ) → j < 9 → c < 27 → getD live (j * 27 + c) 0 ≡ sumBelow (λ i. liveIfBelongs (first + j) c (getD table i blank)) k
+  pub superblocks-length : length superblocks ≡ 243
+  pub live-length : length live ≡ 243
+  pub superblocks-bound : (x : ℕ) → getD superblocks x 0 ≤ k
+  pub live-bound : (x : ℕ) → getD live x 0 ≤ k * 256
+  pub superblocks-counted : (j c : ℕ) → j < 9 → c < 27 → getD superblocks (j * 27 + c) 0 ≡ sumBelow (λ i. oneIfBelongs (first + j) c (getD table i blank)) k
+  pub live-counted : (j c : ℕ) → j < 9 → c < 27 → getD live (j * 27 + c) 0 ≡ sumBelow (λ i. liveIfBelongs (first + j) c (getD table i blank)) k

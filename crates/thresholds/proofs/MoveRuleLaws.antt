@@ -8,7 +8,7 @@ use mir.Val.{Fits}
 use borrow.Author.Tests.{lt-ltb, le-ltb}
 use lib.Dec.{ltb}
 use Rattle.laws.proofs.Inequalities.{mul-le-of-bounds}
-use Rattle.heap.specs.Moves.{bothConditions}
+use Rattle.moverules.specs.Moves.{bothConditions}
 
 -- a number of 8 bits times one of 32
 pub product-fits : (k n : ℕ) → k ≤ 255 → n ≤ 4294967295 → Fits w64 (k * n)

@@ -2,7 +2,7 @@
 ghost use mathlib.Core.Path.{_≡_};
 ghost use Prim.Native.Nat.{_-_, _*_};
 ghost use lib.Dec.{ltb};
-ghost use Rattle.heap.specs.Moves.{bothConditions};
+ghost use Rattle.moverules.specs.Moves.{bothConditions};
 use heap::Setup;
 
 // q - p; 0 where p is above q.

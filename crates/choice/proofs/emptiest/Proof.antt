@@ -1,5 +1,5 @@
 -- `choice::emptiest` meets its contract. Assumes nothing.
-use Rattle.heap.specs.Choice.{emptiest}
+use Rattle.choicerules.specs.Choice.{emptiest}
 use Rattle.choice.specs.Criteria.{meetsCriterion, preferredBy}
 use borrow.Author.Needs.{needs}
 use Rattle.choice.proofs.emptiest.Statement.{statement}

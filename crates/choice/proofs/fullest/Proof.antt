@@ -1,5 +1,5 @@
 -- `choice::fullest` meets its contract. Assumes nothing.
-use Rattle.heap.specs.Choice.{fullest}
+use Rattle.choicerules.specs.Choice.{fullest}
 use Rattle.choice.specs.Criteria.{meetsCriterion, preferredBy}
 use borrow.Author.Needs.{needs}
 use Rattle.choice.proofs.fullest.Statement.{statement}

@@ -1,5 +1,5 @@
 -- `choice::lowest_empty` meets its contract. Assumes nothing.
-use Rattle.heap.specs.Choice.{lowestEmpty}
+use Rattle.choicerules.specs.Choice.{lowestEmpty}
 use Rattle.choice.specs.Criteria.{meetsCriterion, preferredBy}
 use borrow.Author.Needs.{needs}
 use Rattle.choice.proofs.lowest_empty.Statement.{statement}

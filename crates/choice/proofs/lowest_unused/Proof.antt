@@ -1,7 +1,7 @@
 -- `choice::lowest_unused` meets its contract: past the table's end nothing is unused, so a bound above 64 gives what 64 gives. Assumes nothing.
 use native.Mathlib.Omega.{arith}
 use Rattle.laws.proofs.ReplacedElement.{length-of-length-map}
-use Rattle.heap.specs.Choice.{lowestUnused}
+use Rattle.choicerules.specs.Choice.{lowestUnused}
 use Rattle.choice.specs.Criteria.{meetsCriterion, preferredBy}
 use Rattle.choice.proofs.ScanLaws.{chosen-unused-past-table}
 use borrow.Author.Needs.{needs}

@@ -1,5 +1,5 @@
 -- `choice::meets_criterion` meets its contract: each arm is one criterion. Assumes nothing.
-use Rattle.choice.proofs.CriterionLaws.{criterion-rules}
+use Rattle.choice.proofs.CriterionLaws.{meets-has-free, not-has-free-of-other, meets-belongs, meets-empty, not-empty-of-other-owner, meets-unused}
 use borrow.Author.Needs.{needs}
 use Rattle.choice.proofs.meets_criterion.Statement.{statement}
 use Rattle.choice.proofs.meets_criterion.Tie as tie
@@ -38,22 +38,22 @@ is-unused-requires : tie.Need-is-unused-requires
 is-unused-requires c κs = search needs
 
 returns : tie.Need-returns
-returns c = search criterion-rules
+returns c = search meets-has-free
 
 returns-2 : tie.Need-returns-2
-returns-2 c = search criterion-rules
+returns-2 c = search not-has-free-of-other
 
 returns-3 : tie.Need-returns-3
-returns-3 c = search criterion-rules
+returns-3 c = search meets-belongs
 
 returns-4 : tie.Need-returns-4
-returns-4 c = search criterion-rules
+returns-4 c = search meets-empty
 
 returns-5 : tie.Need-returns-5
-returns-5 c = search criterion-rules
+returns-5 c = search not-empty-of-other-owner
 
 returns-6 : tie.Need-returns-6
-returns-6 c = search criterion-rules
+returns-6 c = search meets-unused
 
 pub meets-criterion-spec : {M : Type 1} → statement M
 meets-criterion-spec =

@@ -1,5 +1,5 @@
 -- `choice::preferred` meets its contract: each arm is one preference, or none. Assumes nothing.
-use Rattle.choice.proofs.CriterionLaws.{preferred-rules}
+use Rattle.choice.proofs.CriterionLaws.{preferred-more-live, preferred-fewer-live, none-preferred-of-empty, none-preferred-of-unused}
 use borrow.Author.Needs.{needs}
 use Rattle.choice.proofs.preferred.Statement.{statement}
 use Rattle.choice.proofs.preferred.Tie as tie
@@ -29,16 +29,16 @@ enum-told-2 : tie.Need-enum-told-2
 enum-told-2 c = search needs
 
 returns : tie.Need-returns
-returns c = search preferred-rules
+returns c = search preferred-more-live
 
 returns-2 : tie.Need-returns-2
-returns-2 c = search preferred-rules
+returns-2 c = search preferred-fewer-live
 
 returns-3 : tie.Need-returns-3
-returns-3 c = search preferred-rules
+returns-3 c = search none-preferred-of-empty
 
 returns-4 : tie.Need-returns-4
-returns-4 c = search preferred-rules
+returns-4 c = search none-preferred-of-unused
 
 pub preferred-spec : {M : Type 1} → statement M
 preferred-spec =

@@ -2,7 +2,7 @@
 use mathlib.Core.Path.{_≡_}
 use Prim.Native.Nat.{_≤_, _-_}
 use borrow.Author.Needs.{needs}
-use Rattle.heap.specs.Choice.{chosenBelow}
+use Rattle.choicerules.specs.Choice.{chosenBelow}
 use Rattle.choice.specs.Criteria.{meetsCriterion, preferredBy}
 use Rattle.heaplaws.proofs.ChoiceLaws.{chosen-below-zero}
 use Rattle.choice.proofs.ScanLaws.{BestInTable, best-in-table-start, best-in-table-step, found-is-chosen-below-step, found-is-chosen-below-end}

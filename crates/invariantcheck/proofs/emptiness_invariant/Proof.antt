@@ -28,7 +28,7 @@ tally-from-requires c κs = search needs
 tally-invariant-requires : tie.Need-tally-invariant-requires Inv-loop μ-loop
 tally-invariant-requires c κs =
     let t = c .before .before .before .before .tally-from .ensures in
-    (omega arith, t .superblocks-few, t .live-few)
+    (omega arith, t .superblocks-bound, t .live-bound)
 
 returns : tie.Need-returns Inv-loop μ-loop
 returns c = search emptiness-invariant-false-of-nine

@@ -1,6 +1,6 @@
 -- `moves::restore_invariant` meets its contract. Assumes nothing.
 use borrow.Author.Tests.{eq-eqb, ne-eqb}
-use Rattle.heap.specs.Moves.{invariantRestored}
+use Rattle.moverules.specs.Moves.{invariantRestored}
 use borrow.Author.Needs.{needs}
 use Rattle.moves.proofs.restore_invariant.Statement.{statement}
 use Rattle.moves.proofs.restore_invariant.Tie as tie

@@ -1,7 +1,7 @@
 -- `moves::transfer` meets its contract: past the table's end nothing passes on. Assumes nothing.
 use Rattle.moves.proofs.TransferLoopLaws.{transferred-past-table}
 use Rattle.laws.proofs.ReplacedElement.{length-of-length-map}
-use Rattle.heap.specs.Moves.{transferred}
+use Rattle.moverules.specs.Moves.{transferred}
 use borrow.Author.Needs.{needs}
 use Rattle.moves.proofs.transfer.Statement.{statement}
 use Rattle.moves.proofs.transfer.Tie as tie

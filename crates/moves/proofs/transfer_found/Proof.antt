@@ -1,5 +1,5 @@
 -- `moves::transfer_found` meets its contract. Assumes nothing.
-use Rattle.heap.specs.Moves.{foundTransferred}
+use Rattle.moverules.specs.Moves.{foundTransferred}
 use borrow.Author.Needs.{needs}
 use Rattle.moves.proofs.transfer_found.Statement.{statement}
 use Rattle.moves.proofs.transfer_found.Tie as tie

@@ -13,8 +13,8 @@ returns c = search (needs, key-or-no-room-of-short-buffer)
 replay-all-requires : tie.Need-replay-all-requires
 replay-all-requires c κs = search needs
 
-finish-requires : tie.Need-finish-requires
-finish-requires c κs = search needs
+closing-lines-requires : tie.Need-closing-lines-requires
+closing-lines-requires c κs = search needs
 
 same-length : tie.Need-same-length
 same-length c = search needs
@@ -24,10 +24,10 @@ same-length-2 c = search needs
 
 returns-2 : tie.Need-returns-2
 returns-2 c =
-    let bytes : (i : ℕ) → byteAt (c .before .before .before .before .before .before .before .before .before .before .before .before .before .before .before .args .bytes .now) i < 256 = λ i. omega (arith, c .before .before .before .before .before .before .before .before .before .before .before .before .before .before .shared-slice-known .given i) in
+    let bytes : (i : ℕ) → byteAt (c .before .before .before .before .before .before .before .before .before .before .before .before .before .before .before .before .args .bytes .now) i < 256 = λ i. omega (arith, c .before .before .before .before .before .before .before .before .before .before .before .before .before .before .before .shared-slice-known .given i) in
     search (key-written-of-finished, bytes)
 
 pub key-spec : {M : Type 1} → statement M
 key-spec =
     tie.close
-    (tie.spec returns replay-all-requires finish-requires same-length same-length-2 returns-2)
+    (tie.spec returns replay-all-requires closing-lines-requires same-length same-length-2 returns-2)

@@ -1,4 +1,4 @@
--- The whole check of a state in cases that tell it from near misses, by computation; its clauses one by one are in crate heap. Assumes nothing.
+-- The whole check of a state in cases that each fail one clause, by computation; P is 1, to keep them cheap. Assumes nothing.
 use mathlib.Core.Path.{_≡_, refl}
 use mathlib.Core.Bool.{true, false}
 use mathlib.Core.List.{List, [], _∷_, _++_}
@@ -12,26 +12,26 @@ use Rattle.filledplaces.specs.FilledPlaces.{occurrences, placesInStorage, eachO
 use Rattle.heap.specs.declared.State.{State}
 use Rattle.heap.specs.Table.{unused, withSuperblock, isUnused}
 use Rattle.heap.specs.Counts.{total, belongs, oneIfBelongs, liveIfBelongs, superblocksOf, blocksIn, liveOf}
-use Rattle.heap.specs.Moves.{bothConditions, mustMove}
-use Rattle.heap.specs.Check.{withinLimits, superblockValid, unusedFrom, emptinessInvariant, sparseIfGlobal, restValid, passes}
+use Rattle.moverules.specs.Moves.{bothConditions, mustMove}
+use Rattle.checkrules.specs.Check.{withinLimits, superblockValid, unusedFrom, emptinessInvariant, sparseIfGlobal, restValid, passes}
 use Rattle.heap.proofs.TableCases.{of}
-use Rattle.heap.proofs.CheckCases.{setup-with}
+use Rattle.checkrules.proofs.CheckCases.{setup-with}
 
--- P = 2, N = 3, K = 1, p/q = 3/7. Heap 1 has superblock 0, of class 23 with blocks 0 and 2 live; heap 0 has 1, of class 24 with block 1 live; heap 2 has 2, full.
+-- P = 1, N = 3, K = 1, p/q = 3/7. Heap 1 has superblock 0, of class 23 with blocks 0 and 2 live, and 2, which is full; heap 0 has 1, of class 24 with block 1 live.
 abbrev pub three-superblocks : State
-three-superblocks = record { setup = setup-with 2 3 1 3 7; table = of 1 23 5 ∷ of 0 24 2 ∷ of 2 25 3 ∷ replicate 61 unused }
+three-superblocks = record { setup = setup-with 1 3 1 3 7; table = of 1 23 5 ∷ of 0 24 2 ∷ of 1 25 3 ∷ replicate 61 unused }
 
 abbrev pub three-superblocks-order : List ℕ
 three-superblocks-order = 1 ∷ replicate 255 8 ++ 0 ∷ replicate 511 9
 
--- it passes; and does not with q = 9; with a place that holds another block; with superblock 3 in use; with two empty ones of class 26 in heap 2; with heap 0's just not sparse
+-- it passes; and does not with q = 9; with a place that holds another block; with superblock 3 in use; with two empty ones of class 26 in heap 1; with heap 0's just not sparse
 pub passes-cases :
     passes three-superblocks three-superblocks-order
-    ∷ passes (record { setup = setup-with 2 3 1 3 9; table = three-superblocks .table }) three-superblocks-order
+    ∷ passes (record { setup = setup-with 1 3 1 3 9; table = three-superblocks .table }) three-superblocks-order
     ∷ passes three-superblocks (2 ∷ replicate 255 8 ++ 0 ∷ replicate 511 9)
     ∷ passes (withSuperblock three-superblocks 3 (of 1 26 3)) three-superblocks-order
-    ∷ passes (record { setup = setup-with 2 4 1 3 7; table = of 1 23 5 ∷ of 2 26 0 ∷ of 2 25 3 ∷ of 2 26 0 ∷ replicate 60 unused }) (1 ∷ replicate 255 8 ++ 0 ∷ 1 ∷ replicate 510 9 ++ 0 ∷ 1 ∷ [])
-    ∷ passes (record { setup = setup-with 2 3 1 4 8; table = three-superblocks .table }) three-superblocks-order
+    ∷ passes (record { setup = setup-with 1 4 1 3 7; table = of 1 23 5 ∷ of 1 26 0 ∷ of 1 25 3 ∷ of 1 26 0 ∷ replicate 60 unused }) (1 ∷ replicate 255 8 ++ 0 ∷ 1 ∷ replicate 510 9 ++ 0 ∷ 1 ∷ [])
+    ∷ passes (record { setup = setup-with 1 3 1 4 8; table = three-superblocks .table }) three-superblocks-order
     ∷ []
     ≡ true ∷ false ∷ false ∷ false ∷ false ∷ false ∷ []
 unfolding passes withinLimits restValid superblockValid unusedFrom emptinessInvariant sparseIfGlobal isUnused mustMove bothConditions total oneIfBelongs liveIfBelongs belongs superblocksOf blocksIn liveOf

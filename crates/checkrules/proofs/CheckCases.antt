@@ -9,14 +9,14 @@ use Rattle.classes.specs.Classes.{sizes, counts, sizeOf, blocksOf}
 use Rattle.marks.specs.Marks.{bit, markBit, isMarked, liveCount, noMarkFrom}
 use Rattle.order.specs.Order.{place}
 use Rattle.filledplaces.specs.FilledPlaces.{occurrences, placesInStorage, eachOnce, placesValid}
 use Rattle.heap.specs.declared.Superblock.{Superblock}
 use Rattle.heap.specs.declared.Setup.{Setup}
 use Rattle.heap.specs.declared.State.{State}
 use Rattle.heap.specs.Table.{unused, isUnused}
 use Rattle.heap.specs.Counts.{total, belongs, oneIfBelongs, liveIfBelongs, superblocksOf, blocksIn, liveOf}
-use Rattle.heap.specs.Moves.{bothConditions, mustMove}
-use Rattle.heap.specs.Check.{within, withinLimits, superblockValid, unusedFrom, emptinessInvariant, sparseIfGlobal}
+use Rattle.moverules.specs.Moves.{bothConditions, mustMove}
+use Rattle.checkrules.specs.Check.{within, withinLimits, superblockValid, unusedFrom, emptinessInvariant, sparseIfGlobal}
 use Rattle.heap.proofs.TableCases.{of, small-setup}
 
 -- ---- "P 1 to 8, N 1 to 64, K 1 to 16, p 1 to q - 1, q 2 to 8": at each limit, and one past it
 abbrev pub setup-with : ℕ → ℕ → ℕ → ℕ → ℕ → Setup

@@ -8,13 +8,13 @@ use lib.ListN.{length, take, replicate}
 use Rattle.laws.specs.Sums.{sumBelow}
 use Rattle.classes.specs.Classes.{sizes, counts, sizeOf, blocksOf}
 use Rattle.marks.specs.Marks.{bit, markBit, liveCount}
 use Rattle.heap.specs.declared.Superblock.{Superblock}
 use Rattle.heap.specs.declared.State.{State}
 use Rattle.heap.specs.declared.Moved.{Moved}
 use Rattle.heap.specs.Table.{unused}
 use Rattle.heap.specs.Counts.{total, belongs, oneIfBelongs, liveIfBelongs, superblocksOf, blocksIn, liveOf}
-use Rattle.heap.specs.Choice.{prefer, chosenBelow, fewerLive, emptiest}
-use Rattle.heap.specs.Moves.{bothConditions, mustMove, transferred, foundTransferred, transfersUpTo, excessTransferred, invariantRestored}
+use Rattle.choicerules.specs.Choice.{prefer, chosenBelow, fewerLive, emptiest}
+use Rattle.moverules.specs.Moves.{bothConditions, mustMove, transferred, foundTransferred, transfersUpTo, excessTransferred, invariantRestored}
 
 -- a superblock of heap h and class c, its lowest l blocks live
 abbrev pub superblock-with : ℕ → ℕ → ℕ → Superblock

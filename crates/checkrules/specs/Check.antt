@@ -6,11 +6,11 @@ use lib.Dec.{eqb, leb, ltb}
 use Rattle.laws.specs.Sums.{both, either, allBelow}
 use Rattle.classes.specs.Classes.{blocksOf}
 use Rattle.filledplaces.specs.FilledPlaces.{placesValid}
 use Rattle.heap.specs.declared.Superblock.{Superblock}
 use Rattle.heap.specs.declared.Setup.{Setup}
 use Rattle.heap.specs.declared.State.{State}
 use Rattle.heap.specs.Table.{superblockAt, liveIn, isUnused}
-use Rattle.heap.specs.Moves.{mustMove}
+use Rattle.moverules.specs.Moves.{mustMove}
 
 -- a ≤ x ≤ b
 abbrev pub within : ℕ → ℕ → ℕ → Bool

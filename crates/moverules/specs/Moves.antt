@@ -4,13 +4,13 @@ use mathlib.Core.Bool.{Bool}
 use lib.Dec.{eqb, ltb}
 use Rattle.laws.specs.Sums.{pick, both}
 use Rattle.classes.specs.Classes.{blocksOf}
 use Rattle.heap.specs.declared.State.{State}
 use Rattle.heap.specs.declared.Found.{Found}
 use Rattle.heap.specs.declared.Found.the-variants.{At, Nothing}
 use Rattle.heap.specs.declared.Moved.{Moved}
 use Rattle.heap.specs.Table.{superblockAt, withSuperblock, withOwner}
 use Rattle.heap.specs.Counts.{blocksIn, liveOf}
-use Rattle.heap.specs.Choice.{emptiest}
+use Rattle.choicerules.specs.Choice.{emptiest}
 
 -- "u + K × n < a and q × u < (q - p) × a"
 unfoldable pub bothConditions : (spare p q n a u : ℕ) → Bool

@@ -1,0 +1,2 @@
+pub mod CheckCases
+pub mod WholeCheckCases
