@@ -9,7 +9,7 @@ use Rattle.heap.specs.Counts.{superblocksOfClass, ownersChanged}
 use Rattle.calls.specs.declared.Call.{Call}
 use Rattle.calls.specs.declared.Call.the-variants.{Take, Free}
 use Rattle.calls.specs.declared.Outcome.{Outcome}
-use Rattle.calls.specs.declared.Outcome.the-variants.{Ready, Address, Moves, Refused}
+use Rattle.calls.specs.declared.Outcome.the-variants.{Moves, Refused}
 use Rattle.calls.specs.Answers.{After}
 use Rattle.calls.specs.Calls.{callOf}
 use Rattle.bound.specs.Ledger.{Entry, ledgerAfter, entriesOf}

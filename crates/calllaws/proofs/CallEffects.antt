@@ -1,11 +1,11 @@
 -- When a take and a free are accepted, and what they then do to a state: the facts that the claims over lists go by.
 use mathlib.Core.Path.{_≡_}
-use mathlib.Core.Bool.{Bool, true, false}
+use mathlib.Core.Bool.{true, false}
 use mathlib.Core.Logic.{_⊎_}
 use mathlib.Core.List.{List}
 use lib.ListN.{length}
-use Prim.Native.Nat.{ℕ, suc, _+_, _-_, _*_, _≤_, _<_}
-use Rattle.classes.specs.Classes.{sizeOf, blocksOf, classOf}
+use Prim.Native.Nat.{ℕ, suc, _-_, _*_, _≤_, _<_}
+use Rattle.classes.specs.Classes.{blocksOf, classOf}
 use Rattle.marks.specs.Marks.{markBit}
 use Rattle.heap.specs.declared.State.{State}
 use Rattle.heap.specs.Table.{superblockAt, liveIn}

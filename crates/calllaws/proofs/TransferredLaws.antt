@@ -1,22 +1,20 @@
 -- What the moves of a heap and class keep: each clause of the check, and each superblock's class and marks. Assumes nothing.
 use mathlib.Core.Path.{_≡_, refl, sym, ap, ap₂, _∙_, subst}
-use mathlib.Core.Bool.{Bool, not}
+use mathlib.Core.Bool.{not}
 use mathlib.Core.Logic.{_⊎_, inl, inr}
 use mathlib.Core.List.{List}
 use Prim.Native.Nat.{ℕ, _*_, _≤_, _<_, zero-le}
 use native.Mathlib.Decide.{ℕ-discrete}
 use native.Mathlib.Omega.{arith}
-use borrow.Author.Tests.{eq-eqb}
 use lib.ListN.{length}
-use lib.Dec.{T, eqb}
+use lib.Dec.{T}
 use Rattle.laws.specs.Sums.{one}
-use Rattle.laws.proofs.SumLaws.{sum-of-zeros}
 use Rattle.classes.specs.Classes.{blocksOf}
 use Rattle.heap.specs.declared.Superblock.{Superblock}
 use Rattle.heap.specs.declared.Setup.{Setup}
 use Rattle.heap.specs.declared.State.{State}
 use Rattle.heap.specs.Table.{superblockAt, withOwner}
-use Rattle.heap.specs.Counts.{belongs, superblocksOf, blocksIn, liveOf, ownersChanged}
+use Rattle.heap.specs.Counts.{belongs, superblocksOf, blocksIn, liveOf}
 use Rattle.moverules.specs.Moves.{bothConditions, mustMove}
 use Rattle.heaplaws.proofs.StateFacts.{Shape, WithinLimits, Unused, Owned, Sparse, Sound, TransferredFrom}
 use Rattle.heaplaws.proofs.CountLaws.{owner-and-class-of-belongs}

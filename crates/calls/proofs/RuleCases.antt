@@ -1,9 +1,9 @@
 -- Answers, the check's order, setups and the conditions of refusals, in cases that tell them from near misses, by computation. Assumes nothing.
 use mathlib.Core.Path.{_≡_, refl}
-use mathlib.Core.Bool.{Bool, true, false, not}
+use mathlib.Core.Bool.{true, false, not}
 use mathlib.Core.List.{List, [], _∷_, _++_, map}
-use Prim.Native.Nat.{ℕ, _+_, _-_, _*_}
-use lib.ListN.{length, replicate}
+use Prim.Native.Nat.{ℕ, _+_, _-_}
+use lib.ListN.{replicate}
 use Rattle.laws.specs.Sums.{sumBelow, allBelow}
 use Rattle.classes.specs.Classes.{sizes, counts, sizeOf, blocksOf}
 use Rattle.marks.specs.Marks.{bit, markBit, isMarked, withMark, withoutMark, liveCount, noMarkFrom}
@@ -13,17 +13,17 @@ use Rattle.heap.specs.declared.Superblock.{Superblock}
 use Rattle.heap.specs.declared.Setup.{Setup}
 use Rattle.heap.specs.declared.State.{State}
 use Rattle.heap.specs.declared.Found.{Found}
-use Rattle.heap.specs.declared.Found.the-variants.{At, Nothing}
+use Rattle.heap.specs.declared.Found.the-variants.{At}
 use Rattle.heap.specs.Table.{unused, isUnused}
 use Rattle.heap.specs.Counts.{total, belongs, oneIfBelongs, liveIfBelongs, superblocksOf, blocksIn, liveOf}
 use Rattle.choicerules.specs.Choice.{prefer, chosenBelow, moreLive, fewerLive, neverPreferred, hasFree, emptyInGlobal, fullest, lowestEmpty, lowestUnused, emptiest}
 use Rattle.moverules.specs.Moves.{bothConditions, mustMove, transferred, foundTransferred, transfersUpTo, excessTransferred, invariantRestored}
-use Rattle.checkrules.specs.Check.{within, withinLimits, superblockValid, unusedFrom, emptinessInvariant, sparseIfGlobal, restValid}
+use Rattle.checkrules.specs.Check.{withinLimits, superblockValid, unusedFrom, emptinessInvariant, sparseIfGlobal, restValid}
 use Rattle.calls.specs.declared.Outcome.{Outcome}
 use Rattle.calls.specs.declared.Outcome.the-variants.{Ready, Address, Moves, Refused}
 use Rattle.calls.specs.Answers.{After, numberOf, valuesOf, refused, checked, isProcessor}
 use Rattle.calls.specs.Setup.{setupOf}
-use Rattle.calls.specs.Take.{otherPlaces, renewedFor, acquired, acquiredOrder, nextBlock, addressOf, takenFrom}
+use Rattle.calls.specs.Take.{otherPlaces, acquired, acquiredOrder, nextBlock, addressOf, takenFrom}
 use Rattle.calls.specs.Free.{blockOf, isUnmapped, isMisaligned, isLiveAt, markCleared, orderPushed, freedAt}
 
 -- a superblock of heap h and class c with these marks in the first of its four numbers

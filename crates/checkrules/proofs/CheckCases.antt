@@ -2,7 +2,7 @@
 use mathlib.Core.Path.{_≡_, refl}
 use mathlib.Core.Bool.{Bool, true, false, not}
 use mathlib.Core.List.{List, [], _∷_, _++_, map}
-use Prim.Native.Nat.{ℕ, _+_, _-_, _^_}
+use Prim.Native.Nat.{ℕ, _+_, _-_}
 use lib.ListN.{length, replicate}
 use Rattle.laws.specs.Sums.{sumBelow, allBelow}
 use Rattle.classes.specs.Classes.{sizes, counts, sizeOf, blocksOf}
@@ -15,7 +15,7 @@ use Rattle.heap.specs.declared.State.{State}
 use Rattle.heap.specs.Table.{unused, isUnused}
 use Rattle.heap.specs.Counts.{total, belongs, oneIfBelongs, liveIfBelongs, superblocksOf, blocksIn, liveOf}
 use Rattle.moverules.specs.Moves.{bothConditions, mustMove}
-use Rattle.checkrules.specs.Check.{within, withinLimits, superblockValid, unusedFrom, emptinessInvariant, sparseIfGlobal}
+use Rattle.checkrules.specs.Check.{withinLimits, superblockValid, unusedFrom, emptinessInvariant, sparseIfGlobal}
 use Rattle.heap.proofs.TableCases.{of, small-setup}
 
 -- ---- "P 1 to 8, N 1 to 64, K 1 to 16, p 1 to q - 1, q 2 to 8": at each limit, and one past it

@@ -1,8 +1,8 @@
 -- Superblocks and states, and counts over them, in cases that tell the definitions from near misses, by computation. Assumes nothing.
 use mathlib.Core.Path.{_≡_, refl}
-use mathlib.Core.Bool.{Bool, true, false, not}
+use mathlib.Core.Bool.{true, false}
 use mathlib.Core.List.{List, [], _∷_, _++_, map}
-use Prim.Native.Nat.{ℕ, _+_, _-_, _^_}
+use Prim.Native.Nat.{ℕ, _+_, _-_}
 use lib.ListN.{replicate}
 use Rattle.laws.specs.Sums.{sumBelow}
 use Rattle.classes.specs.Classes.{counts, blocksOf}
@@ -10,7 +10,7 @@ use Rattle.marks.specs.Marks.{bit, markBit, withMark, withoutMark, liveCount}
 use Rattle.heap.specs.declared.Superblock.{Superblock}
 use Rattle.heap.specs.declared.Setup.{Setup}
 use Rattle.heap.specs.declared.State.{State}
-use Rattle.heap.specs.Table.{unused, withSuperblock, liveIn, isUnused, withOwner, withMarkAt, withoutMarkAt, noState, newState}
+use Rattle.heap.specs.Table.{unused, withSuperblock, isUnused, withOwner, withMarkAt, withoutMarkAt, noState, newState}
 use Rattle.heap.specs.Counts.{total, belongs, isOwnedOfClass, oneIfBelongs, liveIfBelongs, superblocksOf, blocksIn, liveOf, superblocksOfClass, liveOfClass, ownersChanged}
 
 -- a superblock of heap h and class c with these marks in the first of its four numbers

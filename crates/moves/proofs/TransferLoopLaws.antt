@@ -6,7 +6,7 @@ use Prim.Native.Nat.{ℕ, suc, _+_, _-_, _*_, _≤_, _<_}
 use native.Mathlib.Omega.{arith}
 use mir.Syntax.{w8}
 use mir.Val.{Fits}
-use lib.ListN.{length, length-set}
+use lib.ListN.{length}
 use lib.Seq.{set-out}
 use Rattle.laws.proofs.TestLaws.{T-of-true}
 use Rattle.classes.specs.Classes.{blocksOf}
@@ -14,7 +14,6 @@ use Rattle.heap.specs.declared.Superblock.{Superblock}
 use Rattle.heap.specs.declared.State.{State}
 use Rattle.heap.specs.declared.Moved.{Moved}
 use Rattle.heap.specs.declared.Found.{Found}
-use Rattle.heap.specs.declared.Found.the-variants.{At, Nothing}
 use Rattle.heap.specs.Table.{superblockAt, withOwner}
 use Rattle.heap.specs.Counts.{superblocksOf, blocksIn, liveOf}
 use Rattle.choicerules.specs.Choice.{emptiest}

@@ -11,10 +11,9 @@ use Rattle.laws.specs.Sums.{pick}
 use Rattle.classes.specs.Classes.{classOf}
 use Rattle.heap.specs.declared.State.{State}
 use Rattle.heap.specs.declared.Found.{Found}
-use Rattle.heap.specs.declared.Found.the-variants.{At, Nothing}
-use Rattle.heap.specs.Table.{superblockAt, withSuperblock, withOwner, withMarkAt, withoutMarkAt}
+use Rattle.heap.specs.Table.{superblockAt, withSuperblock, withMarkAt, withoutMarkAt}
 use Rattle.choicerules.specs.Choice.{emptiest}
-use Rattle.moverules.specs.Moves.{mustMove, transferred, foundTransferred, transfersUpTo, excessTransferred, invariantRestored}
+use Rattle.moverules.specs.Moves.{mustMove, foundTransferred, transfersUpTo, excessTransferred, invariantRestored}
 use Rattle.heaplaws.proofs.StateFacts.{Shape}
 use Rattle.heaplaws.proofs.MoveLaws.{length-of-found-transferred}
 use Rattle.calls.specs.declared.Call.{Call}

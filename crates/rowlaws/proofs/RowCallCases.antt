@@ -10,7 +10,6 @@ use Rattle.marks.specs.Marks.{bit, markBit, isMarked, withMark, withoutMark, li
 use Rattle.order.specs.Order.{place, lastFilled, withPlace, descending, withRenewedPlaces, renewed}
 use Rattle.filledplaces.specs.FilledPlaces.{occurrences, placesInStorage, eachOnce, placesValid}
 use Rattle.heap.specs.declared.Superblock.{Superblock}
-use Rattle.heap.specs.declared.Setup.{Setup}
 use Rattle.heap.specs.Table.{isUnused}
 use Rattle.heap.specs.Counts.{total, belongs, oneIfBelongs, liveIfBelongs, superblocksOf, blocksIn, liveOf}
 use Rattle.choicerules.specs.Choice.{prefer, chosenBelow, moreLive, fewerLive, neverPreferred, hasFree, emptyInGlobal, fullest, lowestEmpty, lowestUnused, emptiest}

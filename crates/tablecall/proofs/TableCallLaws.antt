@@ -12,7 +12,6 @@ use Rattle.calls.specs.declared.Outcome.{Outcome}
 use Rattle.calls.specs.declared.Outcome.the-variants.{Refused}
 use Rattle.calls.specs.Answers.{numberOf}
 use Rattle.limits.specs.SetupRefusal.{setupRefusal}
-use Rattle.tablecall.specs.declared.TableCall.{TableCall}
 use Rattle.tablecall.specs.Tables.{isAccepted, rowFirstRefusal, refusedCall, answeredCall}
 
 -- a call was accepted where its outcome's number is 0

@@ -1,7 +1,7 @@
 -- The four places, in the forms that the code's proofs ask. Assumes nothing.
 use mathlib.Core.Path.{_≡_, refl, sym, ap, _∙_}
 use mathlib.Core.List.{List}
-use Prim.Native.Nat.{ℕ, _≤_, _<_, _*_}
+use Prim.Native.Nat.{ℕ, _<_}
 use native.Mathlib.Omega.{arith}
 use Rattle.heap.specs.declared.State.{State}
 use Rattle.heap.specs.declared.Found.{Found}
@@ -10,7 +10,7 @@ use Rattle.choicerules.specs.Choice.{fullest, lowestEmpty, lowestUnused, orElse
 use Rattle.heaplaws.proofs.ChoiceLaws.{best-of-fullest, best-of-lowest-empty, best-of-lowest-unused}
 use Rattle.calls.specs.declared.Answer.{Answer}
 use Rattle.calls.specs.declared.Outcome.the-variants.{Refused}
-use Rattle.calls.specs.Answers.{After, refused}
+use Rattle.calls.specs.Answers.{After}
 use Rattle.calls.specs.Take.{otherPlaces, takenFrom, takenFromOther, takenAt}
 
 -- places 2, 3 and 4

@@ -1,7 +1,7 @@
 -- Decimals and pasted texts, computed. Assumes nothing.
 use mathlib.Core.Path.{_≡_, refl}
 use mathlib.Core.List.{[]}
-use Rattle.textrules.specs.Text.{letters, decimal, digits, Pasted, pasted}
+use Rattle.textrules.specs.Text.{letters, decimal, digits, pasted}
 
 -- ---- numbers in decimal: the least, the last of one digit, the first of two, the greatest of 32 bits
 decimal-least : decimal 0 ≡ letters "0"

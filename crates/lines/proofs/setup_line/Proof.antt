@@ -1,5 +1,4 @@
 -- `lines::setup_line` meets its contract: the fields one after another. Assumes nothing.
-use native.Mathlib.Omega.{arith}
 use mathlib.Core.Path.{refl}
 use Rattle.textrules.specs.Text.{letters}
 use Rattle.textrules.proofs.PasteLaws.{paste-then-paste}
