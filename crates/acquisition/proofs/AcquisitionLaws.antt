@@ -11,7 +11,7 @@ use Rattle.heap.specs.Table.{superblockAt, withSuperblock, liveIn}
 use Rattle.calls.specs.declared.Answer.{Answer}
 use Rattle.calls.specs.Answers.{After, HasNumberAndValuesOf}
 use Rattle.calls.specs.Take.{acquired, acquiredOrder, takenFrom, takenFromOther}
-use Rattle.calllaws.proofs.AcceptedCallLaws.{number-and-values-by-rules}
+use Rattle.calls.proofs.AnswerLaws.{number-and-values-by-rules}
 
 -- the order places of a superblock that a heap acquires, with and without anything live
 module _ (order : List ℕ) (class k : ℕ) (b : Superblock) (live : ℕ) (el : live ≡ liveIn b) where

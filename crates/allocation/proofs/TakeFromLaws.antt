@@ -12,7 +12,7 @@ use Rattle.heap.specs.Table.{superblockAt, withSuperblock, liveIn, withMarkAt}
 use Rattle.calls.specs.declared.Outcome.the-variants.{Address}
 use Rattle.calls.specs.Answers.{After, HasNumberAndValuesOf}
 use Rattle.calls.specs.Take.{nextBlock, addressOf, takenFrom}
-use Rattle.calllaws.proofs.AcceptedCallLaws.{number-and-values-by-rules}
+use Rattle.calls.proofs.AnswerLaws.{number-and-values-by-rules}
 
 -- a block of a 16-bit number starts below 2 ^ 28 in its superblock
 pub block-offset-le : (class j size : ℕ) → size ≡ sizeOf class → j ≤ 65535 → j * size ≤ 65535 * 2048

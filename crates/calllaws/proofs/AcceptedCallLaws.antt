@@ -1,5 +1,5 @@
 -- "An accepted call yields a state that passes", and what an answer that is equal to the rules' tells. Assumes nothing.
-use mathlib.Core.Path.{_≡_, refl, sym, ap, _∙_, subst}
+use mathlib.Core.Path.{_≡_, refl, sym, ap, _∙_}
 use mathlib.Core.Bool.{Bool, true, false, not}
 use mathlib.Core.Logic.{_⊎_, inl, inr}
 use mathlib.Core.List.{List}
@@ -20,11 +20,10 @@ use Rattle.choicerules.specs.Choice.{fullest}
 use Rattle.checkrules.specs.Check.{within, withinLimits, restValid, passes}
 use Rattle.heaplaws.proofs.StateFacts.{Sound, Shape}
 use Rattle.heaplaws.proofs.StateCheckLaws.{passes-of-sound, new-state-sound}
-use Rattle.calls.specs.declared.Answer.{Answer}
 use Rattle.calls.specs.declared.Outcome.the-variants.{Address, Moves, Refused}
 use Rattle.calls.specs.declared.Call.{Call}
 use Rattle.calls.specs.declared.Call.the-variants.{Take, Free}
-use Rattle.calls.specs.Answers.{After, numberOf, valuesOf, HasNumberAndValuesOf, PassesIfAccepted, refused, checked, isProcessor}
+use Rattle.calls.specs.Answers.{After, numberOf, PassesIfAccepted, refused, checked, isProcessor}
 use Rattle.calls.specs.Setup.{acceptedSetup, setupOf}
 use Rattle.calls.specs.Take.{otherPlaces, takenFrom, takenFromOther, takenAt, takeUnchecked, takeOf}
 use Rattle.calls.specs.Free.{isUnmapped, isMisaligned, isLiveAt, freedAt, freeUnchecked, freeOf}
@@ -127,17 +126,3 @@ setup-passes-if-accepted u order = go (withinLimits u) (leb (u .superblocks * 25
     go true true e z = passes-true-of-sound (newState u) (cleared order (u .superblocks * 256)) (new-state-sound u _ (T-of-true (withinLimits u) e))
     go true false e z = absurd (omega (arith, z))
     go false b e z = absurd (omega (arith, z))
-
--- ---- an answer and an order that are what the rules leave
-module _ (r : Answer) (order : List ℕ) (rules : After) (e : _≡_ {A = After} (record { answer = r; order = order }) rules) where
-  -- tell the rules' number and values
-  pub number-and-values-by-rules : HasNumberAndValuesOf (r .outcome) (rules .answer .outcome)
-  number-and-values-by-rules = record { number-is = ap (λ (x : After). numberOf (x .answer .outcome)) e; values-are = ap (λ (x : After). valuesOf (x .answer .outcome)) e }
-
-  -- and pass where the rules' do
-  pub passes-if-accepted-by-rules : PassesIfAccepted (rules .answer .outcome) (rules .answer .state) (rules .order) → PassesIfAccepted (r .outcome) (r .state) order
-  passes-if-accepted-by-rules = subst (λ (x : After). PassesIfAccepted (x .answer .outcome) (x .answer .state) (x .order)) (sym e)
-
--- ---- a refusal's answer, with the order handed in, is what the rules leave
-pub refused-of-answer : (s : State) (order : List ℕ) (number : ℕ) (r : Answer) → r ≡ record { outcome = Refused number; state = s } → _≡_ {A = After} (record { answer = r; order = order }) (refused number s order)
-refused-of-answer s order number r e = ap (λ (x : Answer). record { answer = x; order = order }) e

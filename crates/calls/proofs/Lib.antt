@@ -1,2 +1,3 @@
 pub mod RuleCases
 pub mod CallCases
+pub mod AnswerLaws

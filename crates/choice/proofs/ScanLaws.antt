@@ -5,6 +5,7 @@ use mathlib.Core.Logic.{_⊎_, inl, inr, ⊎-elim}
 use mathlib.Core.List.{List}
 use Prim.Native.Nat.{ℕ, zero, suc, _+_, _-_, _≤_, _<_}
 use native.Mathlib.Nat.{le-antisymm}
+use native.Mathlib.Numerals.{add-one}
 use native.Mathlib.Omega.{arith}
 use lib.ListN.{length, getD, List·getD-eq-default}
 use borrow.Author.Tests.{not-true, not-false}
@@ -18,7 +19,6 @@ use Rattle.choicerules.specs.Choice.{prefer, chosenBelow, neverPreferred}
 use Rattle.choice.specs.declared.Criterion.{Criterion}
 use Rattle.choice.specs.declared.Best.{Best}
 use Rattle.choice.specs.Criteria.{meetsCriterion, preferredBy, replacesBest, bestAfter}
-use Rattle.heaplaws.proofs.ChoiceLaws.{chosen-below-suc}
 
 -- ---- one superblock looked at, by the way the code goes
 module _ (w : Criterion) (best : Best) (k : ℕ) (b : Superblock) (t : Bool) (e : t ≡ meetsCriterion w b) where
@@ -37,6 +37,16 @@ module _ (w : Criterion) (best : Best) (k : ℕ) (b : Superblock) (t : Bool) (e 
   pub best-after-not-preferred : (m : ℕ) (u : Bool) → not t ≡ false → best .found ≡ At m → u ≡ preferredBy w b (best .block) → u ≡ false → best ≡ bestAfter w best k b
   unfolding bestAfter replacesBest
   best-after-not-preferred m u n f g h = rw (← e, not-false t n, f, ← g, h)
+
+-- ---- the choice, by one superblock more
+module _ (meets : Superblock → Bool) (preferred : Superblock → Superblock → Bool) (table : List Superblock) where
+  pub chosen-below-zero : Nothing ≡ chosenBelow meets preferred table 0
+  unfolding chosenBelow
+  chosen-below-zero = refl
+
+  chosen-below-suc : (n : ℕ) → chosenBelow meets preferred table (n + 1) ≡ pick (meets (getD table n blank)) (prefer preferred table (chosenBelow meets preferred table n) n) (chosenBelow meets preferred table n)
+  unfolding chosenBelow
+  chosen-below-suc n = rw add-one
 
 -- ---- the best so far and the choice
 -- the record kept is that of the best so far

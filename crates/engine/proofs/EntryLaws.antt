@@ -19,7 +19,8 @@ use Rattle.calls.specs.Answers.{After, HasNumberAndValuesOf, PassesIfAccepted, 
 use Rattle.calls.specs.Setup.{acceptedSetup, setupOf}
 use Rattle.calls.specs.Take.{takeUnchecked, takeOf}
 use Rattle.calls.specs.Free.{freeUnchecked, freeOf}
-use Rattle.calllaws.proofs.AcceptedCallLaws.{take-passes-if-accepted, free-passes-if-accepted, setup-passes-if-accepted, number-and-values-by-rules, passes-if-accepted-by-rules, refused-of-answer}
+use Rattle.calls.proofs.AnswerLaws.{number-and-values-by-rules, passes-if-accepted-by-rules, refused-of-answer}
+use Rattle.calllaws.proofs.AcceptedCallLaws.{take-passes-if-accepted, free-passes-if-accepted, setup-passes-if-accepted}
 use Rattle.limits.specs.SetupRefusal.{setupRefusal}
 use Rattle.statecheck.specs.FirstRefusal.{firstRefusal}
 

@@ -12,7 +12,7 @@ use Rattle.calls.specs.declared.Answer.{Answer}
 use Rattle.calls.specs.declared.Outcome.the-variants.{Moves, Refused}
 use Rattle.calls.specs.Answers.{After, HasNumberAndValuesOf, isProcessor}
 use Rattle.calls.specs.Free.{isUnmapped, isMisaligned, isLiveAt, markCleared, orderPushed, freedAt, freeUnchecked}
-use Rattle.calllaws.proofs.AcceptedCallLaws.{number-and-values-by-rules, refused-of-answer}
+use Rattle.calls.proofs.AnswerLaws.{number-and-values-by-rules, refused-of-answer}
 
 abbrev answerAndOrder : Answer → List ℕ → After
 answerAndOrder r order = record { answer = r; order = order }

@@ -3,10 +3,9 @@ use mathlib.Core.Path.{_≡_, refl, sym, ap, _∙_, subst}
 use mathlib.Core.Bool.{Bool, true, false}
 use mathlib.Core.Logic.{_⊎_, inl, inr}
 use mathlib.Core.List.{List}
-use Prim.Native.Nat.{ℕ, zero, suc, _+_, _≤_, _<_}
-use native.Mathlib.Nat.{eq-or-lt-of-le, le-of-suc-le-suc, lt-suc-self, lt-irrefl, le-antisymm}
+use Prim.Native.Nat.{ℕ, zero, suc, _≤_, _<_}
+use native.Mathlib.Nat.{eq-or-lt-of-le, le-of-suc-le-suc, lt-suc-self, lt-irrefl}
 use native.Mathlib.Decide.{decLt}
-use native.Mathlib.Numerals.{add-one}
 use native.Mathlib.Omega.{arith}
 use borrow.Author.Tests.{eq-eqb}
 use lib.ListN.{getD}
@@ -172,22 +171,6 @@ module _ (meets : Superblock → Bool) (preferred : Superblock → Superblock �
   chosen-of-best r n k b =
       let found = chosen-of-meets n k (b .below) (b .meets-criterion) in
       found .1 ∙ ap At (best-unique n (found .0) k (best-of-chosen r n (found .0) (found .1)) b)
-
-  -- forms for a loop over the table
-  pub chosen-below-zero : Nothing ≡ chosenBelow meets preferred table 0
-  unfolding chosenBelow
-  chosen-below-zero = refl
-
-  pub chosen-below-suc : (n : ℕ) → chosenBelow meets preferred table (n + 1) ≡ pick (meets (getD table n blank)) (prefer preferred table (chosenBelow meets preferred table n) n) (chosenBelow meets preferred table n)
-  unfolding chosenBelow
-  chosen-below-suc n = rw add-one
-
-  pub chosen-loop-step : (n : ℕ) (found r : Found) (w : Bool) → found ≡ chosenBelow meets preferred table n → w ≡ meets (getD table n blank) → r ≡ pick w (prefer preferred table found n) found
-      → r ≡ chosenBelow meets preferred table (n + 1)
-  chosen-loop-step n found r w p q e = rw (chosen-below-suc, ← p, ← q) e
-
-  pub chosen-loop-end : (i n : ℕ) (found : Found) → found ≡ chosenBelow meets preferred table i → i ≤ n → n ≤ i → found ≡ chosenBelow meets preferred table n
-  chosen-loop-end i n found e h g = e ∙ ap (chosenBelow meets preferred table) (le-antisymm h g)
 
 -- ---- what meets the criterion
 -- class c with a free block, in heap h

@@ -1,1 +1,1 @@
-// Laws of the state's rules, in the page's words. The definitions are those of crate heap.
+// Laws of the rules on a state, in the page's words. The definitions are those of crates heap, choicerules, moverules and checkrules.

@@ -15,14 +15,13 @@ use Rattle.checkrules.specs.Check.{withinLimits}
 use Rattle.calls.specs.declared.Answer.{Answer}
 use Rattle.calls.specs.declared.Call.{Call}
 use Rattle.calls.specs.declared.Call.the-variants.{Take, Free}
-use Rattle.calls.specs.declared.Outcome.{Outcome}
 use Rattle.calls.specs.Answers.{refused, numberOf, HasNumberAndValuesOf, PassesIfAccepted}
 use Rattle.calls.specs.Setup.{acceptedSetup, setupOf}
 use Rattle.calls.specs.Take.{takeOf}
 use Rattle.calls.specs.Free.{freeOf}
 use Rattle.calls.specs.Calls.{callOf}
 use Rattle.limits.specs.SetupRefusal.{setupRefusal}
-use Rattle.rowlaws.proofs.RowLaws.{has-number-and-values-of-equal}
+use Rattle.calls.proofs.AnswerLaws.{has-number-and-values-of-equal}
 use Rattle.rowrules.specs.Row.{RowAfter, stateOf, asRowAfter, rowRefused, rowAcceptedSetup, setupOn, callOn}
 use Rattle.tablecall.specs.declared.TableCall.{TableCall}
 use Rattle.tablecall.specs.Tables.{isAccepted, rowAfterCall, rowFirstRefusal, refusedCall, answeredCall}

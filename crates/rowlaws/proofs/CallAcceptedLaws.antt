@@ -10,7 +10,6 @@ use lib.Dec.{eqb}
 use Rattle.laws.specs.Sums.{pick}
 use Rattle.classes.specs.Classes.{classOf}
 use Rattle.heap.specs.declared.State.{State}
-use Rattle.heap.specs.declared.Found.{Found}
 use Rattle.heap.specs.Table.{superblockAt, withSuperblock, withMarkAt, withoutMarkAt}
 use Rattle.choicerules.specs.Choice.{emptiest}
 use Rattle.moverules.specs.Moves.{mustMove, foundTransferred, transfersUpTo, excessTransferred, invariantRestored}

@@ -24,7 +24,7 @@ use Rattle.calls.specs.declared.Call.{Call}
 use Rattle.calls.specs.declared.Call.the-variants.{Take, Free}
 use Rattle.calls.specs.declared.Outcome.{Outcome}
 use Rattle.calls.specs.declared.Outcome.the-variants.{Ready, Address, Moves, Refused}
-use Rattle.calls.specs.Answers.{After, checked, numberOf, valuesOf, HasNumberAndValuesOf}
+use Rattle.calls.specs.Answers.{After, checked, numberOf}
 use Rattle.calls.specs.Setup.{setupOf}
 use Rattle.calls.specs.Take.{takeOf}
 use Rattle.calls.specs.Free.{freeOf}
@@ -48,10 +48,6 @@ isReady Ready = 1
 isReady (Address a) = 0
 isReady (Moves m) = 0
 isReady (Refused r) = 0
-
--- an outcome that is the rules' has their number and values
-pub has-number-and-values-of-equal : (o x : Outcome) → o ≡ x → HasNumberAndValuesOf o x
-has-number-and-values-of-equal o x e = record { number-is = ap numberOf e; values-are = ap valuesOf e }
 
 -- ---- the order of a setup's refusals: 1, 12, 13
 module _ (n : ℕ) (u : Setup) (row : List Superblock) (order : List ℕ) where

@@ -12,7 +12,7 @@ use Rattle.heap.specs.declared.Setup.{Setup}
 use Rattle.calls.specs.declared.Call.{Call}
 use Rattle.calls.specs.Answers.{HasNumberAndValuesOf, PassesIfAccepted}
 use Rattle.rowrules.specs.Row.{RowAfter, stateOf, rowSetup, rowCall}
-use Rattle.rowlaws.proofs.RowLaws.{has-number-and-values-of-equal}
+use Rattle.calls.proofs.AnswerLaws.{has-number-and-values-of-equal}
 use Rattle.rowrules.specs.declared.RowAnswer.{RowAnswer}
 use Rattle.rowrules.specs.declared.RecordsAnswer.{RecordsAnswer}
 use Rattle.rowrules.specs.Borrowed.{RecordsAfter, recordsWith, recordsAfter}

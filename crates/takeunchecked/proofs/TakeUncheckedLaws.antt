@@ -11,7 +11,7 @@ use Rattle.calls.specs.declared.Answer.{Answer}
 use Rattle.calls.specs.declared.Outcome.the-variants.{Refused}
 use Rattle.calls.specs.Answers.{After, HasNumberAndValuesOf, isProcessor}
 use Rattle.calls.specs.Take.{otherPlaces, takenAt, takeUnchecked}
-use Rattle.calllaws.proofs.AcceptedCallLaws.{number-and-values-by-rules, refused-of-answer}
+use Rattle.calls.proofs.AnswerLaws.{number-and-values-by-rules, refused-of-answer}
 
 abbrev answerAndOrder : Answer → List ℕ → After
 answerAndOrder r order = record { answer = r; order = order }

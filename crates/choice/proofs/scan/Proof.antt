@@ -4,8 +4,7 @@ use Prim.Native.Nat.{_≤_, _-_}
 use borrow.Author.Needs.{needs}
 use Rattle.choicerules.specs.Choice.{chosenBelow}
 use Rattle.choice.specs.Criteria.{meetsCriterion, preferredBy}
-use Rattle.heaplaws.proofs.ChoiceLaws.{chosen-below-zero}
-use Rattle.choice.proofs.ScanLaws.{BestInTable, best-in-table-start, best-in-table-step, found-is-chosen-below-step, found-is-chosen-below-end}
+use Rattle.choice.proofs.ScanLaws.{chosen-below-zero, BestInTable, best-in-table-start, best-in-table-step, found-is-chosen-below-step, found-is-chosen-below-end}
 use Rattle.choice.proofs.scan.Statement.{statement}
 use Rattle.choice.proofs.scan.Tie as tie
 

@@ -47,7 +47,7 @@ use Rattle.rowrules.specs.Row.{RowAfter, stateOf, rowAfter, setupOn, rowSetup}
 use Rattle.tablecall.specs.declared.TableCall.{TableCall}
 use Rattle.tablecall.specs.Tables.{isAccepted, rowAfterCall}
 use Rattle.rowrules.specs.LoadStore.{loadOf, storeOf}
-use Rattle.rowlaws.proofs.RowLaws.{has-number-and-values-of-equal}
+use Rattle.calls.proofs.AnswerLaws.{has-number-and-values-of-equal}
 use Rattle.row.proofs.LoadStoreLaws.{stored-setup-is-row-setup, stored-setup-passes-if-accepted}
 use Rattle.heap.proofs.Superblock as T
 use Rattle.heap.proofs.Setup as S

@@ -1,0 +1,27 @@
+-- An answer that is what the rules leave has what a contract says of it. Assumes nothing.
+use mathlib.Core.Path.{_≡_, sym, ap, subst}
+use mathlib.Core.List.{List}
+use Prim.Native.Nat.{ℕ}
+use Rattle.heap.specs.declared.State.{State}
+use Rattle.calls.specs.declared.Answer.{Answer}
+use Rattle.calls.specs.declared.Outcome.{Outcome}
+use Rattle.calls.specs.declared.Outcome.the-variants.{Refused}
+use Rattle.calls.specs.Answers.{After, numberOf, valuesOf, HasNumberAndValuesOf, PassesIfAccepted, refused}
+
+-- an outcome that is the rules' has their number and values
+pub has-number-and-values-of-equal : (outcome rules : Outcome) → outcome ≡ rules → HasNumberAndValuesOf outcome rules
+has-number-and-values-of-equal outcome rules e = record { number-is = ap numberOf e; values-are = ap valuesOf e }
+
+-- ---- an answer and an order that are what the rules leave
+module _ (r : Answer) (order : List ℕ) (rules : After) (e : _≡_ {A = After} (record { answer = r; order = order }) rules) where
+  -- have the rules' number and values
+  pub number-and-values-by-rules : HasNumberAndValuesOf (r .outcome) (rules .answer .outcome)
+  number-and-values-by-rules = has-number-and-values-of-equal (r .outcome) (rules .answer .outcome) (ap (λ (x : After). x .answer .outcome) e)
+
+  -- and pass where the rules' do
+  pub passes-if-accepted-by-rules : PassesIfAccepted (rules .answer .outcome) (rules .answer .state) (rules .order) → PassesIfAccepted (r .outcome) (r .state) order
+  passes-if-accepted-by-rules = subst (λ (x : After). PassesIfAccepted (x .answer .outcome) (x .answer .state) (x .order)) (sym e)
+
+-- ---- a refusal's answer, with the order handed in, is what the rules leave
+pub refused-of-answer : (s : State) (order : List ℕ) (number : ℕ) (r : Answer) → r ≡ record { outcome = Refused number; state = s } → _≡_ {A = After} (record { answer = r; order = order }) (refused number s order)
+refused-of-answer s order number r e = ap (λ (x : Answer). record { answer = x; order = order }) e
