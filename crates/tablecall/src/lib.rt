@@ -1,6 +1,8 @@
 // What a call on a lent row comes to, on a table by value: a refusal before any superblock is looked at, or the engine's answer taken
 // apart. The row's length is a number among the arguments.
 ghost use mathlib.Core.Path.{_≡_};
+ghost use Rattle.calls.specs.declared.Outcome.the-variants.{Refused};
+ghost use Rattle.calls.specs.Answers.{HasNumberAndValuesOf};
 ghost use Rattle.tablecall.specs.Tables.{isAccepted, rowFirstRefusal, refusedCall, answeredCall};
 use calls::Answer;
 use calls::Outcome;
@@ -39,6 +41,7 @@ fn accepted(outcome: Outcome) -> bool
 // A refusal, with the setup numbers and the table as they are to be.
 pub fn refuse(number: u8, u: Setup, table: [Superblock; 64]) -> TableCall
     ensures { λ r. ⌜ r ≡ refusedCall number u table ⌝ }
+    ensures number_and_values { λ r. ⌜ HasNumberAndValuesOf (r .answer .outcome) (Refused number) ⌝ }
 {
     let outcome = Outcome::Refused(number);
     let accepted = accepted(outcome);
@@ -53,6 +56,7 @@ pub fn refuse(number: u8, u: Setup, table: [Superblock; 64]) -> TableCall
 // The engine's answer, its state taken apart.
 pub fn answered(a: Answer) -> TableCall
     ensures { λ r. ⌜ r ≡ answeredCall a ⌝ }
+    ensures number_and_values { λ r. ⌜ HasNumberAndValuesOf (r .answer .outcome) (a .outcome) ⌝ }
 {
     let s = a.state;
     let table = s.table;

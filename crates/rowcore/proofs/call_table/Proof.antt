@@ -26,7 +26,7 @@ same-length-2 : tie.Need-same-length-2
 same-length-2 c = search needs
 
 returns-2 : tie.Need-returns-2
-returns-2 c = table-call-clauses _ _ _ (search answered-call-is-call-on) (search accepted-flag-of-answered-call) (answered-call-passes-if-accepted _ _ _ (c .before .before .before .call-state .ensures .1) (c .answered .ensures))
+returns-2 c = table-call-clauses _ _ _ (search answered-call-is-call-on) (search accepted-flag-of-answered-call) (answered-call-passes-if-accepted _ _ _ (c .before .before .before .call-state .ensures .1) (c .answered .ensures .0))
 
 pub call-table-spec : {M : Type 1} → statement M
 call-table-spec =

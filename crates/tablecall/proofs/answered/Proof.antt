@@ -8,7 +8,7 @@ accepted-requires : tie.Need-accepted-requires
 accepted-requires c κs = search needs
 
 returns : tie.Need-returns
-returns c = search answered-call-from-parts
+returns c = (search answered-call-from-parts, search needs)
 
 pub answered-spec : {M : Type 1} → statement M
 answered-spec = tie.close (tie.spec accepted-requires returns)

@@ -8,7 +8,7 @@ accepted-requires : tie.Need-accepted-requires
 accepted-requires c κs = search needs
 
 returns : tie.Need-returns
-returns c = search refused-call-from-parts
+returns c = (search refused-call-from-parts, search needs)
 
 pub refuse-spec : {M : Type 1} → statement M
 refuse-spec = tie.close (tie.spec accepted-requires returns)
