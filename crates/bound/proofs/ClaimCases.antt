@@ -39,8 +39,10 @@ pub entries-of-cases : map (λ (c : ℕ). entriesOf c three-entries) (23 ∷ 16 
 unfolding entriesOf
 entries-of-cases = refl
 
--- an accepted take of size 1100 adds the address that it answered, with class 23; a refused one adds nothing
-pub ledger-after-take-cases : ledgerAfter three-entries (Take 2 1100) (Address 16) ∷ ledgerAfter three-entries (Take 2 1100) (Refused 4) ∷ [] ≡ (entry 16 23 ∷ three-entries) ∷ three-entries ∷ []
+-- an accepted take of size 1100 adds the address that it answered, with class 23, and one of size 0 with class 0; a refused one adds nothing
+pub ledger-after-take-cases :
+    ledgerAfter three-entries (Take 2 1100) (Address 16) ∷ ledgerAfter three-entries (Take 2 0) (Address 48) ∷ ledgerAfter three-entries (Take 2 1100) (Refused 4) ∷ []
+    ≡ (entry 16 23 ∷ three-entries) ∷ (entry 48 0 ∷ three-entries) ∷ three-entries ∷ []
 unfolding ledgerAfter afterTake classOf firstAtLeast sizes
 ledger-after-take-cases = refl
 

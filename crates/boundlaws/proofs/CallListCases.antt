@@ -3,26 +3,17 @@ use mathlib.Core.Path.{_≡_, refl, ap, _∙_}
 use mathlib.Core.List.{List, [], _∷_, map}
 use Prim.Native.Nat.{ℕ}
 use lib.ListN.{replicate, drop}
-use Rattle.laws.specs.Sums.{sumBelow}
-use Rattle.classes.specs.Classes.{sizes, counts, sizeOf, blocksOf, firstAtLeast, classOf}
-use Rattle.marks.specs.Marks.{bit, markBit, isMarked, withMark, withoutMark, liveCount}
-use Rattle.order.specs.Order.{place, lastFilled, withPlace, descending, withRenewedPlaces, renewed, cleared}
 use Rattle.heap.specs.declared.Setup.{Setup}
 use Rattle.heap.specs.declared.State.{State}
-use Rattle.heap.specs.Table.{isUnused}
-use Rattle.heap.specs.Counts.{total, belongs, isOwnedOfClass, oneIfBelongs, liveIfBelongs, superblocksOf, blocksIn, liveOf, superblocksOfClass, ownersChanged}
-use Rattle.choicerules.specs.Choice.{prefer, chosenBelow, moreLive, fewerLive, neverPreferred, hasFree, emptyInGlobal, fullest, lowestEmpty, lowestUnused, emptiest}
-use Rattle.moverules.specs.Moves.{bothConditions, mustMove, transferred, foundTransferred, transfersUpTo, excessTransferred, invariantRestored}
+use Rattle.heap.specs.Counts.{isOwnedOfClass, superblocksOfClass, ownersChanged}
 use Rattle.checkrules.specs.Check.{withinLimits}
 use Rattle.calls.specs.declared.Call.{Call}
 use Rattle.calls.specs.declared.Call.the-variants.{Take, Free}
 use Rattle.calls.specs.declared.Outcome.{Outcome}
 use Rattle.calls.specs.declared.Outcome.the-variants.{Ready, Address, Moves, Refused}
-use Rattle.calls.specs.Answers.{isProcessor}
 use Rattle.calls.specs.Setup.{setupOf}
-use Rattle.calls.specs.Take.{otherPlaces, acquired, acquiredOrder, nextBlock, addressOf, takenFrom, takenFromOther, takenAt, takeUnchecked}
-use Rattle.calls.specs.Free.{blockOf, isUnmapped, isMisaligned, isLiveAt, markCleared, orderPushed, freedAt, freeUnchecked}
 use Rattle.calls.specs.Calls.{callOf}
+use Rattle.calls.proofs.CallDefinitions.{callDefinitions}
 use Rattle.bound.specs.Ledger.{Entry, removed, afterTake, afterFree, ledgerAfter, entriesOf}
 use Rattle.bound.specs.Claim.{Step, Claims}
 use Rattle.boundlaws.proofs.CallListLaws.{callPastCheck, stepsBy, steps-are-past-check, demand-3-calls}
@@ -91,7 +82,7 @@ abbrev refused-setup : Setup
 refused-setup = record { processors = 1; superblocks = 1; spare = 1; p = 1; q = 4 }
 
 abbrev refused-calls : List Call
-refused-calls = Take 1 2048 ∷ Take 2 16 ∷ Take 1 0 ∷ Take 1 16 ∷ Free 0 0 ∷ Free 1 4096 ∷ Free 1 16 ∷ Free 1 2048 ∷ Free 1 0 ∷ []
+refused-calls = Take 1 2048 ∷ Take 2 16 ∷ Take 1 2049 ∷ Take 1 0 ∷ Free 0 0 ∷ Free 1 4096 ∷ Free 1 16 ∷ Free 1 2048 ∷ Free 1 0 ∷ []
 
 refused-ready : setupOf refused-setup (replicate 256 0) .answer .outcome ≡ Ready
 unfolding setupOf withinLimits
@@ -157,14 +148,36 @@ spare-rows =
     ∷ row (Address 12288) 1 (two-numbers 3 0) (two-numbers 4 0)
     ∷ []
 
--- ---- the four computed
+-- ---- document 02, item 1: takes of size 0 and of size 16 are live blocks of class 0 and share its superblock
+abbrev size-0-setup : Setup
+size-0-setup = record { processors = 1; superblocks = 1; spare = 1; p = 1; q = 4 }
+
+abbrev size-0-calls : List Call
+size-0-calls = Take 1 0 ∷ Take 1 16 ∷ Take 1 0 ∷ Free 1 0 ∷ Take 1 0 ∷ Take 1 17 ∷ []
+
+size-0-ready : setupOf size-0-setup (replicate 256 0) .answer .outcome ≡ Ready
+unfolding setupOf withinLimits
+size-0-ready = refl
+
+abbrev size-0-rows : List CallRow
+size-0-rows =
+    row (Address 0) 1 (two-numbers 0 1) (two-numbers 0 1)
+    ∷ row (Address 16) 0 (two-numbers 0 2) (two-numbers 0 1)
+    ∷ row (Address 32) 0 (two-numbers 0 3) (two-numbers 0 1)
+    ∷ row (Moves 0) 0 (two-numbers 0 2) (two-numbers 0 1)
+    ∷ row (Address 0) 0 (two-numbers 0 3) (two-numbers 0 1)
+    ∷ row (Refused 4) 0 (two-numbers 0 3) (two-numbers 0 1)
+    ∷ []
+
+-- ---- the five computed
 rows-computed :
     (rowsAnswered whole-setup (replicate 512 0) (two-numbers 26 0) whole-calls ≡ whole-rows)
     × (rowsAnswered refused-setup (replicate 256 0) (two-numbers 26 0) refused-calls ≡ refused-rows)
     × (drop 11 (rowsAnswered two-moves-setup (replicate 1536 0) (two-numbers 26 0) two-moves-calls) ≡ two-moves-rows)
     × (drop 2 (rowsAnswered spare-setup (replicate 1024 0) (two-numbers 26 0) spare-calls) ≡ spare-rows)
-unfolding rowsAnswered rowsOf ledgerAfter afterTake afterFree removed entriesOf stepsBy setupOf callPastCheck takeUnchecked freeUnchecked takenAt takenFromOther takenFrom addressOf nextBlock acquiredOrder acquired otherPlaces freedAt invariantRestored orderPushed markCleared isLiveAt isMisaligned isUnmapped blockOf isProcessor withinLimits bothConditions mustMove transferred foundTransferred transfersUpTo excessTransferred prefer chosenBelow moreLive fewerLive neverPreferred hasFree emptyInGlobal fullest lowestEmpty lowestUnused emptiest total belongs isOwnedOfClass oneIfBelongs liveIfBelongs superblocksOf blocksIn liveOf superblocksOfClass ownersChanged isUnused place lastFilled withPlace descending withRenewedPlaces renewed cleared bit markBit isMarked withMark withoutMark liveCount sizes counts sizeOf blocksOf firstAtLeast classOf sumBelow
-rows-computed = (refl, refl, refl, refl)
+    × (rowsAnswered size-0-setup (replicate 256 0) (two-numbers 1 0) size-0-calls ≡ size-0-rows)
+unfolding rowsAnswered rowsOf ledgerAfter afterTake afterFree removed entriesOf stepsBy callPastCheck callDefinitions superblocksOfClass isOwnedOfClass ownersChanged
+rows-computed = (refl, refl, refl, refl, refl)
 
 pub whole-case : rows whole-setup (replicate 512 0) (two-numbers 26 0) whole-calls ≡ whole-rows
 whole-case = rows-are-computed whole-setup (replicate 512 0) whole-ready (two-numbers 26 0) whole-calls ∙ rows-computed .0
@@ -177,6 +190,9 @@ two-moves-case = ap (drop 11) (rows-are-computed two-moves-setup (replicate 1536
 
 pub spare-case : drop 2 (rows spare-setup (replicate 1024 0) (two-numbers 26 0) spare-calls) ≡ spare-rows
 spare-case = ap (drop 2) (rows-are-computed spare-setup (replicate 1024 0) spare-ready (two-numbers 26 0) spare-calls) ∙ rows-computed .3
+
+pub size-0-case : rows size-0-setup (replicate 256 0) (two-numbers 1 0) size-0-calls ≡ size-0-rows
+size-0-case = rows-are-computed size-0-setup (replicate 256 0) size-0-ready (two-numbers 1 0) size-0-calls ∙ rows-computed .4
 
 -- ---- the claim speaks of each: here of the whole case
 pub claims-of-whole-case : Claims whole-setup (setupOf whole-setup (replicate 512 0)) [] (λ c. 0) (stepsBy callOf (setupOf whole-setup (replicate 512 0)) whole-calls)

@@ -1,13 +1,17 @@
 -- The ledger counted by address and class: after an entry is added, and after an address is removed. Assumes nothing.
-use mathlib.Core.Path.{_≡_, refl, sym, _∙_}
+use mathlib.Core.Path.{_≡_, refl, sym, ap, _∙_}
 use mathlib.Core.List.{List, [], _∷_}
-use Prim.Native.Nat.{ℕ, _+_}
+use Prim.Native.Nat.{ℕ, _+_, max}
 use native.Mathlib.Omega.{arith}
 use native.Mathlib.Decide.{ℕ-discrete}
 use borrow.Author.Tests.{eq-eqb, ne-eqb}
 use lib.Dec.{eqb}
 use Rattle.laws.specs.Sums.{both, one}
-use Rattle.bound.specs.Ledger.{Entry, removed, entriesOf}
+use Rattle.classes.proofs.ClassLaws.{class-of-size-0}
+use Rattle.calls.specs.declared.Call.the-variants.{Take}
+use Rattle.calls.specs.declared.Outcome.the-variants.{Address}
+use Rattle.bound.specs.Ledger.{Entry, removed, afterTake, ledgerAfter, entriesOf}
+use Rattle.bound.specs.Claim.{peakWith}
 
 -- how often the ledger has a block of class c at address a
 unfoldable pub entriesAt : List Entry → ℕ → ℕ → ℕ
@@ -30,6 +34,17 @@ entries-of-empty c = refl
 pub entries-of-added : (a c : ℕ) (ledger : List Entry) (d : ℕ) → entriesOf d (record { address = a; size-class = c } ∷ ledger) ≡ entriesOf d ledger + one (eqb c d)
 unfolding entriesOf
 entries-of-added a c ledger d = omega arith
+
+-- ---- document 02, item 1: an accepted take of size 0
+module _ (ledger : List Entry) (i a : ℕ) where
+  -- is one live block of class 0 more, and of no other class
+  pub size-0-take-counted : (c : ℕ) → entriesOf c (ledgerAfter ledger (Take i 0) (Address a)) ≡ entriesOf c ledger + one (eqb 0 c)
+  unfolding ledgerAfter afterTake
+  size-0-take-counted c = rw class-of-size-0 (entries-of-added a 0 ledger c)
+
+  -- and counts so in class 0's M
+  pub size-0-take-in-peak : (peak : ℕ → ℕ) → peakWith peak (ledgerAfter ledger (Take i 0) (Address a)) 0 ≡ max (peak 0) (entriesOf 0 ledger + 1)
+  size-0-take-in-peak peak = ap (max (peak 0)) (size-0-take-counted 0)
 
 -- ---- an address removed
 module _ (a : ℕ) where

@@ -1,30 +1,19 @@
 -- Whole calls, with all that they leave, in cases that tell the rules from near misses. P = 2, N = 5, K = 1, p/q = 3/7; every order place that is not
 -- filled holds something, and three places more than N × 256 are lent. By computation. Assumes nothing.
 use mathlib.Core.Path.{_≡_, refl}
-use mathlib.Core.Bool.{not}
 use mathlib.Core.List.{List, [], _∷_, _++_, map}
 use Prim.Native.Nat.{ℕ, _+_, _-_}
 use lib.ListN.{length, replicate}
-use Rattle.laws.specs.Sums.{sumBelow, allBelow}
-use Rattle.classes.specs.Classes.{sizes, counts, sizeOf, blocksOf, firstAtLeast, classOf}
-use Rattle.marks.specs.Marks.{bit, markBit, isMarked, withMark, withoutMark, liveCount, noMarkFrom}
-use Rattle.order.specs.Order.{place, lastFilled, withPlace, descending, withRenewedPlaces, renewed}
-use Rattle.filledplaces.specs.FilledPlaces.{occurrences, placesInStorage, eachOnce, placesValid}
 use Rattle.heap.specs.declared.Superblock.{Superblock}
 use Rattle.heap.specs.declared.State.{State}
-use Rattle.heap.specs.Table.{unused, isUnused}
-use Rattle.heap.specs.Counts.{total, belongs, oneIfBelongs, liveIfBelongs, superblocksOf, blocksIn, liveOf}
-use Rattle.choicerules.specs.Choice.{prefer, chosenBelow, moreLive, fewerLive, neverPreferred, hasFree, emptyInGlobal, fullest, lowestEmpty, lowestUnused, emptiest}
-use Rattle.moverules.specs.Moves.{bothConditions, mustMove, transferred, foundTransferred, transfersUpTo, excessTransferred, invariantRestored}
-use Rattle.checkrules.specs.Check.{withinLimits, superblockValid, unusedFrom, emptinessInvariant, sparseIfGlobal, restValid}
+use Rattle.heap.specs.Table.{unused}
 use Rattle.calls.specs.declared.Call.{Call}
 use Rattle.calls.specs.declared.Call.the-variants.{Take, Free}
 use Rattle.calls.specs.declared.Outcome.{Outcome}
 use Rattle.calls.specs.declared.Outcome.the-variants.{Address, Moves, Refused}
-use Rattle.calls.specs.Answers.{After, checked, isProcessor}
-use Rattle.calls.specs.Take.{otherPlaces, acquired, acquiredOrder, nextBlock, addressOf, takenFrom, takenFromOther, takenAt, takeUnchecked, takeOf}
-use Rattle.calls.specs.Free.{blockOf, isUnmapped, isMisaligned, isLiveAt, markCleared, orderPushed, freedAt, freeUnchecked, freeOf}
+use Rattle.calls.specs.Answers.{After}
 use Rattle.calls.specs.Calls.{callOf}
+use Rattle.calls.proofs.CallDefinitions.{callDefinitions}
 use Rattle.calls.proofs.RuleCases.{of, setup-with}
 
 -- a superblock of heap h and class c, with these marks, and what stands in its first places
@@ -188,9 +177,9 @@ nothing-offered = owned-with 2 26 1 (1 ∷ []) ∷ owned-with 1 26 3 [] ∷ owne
 abbrev pub refused-case : Call → ℕ → CallCase
 refused-case call r = record { before = nothing-offered; call = call; outcome = Refused r; after = nothing-offered }
 
--- 2 before 3, 3 before 4, then 4
+-- 2 before 3, 3 before 4, then 4; 4, not 3, of size 0
 abbrev pub refused-takes : List CallCase
-refused-takes = refused-case (Take 3 0) 2 ∷ refused-case (Take 1 2049) 3 ∷ refused-case (Take 1 2048) 4 ∷ []
+refused-takes = refused-case (Take 3 2049) 2 ∷ refused-case (Take 1 2049) 3 ∷ refused-case (Take 1 2048) 4 ∷ refused-case (Take 1 0) 4 ∷ []
 
 -- 2 before 5; 5 before 6, where superblock 5 is unused; 6 before 7, where 1 is misaligned and no block starts there; 7 of block 1 of superblock 0
 abbrev pub refused-frees : List CallCase
@@ -203,9 +192,5 @@ whole-calls =
     ∷ freed-for-owner ∷ three-moves ∷ freed-in-heap-0 ∷ freed-in-superblock-17 ∷ refused-takes ++ refused-frees
 
 pub whole-call-cases : map result-of whole-calls ≡ map expected-of whole-calls
-unfolding callOf takeOf takeUnchecked takenAt takenFromOther takenFrom addressOf nextBlock acquiredOrder acquired otherPlaces freeOf freeUnchecked freedAt orderPushed markCleared isLiveAt isMisaligned isUnmapped blockOf
-    checked isProcessor withinLimits restValid superblockValid unusedFrom emptinessInvariant sparseIfGlobal invariantRestored excessTransferred transfersUpTo transferred foundTransferred mustMove bothConditions
-    prefer chosenBelow moreLive fewerLive neverPreferred hasFree emptyInGlobal fullest lowestEmpty lowestUnused emptiest total belongs oneIfBelongs liveIfBelongs superblocksOf blocksIn liveOf isUnused
-    placesValid placesInStorage eachOnce occurrences place lastFilled withPlace descending withRenewedPlaces renewed noMarkFrom bit markBit isMarked withMark withoutMark liveCount
-    sizes counts sizeOf blocksOf firstAtLeast classOf sumBelow allBelow
+unfolding callDefinitions
 whole-call-cases = refl

@@ -17,7 +17,7 @@ use Rattle.heap.specs.declared.Found.{Found}
 use Rattle.heap.specs.declared.Found.the-variants.{At, Nothing}
 use Rattle.heap.specs.Table.{noState, newState}
 use Rattle.choicerules.specs.Choice.{fullest}
-use Rattle.checkrules.specs.Check.{within, withinLimits, restValid, passes}
+use Rattle.checkrules.specs.Check.{withinLimits, restValid, passes}
 use Rattle.heaplaws.proofs.StateFacts.{Sound, Shape}
 use Rattle.heaplaws.proofs.StateCheckLaws.{passes-of-sound, new-state-sound}
 use Rattle.calls.specs.declared.Outcome.the-variants.{Address, Moves, Refused}
@@ -25,7 +25,7 @@ use Rattle.calls.specs.declared.Call.{Call}
 use Rattle.calls.specs.declared.Call.the-variants.{Take, Free}
 use Rattle.calls.specs.Answers.{After, numberOf, PassesIfAccepted, refused, checked, isProcessor}
 use Rattle.calls.specs.Setup.{acceptedSetup, setupOf}
-use Rattle.calls.specs.Take.{otherPlaces, takenFrom, takenFromOther, takenAt, takeUnchecked, takeOf}
+use Rattle.calls.specs.Take.{otherPlaces, takenFrom, takenFromOther, takenAt, isTooLarge, takeUnchecked, takeOf}
 use Rattle.calls.specs.Free.{isUnmapped, isMisaligned, isLiveAt, freedAt, freeUnchecked, freeOf}
 use Rattle.calls.specs.Calls.{callOf}
 use Rattle.calllaws.proofs.CallEffects.{TakeAccepted, FreeAccepted}
@@ -71,7 +71,7 @@ unfolding takeOf takeUnchecked
 take-not-refused-0 s order i size =
     checked-not-refused-0 s order _
     (pick-not-refused-0 (not (isProcessor s i)) _ _ (refused-not-refused-0 2 s order (λ e. omega arith))
-    (pick-not-refused-0 (not (within 1 2048 size)) _ _ (refused-not-refused-0 3 s order (λ e. omega arith))
+    (pick-not-refused-0 (isTooLarge size) _ _ (refused-not-refused-0 3 s order (λ e. omega arith))
     (taken-not-refused-0 i (classOf size) s order (fullest i (classOf size) s) (otherPlaces (classOf size) s))))
 
 pub free-not-refused-0 : (s : State) (order : List ℕ) (i a : ℕ) → freeOf s order i a .answer .outcome ≡ Refused 0 → ⊥

@@ -21,12 +21,11 @@ pub record Passed (s : State) (order : List ℕ) : Type 0 where
   pub sound : Sound s order
   pub room : s .setup .superblocks * 256 ≤ length order
 
--- an accepted take: the state passes, the processor and the size are in range, and
+-- an accepted take: the state passes, the processor is in range, the size is at most 2048, and
 -- place 1, or else one of places 2 to 4, offers superblock k
 pub record TakeAccepted (s : State) (order : List ℕ) (i size k : ℕ) : Type 0 where
   pub passed : Passed s order
   pub processor : (1 ≤ i) × (i ≤ s .setup .processors)
-  pub size-low : 1 ≤ size
   pub size-high : size ≤ 2048
   pub place : ((fullest i (classOf size) s ≡ At k) × (takeOf s order i size ≡ takenFrom k s order))
       ⊎ ((fullest i (classOf size) s ≡ Nothing) × (otherPlaces (classOf size) s ≡ At k) × (takeOf s order i size ≡ takenFromOther i (classOf size) k s order))

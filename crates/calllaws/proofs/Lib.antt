@@ -17,3 +17,4 @@ pub mod RefusalConditions
 pub mod OrderWriteLaws
 pub mod OrderReadLaws
 pub mod FreeStackLaws
+pub mod SizeZeroLaws

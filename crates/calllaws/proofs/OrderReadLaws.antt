@@ -21,7 +21,7 @@ use Rattle.heap.specs.declared.Found.{Found}
 use Rattle.heap.specs.declared.Found.the-variants.{At, Nothing}
 use Rattle.heap.specs.Table.{superblockAt, withSuperblock, liveIn, withMarkAt}
 use Rattle.choicerules.specs.Choice.{fullest}
-use Rattle.checkrules.specs.Check.{within, withinLimits, restValid}
+use Rattle.checkrules.specs.Check.{withinLimits, restValid}
 use Rattle.heaplaws.proofs.StateCheckLaws.{sound-of-limits-and-rest}
 use Rattle.heaplaws.proofs.CheckReadsLaws.{rest-valid-reads-only-first-places}
 use Rattle.calls.specs.declared.Call.{Call}
@@ -29,7 +29,7 @@ use Rattle.calls.specs.declared.Call.the-variants.{Take, Free}
 use Rattle.calls.specs.declared.Outcome.the-variants.{Address}
 use Rattle.calls.specs.Answers.{After, refused, checked, isProcessor}
 use Rattle.calls.specs.Setup.{setupOf}
-use Rattle.calls.specs.Take.{otherPlaces, acquired, acquiredOrder, nextBlock, addressOf, takenFrom, takenFromOther, takenAt, takeUnchecked, takeOf}
+use Rattle.calls.specs.Take.{otherPlaces, acquired, acquiredOrder, nextBlock, addressOf, takenFrom, takenFromOther, takenAt, isTooLarge, takeUnchecked, takeOf}
 use Rattle.calls.specs.Free.{superblockIndex, superblockHolding, blockOf, isUnmapped, isMisaligned, isLiveAt, orderPushed, freedAt, freeUnchecked, freeOf}
 use Rattle.calls.specs.Calls.{callOf}
 use Rattle.calllaws.proofs.CallEffects.{Passed}
@@ -98,21 +98,21 @@ module _ (s : State) (x y : List ℕ) (h : SameFirst (s .setup .superblocks * 25
   unfolding takeOf takeUnchecked takenAt takenFromOther
   take-agrees i size =
       checked-agree (takeUnchecked s x i size) (takeUnchecked s y i size)
-      (go (isProcessor s i) (within 1 2048 size) (fullest i (classOf size) s) (otherPlaces (classOf size) s) refl refl refl)
+      (go (isProcessor s i) (isTooLarge size) (fullest i (classOf size) s) (otherPlaces (classOf size) s) refl refl refl)
     where
       tests : List ℕ → (p w : Bool) (own other : Found) → After
-      tests l p w own other = pick (not p) (refused 2 s l) (pick (not w) (refused 3 s l) (takenAt i (classOf size) s l own other))
+      tests l p w own other = pick (not p) (refused 2 s l) (pick w (refused 3 s l) (takenAt i (classOf size) s l own other))
 
       go : (p w : Bool) (own other : Found) → isProcessor s i ≡ p → fullest i (classOf size) s ≡ own → otherPlaces (classOf size) s ≡ other → Passed s x → Agree n (tests x p w own other) (tests y p w own other)
       go false w own other ep eo et passed = same-refusal 2
-      go true false own other ep eo et passed = same-refusal 3
-      go true true (At k) other ep eo et passed =
+      go true true own other ep eo et passed = same-refusal 3
+      go true false (At k) other ep eo et passed =
           taken-from-agrees n k s x y h (omega (arith, fullest-below-superblocks s x passed i (classOf size) k (bounds-of-is-processor s i (T-of-true (isProcessor s i) ep) .1) eo))
-      go true true Nothing (At k) ep eo et passed =
+      go true false Nothing (At k) ep eo et passed =
           let l : k * 256 + 256 ≤ n = omega (arith, other-places-below-superblocks s x passed (classOf size) k et) in
           taken-from-agrees n k (withSuperblock s k (acquired i (classOf size) (superblockAt s k))) (acquiredOrder (classOf size) k (superblockAt s k) x) (acquiredOrder (classOf size) k (superblockAt s k) y)
           (acquired-order-agrees n (classOf size) k (superblockAt s k) x y h l) l
-      go true true Nothing Nothing ep eo et passed = same-refusal 4
+      go true false Nothing Nothing ep eo et passed = same-refusal 4
 
   -- a free
   free-agrees : (i a : ℕ) → Agree n (freeOf s x i a) (freeOf s y i a)

@@ -26,12 +26,13 @@ use Rattle.heaplaws.proofs.StateCheckLaws.{facts-of-within-limits, within-limit
 use Rattle.calls.specs.declared.Outcome.the-variants.{Ready, Address, Moves, Refused}
 use Rattle.calls.specs.Answers.{After, refused, checked, isProcessor}
 use Rattle.calls.specs.Setup.{acceptedSetup, setupOf}
-use Rattle.calls.specs.Take.{otherPlaces, takenFrom, takenFromOther, takenAt, takeUnchecked, takeOf}
+use Rattle.calls.specs.Take.{otherPlaces, takenFrom, takenFromOther, takenAt, isTooLarge, takeUnchecked, takeOf}
 use Rattle.calls.specs.Free.{offsetOf, superblockHolding, blockOf, isUnmapped, isMisaligned, isLiveAt, freedAt, freeUnchecked, freeOf}
+use Rattle.calls.proofs.SizeLaws.{decides-too-large, too-large-of-above-2048, not-too-large-of-le-2048}
 use Rattle.calllaws.proofs.CallEffects.{Passed}
 use Rattle.calllaws.proofs.CheckedLaws.{checked-refuses-13-of-limits, checked-refuses-12-of-storage, checked-refuses-13-of-rest}
 use Rattle.calllaws.proofs.SetupLaws.{setup-refused-1-of-limits, setup-refused-12-of-storage}
-use Rattle.calllaws.proofs.RefusalOrder.{take-refused-2-of-processor, take-refused-3-of-size, take-of-valid-arguments, free-refused-2-of-processor, free-refused-5-of-unmapped, free-refused-6-of-misaligned, free-refused-7-of-not-live}
+use Rattle.calllaws.proofs.RefusalOrder.{take-refused-2-of-processor, take-refused-3-of-too-large, take-of-valid-arguments, free-refused-2-of-processor, free-refused-5-of-unmapped, free-refused-6-of-misaligned, free-refused-7-of-not-live}
 use Rattle.calllaws.proofs.TakeLaws.{nothing-offered-of-refused-4, refused-4-of-nothing-offered}
 use Rattle.calllaws.proofs.NothingOfferedLaws.{NotOffered, nothing-found-iff-not-offered}
 
@@ -56,17 +57,16 @@ pub record NotProcessor (s : State) (order : List ℕ) (i : ℕ) : Type 0 where
   pub passed : Passed s order
   pub out : (i ≡ 0) ⊎ (s .setup .processors < i)
 
--- 3: size "0 or above 2048"
-pub record SizeOutOfRange (s : State) (order : List ℕ) (i size : ℕ) : Type 0 where
+-- 3: "sizes above 2048"
+pub record TooLarge (s : State) (order : List ℕ) (i size : ℕ) : Type 0 where
   pub passed : Passed s order
   pub processor : IsProcessor s i
-  pub out : (size ≡ 0) ⊎ (2048 < size)
+  pub large : 2048 < size
 
 -- 4: "none of the four places offers a superblock"
 pub record NothingOffered (s : State) (order : List ℕ) (i size : ℕ) : Type 0 where
   pub passed : Passed s order
   pub processor : IsProcessor s i
-  pub size-low : 1 ≤ size
   pub size-high : size ≤ 2048
   pub none : (k : ℕ) → k < 64 → NotOffered s i (classOf size) k
 
@@ -101,7 +101,7 @@ pub record NotLive (s : State) (order : List ℕ) (i a : ℕ) : Type 0 where
 -- of a take: "13 for setup numbers, 12, the rest of 13, then take 2, 3, 4"
 abbrev pub takeRefusals : (s : State) (order : List ℕ) (i size : ℕ) → List (ℕ × Type 0)
 takeRefusals s order i size =
-    (13, CheckFails s order) ∷ (12, StorageShort s order) ∷ (2, NotProcessor s order i) ∷ (3, SizeOutOfRange s order i size) ∷ (4, NothingOffered s order i size) ∷ []
+    (13, CheckFails s order) ∷ (12, StorageShort s order) ∷ (2, NotProcessor s order i) ∷ (3, TooLarge s order i size) ∷ (4, NothingOffered s order i size) ∷ []
 
 -- of a free: "and free 2, 5, 6, 7"
 abbrev pub freeRefusals : (s : State) (order : List ℕ) (i a : ℕ) → List (ℕ × Type 0)
@@ -197,39 +197,38 @@ module _ (s : State) (order : List ℕ) (i : ℕ) where
     unfolding takeOf takeUnchecked takenAt takenFromOther takenFrom
     condition-of-take-refused r = checked-refused (takeUnchecked s order i size)
         (takeRefusals s order i size) r (λ h. h) (λ h. h)
-        (go (isProcessor s i) (within 1 2048 size) (fullest i (classOf size) s) (otherPlaces (classOf size) s) decides-processor (decides-within 2048 size) refl refl)
+        (go (isProcessor s i) (isTooLarge size) (fullest i (classOf size) s) (otherPlaces (classOf size) s) decides-processor (decides-too-large size) refl refl)
       where
         tests : (p w : Bool) (own other : Found) → After
-        tests p w own other = pick (not p) (refused 2 s order) (pick (not w) (refused 3 s order) (takenAt i (classOf size) s order own other))
+        tests p w own other = pick (not p) (refused 2 s order) (pick w (refused 3 s order) (takenAt i (classOf size) s order own other))
 
         go : (p w : Bool) (own other : Found) → Decides p (IsProcessor s i) ((i ≡ 0) ⊎ (s .setup .processors < i))
-            → Decides w ((1 ≤ size) × (size ≤ 2048)) ((size ≡ 0) ⊎ (2048 < size)) → fullest i (classOf size) s ≡ own → otherPlaces (classOf size) s ≡ other
+            → Decides w (2048 < size) (size ≤ 2048) → fullest i (classOf size) s ≡ own → otherPlaces (classOf size) s ≡ other
             → Passed s order → tests p w own other .answer .outcome ≡ Refused r → ConditionOf (takeRefusals s order i size) r
         go false w own other p z eo et passed e = condition-at-number (takeRefusals s order i size) 2 r e (record { passed = passed; out = p .says })
-        go true false own other p z eo et passed e = condition-at-number (takeRefusals s order i size) 3 r e (record { passed = passed; processor = p .says; out = z .says })
-        go true true (At k) other p z eo et passed e = absurd (address-not-refused _ r e)
-        go true true Nothing (At k) p z eo et passed e = absurd (address-not-refused _ r e)
-        go true true Nothing Nothing p z eo et passed e =
-            let f = nothing-offered-of-refused-4 s order i size (take-of-valid-arguments s order i passed size (true-of-decides decides-processor (p .says)) (true-of-decides (decides-within 2048 size) (z .says)) ∙ rw (eo, et)) in
+        go true true own other p z eo et passed e = condition-at-number (takeRefusals s order i size) 3 r e (record { passed = passed; processor = p .says; large = z .says })
+        go true false (At k) other p z eo et passed e = absurd (address-not-refused _ r e)
+        go true false Nothing (At k) p z eo et passed e = absurd (address-not-refused _ r e)
+        go true false Nothing Nothing p z eo et passed e =
+            let f = nothing-offered-of-refused-4 s order i size (take-of-valid-arguments s order i passed size (true-of-decides decides-processor (p .says)) (not-too-large-of-le-2048 size (z .says)) ∙ rw (eo, et)) in
             condition-at-number (takeRefusals s order i size) 4 r e (record {
               passed = passed;
               processor = p .says;
-              size-low = z .says .0;
-              size-high = z .says .1;
+              size-high = z .says;
               none = nothing-found-iff-not-offered s i (classOf size) (passed .sound .numbers .superblocks-high) .0 (record { own = f .0; zero = f .1; empty = f .2; unused = f .3 });
             })
 
     nothing-offered-refused-4 : NothingOffered s order i size → takeOf s order i size ≡ refused 4 s order
     nothing-offered-refused-4 h =
         let f = nothing-found-iff-not-offered s i (classOf size) (h .passed .sound .numbers .superblocks-high) .1 (h .none) in
-        refused-4-of-nothing-offered s order i size (h .passed) (h .processor .low) (h .processor .high) (h .size-low) (h .size-high) (f .own) (f .zero) (f .empty) (f .unused)
+        refused-4-of-nothing-offered s order i size (h .passed) (h .processor .low) (h .processor .high) (h .size-high) (f .own) (f .zero) (f .empty) (f .unused)
 
     -- a take is refused with number r exactly if r's condition holds: it applies, and none before it in the order
     pub take-refused-iff-condition : (r : ℕ) → (takeOf s order i size .answer .outcome ≡ Refused r) ↔ ConditionOf (takeRefusals s order i size) r
     unfolding takeOf
     take-refused-iff-condition = refused-iff-condition (takeOf s order i size) s order (takeRefusals s order i size) condition-of-take-refused (check-fails-refused-13 _) (storage-short-refused-12 _)
         (λ h. take-refused-2-of-processor s order i (h .passed) size (false-of-decides decides-processor (h .out)))
-        (λ h. take-refused-3-of-size s order i (h .passed) size (true-of-decides decides-processor (h .processor)) (false-of-decides (decides-within 2048 size) (h .out)))
+        (λ h. take-refused-3-of-too-large s order i (h .passed) size (true-of-decides decides-processor (h .processor)) (too-large-of-above-2048 size (h .large)))
         nothing-offered-refused-4
 
     -- number by number: 13, 12, 2, 3, 4
@@ -242,7 +241,7 @@ module _ (s : State) (order : List ℕ) (i : ℕ) where
     pub take-refused-2 : (takeOf s order i size .answer .outcome ≡ Refused 2) ↔ NotProcessor s order i
     take-refused-2 = take-refused-iff-condition 2
 
-    pub take-refused-3 : (takeOf s order i size .answer .outcome ≡ Refused 3) ↔ SizeOutOfRange s order i size
+    pub take-refused-3 : (takeOf s order i size .answer .outcome ≡ Refused 3) ↔ TooLarge s order i size
     take-refused-3 = take-refused-iff-condition 3
 
     pub take-refused-4 : (takeOf s order i size .answer .outcome ≡ Refused 4) ↔ NothingOffered s order i size

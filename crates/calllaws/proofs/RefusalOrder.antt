@@ -7,9 +7,8 @@ use Prim.Native.Nat.{ℕ}
 use Rattle.classes.specs.Classes.{classOf}
 use Rattle.heap.specs.declared.State.{State}
 use Rattle.choicerules.specs.Choice.{fullest}
-use Rattle.checkrules.specs.Check.{within}
 use Rattle.calls.specs.Answers.{refused, isProcessor}
-use Rattle.calls.specs.Take.{otherPlaces, takenAt, takeUnchecked, takeOf}
+use Rattle.calls.specs.Take.{otherPlaces, takenAt, isTooLarge, takeUnchecked, takeOf}
 use Rattle.calls.specs.Free.{isUnmapped, isMisaligned, isLiveAt, freedAt, freeUnchecked, freeOf}
 use Rattle.calllaws.proofs.CallEffects.{Passed}
 use Rattle.calllaws.proofs.CheckedLaws.{checked-is-next-of-passed}
@@ -28,11 +27,11 @@ module _ (s : State) (order : List ℕ) (i : ℕ) (passed : Passed s order) wher
   unfolding takeUnchecked
   take-refused-2-of-processor size e = take-is-unchecked size ∙ rw e
 
-  pub take-refused-3-of-size : (size : ℕ) → isProcessor s i ≡ true → within 1 2048 size ≡ false → takeOf s order i size ≡ refused 3 s order
+  pub take-refused-3-of-too-large : (size : ℕ) → isProcessor s i ≡ true → isTooLarge size ≡ true → takeOf s order i size ≡ refused 3 s order
   unfolding takeUnchecked
-  take-refused-3-of-size size e f = take-is-unchecked size ∙ rw (e, f)
+  take-refused-3-of-too-large size e f = take-is-unchecked size ∙ rw (e, f)
 
-  pub take-of-valid-arguments : (size : ℕ) → isProcessor s i ≡ true → within 1 2048 size ≡ true
+  pub take-of-valid-arguments : (size : ℕ) → isProcessor s i ≡ true → isTooLarge size ≡ false
       → takeOf s order i size ≡ takenAt i (classOf size) s order (fullest i (classOf size) s) (otherPlaces (classOf size) s)
   unfolding takeUnchecked
   take-of-valid-arguments size e f = take-is-unchecked size ∙ rw (e, f)

@@ -7,9 +7,9 @@ use Prim.Native.Nat.{ℕ, _*_, _≤_, _<_}
 use native.Mathlib.Omega.{arith}
 use borrow.Author.Tests.{le-leb}
 use lib.ListN.{length}
-use lib.Dec.{leb, leb→le}
+use lib.Dec.{leb}
 use Rattle.laws.specs.Sums.{pick}
-use Rattle.laws.proofs.TestLaws.{T-of-true, both-left, both-right}
+use Rattle.laws.proofs.TestLaws.{T-of-true}
 use Rattle.classes.specs.Classes.{classOf}
 use Rattle.classes.proofs.ClassLaws.{class-of-lt-27}
 use Rattle.heap.specs.declared.Superblock.{Superblock}
@@ -18,11 +18,12 @@ use Rattle.heap.specs.declared.Found.{Found}
 use Rattle.heap.specs.declared.Found.the-variants.{At, Nothing}
 use Rattle.heap.specs.Table.{superblockAt}
 use Rattle.choicerules.specs.Choice.{fullest, lowestEmpty, lowestUnused, orElse}
-use Rattle.checkrules.specs.Check.{within, withinLimits, restValid}
+use Rattle.checkrules.specs.Check.{withinLimits, restValid}
 use Rattle.heaplaws.proofs.StateFacts.{Shape}
 use Rattle.calls.specs.declared.Outcome.the-variants.{Address}
 use Rattle.calls.specs.Answers.{After, numberOf, refused, checked, isProcessor}
-use Rattle.calls.specs.Take.{otherPlaces, acquired, acquiredOrder, addressOf, takenFrom, takenFromOther, takenAt, takeUnchecked, takeOf}
+use Rattle.calls.specs.Take.{otherPlaces, acquired, acquiredOrder, addressOf, takenFrom, takenFromOther, takenAt, isTooLarge, takeUnchecked, takeOf}
+use Rattle.calls.proofs.SizeLaws.{not-too-large-of-le-2048, le-2048-of-not-too-large}
 use Rattle.calllaws.proofs.CheckedLaws.{checked-refused-or-passed, checked-is-next-of-passed, bounds-of-is-processor}
 use Rattle.calllaws.proofs.CallEffects.{Passed, TakeAccepted, TakeEffect}
 use Rattle.calllaws.proofs.TakeSourceLaws.{lastBlockOf, takenWith, taken-from-is-taken-with, taken-from-other-is-taken-with, TakeSource, source-of-own-heap, offered-of-other-places, source-of-other-places}
@@ -31,36 +32,35 @@ use Rattle.calllaws.proofs.TakeEffectLaws.{TakeResult, take-result-of-s
 -- ---- refusals
 -- a take past the check, by its two tests and by what place 1 and the other places offer
 abbrev takenByTests : State → List ℕ → ℕ → ℕ → Bool → Bool → Found → Found → After
-takenByTests s order i c processor fits own other =
-    pick (not processor) (refused 2 s order) (pick (not fits) (refused 3 s order) (takenAt i c s order own other))
+takenByTests s order i c processor large own other =
+    pick (not processor) (refused 2 s order) (pick large (refused 3 s order) (takenAt i c s order own other))
 
 -- a take is refused and changes nothing, or is accepted
 pub take-refused-or-accepted : (s : State) (order : List ℕ) (i size : ℕ) → ((r : ℕ) × (takeOf s order i size ≡ refused r s order)) ⊎ ((k : ℕ) × TakeAccepted s order i size k)
 unfolding takeOf takeUnchecked takenAt
 take-refused-or-accepted s order i size =
-    ⊎-elim inl (λ h. go (isProcessor s i) (within 1 2048 size) (fullest i (classOf size) s) (otherPlaces (classOf size) s) refl refl refl refl (h .0) (h .1))
+    ⊎-elim inl (λ h. go (isProcessor s i) (isTooLarge size) (fullest i (classOf size) s) (otherPlaces (classOf size) s) refl refl refl refl (h .0) (h .1))
     (checked-refused-or-passed s order (takeUnchecked s order i size))
   where
-    accepted : (k : ℕ) → isProcessor s i ≡ true → within 1 2048 size ≡ true → Passed s order
+    accepted : (k : ℕ) → isProcessor s i ≡ true → isTooLarge size ≡ false → Passed s order
         → ((fullest i (classOf size) s ≡ At k) × (takeOf s order i size ≡ takenFrom k s order))
         ⊎ ((fullest i (classOf size) s ≡ Nothing) × (otherPlaces (classOf size) s ≡ At k) × (takeOf s order i size ≡ takenFromOther i (classOf size) k s order))
         → TakeAccepted s order i size k
     accepted k p w passed place = record {
       passed = passed;
       processor = bounds-of-is-processor s i (T-of-true (isProcessor s i) p);
-      size-low = leb→le 1 size (both-left (leb 1 size) (leb size 2048) (T-of-true (within 1 2048 size) w));
-      size-high = leb→le size 2048 (both-right (leb 1 size) (leb size 2048) (T-of-true (within 1 2048 size) w));
+      size-high = le-2048-of-not-too-large size w;
       place = place;
     }
 
-    go : (processor fits : Bool) (own other : Found) → isProcessor s i ≡ processor → within 1 2048 size ≡ fits → fullest i (classOf size) s ≡ own → otherPlaces (classOf size) s ≡ other
-        → Passed s order → takeOf s order i size ≡ takenByTests s order i (classOf size) processor fits own other
+    go : (processor large : Bool) (own other : Found) → isProcessor s i ≡ processor → isTooLarge size ≡ large → fullest i (classOf size) s ≡ own → otherPlaces (classOf size) s ≡ other
+        → Passed s order → takeOf s order i size ≡ takenByTests s order i (classOf size) processor large own other
         → ((r : ℕ) × (takeOf s order i size ≡ refused r s order)) ⊎ ((k : ℕ) × TakeAccepted s order i size k)
-    go false fits own other p w f g passed e = inl (2, e)
-    go true false own other p w f g passed e = inl (3, e)
-    go true true (At k) other p w f g passed e = inr (k, accepted k p w passed (inl (f, e)))
-    go true true Nothing (At k) p w f g passed e = inr (k, accepted k p w passed (inr (f, g, e)))
-    go true true Nothing Nothing p w f g passed e = inl (4, e)
+    go false large own other p w f g passed e = inl (2, e)
+    go true true own other p w f g passed e = inl (3, e)
+    go true false (At k) other p w f g passed e = inr (k, accepted k p w passed (inl (f, e)))
+    go true false Nothing (At k) p w f g passed e = inr (k, accepted k p w passed (inr (f, g, e)))
+    go true false Nothing Nothing p w f g passed e = inl (4, e)
 
 -- no refusal of the check is 4
 next-of-checked-refused-4 : (s : State) (order : List ℕ) (next : After) → checked s order next ≡ refused 4 s order → next ≡ refused 4 s order
@@ -76,19 +76,19 @@ next-of-checked-refused-4 s order next = go (withinLimits (s .setup)) (leb (s .s
     go true true false e = absurd (let z : ⊥ = omega (arith, same 13 e) in z)
     go true true true e = e
 
-nothing-found-of-refused-4 : (s : State) (order : List ℕ) (i c : ℕ) (processor fits : Bool) (own other : Found) → takenByTests s order i c processor fits own other ≡ refused 4 s order → (own ≡ Nothing) × (other ≡ Nothing)
+nothing-found-of-refused-4 : (s : State) (order : List ℕ) (i c : ℕ) (processor large : Bool) (own other : Found) → takenByTests s order i c processor large own other ≡ refused 4 s order → (own ≡ Nothing) × (other ≡ Nothing)
 unfolding takenAt takenFromOther takenFrom numberOf
 nothing-found-of-refused-4 s order i c = go
   where
     number : (a : After) → a ≡ refused 4 s order → numberOf (a .answer .outcome) ≡ 4
     number a e = ap (λ (x : After). numberOf (x .answer .outcome)) e
 
-    go : (processor fits : Bool) (own other : Found) → takenByTests s order i c processor fits own other ≡ refused 4 s order → (own ≡ Nothing) × (other ≡ Nothing)
-    go false fits own other e = absurd (let z : ⊥ = omega (arith, number (refused 2 s order) e) in z)
-    go true false own other e = absurd (let z : ⊥ = omega (arith, number (refused 3 s order) e) in z)
-    go true true (At k) other e = absurd (let z : ⊥ = omega (arith, number (takenFrom k s order) e) in z)
-    go true true Nothing (At k) e = absurd (let z : ⊥ = omega (arith, number (takenFromOther i c k s order) e) in z)
-    go true true Nothing Nothing e = (refl, refl)
+    go : (processor large : Bool) (own other : Found) → takenByTests s order i c processor large own other ≡ refused 4 s order → (own ≡ Nothing) × (other ≡ Nothing)
+    go false large own other e = absurd (let z : ⊥ = omega (arith, number (refused 2 s order) e) in z)
+    go true true own other e = absurd (let z : ⊥ = omega (arith, number (refused 3 s order) e) in z)
+    go true false (At k) other e = absurd (let z : ⊥ = omega (arith, number (takenFrom k s order) e) in z)
+    go true false Nothing (At k) e = absurd (let z : ⊥ = omega (arith, number (takenFromOther i c k s order) e) in z)
+    go true false Nothing Nothing e = (refl, refl)
 
 places-2-to-4-find-nothing : (c : ℕ) (s : State) → otherPlaces c s ≡ Nothing → (fullest 0 c s ≡ Nothing) × (lowestEmpty s ≡ Nothing) × (lowestUnused s ≡ Nothing)
 unfolding otherPlaces
@@ -105,17 +105,17 @@ pub nothing-offered-of-refused-4 : (s : State) (order : List ℕ) (i size : ℕ)
 unfolding takeOf takeUnchecked
 nothing-offered-of-refused-4 s order i size e =
     let c = classOf size in
-    let d = nothing-found-of-refused-4 s order i c (isProcessor s i) (within 1 2048 size) (fullest i c s) (otherPlaces c s) (next-of-checked-refused-4 s order _ e) in
+    let d = nothing-found-of-refused-4 s order i c (isProcessor s i) (isTooLarge size) (fullest i c s) (otherPlaces c s) (next-of-checked-refused-4 s order _ e) in
     let o = places-2-to-4-find-nothing c s (d .1) in
     (d .0, o .0, o .1, o .2)
 
-pub refused-4-of-nothing-offered : (s : State) (order : List ℕ) (i size : ℕ) → Passed s order → 1 ≤ i → i ≤ s .setup .processors → 1 ≤ size → size ≤ 2048
+pub refused-4-of-nothing-offered : (s : State) (order : List ℕ) (i size : ℕ) → Passed s order → 1 ≤ i → i ≤ s .setup .processors → size ≤ 2048
     → fullest i (classOf size) s ≡ Nothing → fullest 0 (classOf size) s ≡ Nothing → lowestEmpty s ≡ Nothing → lowestUnused s ≡ Nothing
     → takeOf s order i size ≡ refused 4 s order
 unfolding takeOf takeUnchecked takenAt otherPlaces isProcessor
-refused-4-of-nothing-offered s order i size p h₁ h₂ h₃ h₄ a b c d =
+refused-4-of-nothing-offered s order i size p h₁ h₂ h₃ a b c d =
     checked-is-next-of-passed s order (takeUnchecked s order i size) p
-    ∙ simp (le-leb 1 i h₁, le-leb i (s .setup .processors) h₂, le-leb 1 size h₃, le-leb size 2048 h₄, a, b, c, d)
+    ∙ simp (le-leb 1 i h₁, le-leb i (s .setup .processors) h₂, not-too-large-of-le-2048 size h₃, a, b, c, d)
 
 -- ---- an accepted take
 -- the superblock that gives the block, and all order places, as they are then

@@ -3,22 +3,16 @@ use mathlib.Core.Path.{_≡_, refl}
 use mathlib.Core.List.{List, [], _∷_, _++_, map}
 use lib.ListN.{replicate}
 use Prim.Native.Nat.{ℕ}
-use Rattle.laws.specs.Sums.{sumBelow}
-use Rattle.classes.specs.Classes.{sizes, counts, sizeOf, blocksOf, firstAtLeast, classOf}
-use Rattle.marks.specs.Marks.{bit, markBit, isMarked, withMark, withoutMark, liveCount}
-use Rattle.order.specs.Order.{place, lastFilled, withPlace, descending, withRenewedPlaces, renewed}
 use Rattle.heap.specs.declared.State.{State}
-use Rattle.heap.specs.Table.{unused, isUnused}
-use Rattle.heap.specs.Counts.{total, belongs, oneIfBelongs, liveIfBelongs, superblocksOf, blocksIn, liveOf}
-use Rattle.choicerules.specs.Choice.{prefer, chosenBelow, moreLive, fewerLive, neverPreferred, hasFree, emptyInGlobal, fullest, lowestEmpty, lowestUnused, emptiest}
-use Rattle.moverules.specs.Moves.{bothConditions, mustMove, transferred, foundTransferred, transfersUpTo, excessTransferred, invariantRestored}
+use Rattle.heap.specs.Table.{unused}
 use Rattle.calls.specs.declared.Call.{Call}
 use Rattle.calls.specs.declared.Call.the-variants.{Take, Free}
 use Rattle.calls.specs.declared.Outcome.the-variants.{Address, Moves}
-use Rattle.calls.specs.Answers.{After, refused, checked, isProcessor}
-use Rattle.calls.specs.Take.{otherPlaces, acquired, acquiredOrder, nextBlock, addressOf, takenFrom, takenFromOther, takenAt, takeUnchecked, takeOf}
-use Rattle.calls.specs.Free.{blockOf, isUnmapped, isMisaligned, isLiveAt, markCleared, orderPushed, freedAt, freeUnchecked, freeOf}
+use Rattle.calls.specs.Answers.{After, refused, checked}
+use Rattle.calls.specs.Take.{takeUnchecked, takeOf}
+use Rattle.calls.specs.Free.{freeUnchecked, freeOf}
 use Rattle.calls.specs.Calls.{callOf}
+use Rattle.calls.proofs.CallDefinitions.{uncheckedCallDefinitions}
 use Rattle.calls.proofs.RuleCases.{of, setup-with, after-with}
 
 -- P = 2, N = 2, K = 1, p/q = 3/7: superblocks 0 and 1, of class 26 with two blocks of 2048 bytes, are heap 2's and heap 1's
@@ -41,18 +35,25 @@ abbrev pub unchecked : Call → After
 unchecked (Take processor size) = takeUnchecked state-before order-before processor size
 unchecked (Free processor address) = freeUnchecked state-before order-before processor address
 
--- 2 before 3; 3; a take of 2048 from heap 1's own superblock; 2 before 5; 5 before 6, where superblock 2 is unused; 6 before 7, where block 1 is not live;
+-- 2 before 3; 3 before 4; 4, not 3, where no place offers a superblock for size 0; a take of 2048 from heap 1's own superblock; 2 before 5; 5 before 6, where superblock 2 is unused; 6 before 7, where block 1 is not live;
 -- 7; and processor 1 frees a block of heap 2, whose superblock stays heap 2's
 pub unchecked-call-cases :
-    map unchecked (Take 0 0 ∷ Take 1 2049 ∷ Take 1 2048 ∷ Free 3 8192 ∷ Free 1 8193 ∷ Free 1 2049 ∷ Free 1 2048 ∷ Free 1 0 ∷ [])
-    ≡ refused 2 state-before order-before ∷ refused 3 state-before order-before ∷ after-with (Address 4096) (pair-state 1 3) order-before ∷ refused 2 state-before order-before ∷ refused 5 state-before order-before
+    map unchecked (Take 0 2049 ∷ Take 1 2049 ∷ Take 1 0 ∷ Take 1 2048 ∷ Free 3 8192 ∷ Free 1 8193 ∷ Free 1 2049 ∷ Free 1 2048 ∷ Free 1 0 ∷ [])
+    ≡ refused 2 state-before order-before ∷ refused 3 state-before order-before ∷ refused 4 state-before order-before ∷ after-with (Address 4096) (pair-state 1 3) order-before ∷ refused 2 state-before order-before ∷ refused 5 state-before order-before
     ∷ refused 6 state-before order-before ∷ refused 7 state-before order-before ∷ after-with (Moves 0) (pair-state 0 2) (pairOrder 1 0 0 67) ∷ []
-unfolding takeUnchecked takenAt takenFromOther takenFrom addressOf nextBlock acquiredOrder acquired otherPlaces freeUnchecked freedAt orderPushed markCleared isLiveAt isMisaligned isUnmapped blockOf isProcessor
-    invariantRestored excessTransferred transfersUpTo transferred foundTransferred mustMove bothConditions
-    prefer chosenBelow moreLive fewerLive neverPreferred hasFree emptyInGlobal fullest lowestEmpty lowestUnused emptiest total belongs oneIfBelongs liveIfBelongs superblocksOf blocksIn liveOf isUnused
-    place lastFilled withPlace descending withRenewedPlaces renewed bit markBit isMarked withMark withoutMark liveCount
-    sizes counts sizeOf blocksOf firstAtLeast classOf sumBelow
+unfolding uncheckedCallDefinitions
 unchecked-call-cases = refl
+
+-- "Size 0 now takes class 0": sizes 0, 1 and 16 each get block 9 of heap 1's superblock 1, of class 0, with block 0 live; place 254 is its last filled
+abbrev pub class-0-state : ℕ → State
+class-0-state marks = record { setup = setup-with 2 2 1 3 7; table = of 2 26 1 ∷ of 1 0 marks ∷ replicate 62 unused }
+
+abbrev pub class-0-order : List ℕ
+class-0-order = replicate 510 77 ++ 9 ∷ 78 ∷ []
+
+pub size-0-cases : map (takeUnchecked (class-0-state 1) class-0-order 1) (0 ∷ 1 ∷ 16 ∷ []) ≡ replicate 3 (after-with (Address 4240) (class-0-state 513) class-0-order)
+unfolding uncheckedCallDefinitions
+size-0-cases = refl
 
 -- ---- with the check before it: "Take or free: 13 for setup numbers, 12, the rest of 13, then ..", whatever the state and the storage
 pub call-of-checks-first : (s : State) (order : List ℕ) (processor n : ℕ)

@@ -1,3 +1,5 @@
+pub mod CallDefinitions
 pub mod RuleCases
 pub mod CallCases
 pub mod AnswerLaws
+pub mod SizeLaws

@@ -1,8 +1,8 @@
 -- "Take (processor i, size)"
 use Prim.Native.Nat.{ℕ, _+_, _-_, _*_}
-use mathlib.Core.Bool.{not}
+use mathlib.Core.Bool.{Bool, not}
 use mathlib.Core.List.{List}
-use lib.Dec.{eqb}
+use lib.Dec.{eqb, leb}
 use Rattle.laws.specs.Sums.{pick}
 use Rattle.classes.specs.Classes.{sizeOf, blocksOf, classOf}
 use Rattle.marks.specs.Marks.{noMarks}
@@ -13,7 +13,6 @@ use Rattle.heap.specs.declared.Found.{Found}
 use Rattle.heap.specs.declared.Found.the-variants.{At, Nothing}
 use Rattle.heap.specs.Table.{superblockAt, withSuperblock, liveIn, withOwner, withMarkAt}
 use Rattle.choicerules.specs.Choice.{fullest, lowestEmpty, lowestUnused, orElse}
-use Rattle.checkrules.specs.Check.{within}
 use Rattle.calls.specs.Answers.{After, refused, checked, isProcessor}
 use Rattle.calls.specs.declared.Outcome.the-variants.{Address}
 
@@ -65,11 +64,15 @@ takenAt i c s order (At k) other = takenFrom k s order
 takenAt i c s order Nothing (At k) = takenFromOther i c k s order
 takenAt i c s order Nothing Nothing = refused 4 s order
 
--- a take behind the check, on any state: "then take 2, 3, 4"; refusal 3 (bench word: size): "0 or above 2048"
+-- refusal 3 (bench word: size), which document 02, item 1, leaves "for sizes above 2048"; size 0 has class 0 (classOf)
+unfoldable pub isTooLarge : ℕ → Bool
+isTooLarge size = not (leb size 2048)
+
+-- a take behind the check, on any state: "then take 2, 3, 4"
 unfoldable pub takeUnchecked : State → List ℕ → ℕ → ℕ → After
 takeUnchecked s order i size =
     pick (not (isProcessor s i)) (refused 2 s order)
-    (pick (not (within 1 2048 size)) (refused 3 s order)
+    (pick (isTooLarge size) (refused 3 s order)
     (takenAt i (classOf size) s order (fullest i (classOf size) s) (otherPlaces (classOf size) s)))
 
 -- "Take or free: 13 for setup numbers, 12, the rest of 13; then take 2, 3, 4"

@@ -1,4 +1,5 @@
--- The printed table of classes, and the sizes marked in document 01, "Edges", each by one theorem over one list. Assumes nothing.
+-- The printed table of classes, and the sizes marked in document 01, "Edges", with size 0 as document 02, item 1, has it, each by one theorem over
+-- one list. Assumes nothing.
 use mathlib.Core.Path.{_≡_, refl}
 use mathlib.Core.List.{List, [], _∷_, map}
 use Prim.Native.Nat.{ℕ}
@@ -18,7 +19,7 @@ printed-table-is-computed = refl
 
 -- a size and its class; no class holds 2049
 unfoldable pub marked-sizes : List (ℕ × ℕ)
-marked-sizes = (1, 0) ∷ (16, 0) ∷ (17, 1) ∷ (64, 6) ∷ (65, 7) ∷ (80, 7) ∷ (81, 8) ∷ (2048, 26) ∷ (2049, 27) ∷ []
+marked-sizes = (0, 0) ∷ (1, 0) ∷ (16, 0) ∷ (17, 1) ∷ (64, 6) ∷ (65, 7) ∷ (80, 7) ∷ (81, 8) ∷ (2048, 26) ∷ (2049, 27) ∷ []
 
 pub marked-sizes-have-classes : map (λ (p : ℕ × ℕ). classOf (p .0)) marked-sizes ≡ map (λ (p : ℕ × ℕ). p .1) marked-sizes
 unfolding marked-sizes classOf firstAtLeast sizes

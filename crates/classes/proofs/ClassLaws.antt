@@ -4,7 +4,7 @@ use Prim.Native.Nat.{ℕ, _≤_, _<_}
 use native.Mathlib.Nat.{lt-of-not-le, le-antisymm}
 use native.Mathlib.Omega.{arith}
 use Rattle.laws.proofs.Inequalities.{le-of-not-below}
-use Rattle.classes.specs.Classes.{sizes, sizeOf, classOf}
+use Rattle.classes.specs.Classes.{sizes, sizeOf, firstAtLeast, classOf}
 use Rattle.classes.proofs.FirstAtLeastLaws.{le-first-at-least, before-first-at-least-lt, first-at-least-le-length}
 use Rattle.classes.proofs.ClassTableLaws.{size-of-le-2048}
 
@@ -32,6 +32,11 @@ size-le-size-of-class-of s h = class-of-holds-below-27 s (class-of-lt-27 s h)
 
 pub class-of-too-large : (s : ℕ) → 2048 < s → classOf s ≡ 27
 class-of-too-large s h = le-antisymm (class-of-le-27 s) (le-of-not-below (λ (l : classOf s < 27). let b = class-of-holds-below-27 s l in let m = size-of-le-2048 (classOf s) in omega arith))
+
+-- document 02, item 1: "Size 0 now takes class 0"
+pub class-of-size-0 : classOf 0 ≡ 0
+unfolding classOf firstAtLeast sizes
+class-of-size-0 = refl
 
 -- a class that holds s, and below which none does, is the class of s
 pub class-of-unique : (s c : ℕ) → s ≤ sizeOf c → ((k : ℕ) → k < c → sizeOf k < s) → c ≡ classOf s

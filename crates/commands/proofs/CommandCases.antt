@@ -6,7 +6,8 @@ use Prim.Native.Nat.{ℕ}
 use lib.ListN.{replicate}
 use Rattle.commands.specs.declared.Command.{Command}
 use Rattle.commands.specs.declared.Command.the-variants.{Setup, Take, Free, Refused}
-use Rattle.commands.specs.Record.{unlessTruncated, setupAt, unlessFirst, takeAt, freeAt, commandByFirstByte, commandAt, sizeOfCommand, isRefused, commandsFrom, commandsOf, commandNumberOf, refusalOffsetOf, commandByte, numbersOf}
+use Rattle.commands.specs.Record.{commandAt, commandsOf, commandNumberOf, refusalOffsetOf, commandByte, numbersOf}
+use Rattle.commands.proofs.CommandDefinitions.{commandDefinitions}
 
 abbrev setup : List ℕ
 setup = 0 ∷ 1 ∷ 2 ∷ 1 ∷ 1 ∷ 4 ∷ []
@@ -19,33 +20,33 @@ free = 2 ∷ 1 ∷ 0 ∷ 0 ∷ 0 ∷ 0 ∷ []
 
 whole-case : commandsOf (setup ++ take ++ take ++ take ++ free ++ free ++ (2 ∷ 1 ∷ 0 ∷ 8 ∷ 0 ∷ 0 ∷ []) ++ (1 ∷ 1 ∷ 16 ∷ 0 ∷ []) ++ (1 ∷ 1 ∷ 1 ∷ 8 ∷ []))
     ≡ Setup 1 2 1 1 4 ∷ Take 1 2048 ∷ Take 1 2048 ∷ Take 1 2048 ∷ Free 1 0 ∷ Free 1 0 ∷ Free 1 2048 ∷ Take 1 16 ∷ Take 1 2049 ∷ []
-unfolding commandsOf commandsFrom commandAt commandByFirstByte setupAt takeAt freeAt unlessFirst unlessTruncated sizeOfCommand isRefused
+unfolding commandDefinitions
 whole-case = refl
 
 -- no byte at all; an unknown byte, first and later; a take that is first, truncated too; a setup that is not, truncated too; a free truncated
 -- in its address
 no-byte : commandsOf [] ≡ Refused 10 0 ∷ []
-unfolding commandsOf commandsFrom commandAt commandByFirstByte setupAt takeAt freeAt unlessFirst unlessTruncated sizeOfCommand isRefused
+unfolding commandDefinitions
 no-byte = refl
 
 unknown-first : commandsOf (3 ∷ []) ≡ Refused 8 0 ∷ []
-unfolding commandsOf commandsFrom commandAt commandByFirstByte setupAt takeAt freeAt unlessFirst unlessTruncated sizeOfCommand isRefused
+unfolding commandDefinitions
 unknown-first = refl
 
 unknown-later : commandsOf (setup ++ (255 ∷ 0 ∷ [])) ≡ Setup 1 2 1 1 4 ∷ Refused 8 6 ∷ []
-unfolding commandsOf commandsFrom commandAt commandByFirstByte setupAt takeAt freeAt unlessFirst unlessTruncated sizeOfCommand isRefused
+unfolding commandDefinitions
 unknown-later = refl
 
 take-first : commandsOf (1 ∷ 1 ∷ []) ≡ Refused 10 0 ∷ []
-unfolding commandsOf commandsFrom commandAt commandByFirstByte setupAt takeAt freeAt unlessFirst unlessTruncated sizeOfCommand isRefused
+unfolding commandDefinitions
 take-first = refl
 
 setup-later : commandsOf (setup ++ (0 ∷ 1 ∷ [])) ≡ Setup 1 2 1 1 4 ∷ Refused 10 6 ∷ []
-unfolding commandsOf commandsFrom commandAt commandByFirstByte setupAt takeAt freeAt unlessFirst unlessTruncated sizeOfCommand isRefused
+unfolding commandDefinitions
 setup-later = refl
 
 free-truncated : commandsOf (setup ++ take ++ (2 ∷ 1 ∷ 0 ∷ 0 ∷ 0 ∷ [])) ≡ Setup 1 2 1 1 4 ∷ Take 1 2048 ∷ Refused 9 10 ∷ []
-unfolding commandsOf commandsFrom commandAt commandByFirstByte setupAt takeAt freeAt unlessFirst unlessTruncated sizeOfCommand isRefused
+unfolding commandDefinitions
 free-truncated = refl
 
 -- every byte of a command another: "numbers of several bytes have the low byte first"
@@ -53,41 +54,41 @@ abbrev distinct-bytes : List ℕ
 distinct-bytes = 0 ∷ 3 ∷ 4 ∷ 5 ∷ 6 ∷ 7 ∷ 1 ∷ 8 ∷ 9 ∷ 10 ∷ 2 ∷ 11 ∷ 12 ∷ 13 ∷ 14 ∷ 15 ∷ []
 
 commands-of-distinct-bytes : commandsOf distinct-bytes ≡ Setup 3 4 5 6 7 ∷ Take 8 2569 ∷ Free 11 252579084 ∷ []
-unfolding commandsOf commandsFrom commandAt commandByFirstByte setupAt takeAt freeAt unlessFirst unlessTruncated sizeOfCommand isRefused
+unfolding commandDefinitions
 commands-of-distinct-bytes = refl
 
 -- a setup truncated, and whole but not first; a free first, whole and truncated; a take truncated, and a command of its first byte alone
 setup-truncated : commandsOf (0 ∷ 1 ∷ 2 ∷ 1 ∷ 1 ∷ []) ≡ Refused 9 0 ∷ []
-unfolding commandsOf commandsFrom commandAt commandByFirstByte setupAt takeAt freeAt unlessFirst unlessTruncated sizeOfCommand isRefused
+unfolding commandDefinitions
 setup-truncated = refl
 
 setup-twice : commandsOf (setup ++ setup) ≡ Setup 1 2 1 1 4 ∷ Refused 10 6 ∷ []
-unfolding commandsOf commandsFrom commandAt commandByFirstByte setupAt takeAt freeAt unlessFirst unlessTruncated sizeOfCommand isRefused
+unfolding commandDefinitions
 setup-twice = refl
 
 free-first : commandsOf free ≡ Refused 10 0 ∷ []
-unfolding commandsOf commandsFrom commandAt commandByFirstByte setupAt takeAt freeAt unlessFirst unlessTruncated sizeOfCommand isRefused
+unfolding commandDefinitions
 free-first = refl
 
 free-first-truncated : commandsOf (2 ∷ 1 ∷ []) ≡ Refused 10 0 ∷ []
-unfolding commandsOf commandsFrom commandAt commandByFirstByte setupAt takeAt freeAt unlessFirst unlessTruncated sizeOfCommand isRefused
+unfolding commandDefinitions
 free-first-truncated = refl
 
 take-truncated : commandsOf (setup ++ take ++ (1 ∷ 1 ∷ 0 ∷ [])) ≡ Setup 1 2 1 1 4 ∷ Take 1 2048 ∷ Refused 9 10 ∷ []
-unfolding commandsOf commandsFrom commandAt commandByFirstByte setupAt takeAt freeAt unlessFirst unlessTruncated sizeOfCommand isRefused
+unfolding commandDefinitions
 take-truncated = refl
 
 free-of-one-byte : commandsOf (setup ++ (2 ∷ [])) ≡ Setup 1 2 1 1 4 ∷ Refused 9 6 ∷ []
-unfolding commandsOf commandsFrom commandAt commandByFirstByte setupAt takeAt freeAt unlessFirst unlessTruncated sizeOfCommand isRefused
+unfolding commandDefinitions
 free-of-one-byte = refl
 
 -- 60000 bytes are read and 60001 are not, whatever they are
 record-of-60000-read : commandAt (replicate 60000 0) 0 ≡ Setup 0 0 0 0 0
-unfolding commandAt commandByFirstByte setupAt takeAt freeAt unlessFirst unlessTruncated
+unfolding commandDefinitions
 record-of-60000-read = refl
 
 record-of-60001-refused : commandAt (replicate 60001 3) 5 ≡ Refused 11 0
-unfolding commandAt commandByFirstByte setupAt takeAt freeAt unlessFirst unlessTruncated
+unfolding commandDefinitions
 record-of-60001-refused = refl
 
 -- each kind of command by document 01's number, its offset, its command byte and its numbers
@@ -107,5 +108,5 @@ values-of-all-kinds : values (commandsOf (distinct-bytes ++ (3 ∷ [])))
     ∷ record { number = 0; offset = 0; byte = 2 ∷ []; numbers = 11 ∷ 252579084 ∷ [] }
     ∷ record { number = 8; offset = 16; byte = []; numbers = [] }
     ∷ []
-unfolding values commandNumberOf refusalOffsetOf commandByte numbersOf commandsOf commandsFrom commandAt commandByFirstByte setupAt takeAt freeAt unlessFirst unlessTruncated sizeOfCommand isRefused
+unfolding values commandNumberOf refusalOffsetOf commandByte numbersOf commandDefinitions
 values-of-all-kinds = refl

@@ -1,1 +1,2 @@
+pub mod CommandDefinitions
 pub mod CommandCases

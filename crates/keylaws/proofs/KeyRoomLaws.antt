@@ -15,12 +15,12 @@ use Rattle.heap.specs.declared.State.{State}
 use Rattle.heap.specs.declared.Found.{Found}
 use Rattle.heap.specs.declared.Found.the-variants.{At, Nothing}
 use Rattle.choicerules.specs.Choice.{fullest}
-use Rattle.checkrules.specs.Check.{within, withinLimits, restValid}
+use Rattle.checkrules.specs.Check.{withinLimits, restValid}
 use Rattle.calls.specs.declared.Outcome.{Outcome}
 use Rattle.calls.specs.declared.Outcome.the-variants.{Ready, Address, Moves, Refused}
 use Rattle.calls.specs.Answers.{After, numberOf, refused, checked, isProcessor}
 use Rattle.calls.specs.Setup.{setupOf}
-use Rattle.calls.specs.Take.{otherPlaces, takenFrom, takenFromOther, takenAt, takeUnchecked, takeOf}
+use Rattle.calls.specs.Take.{otherPlaces, takenFrom, takenFromOther, takenAt, isTooLarge, takeUnchecked, takeOf}
 use Rattle.calls.specs.Free.{freeOf}
 use Rattle.commands.specs.declared.Command.{Command}
 use Rattle.commands.specs.declared.Command.the-variants as command
@@ -70,7 +70,7 @@ unfolding takeOf takeUnchecked
 short-result-of-take s order i size =
     short-result-of-checked s order _
     (pick-elim ShortResult (not (isProcessor s i)) _ _ (λ e. short-result-of-refused 2 s order (omega arith))
-    (λ e. pick-elim ShortResult (not (within 1 2048 size)) _ _ (λ f. short-result-of-refused 3 s order (omega arith))
+    (λ e. pick-elim ShortResult (isTooLarge size) _ _ (λ f. short-result-of-refused 3 s order (omega arith))
     (λ f. short-result-of-taken-at i (classOf size) s order (fullest i (classOf size) s) (otherPlaces (classOf size) s))))
 
 -- ---- the lines: 8 bytes for each byte of the command

@@ -3,29 +3,21 @@ use mathlib.Core.Path.{_≡_, refl, ap, _∙_}
 use mathlib.Core.List.{List, [], _∷_, _++_}
 use Prim.Native.Nat.{ℕ}
 use lib.ListN.{replicate}
-use Rattle.laws.specs.Sums.{sumBelow}
-use Rattle.classes.specs.Classes.{sizes, counts, sizeOf, blocksOf, firstAtLeast, classOf}
-use Rattle.marks.specs.Marks.{bit, markBit, isMarked, withMark, withoutMark, liveCount}
-use Rattle.order.specs.Order.{place, lastFilled, withPlace, descending, withRenewedPlaces, renewed, cleared}
 use Rattle.heap.specs.declared.Setup.{Setup}
-use Rattle.heap.specs.Table.{isUnused}
-use Rattle.heap.specs.Counts.{total, belongs, oneIfBelongs, liveIfBelongs, superblocksOf, blocksIn, liveOf}
-use Rattle.choicerules.specs.Choice.{prefer, chosenBelow, moreLive, fewerLive, neverPreferred, hasFree, emptyInGlobal, fullest, lowestEmpty, lowestUnused, emptiest}
-use Rattle.moverules.specs.Moves.{bothConditions, mustMove, transferred, foundTransferred, transfersUpTo, excessTransferred, invariantRestored}
 use Rattle.checkrules.specs.Check.{withinLimits}
 use Rattle.calls.specs.declared.Outcome.the-variants.{Ready}
-use Rattle.calls.specs.Answers.{isProcessor}
 use Rattle.calls.specs.Setup.{setupOf}
-use Rattle.calls.specs.Take.{otherPlaces, acquired, acquiredOrder, nextBlock, addressOf, takenFrom, takenFromOther, takenAt, takeUnchecked}
-use Rattle.calls.specs.Free.{blockOf, isUnmapped, isMisaligned, isLiveAt, markCleared, orderPushed, freedAt, freeUnchecked}
 use Rattle.calls.specs.Calls.{callOf}
+use Rattle.calls.proofs.CallDefinitions.{callDefinitions}
+use Rattle.commands.proofs.CommandDefinitions.{commandDefinitions}
+use Rattle.linerules.proofs.LineDefinitions.{lineDefinitions}
 use Rattle.bound.specs.Claim.{Step}
 use Rattle.boundlaws.proofs.CallListLaws.{callPastCheck, stepsBy, steps-are-past-check}
 use Rattle.commands.specs.declared.Command.{Command}
 use Rattle.commands.specs.declared.Command.the-variants as command
-use Rattle.commands.specs.Record.{unlessTruncated, setupAt, unlessFirst, takeAt, freeAt, commandByFirstByte, commandAt, sizeOfCommand, isRefused, commandsFrom, commandsOf}
-use Rattle.textrules.specs.Text.{letters, digits, decimal}
-use Rattle.linerules.specs.Lines.{setupLine, result, takeLine, freeLine, heapLine, heapLineIf, classLines, heapLines, finalLines}
+use Rattle.commands.specs.Record.{commandsOf}
+use Rattle.textrules.specs.Text.{letters}
+use Rattle.linerules.specs.Lines.{setupLine}
 use Rattle.keyrules.specs.Key.{keyOf}
 use Rattle.keylaws.proofs.KeyClaims.{callsIn, stepsIn, lastAfter, callLine, stepLines, endingLines, key-claims-of-accepted-setup}
 
@@ -70,7 +62,7 @@ abbrev storage : List ℕ
 storage = replicate 16384 0
 
 whole-record-commands : commandsOf whole-record ≡ command.Setup 1 2 1 1 4 ∷ commands
-unfolding commandsOf commandsFrom commandAt commandByFirstByte setupAt takeAt freeAt unlessFirst unlessTruncated isRefused sizeOfCommand
+unfolding commandDefinitions
 whole-record-commands = refl
 
 whole-setup-ready : setupOf setup storage .answer .outcome ≡ Ready
@@ -86,7 +78,7 @@ unfolding textBy stepsIn
 whole-key-is-text-by-steps = key-claims-of-accepted-setup whole-record storage setup commands whole-record-commands whole-setup-ready .printed
 
 whole-text-by-steps-computed : textBy (stepsBy callPastCheck (setupOf setup storage) (callsIn commands)) ≡ whole-text
-unfolding textBy callsIn stepLines callLine lastAfter endingLines setupLine takeLine freeLine result decimal digits heapLine heapLineIf classLines heapLines finalLines stepsBy setupOf callPastCheck takeUnchecked freeUnchecked takenAt takenFromOther takenFrom addressOf nextBlock acquiredOrder acquired otherPlaces freedAt invariantRestored orderPushed markCleared isLiveAt isMisaligned isUnmapped blockOf isProcessor withinLimits bothConditions mustMove transferred foundTransferred transfersUpTo excessTransferred prefer chosenBelow moreLive fewerLive neverPreferred hasFree emptyInGlobal fullest lowestEmpty lowestUnused emptiest total belongs oneIfBelongs liveIfBelongs superblocksOf blocksIn liveOf isUnused place lastFilled withPlace descending withRenewedPlaces renewed cleared bit markBit isMarked withMark withoutMark liveCount sizes counts sizeOf blocksOf firstAtLeast classOf sumBelow
+unfolding textBy callsIn stepLines callLine lastAfter endingLines lineDefinitions stepsBy callPastCheck callDefinitions
 whole-text-by-steps-computed = refl
 
 pub whole-case : keyOf whole-record storage ≡ whole-text

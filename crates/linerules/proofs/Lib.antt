@@ -1,2 +1,3 @@
+pub mod LineDefinitions
 pub mod LineCases
 pub mod LineLengthLaws

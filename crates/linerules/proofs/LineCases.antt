@@ -2,60 +2,68 @@
 -- Assumes nothing.
 use mathlib.Core.Path.{_≡_, refl}
 use mathlib.Core.Bool.{true, false}
-use mathlib.Core.List.{[], _∷_}
+use mathlib.Core.List.{[], _∷_, _++_}
 use Prim.Native.Nat.{ℕ}
 use lib.ListN.{replicate}
-use Rattle.laws.specs.Sums.{sumBelow}
-use Rattle.marks.specs.Marks.{liveCount, markBit, bit}
-use Rattle.textrules.specs.Text.{letters, decimal, digits}
+use Rattle.textrules.specs.Text.{letters}
 use Rattle.heap.specs.declared.Superblock.{Superblock}
 use Rattle.heap.specs.declared.State.{State}
 use Rattle.heap.specs.Table.{unused}
-use Rattle.heap.specs.Counts.{total, belongs, oneIfBelongs, liveIfBelongs, superblocksOf, liveOf}
+use Rattle.calls.specs.declared.Outcome.{Outcome}
 use Rattle.calls.specs.declared.Outcome.the-variants.{Address, Moves, Refused}
-use Rattle.linerules.specs.Lines.{setupLine, result, takeLine, freeLine, stopLine, heapLine, heapLineIf, classLines, heapLines, finalLines, closingLines}
+use Rattle.linerules.specs.Lines.{field, setupLine, result, takeLine, freeLine, stopLine, heapLine, heapLineIf, classLines, finalLines, closingLines}
+use Rattle.linerules.proofs.LineDefinitions.{lineDefinitions}
 
 -- ---- the whole case
 setup-printed : setupLine (record { processors = 1; superblocks = 2; spare = 1; p = 1; q = 4 }) ≡ letters "setup 1 2 1 1 4\n"
-unfolding setupLine decimal digits
+unfolding lineDefinitions
 setup-printed = refl
 
 take-printed : takeLine 1 2048 (Address 4096) ≡ letters "take 1 2048 at 4096\n"
-unfolding takeLine result decimal digits
+unfolding lineDefinitions
 take-printed = refl
 
 refused-take-printed : takeLine 1 2049 (Refused 3) ≡ letters "take 1 2049 refused 3\n"
-unfolding takeLine result decimal digits
+unfolding lineDefinitions
 refused-take-printed = refl
 
 free-printed : freeLine 1 2048 (Moves 1) ≡ letters "free 1 2048 moved 1\n"
-unfolding freeLine result decimal digits
+unfolding lineDefinitions
 free-printed = refl
 
 refused-free-printed : freeLine 1 0 (Refused 7) ≡ letters "free 1 0 refused 7\n"
-unfolding freeLine result decimal digits
+unfolding lineDefinitions
 refused-free-printed = refl
 
 -- ---- numbers that all differ: P, N, K, p, q; processor, size or address, and result
 setup-line-case : setupLine (record { processors = 7; superblocks = 63; spare = 15; p = 3; q = 8 }) ≡ letters "setup 7 63 15 3 8\n"
-unfolding setupLine decimal digits
+unfolding lineDefinitions
 setup-line-case = refl
 
 take-line-case : takeLine 3 1792 (Address 258048) ≡ letters "take 3 1792 at 258048\n"
-unfolding takeLine result decimal digits
+unfolding lineDefinitions
 take-line-case = refl
 
 free-line-case : freeLine 6 200704 (Moves 5) ≡ letters "free 6 200704 moved 5\n"
-unfolding freeLine result decimal digits
+unfolding lineDefinitions
 free-line-case = refl
 
 stop-line-case : stopLine 10 59996 ≡ letters "stopped 10 at 59996\n"
-unfolding stopLine decimal digits
+unfolding lineDefinitions
 stop-line-case = refl
 
 heap-line-case : heapLine 8 26 64 128 ≡ letters "heap 8 class 26 superblocks 64 live 128\n"
-unfolding heapLine decimal digits
+unfolding lineDefinitions
 heap-line-case = refl
+
+-- ---- document 02, item 1: size 0 "prints as 0", whatever the processor and the outcome
+size-0-prints-as-0 : (processor : ℕ) (outcome : Outcome) → takeLine processor 0 outcome ≡ field (letters "take ") processor ++ letters " 0" ++ result outcome ++ letters "\n"
+unfolding lineDefinitions
+size-0-prints-as-0 processor outcome = refl
+
+size-0-line-case : takeLine 1 0 (Address 0) ≡ letters "take 1 0 at 0\n"
+unfolding lineDefinitions
+size-0-line-case = refl
 
 -- ---- the lines at the end: P = 2, heap 0 too, two classes of heap 1, one of them with nothing live; the superblocks stand in another order,
 -- others are unused, and owner 3 is no heap where P is 2
@@ -73,29 +81,29 @@ several-superblocks =
 
 -- superblocks with nothing live have a line, and a class without a superblock has none
 heap-line-if-of-nothing-live-case : heapLineIf 1 11 several-superblocks ≡ letters "heap 1 class 11 superblocks 3 live 0\n"
-unfolding heapLineIf heapLine decimal digits superblocksOf liveOf total belongs oneIfBelongs liveIfBelongs sumBelow liveCount markBit bit
+unfolding lineDefinitions
 heap-line-if-of-nothing-live-case = refl
 
 heap-line-if-of-no-superblock-case : heapLineIf 2 11 several-superblocks ≡ []
-unfolding heapLineIf superblocksOf total belongs oneIfBelongs sumBelow
+unfolding lineDefinitions
 heap-line-if-of-no-superblock-case = refl
 
 class-lines-case : classLines 1 27 several-superblocks ≡ letters "heap 1 class 0 superblocks 2 live 6\nheap 1 class 11 superblocks 3 live 0\n"
-unfolding classLines heapLineIf heapLine decimal digits superblocksOf liveOf total belongs oneIfBelongs liveIfBelongs sumBelow liveCount markBit bit
+unfolding lineDefinitions
 class-lines-case = refl
 
 final-lines-case : finalLines several-superblocks
     ≡ letters "heap 0 class 9 superblocks 1 live 5\nheap 1 class 0 superblocks 2 live 6\nheap 1 class 11 superblocks 3 live 0\nheap 2 class 26 superblocks 4 live 7\nend\n"
-unfolding finalLines heapLines classLines heapLineIf heapLine decimal digits superblocksOf liveOf total belongs oneIfBelongs liveIfBelongs sumBelow liveCount markBit bit
+unfolding lineDefinitions
 final-lines-case = refl
 
 -- the whole case's own: block 0 of class 0 is live in superblock 0, block 0 of class 26 in superblock 1
 final-lines-of-whole-case : finalLines (record { setup = record { processors = 1; superblocks = 2; spare = 1; p = 1; q = 4 }; table = superblock 1 0 1 ∷ superblock 1 26 1 ∷ replicate 62 unused })
     ≡ letters "heap 1 class 0 superblocks 1 live 1\nheap 1 class 26 superblocks 1 live 1\nend\n"
-unfolding finalLines heapLines classLines heapLineIf heapLine decimal digits superblocksOf liveOf total belongs oneIfBelongs liveIfBelongs sumBelow liveCount markBit bit
+unfolding lineDefinitions
 final-lines-of-whole-case = refl
 
 -- after a stop line nothing follows
 closing-lines-cases : (closingLines true several-superblocks ≡ []) × (closingLines false several-superblocks ≡ finalLines several-superblocks)
-unfolding closingLines
+unfolding lineDefinitions
 closing-lines-cases = (refl, refl)

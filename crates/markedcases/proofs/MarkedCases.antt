@@ -1,28 +1,18 @@
--- The cases marked in document 01, "Edges", as one theorem over one list. Assumes nothing.
+-- The cases marked in document 01, "Edges", with size 0 as document 02, item 1, changes it, as one theorem over one list. Assumes nothing.
 use mathlib.Core.Path.{_≡_, refl}
 use mathlib.Core.List.{List, [], _∷_, _++_, map}
-use Prim.Native.Nat.{ℕ, _+_, _-_, _/_, _^_}
+use Prim.Native.Nat.{ℕ, _+_, _-_, _^_}
 use lib.ListN.{length, getD, replicate}
-use Rattle.laws.specs.Sums.{one, sumBelow, allBelow}
-use Rattle.classes.specs.Classes.{sizes, counts, sizeOf, blocksOf, firstAtLeast, classOf}
-use Rattle.marks.specs.Marks.{bit, markBit, isMarked, withMark, withoutMark, liveCount, noMarkFrom}
-use Rattle.order.specs.Order.{place, lastFilled, withPlace, descending, withRenewedPlaces, renewed}
-use Rattle.filledplaces.specs.FilledPlaces.{occurrences, placesInStorage, eachOnce, placesValid}
 use Rattle.heap.specs.declared.Superblock.{Superblock}
 use Rattle.heap.specs.declared.State.{State}
-use Rattle.heap.specs.Table.{unused, superblockAt, isUnused}
-use Rattle.heap.specs.Counts.{total, belongs, oneIfBelongs, liveIfBelongs, superblocksOf, blocksIn, liveOf}
-use Rattle.choicerules.specs.Choice.{prefer, chosenBelow, moreLive, fewerLive, neverPreferred, hasFree, emptyInGlobal, fullest, lowestEmpty, lowestUnused, emptiest}
-use Rattle.moverules.specs.Moves.{bothConditions, mustMove, transferred, foundTransferred, transfersUpTo, excessTransferred, invariantRestored}
-use Rattle.checkrules.specs.Check.{withinLimits, superblockValid, unusedFrom, emptinessInvariant, sparseIfGlobal, restValid}
+use Rattle.heap.specs.Table.{unused, superblockAt}
 use Rattle.calls.specs.declared.Call.{Call}
 use Rattle.calls.specs.declared.Call.the-variants.{Take, Free}
 use Rattle.calls.specs.declared.Outcome.{Outcome}
 use Rattle.calls.specs.declared.Outcome.the-variants.{Address, Moves, Refused}
-use Rattle.calls.specs.Answers.{After, checked, isProcessor}
-use Rattle.calls.specs.Take.{otherPlaces, acquired, acquiredOrder, nextBlock, addressOf, takenFrom, takenFromOther, takenAt, takeUnchecked, takeOf}
-use Rattle.calls.specs.Free.{blockOf, isUnmapped, isMisaligned, isLiveAt, markCleared, orderPushed, freedAt, freeUnchecked, freeOf}
+use Rattle.calls.specs.Answers.{After}
 use Rattle.calls.specs.Calls.{callOf}
+use Rattle.calls.proofs.CallDefinitions.{callDefinitions}
 
 -- a call on a state and storage; its outcome, and then superblock 0's class and what stands in its first order place
 pub record MarkedCase : Type 0 where
@@ -49,13 +39,13 @@ stateWith table =
 abbrev pub one-unused-state : State
 one-unused-state = stateWith (unused ∷ [])
 
--- "size 1, 16: class 0; 17: 1; 64: 6; 65, 80: 7; 81: 8; 2048: 26": a take of the size renews superblock 0 for the class, so that its
--- first place holds the class's last block
+-- "size 1, 16: class 0; 17: 1; 64: 6; 65, 80: 7; 81: 8; 2048: 26", and "the marked case for 0 changes to class 0": a take of the size renews
+-- superblock 0 for the class, so that its first place holds the class's last block
 abbrev pub class-case : ℕ → ℕ → ℕ → MarkedCase
 class-case size c last =
     record { state = one-unused-state; order = replicate 256 0; call = Take 1 size; outcome = Address 0; class-after = c; place-after = last }
 
--- "0, 2049: refusal 3"
+-- "2049: refusal 3"
 abbrev pub refused-size-case : ℕ → MarkedCase
 refused-size-case size =
     record { state = one-unused-state; order = replicate 256 0; call = Take 1 size; outcome = Refused 3; class-after = 0; place-after = 0 }
@@ -93,8 +83,8 @@ two-moves-case address =
 
 abbrev pub marked-cases : List MarkedCase
 marked-cases =
-    class-case 1 0 255 ∷ class-case 16 0 255 ∷ class-case 17 1 169 ∷ class-case 64 6 63 ∷ class-case 65 7 50 ∷ class-case 80 7 50 ∷ class-case 81 8 41
-    ∷ class-case 2048 26 1 ∷ refused-size-case 0 ∷ refused-size-case 2049 ∷ last-block-case ∷ misaligned-case ∷ two-moves-case 12288 ∷ two-moves-case 20480 ∷ []
+    class-case 0 0 255 ∷ class-case 1 0 255 ∷ class-case 16 0 255 ∷ class-case 17 1 169 ∷ class-case 64 6 63 ∷ class-case 65 7 50 ∷ class-case 80 7 50 ∷ class-case 81 8 41
+    ∷ class-case 2048 26 1 ∷ refused-size-case 2049 ∷ last-block-case ∷ misaligned-case ∷ two-moves-case 12288 ∷ two-moves-case 20480 ∷ []
 
 abbrev pub result-of : MarkedCase → Outcome × ℕ × ℕ
 result-of k =
@@ -103,9 +93,5 @@ result-of k =
 
 -- the rules give each case its outcome, class and place
 pub marked-cases-are-computed : map result-of marked-cases ≡ map (λ (k : MarkedCase). (k .outcome, k .class-after, k .place-after)) marked-cases
-unfolding callOf takeOf takeUnchecked takenAt takenFromOther takenFrom addressOf nextBlock acquiredOrder acquired otherPlaces freeOf freeUnchecked freedAt orderPushed markCleared isLiveAt isMisaligned isUnmapped blockOf
-    checked isProcessor withinLimits restValid superblockValid unusedFrom emptinessInvariant sparseIfGlobal invariantRestored excessTransferred transfersUpTo transferred foundTransferred mustMove bothConditions
-    prefer chosenBelow moreLive fewerLive neverPreferred hasFree emptyInGlobal fullest lowestEmpty lowestUnused emptiest total belongs oneIfBelongs liveIfBelongs superblocksOf blocksIn liveOf isUnused
-    placesValid placesInStorage eachOnce occurrences place lastFilled withPlace descending withRenewedPlaces renewed noMarkFrom bit markBit isMarked withMark withoutMark liveCount
-    sizes counts sizeOf blocksOf firstAtLeast classOf sumBelow allBelow
+unfolding callDefinitions
 marked-cases-are-computed = refl

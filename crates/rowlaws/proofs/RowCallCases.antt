@@ -4,23 +4,11 @@ use mathlib.Core.List.{List, [], _∷_, _++_, map}
 use Prim.Native.Nat.{ℕ}
 use native.Mathlib.Omega.{arith}
 use lib.ListN.{getD, replicate}
-use Rattle.laws.specs.Sums.{sumBelow, allBelow}
-use Rattle.classes.specs.Classes.{sizes, counts, sizeOf, blocksOf, firstAtLeast, classOf}
-use Rattle.marks.specs.Marks.{bit, markBit, isMarked, withMark, withoutMark, liveCount, noMarkFrom}
-use Rattle.order.specs.Order.{place, lastFilled, withPlace, descending, withRenewedPlaces, renewed}
-use Rattle.filledplaces.specs.FilledPlaces.{occurrences, placesInStorage, eachOnce, placesValid}
 use Rattle.heap.specs.declared.Superblock.{Superblock}
-use Rattle.heap.specs.Table.{isUnused}
-use Rattle.heap.specs.Counts.{total, belongs, oneIfBelongs, liveIfBelongs, superblocksOf, blocksIn, liveOf}
-use Rattle.choicerules.specs.Choice.{prefer, chosenBelow, moreLive, fewerLive, neverPreferred, hasFree, emptyInGlobal, fullest, lowestEmpty, lowestUnused, emptiest}
-use Rattle.moverules.specs.Moves.{bothConditions, mustMove, transferred, foundTransferred, transfersUpTo, excessTransferred, invariantRestored}
-use Rattle.checkrules.specs.Check.{withinLimits, superblockValid, unusedFrom, emptinessInvariant, sparseIfGlobal, restValid}
 use Rattle.calls.specs.declared.Call.the-variants.{Take, Free}
 use Rattle.calls.specs.declared.Outcome.the-variants.{Ready, Address, Moves}
-use Rattle.calls.specs.Answers.{checked, isProcessor, valuesOf}
-use Rattle.calls.specs.Take.{otherPlaces, acquired, acquiredOrder, nextBlock, addressOf, takenFrom, takenFromOther, takenAt, takeUnchecked, takeOf}
-use Rattle.calls.specs.Free.{blockOf, isUnmapped, isMisaligned, isLiveAt, markCleared, orderPushed, freedAt, freeUnchecked, freeOf}
-use Rattle.calls.specs.Calls.{callOf}
+use Rattle.calls.specs.Answers.{valuesOf}
+use Rattle.calls.proofs.CallDefinitions.{callDefinitions}
 use Rattle.rowrules.specs.Row.{RowAfter, callOn, rowCall}
 use Rattle.rowrules.specs.RowClaim.{RowStep, RowLinked}
 use Rattle.rowrules.proofs.RowCases.{CallCase, call-refused-case, row-after, example-setup, unused-superblock, storage-of-258}
@@ -46,11 +34,7 @@ whole-row-call-cases =
     ∷ record { setup = example-setup; row = row-after-take .row; order = row-after-take .order; call = Free 1 0; after = row-after-free } ∷ []
 
 pub whole-row-call-cases-are-computed : map (λ (k : CallCase). rowCall (k .setup) (k .row) (k .order) (k .call)) whole-row-call-cases ≡ map (λ (k : CallCase). k .after) whole-row-call-cases
-unfolding callOn callOf takeOf takeUnchecked takenAt takenFromOther takenFrom addressOf nextBlock acquiredOrder acquired otherPlaces freeOf freeUnchecked freedAt orderPushed markCleared isLiveAt isMisaligned isUnmapped blockOf
-    checked isProcessor withinLimits restValid superblockValid unusedFrom emptinessInvariant sparseIfGlobal invariantRestored excessTransferred transfersUpTo transferred foundTransferred mustMove bothConditions
-    prefer chosenBelow moreLive fewerLive neverPreferred hasFree emptyInGlobal fullest lowestEmpty lowestUnused emptiest total belongs oneIfBelongs liveIfBelongs superblocksOf blocksIn liveOf isUnused
-    placesValid placesInStorage eachOnce occurrences place lastFilled withPlace descending withRenewedPlaces renewed noMarkFrom bit markBit isMarked withMark withoutMark liveCount
-    sizes counts sizeOf blocksOf firstAtLeast classOf sumBelow allBelow
+unfolding callOn callDefinitions
 whole-row-call-cases-are-computed = refl
 
 -- ---- lists
@@ -65,20 +49,12 @@ free-step = record { call = Free 1 0; after = row-after-free }
 
 -- each call gets the row and the storage that the one before it left
 pub take-then-free-linked : RowLinked row-after-setup (take-step ∷ free-step ∷ [])
-unfolding RowLinked callOn callOf takeOf takeUnchecked takenAt takenFromOther takenFrom addressOf nextBlock acquiredOrder acquired otherPlaces freeOf freeUnchecked freedAt orderPushed markCleared isLiveAt isMisaligned isUnmapped blockOf
-    checked isProcessor withinLimits restValid superblockValid unusedFrom emptinessInvariant sparseIfGlobal invariantRestored excessTransferred transfersUpTo transferred foundTransferred mustMove bothConditions
-    prefer chosenBelow moreLive fewerLive neverPreferred hasFree emptyInGlobal fullest lowestEmpty lowestUnused emptiest total belongs oneIfBelongs liveIfBelongs superblocksOf blocksIn liveOf isUnused
-    placesValid placesInStorage eachOnce occurrences place lastFilled withPlace descending withRenewedPlaces renewed noMarkFrom bit markBit isMarked withMark withoutMark liveCount
-    sizes counts sizeOf blocksOf firstAtLeast classOf sumBelow allBelow
+unfolding RowLinked callOn callDefinitions
 take-then-free-linked = (refl, (refl, tt))
 
 -- a second take on the row that the setup wrote is no list: the same block is not taken twice
 pub same-take-twice-not-linked : RowLinked row-after-setup (take-step ∷ take-step ∷ []) → ⊥
-unfolding RowLinked callOn callOf takeOf takeUnchecked takenAt takenFromOther takenFrom addressOf nextBlock acquiredOrder acquired otherPlaces freeOf freeUnchecked freedAt orderPushed markCleared isLiveAt isMisaligned isUnmapped blockOf
-    checked isProcessor withinLimits restValid superblockValid unusedFrom emptinessInvariant sparseIfGlobal invariantRestored excessTransferred transfersUpTo transferred foundTransferred mustMove bothConditions
-    prefer chosenBelow moreLive fewerLive neverPreferred hasFree emptyInGlobal fullest lowestEmpty lowestUnused emptiest total belongs oneIfBelongs liveIfBelongs superblocksOf blocksIn liveOf isUnused
-    placesValid placesInStorage eachOnce occurrences place lastFilled withPlace descending withRenewedPlaces renewed noMarkFrom bit markBit isMarked withMark withoutMark liveCount
-    sizes counts sizeOf blocksOf firstAtLeast classOf sumBelow allBelow valuesOf
+unfolding RowLinked callOn callDefinitions valuesOf
 same-take-twice-not-linked linked =
     let z : _≡_ {A = ℕ} 0 2048 = ap (λ (x : RowAfter). getD (valuesOf (x .outcome)) 0 0) (linked .1 .0) in
     absurd (omega (arith, z))

@@ -11,6 +11,7 @@ use lib.Dec.{T, eqb, leb}
 use borrow.Author.Tests.{eq-eqb, ne-eqb, le-leb, lt-leb, leb-true, leb-false}
 use Rattle.laws.specs.Sums.{pick}
 use Rattle.laws.proofs.TestLaws.{T-of-true, true-of-T, true-not-false}
+use Rattle.classes.specs.Classes.{sizeOf}
 use Rattle.order.specs.Order.{cleared}
 use Rattle.orderlaws.proofs.OrderLaws.{length-cleared}
 use Rattle.heap.specs.declared.Superblock.{Superblock}
@@ -29,6 +30,7 @@ use Rattle.calls.specs.Setup.{setupOf}
 use Rattle.calls.specs.Take.{takeOf}
 use Rattle.calls.specs.Free.{freeOf}
 use Rattle.calls.specs.Calls.{callOf}
+use Rattle.calls.proofs.SizeLaws.{take-of-size-0}
 use Rattle.calllaws.proofs.CallEffects.{Passed}
 use Rattle.calllaws.proofs.CheckedLaws.{checked-refuses-13-of-limits, checked-refuses-12-of-storage}
 use Rattle.calllaws.proofs.SetupLaws.{setup-accepted-of-limits-and-storage as state-setup-accepts}
@@ -41,6 +43,11 @@ call-of-is-checked : (s : State) (order : List ℕ) (call : Call) → (next : Af
 unfolding callOf takeOf freeOf
 call-of-is-checked s order (Take i size) = (_, refl)
 call-of-is-checked s order (Free i a) = (_, refl)
+
+-- document 02, item 1: "turns a size of 0 into the smallest block", on a row too
+pub row-take-of-size-0 : (u : Setup) (row : List Superblock) (order : List ℕ) (i : ℕ) → rowCall u row order (Take i 0) ≡ rowCall u row order (Take i (sizeOf 0))
+unfolding callOn
+row-take-of-size-0 u row order i = rw (take-of-size-0 (stateOf u row) order i)
 
 -- 1 for a setup's success alone
 unfoldable isReady : Outcome → ℕ

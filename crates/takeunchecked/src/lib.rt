@@ -16,9 +16,6 @@ pub fn take(s: State, order: &mut [u16], processor: u8, size: u16) -> Answer
     if !states::is_processor(s, processor) {
         return states::refuse(s, 2);
     }
-    if size < 1 {
-        return states::refuse(s, 3);
-    }
     if 2048 < size {
         return states::refuse(s, 3);
     }

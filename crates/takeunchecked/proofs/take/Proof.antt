@@ -20,12 +20,6 @@ refuse-requires-2 c κs = search needs
 returns-2 : tie.Need-returns-2
 returns-2 c = take-unchecked-clauses _ _ _ _ (search take-outcomes)
 
-refuse-requires-3 : tie.Need-refuse-requires-3
-refuse-requires-3 c κs = search needs
-
-returns-3 : tie.Need-returns-3
-returns-3 c = take-unchecked-clauses _ _ _ _ (search take-outcomes)
-
 class-of-requires : tie.Need-class-of-requires
 class-of-requires c κs = search needs
 
@@ -50,14 +44,14 @@ take-elsewhere-requires c κs = search needs
 same-length : tie.Need-same-length
 same-length c = search needs
 
-returns-4 : tie.Need-returns-4
-returns-4 c = take-unchecked-clauses _ _ _ _ (search (take-outcomes, taken-at-own-rules))
+returns-3 : tie.Need-returns-3
+returns-3 c = take-unchecked-clauses _ _ _ _ (search (take-outcomes, taken-at-own-rules))
 
 same-length-2 : tie.Need-same-length-2
 same-length-2 c = search needs
 
-returns-5 : tie.Need-returns-5
-returns-5 c = take-unchecked-clauses _ _ _ _ (search (take-outcomes, taken-at-own-rules))
+returns-4 : tie.Need-returns-4
+returns-4 c = take-unchecked-clauses _ _ _ _ (search (take-outcomes, taken-at-own-rules))
 
 pub take-spec : {M : Type 1} → statement M
 take-spec =
@@ -68,8 +62,6 @@ take-spec =
     returns
     refuse-requires-2
     returns-2
-    refuse-requires-3
-    returns-3
     class-of-requires
     fullest-requires
     enum-known-own
@@ -78,6 +70,6 @@ take-spec =
     enum-told
     take-elsewhere-requires
     same-length
-    returns-4
+    returns-3
     same-length-2
-    returns-5)
+    returns-4)

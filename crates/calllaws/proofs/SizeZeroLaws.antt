@@ -1,0 +1,22 @@
+-- Document 02, item 1, of a take of size 0 on every state and storage. Assumes nothing.
+use mathlib.Core.Path.{_≡_, subst}
+use mathlib.Core.List.{List}
+use Prim.Native.Nat.{ℕ}
+use native.Mathlib.Omega.{arith}
+use Rattle.classes.proofs.ClassLaws.{class-of-size-0}
+use Rattle.heap.specs.declared.State.{State}
+use Rattle.heaplaws.proofs.StateFacts.{Shape}
+use Rattle.calls.specs.declared.Outcome.the-variants.{Refused}
+use Rattle.calls.specs.Take.{takeOf}
+use Rattle.calllaws.proofs.CallEffects.{TakeAccepted, TakeEffect}
+use Rattle.calllaws.proofs.TakeLaws.{taken-block, take-effect}
+use Rattle.calllaws.proofs.RefusalConditions.{take-refused-3}
+
+-- "Size 0 now takes class 0": an accepted one takes a block of a superblock of class 0, with all that a take does
+pub size-0-takes-class-0 : (s : State) (order : List ℕ) (i k : ℕ) (shape : Shape s) (acc : TakeAccepted s order i 0 k) → TakeEffect i 0 k (taken-block s order i 0 k shape acc) s (takeOf s order i 0 .answer .state)
+size-0-takes-class-0 s order i k shape acc =
+    subst (λ (c : ℕ). TakeEffect i c k (taken-block s order i 0 k shape acc) s (takeOf s order i 0 .answer .state)) class-of-size-0 (take-effect s order i 0 k shape acc)
+
+-- "Refusal 3 is left for sizes above 2048": size 0 never meets it
+pub size-0-not-refused-3 : (s : State) (order : List ℕ) (i : ℕ) → takeOf s order i 0 .answer .outcome ≡ Refused 3 → ⊥
+size-0-not-refused-3 s order i e = let l = take-refused-3 s order i 0 .0 e .large in omega arith

@@ -1,0 +1,11 @@
+-- The definitions that a computed case of the key's lines opens, listed once: to open this name is to open all that its line names. Assumes nothing.
+use Rattle.laws.specs.Sums.{sumBelow}
+use Rattle.marks.specs.Marks.{liveCount, markBit, bit}
+use Rattle.textrules.specs.Text.{decimal, digits}
+use Rattle.heap.specs.Counts.{total, belongs, oneIfBelongs, liveIfBelongs, superblocksOf, liveOf}
+use Rattle.linerules.specs.Lines.{setupLine, result, takeLine, freeLine, stopLine, heapLine, heapLineIf, classLines, heapLines, finalLines, closingLines}
+
+unfoldable pub lineDefinitions : Unit {0}
+unfolding setupLine takeLine freeLine result stopLine finalLines heapLines classLines heapLineIf heapLine closingLines decimal digits
+    superblocksOf liveOf total belongs oneIfBelongs liveIfBelongs liveCount markBit bit sumBelow
+lineDefinitions = tt
