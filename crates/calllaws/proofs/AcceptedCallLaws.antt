@@ -9,7 +9,7 @@ use lib.ListN.{length}
 use lib.Dec.{leb}
 use Rattle.laws.specs.Sums.{pick}
 use Rattle.laws.proofs.TestLaws.{T-of-true, true-of-T}
-use Rattle.classes.specs.Classes.{classOf}
+use Rattle.classes.specs.Classes.{classOf, isTooLarge}
 use Rattle.order.specs.Order.{cleared}
 use Rattle.heap.specs.declared.Setup.{Setup}
 use Rattle.heap.specs.declared.State.{State}
@@ -25,7 +25,7 @@ use Rattle.calls.specs.declared.Call.{Call}
 use Rattle.calls.specs.declared.Call.the-variants.{Take, Free}
 use Rattle.calls.specs.Answers.{After, numberOf, PassesIfAccepted, refused, checked, isProcessor}
 use Rattle.calls.specs.Setup.{acceptedSetup, setupOf}
-use Rattle.calls.specs.Take.{otherPlaces, takenFrom, takenFromOther, takenAt, isTooLarge, takeUnchecked, takeOf}
+use Rattle.calls.specs.Take.{otherPlaces, takenFrom, takenFromOther, takenAt, takeUnchecked, takeOf}
 use Rattle.calls.specs.Free.{isUnmapped, isMisaligned, isLiveAt, freedAt, freeUnchecked, freeOf}
 use Rattle.calls.specs.Calls.{callOf}
 use Rattle.calllaws.proofs.CallEffects.{TakeAccepted, FreeAccepted}

@@ -10,7 +10,7 @@ use lib.ListN.{length, take}
 use lib.Dec.{eqb, leb}
 use Rattle.laws.specs.Sums.{pick, both}
 use Rattle.laws.proofs.TestLaws.{T-of-true}
-use Rattle.classes.specs.Classes.{blocksOf, classOf}
+use Rattle.classes.specs.Classes.{blocksOf, classOf, isTooLarge}
 use Rattle.classes.proofs.ClassTableLaws.{blocks-of-le-256}
 use Rattle.order.specs.Order.{place, lastFilled, renewed}
 use Rattle.orderlaws.proofs.FirstPlaces.{SameFirst, take-equal-of-same-first, same-first-of-take-equal, same-first-place, same-first-renewed, same-first-with-place, same-first-cleared}
@@ -29,7 +29,7 @@ use Rattle.calls.specs.declared.Call.the-variants.{Take, Free}
 use Rattle.calls.specs.declared.Outcome.the-variants.{Address}
 use Rattle.calls.specs.Answers.{After, refused, checked, isProcessor}
 use Rattle.calls.specs.Setup.{setupOf}
-use Rattle.calls.specs.Take.{otherPlaces, acquired, acquiredOrder, nextBlock, addressOf, takenFrom, takenFromOther, takenAt, isTooLarge, takeUnchecked, takeOf}
+use Rattle.calls.specs.Take.{otherPlaces, acquired, acquiredOrder, nextBlock, addressOf, takenFrom, takenFromOther, takenAt, takeUnchecked, takeOf}
 use Rattle.calls.specs.Free.{superblockIndex, superblockHolding, blockOf, isUnmapped, isMisaligned, isLiveAt, orderPushed, freedAt, freeUnchecked, freeOf}
 use Rattle.calls.specs.Calls.{callOf}
 use Rattle.calllaws.proofs.CallEffects.{Passed}

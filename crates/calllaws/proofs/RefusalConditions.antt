@@ -11,7 +11,8 @@ use lib.ListN.{length}
 use lib.Dec.{eqb, leb}
 use Rattle.laws.specs.Sums.{pick}
 use Rattle.laws.proofs.Decides.{TypeIf, type-if-elim, Decides, true-of-decides, false-of-decides, decides-fact, decides-le, decides-nonzero, decides-differs, decides-as, decides-either, decides-both}
-use Rattle.classes.specs.Classes.{sizeOf, blocksOf, classOf}
+use Rattle.classes.specs.Classes.{sizeOf, blocksOf, classOf, isTooLarge}
+use Rattle.classes.proofs.ClassLaws.{decides-too-large, not-too-large-of-le-2048, too-large-of-gt-2048}
 use Rattle.marks.specs.Marks.{markBit}
 use Rattle.marklaws.proofs.MarkLaws.{mark-bit-zero-of-no-mark, no-mark-of-mark-bit-zero}
 use Rattle.heap.specs.declared.Setup.{Setup}
@@ -26,9 +27,8 @@ use Rattle.heaplaws.proofs.StateCheckLaws.{facts-of-within-limits, within-limit
 use Rattle.calls.specs.declared.Outcome.the-variants.{Ready, Address, Moves, Refused}
 use Rattle.calls.specs.Answers.{After, refused, checked, isProcessor}
 use Rattle.calls.specs.Setup.{acceptedSetup, setupOf}
-use Rattle.calls.specs.Take.{otherPlaces, takenFrom, takenFromOther, takenAt, isTooLarge, takeUnchecked, takeOf}
+use Rattle.calls.specs.Take.{otherPlaces, takenFrom, takenFromOther, takenAt, takeUnchecked, takeOf}
 use Rattle.calls.specs.Free.{offsetOf, superblockHolding, blockOf, isUnmapped, isMisaligned, isLiveAt, freedAt, freeUnchecked, freeOf}
-use Rattle.calls.proofs.SizeLaws.{decides-too-large, too-large-of-above-2048, not-too-large-of-le-2048}
 use Rattle.calllaws.proofs.CallEffects.{Passed}
 use Rattle.calllaws.proofs.CheckedLaws.{checked-refuses-13-of-limits, checked-refuses-12-of-storage, checked-refuses-13-of-rest}
 use Rattle.calllaws.proofs.SetupLaws.{setup-refused-1-of-limits, setup-refused-12-of-storage}
@@ -228,7 +228,7 @@ module _ (s : State) (order : List ℕ) (i : ℕ) where
     unfolding takeOf
     take-refused-iff-condition = refused-iff-condition (takeOf s order i size) s order (takeRefusals s order i size) condition-of-take-refused (check-fails-refused-13 _) (storage-short-refused-12 _)
         (λ h. take-refused-2-of-processor s order i (h .passed) size (false-of-decides decides-processor (h .out)))
-        (λ h. take-refused-3-of-too-large s order i (h .passed) size (true-of-decides decides-processor (h .processor)) (too-large-of-above-2048 size (h .large)))
+        (λ h. take-refused-3-of-too-large s order i (h .passed) size (true-of-decides decides-processor (h .processor)) (too-large-of-gt-2048 size (h .large)))
         nothing-offered-refused-4
 
     -- number by number: 13, 12, 2, 3, 4

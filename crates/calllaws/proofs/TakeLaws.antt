@@ -10,8 +10,8 @@ use lib.ListN.{length}
 use lib.Dec.{leb}
 use Rattle.laws.specs.Sums.{pick}
 use Rattle.laws.proofs.TestLaws.{T-of-true}
-use Rattle.classes.specs.Classes.{classOf}
-use Rattle.classes.proofs.ClassLaws.{class-of-lt-27}
+use Rattle.classes.specs.Classes.{classOf, isTooLarge}
+use Rattle.classes.proofs.ClassLaws.{class-of-lt-27, not-too-large-of-le-2048, le-2048-of-not-too-large}
 use Rattle.heap.specs.declared.Superblock.{Superblock}
 use Rattle.heap.specs.declared.State.{State}
 use Rattle.heap.specs.declared.Found.{Found}
@@ -22,8 +22,7 @@ use Rattle.checkrules.specs.Check.{withinLimits, restValid}
 use Rattle.heaplaws.proofs.StateFacts.{Shape}
 use Rattle.calls.specs.declared.Outcome.the-variants.{Address}
 use Rattle.calls.specs.Answers.{After, numberOf, refused, checked, isProcessor}
-use Rattle.calls.specs.Take.{otherPlaces, acquired, acquiredOrder, addressOf, takenFrom, takenFromOther, takenAt, isTooLarge, takeUnchecked, takeOf}
-use Rattle.calls.proofs.SizeLaws.{not-too-large-of-le-2048, le-2048-of-not-too-large}
+use Rattle.calls.specs.Take.{otherPlaces, acquired, acquiredOrder, addressOf, takenFrom, takenFromOther, takenAt, takeUnchecked, takeOf}
 use Rattle.calllaws.proofs.CheckedLaws.{checked-refused-or-passed, checked-is-next-of-passed, bounds-of-is-processor}
 use Rattle.calllaws.proofs.CallEffects.{Passed, TakeAccepted, TakeEffect}
 use Rattle.calllaws.proofs.TakeSourceLaws.{lastBlockOf, takenWith, taken-from-is-taken-with, taken-from-other-is-taken-with, TakeSource, source-of-own-heap, offered-of-other-places, source-of-other-places}

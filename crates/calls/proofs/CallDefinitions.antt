@@ -1,6 +1,6 @@
 -- The definitions that a computed case of a call opens, listed once: to open one of these names is to open all that its line names. Assumes nothing.
 use Rattle.laws.specs.Sums.{sumBelow, allBelow}
-use Rattle.classes.specs.Classes.{sizes, counts, sizeOf, blocksOf, firstAtLeast, classOf}
+use Rattle.classes.specs.Classes.{sizes, counts, sizeOf, blocksOf, firstAtLeast, classOf, isTooLarge}
 use Rattle.marks.specs.Marks.{bit, markBit, isMarked, withMark, withoutMark, liveCount, noMarkFrom}
 use Rattle.order.specs.Order.{place, lastFilled, withPlace, descending, withRenewedPlaces, renewed, cleared}
 use Rattle.filledplaces.specs.FilledPlaces.{occurrences, placesInStorage, eachOnce, placesValid}
@@ -11,19 +11,19 @@ use Rattle.moverules.specs.Moves.{bothConditions, mustMove, transferred, foundT
 use Rattle.checkrules.specs.Check.{withinLimits, superblockValid, unusedFrom, emptinessInvariant, sparseIfGlobal, restValid}
 use Rattle.calls.specs.Answers.{checked, isProcessor}
 use Rattle.calls.specs.Setup.{setupOf}
-use Rattle.calls.specs.Take.{otherPlaces, acquired, acquiredOrder, nextBlock, addressOf, takenFrom, takenFromOther, takenAt, isTooLarge, takeUnchecked, takeOf}
+use Rattle.calls.specs.Take.{otherPlaces, acquired, acquiredOrder, nextBlock, addressOf, takenFrom, takenFromOther, takenAt, takeUnchecked, takeOf}
 use Rattle.calls.specs.Free.{blockOf, isUnmapped, isMisaligned, isLiveAt, markCleared, orderPushed, freedAt, freeUnchecked, freeOf}
 use Rattle.calls.specs.Calls.{callOf}
 
 -- a take and a free behind the check
 unfoldable pub uncheckedCallDefinitions : Unit {0}
-unfolding takeUnchecked isTooLarge takenAt takenFromOther takenFrom addressOf nextBlock acquiredOrder acquired otherPlaces
+unfolding takeUnchecked takenAt takenFromOther takenFrom addressOf nextBlock acquiredOrder acquired otherPlaces
     freeUnchecked freedAt orderPushed markCleared isLiveAt isMisaligned isUnmapped blockOf isProcessor
     invariantRestored excessTransferred transfersUpTo transferred foundTransferred mustMove bothConditions
     fullest lowestEmpty lowestUnused emptiest prefer chosenBelow moreLive fewerLive neverPreferred hasFree emptyInGlobal
     superblocksOf blocksIn liveOf total belongs oneIfBelongs liveIfBelongs isUnused
     place lastFilled withPlace descending withRenewedPlaces renewed
-    bit markBit isMarked withMark withoutMark liveCount sizes counts sizeOf blocksOf firstAtLeast classOf sumBelow
+    bit markBit isMarked withMark withoutMark liveCount sizes counts sizeOf blocksOf firstAtLeast classOf isTooLarge sumBelow
 uncheckedCallDefinitions = tt
 
 -- a setup, a take and a free with the check before them

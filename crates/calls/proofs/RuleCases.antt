@@ -23,7 +23,7 @@ use Rattle.calls.specs.declared.Outcome.{Outcome}
 use Rattle.calls.specs.declared.Outcome.the-variants.{Ready, Address, Moves, Refused}
 use Rattle.calls.specs.Answers.{After, numberOf, valuesOf, refused, checked, isProcessor}
 use Rattle.calls.specs.Setup.{setupOf}
-use Rattle.calls.specs.Take.{otherPlaces, acquired, acquiredOrder, nextBlock, addressOf, takenFrom, isTooLarge}
+use Rattle.calls.specs.Take.{otherPlaces, acquired, acquiredOrder, nextBlock, addressOf, takenFrom}
 use Rattle.calls.specs.Free.{blockOf, isUnmapped, isMisaligned, isLiveAt, markCleared, orderPushed, freedAt}
 
 -- a superblock of heap h and class c with these marks in the first of its four numbers
@@ -119,11 +119,6 @@ refusal-state =
 pub is-processor-cases : map (isProcessor refusal-state) (0 ∷ 1 ∷ 2 ∷ 3 ∷ []) ≡ false ∷ true ∷ true ∷ false ∷ []
 unfolding isProcessor
 is-processor-cases = refl
-
--- 3: "left for sizes above 2048"
-pub is-too-large-cases : map isTooLarge (0 ∷ 1 ∷ 2048 ∷ 2049 ∷ 65535 ∷ []) ≡ false ∷ false ∷ false ∷ true ∷ true ∷ []
-unfolding isTooLarge
-is-too-large-cases = refl
 
 -- 5: "address at or past N × 4096, or in an unused superblock": the first and last address of superblocks 0, 1 and 4, those past N, and past the table
 pub is-unmapped-cases :

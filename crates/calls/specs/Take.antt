@@ -1,10 +1,10 @@
 -- "Take (processor i, size)"
 use Prim.Native.Nat.{ℕ, _+_, _-_, _*_}
-use mathlib.Core.Bool.{Bool, not}
+use mathlib.Core.Bool.{not}
 use mathlib.Core.List.{List}
-use lib.Dec.{eqb, leb}
+use lib.Dec.{eqb}
 use Rattle.laws.specs.Sums.{pick}
-use Rattle.classes.specs.Classes.{sizeOf, blocksOf, classOf}
+use Rattle.classes.specs.Classes.{sizeOf, blocksOf, classOf, isTooLarge}
 use Rattle.marks.specs.Marks.{noMarks}
 use Rattle.order.specs.Order.{lastFilled, renewed}
 use Rattle.heap.specs.declared.Superblock.{Superblock}
@@ -64,11 +64,7 @@ takenAt i c s order (At k) other = takenFrom k s order
 takenAt i c s order Nothing (At k) = takenFromOther i c k s order
 takenAt i c s order Nothing Nothing = refused 4 s order
 
--- refusal 3 (bench word: size), which document 02, item 1, leaves "for sizes above 2048"; size 0 has class 0 (classOf)
-unfoldable pub isTooLarge : ℕ → Bool
-isTooLarge size = not (leb size 2048)
-
--- a take behind the check, on any state: "then take 2, 3, 4"
+-- a take behind the check, on any state: "then take 2, 3, 4"; refusal 3 (bench word: size) is for a size that no class holds (isTooLarge)
 unfoldable pub takeUnchecked : State → List ℕ → ℕ → ℕ → After
 takeUnchecked s order i size =
     pick (not (isProcessor s i)) (refused 2 s order)

@@ -1,9 +1,10 @@
 -- The printed table of classes, and the sizes marked in document 01, "Edges", with size 0 as document 02, item 1, has it, each by one theorem over
 -- one list. Assumes nothing.
 use mathlib.Core.Path.{_≡_, refl}
+use mathlib.Core.Bool.{true, false}
 use mathlib.Core.List.{List, [], _∷_, map}
 use Prim.Native.Nat.{ℕ}
-use Rattle.classes.specs.Classes.{sizes, counts, sizeOf, blocksOf, firstAtLeast, classOf}
+use Rattle.classes.specs.Classes.{sizes, counts, sizeOf, blocksOf, firstAtLeast, classOf, isTooLarge}
 
 -- "Class 0 to 26, as block size / blocks in a superblock"; there is no class 27
 unfoldable pub printed-table : List (ℕ × ℕ × ℕ)
@@ -24,3 +25,8 @@ marked-sizes = (0, 0) ∷ (1, 0) ∷ (16, 0) ∷ (17, 1) ∷ (64, 6) ∷ (65, 7)
 pub marked-sizes-have-classes : map (λ (p : ℕ × ℕ). classOf (p .0)) marked-sizes ≡ map (λ (p : ℕ × ℕ). p .1) marked-sizes
 unfolding marked-sizes classOf firstAtLeast sizes
 marked-sizes-have-classes = refl
+
+-- refusal 3: sizes above 2048, and not 0
+pub is-too-large-cases : map isTooLarge (0 ∷ 1 ∷ 2048 ∷ 2049 ∷ 65535 ∷ []) ≡ false ∷ false ∷ false ∷ true ∷ true ∷ []
+unfolding isTooLarge
+is-too-large-cases = refl

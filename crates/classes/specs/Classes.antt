@@ -1,8 +1,9 @@
 -- The 27 size classes of document 01, "Superblocks, classes and setup". Assumes nothing.
 use Prim.Native.Nat.{ℕ, zero, suc}
+use mathlib.Core.Bool.{Bool}
 use mathlib.Core.List.{List, [], _∷_}
 use lib.ListN.{getD}
-use lib.Dec.{leb}
+use lib.Dec.{leb, ltb}
 use Rattle.laws.specs.Sums.{pick}
 
 -- the printed block sizes, by class
@@ -26,6 +27,10 @@ unfoldable pub firstAtLeast : ℕ → List ℕ → ℕ
 firstAtLeast s [] = zero
 firstAtLeast s (x ∷ xs) = pick (leb s x) zero (suc (firstAtLeast s xs))
 
--- "the smallest class that holds it"; 27 for a size above 2048, which no class holds
+-- "the smallest class that holds it", so that size 0 "takes class 0" (document 02, item 1); 27 for a size that no class holds
 unfoldable pub classOf : ℕ → ℕ
 classOf s = firstAtLeast s sizes
+
+-- "Refusal 3 is left for sizes above 2048" (document 02, item 1): those that no class holds
+unfoldable pub isTooLarge : ℕ → Bool
+isTooLarge s = ltb 2048 s

@@ -9,7 +9,7 @@ use lib.ListN.{length, length-append}
 use lib.Dec.{eqb, leb}
 use Rattle.laws.specs.Sums.{either}
 use Rattle.laws.proofs.TestLaws.{pick-elim}
-use Rattle.classes.specs.Classes.{classOf}
+use Rattle.classes.specs.Classes.{classOf, isTooLarge}
 use Rattle.heap.specs.declared.Setup.{Setup}
 use Rattle.heap.specs.declared.State.{State}
 use Rattle.heap.specs.declared.Found.{Found}
@@ -20,7 +20,7 @@ use Rattle.calls.specs.declared.Outcome.{Outcome}
 use Rattle.calls.specs.declared.Outcome.the-variants.{Ready, Address, Moves, Refused}
 use Rattle.calls.specs.Answers.{After, numberOf, refused, checked, isProcessor}
 use Rattle.calls.specs.Setup.{setupOf}
-use Rattle.calls.specs.Take.{otherPlaces, takenFrom, takenFromOther, takenAt, isTooLarge, takeUnchecked, takeOf}
+use Rattle.calls.specs.Take.{otherPlaces, takenFrom, takenFromOther, takenAt, takeUnchecked, takeOf}
 use Rattle.calls.specs.Free.{freeOf}
 use Rattle.commands.specs.declared.Command.{Command}
 use Rattle.commands.specs.declared.Command.the-variants as command

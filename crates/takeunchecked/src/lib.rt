@@ -16,7 +16,7 @@ pub fn take(s: State, order: &mut [u16], processor: u8, size: u16) -> Answer
     if !states::is_processor(s, processor) {
         return states::refuse(s, 2);
     }
-    if 2048 < size {
+    if sizeclass::is_too_large(size) {
         return states::refuse(s, 3);
     }
     let class = sizeclass::class_of(size);

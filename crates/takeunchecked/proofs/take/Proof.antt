@@ -14,6 +14,9 @@ refuse-requires c κs = search needs
 returns : tie.Need-returns
 returns c = take-unchecked-clauses _ _ _ _ (search take-outcomes)
 
+is-too-large-requires : tie.Need-is-too-large-requires
+is-too-large-requires c κs = search needs
+
 refuse-requires-2 : tie.Need-refuse-requires-2
 refuse-requires-2 c κs = search needs
 
@@ -60,6 +63,7 @@ take-spec =
     is-processor-requires
     refuse-requires
     returns
+    is-too-large-requires
     refuse-requires-2
     returns-2
     class-of-requires
