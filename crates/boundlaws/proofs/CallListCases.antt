@@ -1,8 +1,8 @@
 -- Lists of calls that the claim speaks of, computed. Assumes nothing.
 use mathlib.Core.Path.{_≡_, refl, ap, _∙_}
-use mathlib.Core.List.{List, [], _∷_, map}
-use Prim.Native.Nat.{ℕ}
-use lib.ListN.{replicate, drop}
+use mathlib.Core.List.{List, [], _∷_, _++_, map}
+use Prim.Native.Nat.{ℕ, _*_}
+use lib.ListN.{getD, replicate, drop}
 use Rattle.heap.specs.declared.Setup.{Setup}
 use Rattle.heap.specs.declared.State.{State}
 use Rattle.heap.specs.Counts.{isOwnedOfClass, superblocksOfClass, ownersChanged}
@@ -47,153 +47,157 @@ rows-are-computed : (u : Setup) (order : List ℕ) → setupOf u order .answer .
 unfolding rows rowsAnswered
 rows-are-computed u order ready classes calls = ap (rowsOf classes (setupOf u order .answer .state) []) (steps-are-past-check u order ready calls)
 
-abbrev row : Outcome → ℕ → List ℕ → List ℕ → CallRow
-row outcome changed live owned = record { outcome = outcome; changed = changed; live = live; owned = owned }
+-- A list of calls after a setup, with as many order places as its superblocks have, and its rows for two classes, but for the first few.
+pub record ListCase : Type 0 where
+  pub setup : Setup
+  pub first : ℕ
+  pub second : ℕ
+  pub calls : List Call
+  pub skipped : ℕ
+  pub expected : List CallRow
 
-abbrev two-numbers : ℕ → ℕ → List ℕ
-two-numbers a b = a ∷ b ∷ []
+abbrev pub order-of : ListCase → List ℕ
+order-of k = replicate (k .setup .superblocks * 256) 0
+
+abbrev row : Outcome → ℕ → ℕ × ℕ → ℕ × ℕ → CallRow
+row outcome changed live owned = record { outcome = outcome; changed = changed; live = live .0 ∷ live .1 ∷ []; owned = owned .0 ∷ owned .1 ∷ [] }
 
 -- ---- document 01's whole case: classes 26 and 0. The second accepted free moves superblock 0 to heap 0; from there place 3 gives it to
 -- class 0, which grows.
-abbrev whole-setup : Setup
-whole-setup = record { processors = 1; superblocks = 2; spare = 1; p = 1; q = 4 }
-
-abbrev whole-calls : List Call
-whole-calls = Take 1 2048 ∷ Take 1 2048 ∷ Take 1 2048 ∷ Free 1 0 ∷ Free 1 0 ∷ Free 1 2048 ∷ Take 1 16 ∷ Take 1 2049 ∷ []
-
-whole-ready : setupOf whole-setup (replicate 512 0) .answer .outcome ≡ Ready
-unfolding setupOf withinLimits
-whole-ready = refl
-
-abbrev whole-rows : List CallRow
-whole-rows =
-    row (Address 0) 1 (two-numbers 1 0) (two-numbers 1 0)
-    ∷ row (Address 2048) 0 (two-numbers 2 0) (two-numbers 1 0)
-    ∷ row (Address 4096) 1 (two-numbers 3 0) (two-numbers 2 0)
-    ∷ row (Moves 0) 0 (two-numbers 2 0) (two-numbers 2 0)
-    ∷ row (Refused 7) 0 (two-numbers 2 0) (two-numbers 2 0)
-    ∷ row (Moves 1) 1 (two-numbers 1 0) (two-numbers 2 0)
-    ∷ row (Address 0) 1 (two-numbers 1 1) (two-numbers 1 1)
-    ∷ row (Refused 3) 0 (two-numbers 1 1) (two-numbers 1 1)
-    ∷ []
+abbrev pub whole-list : ListCase
+whole-list =
+    record {
+      setup = record { processors = 1; superblocks = 2; spare = 1; p = 1; q = 4 };
+      first = 26;
+      second = 0;
+      calls = Take 1 2048 ∷ Take 1 2048 ∷ Take 1 2048 ∷ Free 1 0 ∷ Free 1 0 ∷ Free 1 2048 ∷ Take 1 16 ∷ Take 1 2049 ∷ [];
+      skipped = 0;
+      expected =
+          row (Address 0) 1 (1, 0) (1, 0)
+          ∷ row (Address 2048) 0 (2, 0) (1, 0)
+          ∷ row (Address 4096) 1 (3, 0) (2, 0)
+          ∷ row (Moves 0) 0 (2, 0) (2, 0)
+          ∷ row (Refused 7) 0 (2, 0) (2, 0)
+          ∷ row (Moves 1) 1 (1, 0) (2, 0)
+          ∷ row (Address 0) 1 (1, 1) (1, 1)
+          ∷ row (Refused 3) 0 (1, 1) (1, 1)
+          ∷ [];
+    }
 
 -- ---- each refusal that a call of a list can meet, with one superblock: a refused call changes no owner and adds nothing to the ledger
-abbrev refused-setup : Setup
-refused-setup = record { processors = 1; superblocks = 1; spare = 1; p = 1; q = 4 }
-
-abbrev refused-calls : List Call
-refused-calls = Take 1 2048 ∷ Take 2 16 ∷ Take 1 2049 ∷ Take 1 0 ∷ Free 0 0 ∷ Free 1 4096 ∷ Free 1 16 ∷ Free 1 2048 ∷ Free 1 0 ∷ []
-
-refused-ready : setupOf refused-setup (replicate 256 0) .answer .outcome ≡ Ready
-unfolding setupOf withinLimits
-refused-ready = refl
-
-abbrev refused-rows : List CallRow
-refused-rows =
-    row (Address 0) 1 (two-numbers 1 0) (two-numbers 1 0)
-    ∷ row (Refused 2) 0 (two-numbers 1 0) (two-numbers 1 0)
-    ∷ row (Refused 3) 0 (two-numbers 1 0) (two-numbers 1 0)
-    ∷ row (Refused 4) 0 (two-numbers 1 0) (two-numbers 1 0)
-    ∷ row (Refused 2) 0 (two-numbers 1 0) (two-numbers 1 0)
-    ∷ row (Refused 5) 0 (two-numbers 1 0) (two-numbers 1 0)
-    ∷ row (Refused 6) 0 (two-numbers 1 0) (two-numbers 1 0)
-    ∷ row (Refused 7) 0 (two-numbers 1 0) (two-numbers 1 0)
-    ∷ row (Moves 0) 0 (two-numbers 0 0) (two-numbers 1 0)
-    ∷ []
+abbrev pub refused-list : ListCase
+refused-list =
+    record {
+      setup = record { processors = 1; superblocks = 1; spare = 1; p = 1; q = 4 };
+      first = 26;
+      second = 0;
+      calls = Take 1 2048 ∷ Take 2 16 ∷ Take 1 2049 ∷ Take 1 0 ∷ Free 0 0 ∷ Free 1 4096 ∷ Free 1 16 ∷ Free 1 2048 ∷ Free 1 0 ∷ [];
+      skipped = 0;
+      expected =
+          row (Address 0) 1 (1, 0) (1, 0)
+          ∷ row (Refused 2) 0 (1, 0) (1, 0)
+          ∷ row (Refused 3) 0 (1, 0) (1, 0)
+          ∷ row (Refused 4) 0 (1, 0) (1, 0)
+          ∷ row (Refused 2) 0 (1, 0) (1, 0)
+          ∷ row (Refused 5) 0 (1, 0) (1, 0)
+          ∷ row (Refused 6) 0 (1, 0) (1, 0)
+          ∷ row (Refused 7) 0 (1, 0) (1, 0)
+          ∷ row (Moves 0) 0 (0, 0) (1, 0)
+          ∷ [];
+    }
 
 -- ---- a free that moves two superblocks: twelve blocks of class 26 fill six superblocks; with 1, 1, 1, 1, 2, 2 live the heap meets
 -- both conditions of the move rule, and still does after one move
-abbrev two-moves-setup : Setup
-two-moves-setup = record { processors = 1; superblocks = 6; spare = 1; p = 1; q = 4 }
-
-abbrev two-moves-calls : List Call
-two-moves-calls =
-    Take 1 2048 ∷ Take 1 2048 ∷ Take 1 2048 ∷ Take 1 2048 ∷ Take 1 2048 ∷ Take 1 2048
-    ∷ Take 1 2048 ∷ Take 1 2048 ∷ Take 1 2048 ∷ Take 1 2048 ∷ Take 1 2048 ∷ Take 1 2048
-    ∷ Free 1 0 ∷ Free 1 4096 ∷ Free 1 8192 ∷ Free 1 12288 ∷ []
-
-two-moves-ready : setupOf two-moves-setup (replicate 1536 0) .answer .outcome ≡ Ready
-unfolding setupOf withinLimits
-two-moves-ready = refl
-
-abbrev two-moves-rows : List CallRow
-two-moves-rows =
-    row (Address 22528) 0 (two-numbers 12 0) (two-numbers 6 0)
-    ∷ row (Moves 0) 0 (two-numbers 11 0) (two-numbers 6 0)
-    ∷ row (Moves 0) 0 (two-numbers 10 0) (two-numbers 6 0)
-    ∷ row (Moves 0) 0 (two-numbers 9 0) (two-numbers 6 0)
-    ∷ row (Moves 2) 2 (two-numbers 8 0) (two-numbers 6 0)
-    ∷ []
+abbrev pub two-moves-list : ListCase
+two-moves-list =
+    record {
+      setup = record { processors = 1; superblocks = 6; spare = 1; p = 1; q = 4 };
+      first = 26;
+      second = 0;
+      calls = replicate 12 (Take 1 2048) ++ Free 1 0 ∷ Free 1 4096 ∷ Free 1 8192 ∷ Free 1 12288 ∷ [];
+      skipped = 11;
+      expected =
+          row (Address 22528) 0 (12, 0) (6, 0)
+          ∷ row (Moves 0) 0 (11, 0) (6, 0)
+          ∷ row (Moves 0) 0 (10, 0) (6, 0)
+          ∷ row (Moves 0) 0 (9, 0) (6, 0)
+          ∷ row (Moves 2) 2 (8, 0) (6, 0)
+          ∷ [];
+    }
 
 -- ---- the spare superblocks that K lets a heap keep: heap 1 frees its three blocks and keeps two superblocks, heap 2 then draws
 -- two more. (q - p) × n × A = 7 × 2 × 4 = 56 is above 8 × 3 + 7 × 2 × 1 × 2 = 52, the bound with 1 for K, and within 80, the bound.
-abbrev spare-setup : Setup
-spare-setup = record { processors = 2; superblocks = 4; spare = 2; p = 1; q = 8 }
-
-abbrev spare-calls : List Call
-spare-calls = Take 1 2048 ∷ Take 1 2048 ∷ Take 1 2048 ∷ Free 1 0 ∷ Free 1 2048 ∷ Free 1 4096 ∷ Take 2 2048 ∷ Take 2 2048 ∷ Take 2 2048 ∷ []
-
-spare-ready : setupOf spare-setup (replicate 1024 0) .answer .outcome ≡ Ready
-unfolding setupOf withinLimits
-spare-ready = refl
-
-abbrev spare-rows : List CallRow
-spare-rows =
-    row (Address 4096) 1 (two-numbers 3 0) (two-numbers 2 0)
-    ∷ row (Moves 0) 0 (two-numbers 2 0) (two-numbers 2 0)
-    ∷ row (Moves 0) 0 (two-numbers 1 0) (two-numbers 2 0)
-    ∷ row (Moves 0) 0 (two-numbers 0 0) (two-numbers 2 0)
-    ∷ row (Address 8192) 1 (two-numbers 1 0) (two-numbers 3 0)
-    ∷ row (Address 10240) 0 (two-numbers 2 0) (two-numbers 3 0)
-    ∷ row (Address 12288) 1 (two-numbers 3 0) (two-numbers 4 0)
-    ∷ []
+abbrev pub spare-list : ListCase
+spare-list =
+    record {
+      setup = record { processors = 2; superblocks = 4; spare = 2; p = 1; q = 8 };
+      first = 26;
+      second = 0;
+      calls = replicate 3 (Take 1 2048) ++ Free 1 0 ∷ Free 1 2048 ∷ Free 1 4096 ∷ replicate 3 (Take 2 2048);
+      skipped = 2;
+      expected =
+          row (Address 4096) 1 (3, 0) (2, 0)
+          ∷ row (Moves 0) 0 (2, 0) (2, 0)
+          ∷ row (Moves 0) 0 (1, 0) (2, 0)
+          ∷ row (Moves 0) 0 (0, 0) (2, 0)
+          ∷ row (Address 8192) 1 (1, 0) (3, 0)
+          ∷ row (Address 10240) 0 (2, 0) (3, 0)
+          ∷ row (Address 12288) 1 (3, 0) (4, 0)
+          ∷ [];
+    }
 
 -- ---- document 02, item 1: takes of size 0 and of size 16 are live blocks of class 0 and share its superblock
-abbrev size-0-setup : Setup
-size-0-setup = record { processors = 1; superblocks = 1; spare = 1; p = 1; q = 4 }
+abbrev pub size-0-list : ListCase
+size-0-list =
+    record {
+      setup = record { processors = 1; superblocks = 1; spare = 1; p = 1; q = 4 };
+      first = 0;
+      second = 1;
+      calls = Take 1 0 ∷ Take 1 16 ∷ Take 1 0 ∷ Free 1 0 ∷ Take 1 0 ∷ Take 1 17 ∷ [];
+      skipped = 0;
+      expected =
+          row (Address 0) 1 (1, 0) (1, 0)
+          ∷ row (Address 16) 0 (2, 0) (1, 0)
+          ∷ row (Address 32) 0 (3, 0) (1, 0)
+          ∷ row (Moves 0) 0 (2, 0) (1, 0)
+          ∷ row (Address 0) 0 (3, 0) (1, 0)
+          ∷ row (Refused 4) 0 (3, 0) (1, 0)
+          ∷ [];
+    }
 
-abbrev size-0-calls : List Call
-size-0-calls = Take 1 0 ∷ Take 1 16 ∷ Take 1 0 ∷ Free 1 0 ∷ Take 1 0 ∷ Take 1 17 ∷ []
+-- ---- all of them, computed
+abbrev pub list-cases : List ListCase
+list-cases = whole-list ∷ refused-list ∷ two-moves-list ∷ spare-list ∷ size-0-list ∷ []
 
-size-0-ready : setupOf size-0-setup (replicate 256 0) .answer .outcome ≡ Ready
+abbrev pub outcome-of-setup : ListCase → Outcome
+outcome-of-setup k = setupOf (k .setup) (order-of k) .answer .outcome
+
+abbrev pub rows-of : ListCase → List CallRow
+rows-of k = drop (k .skipped) (rows (k .setup) (order-of k) (k .first ∷ k .second ∷ []) (k .calls))
+
+abbrev rows-answered-of : ListCase → List CallRow
+rows-answered-of k = drop (k .skipped) (rowsAnswered (k .setup) (order-of k) (k .first ∷ k .second ∷ []) (k .calls))
+
+-- each setup is accepted
+each-ready : map outcome-of-setup list-cases ≡ map (λ (k : ListCase). Ready) list-cases
 unfolding setupOf withinLimits
-size-0-ready = refl
+each-ready = refl
 
-abbrev size-0-rows : List CallRow
-size-0-rows =
-    row (Address 0) 1 (two-numbers 0 1) (two-numbers 0 1)
-    ∷ row (Address 16) 0 (two-numbers 0 2) (two-numbers 0 1)
-    ∷ row (Address 32) 0 (two-numbers 0 3) (two-numbers 0 1)
-    ∷ row (Moves 0) 0 (two-numbers 0 2) (two-numbers 0 1)
-    ∷ row (Address 0) 0 (two-numbers 0 3) (two-numbers 0 1)
-    ∷ row (Refused 4) 0 (two-numbers 0 3) (two-numbers 0 1)
-    ∷ []
-
--- ---- the five computed
-rows-computed :
-    (rowsAnswered whole-setup (replicate 512 0) (two-numbers 26 0) whole-calls ≡ whole-rows)
-    × (rowsAnswered refused-setup (replicate 256 0) (two-numbers 26 0) refused-calls ≡ refused-rows)
-    × (drop 11 (rowsAnswered two-moves-setup (replicate 1536 0) (two-numbers 26 0) two-moves-calls) ≡ two-moves-rows)
-    × (drop 2 (rowsAnswered spare-setup (replicate 1024 0) (two-numbers 26 0) spare-calls) ≡ spare-rows)
-    × (rowsAnswered size-0-setup (replicate 256 0) (two-numbers 1 0) size-0-calls ≡ size-0-rows)
+each-answered : map rows-answered-of list-cases ≡ map (λ (k : ListCase). k .expected) list-cases
 unfolding rowsAnswered rowsOf ledgerAfter afterTake afterFree removed entriesOf stepsBy callPastCheck callDefinitions superblocksOfClass isOwnedOfClass ownersChanged
-rows-computed = (refl, refl, refl, refl, refl)
+each-answered = refl
 
-pub whole-case : rows whole-setup (replicate 512 0) (two-numbers 26 0) whole-calls ≡ whole-rows
-whole-case = rows-are-computed whole-setup (replicate 512 0) whole-ready (two-numbers 26 0) whole-calls ∙ rows-computed .0
+each-by-the-calls : (l : List ListCase) → map outcome-of-setup l ≡ map (λ (k : ListCase). Ready) l → map rows-of l ≡ map rows-answered-of l
+each-by-the-calls [] e = refl
+each-by-the-calls (k ∷ l) e =
+    rw (
+      rows-are-computed (k .setup) (order-of k) (ap (λ (o : List Outcome). getD o 0 Ready) e) (k .first ∷ k .second ∷ []) (k .calls),
+      each-by-the-calls l (ap (drop 1) e),
+    )
 
-pub refused-case : rows refused-setup (replicate 256 0) (two-numbers 26 0) refused-calls ≡ refused-rows
-refused-case = rows-are-computed refused-setup (replicate 256 0) refused-ready (two-numbers 26 0) refused-calls ∙ rows-computed .1
-
-pub two-moves-case : drop 11 (rows two-moves-setup (replicate 1536 0) (two-numbers 26 0) two-moves-calls) ≡ two-moves-rows
-two-moves-case = ap (drop 11) (rows-are-computed two-moves-setup (replicate 1536 0) two-moves-ready (two-numbers 26 0) two-moves-calls) ∙ rows-computed .2
-
-pub spare-case : drop 2 (rows spare-setup (replicate 1024 0) (two-numbers 26 0) spare-calls) ≡ spare-rows
-spare-case = ap (drop 2) (rows-are-computed spare-setup (replicate 1024 0) spare-ready (two-numbers 26 0) spare-calls) ∙ rows-computed .3
-
-pub size-0-case : rows size-0-setup (replicate 256 0) (two-numbers 1 0) size-0-calls ≡ size-0-rows
-size-0-case = rows-are-computed size-0-setup (replicate 256 0) size-0-ready (two-numbers 1 0) size-0-calls ∙ rows-computed .4
+pub list-cases-are-computed : map rows-of list-cases ≡ map (λ (k : ListCase). k .expected) list-cases
+list-cases-are-computed = each-by-the-calls list-cases each-ready ∙ each-answered
 
 -- ---- the claim speaks of each: here of the whole case
-pub claims-of-whole-case : Claims whole-setup (setupOf whole-setup (replicate 512 0)) [] (λ c. 0) (stepsBy callOf (setupOf whole-setup (replicate 512 0)) whole-calls)
-claims-of-whole-case = demand-3-calls whole-setup (replicate 512 0) whole-ready whole-calls
+pub claims-of-whole-case : Claims (whole-list .setup) (setupOf (whole-list .setup) (order-of whole-list)) [] (λ c. 0) (stepsBy callOf (setupOf (whole-list .setup) (order-of whole-list)) (whole-list .calls))
+claims-of-whole-case = demand-3-calls (whole-list .setup) (order-of whole-list) (ap (λ (o : List Outcome). getD o 0 Ready) each-ready) (whole-list .calls)
