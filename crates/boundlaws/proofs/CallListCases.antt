@@ -14,6 +14,7 @@ use Rattle.calls.specs.declared.Outcome.the-variants.{Ready, Address, Moves, Re
 use Rattle.calls.specs.Setup.{setupOf}
 use Rattle.calls.specs.Calls.{callOf}
 use Rattle.calls.proofs.CallDefinitions.{callDefinitions}
+use Rattle.calls.proofs.RuleCases.{setup-with}
 use Rattle.bound.specs.Ledger.{Entry, removed, afterTake, afterFree, ledgerAfter, entriesOf}
 use Rattle.bound.specs.Claim.{Step, Claims}
 use Rattle.boundlaws.proofs.CallListLaws.{callPastCheck, stepsBy, steps-are-past-check, demand-3-calls}
@@ -50,120 +51,58 @@ rows-are-computed u order ready classes calls = ap (rowsOf classes (setupOf u or
 -- A list of calls after a setup, with as many order places as its superblocks have, and its rows for two classes, but for the first few.
 pub record ListCase : Type 0 where
   pub setup : Setup
-  pub first : ℕ
-  pub second : ℕ
+  pub classes : ℕ × ℕ
   pub calls : List Call
   pub skipped : ℕ
   pub expected : List CallRow
 
+abbrev pub list-case : Setup → ℕ × ℕ → List Call → ℕ → List CallRow → ListCase
+list-case u classes calls skipped expected = record { setup = u; classes = classes; calls = calls; skipped = skipped; expected = expected }
+
 abbrev pub order-of : ListCase → List ℕ
 order-of k = replicate (k .setup .superblocks * 256) 0
 
+abbrev pub both-of : ℕ × ℕ → List ℕ
+both-of c = c .0 ∷ c .1 ∷ []
+
 abbrev row : Outcome → ℕ → ℕ × ℕ → ℕ × ℕ → CallRow
-row outcome changed live owned = record { outcome = outcome; changed = changed; live = live .0 ∷ live .1 ∷ []; owned = owned .0 ∷ owned .1 ∷ [] }
+row outcome changed live owned = record { outcome = outcome; changed = changed; live = both-of live; owned = both-of owned }
 
 -- ---- document 01's whole case: classes 26 and 0. The second accepted free moves superblock 0 to heap 0; from there place 3 gives it to
 -- class 0, which grows.
 abbrev pub whole-list : ListCase
-whole-list =
-    record {
-      setup = record { processors = 1; superblocks = 2; spare = 1; p = 1; q = 4 };
-      first = 26;
-      second = 0;
-      calls = Take 1 2048 ∷ Take 1 2048 ∷ Take 1 2048 ∷ Free 1 0 ∷ Free 1 0 ∷ Free 1 2048 ∷ Take 1 16 ∷ Take 1 2049 ∷ [];
-      skipped = 0;
-      expected =
-          row (Address 0) 1 (1, 0) (1, 0)
-          ∷ row (Address 2048) 0 (2, 0) (1, 0)
-          ∷ row (Address 4096) 1 (3, 0) (2, 0)
-          ∷ row (Moves 0) 0 (2, 0) (2, 0)
-          ∷ row (Refused 7) 0 (2, 0) (2, 0)
-          ∷ row (Moves 1) 1 (1, 0) (2, 0)
-          ∷ row (Address 0) 1 (1, 1) (1, 1)
-          ∷ row (Refused 3) 0 (1, 1) (1, 1)
-          ∷ [];
-    }
+whole-list = list-case (setup-with 1 2 1 1 4) (26, 0)
+    (Take 1 2048 ∷ Take 1 2048 ∷ Take 1 2048 ∷ Free 1 0 ∷ Free 1 0 ∷ Free 1 2048 ∷ Take 1 16 ∷ Take 1 2049 ∷ []) 0
+    (row (Address 0) 1 (1, 0) (1, 0) ∷ row (Address 2048) 0 (2, 0) (1, 0) ∷ row (Address 4096) 1 (3, 0) (2, 0) ∷ row (Moves 0) 0 (2, 0) (2, 0)
+    ∷ row (Refused 7) 0 (2, 0) (2, 0) ∷ row (Moves 1) 1 (1, 0) (2, 0) ∷ row (Address 0) 1 (1, 1) (1, 1) ∷ row (Refused 3) 0 (1, 1) (1, 1) ∷ [])
 
 -- ---- each refusal that a call of a list can meet, with one superblock: a refused call changes no owner and adds nothing to the ledger
 abbrev pub refused-list : ListCase
-refused-list =
-    record {
-      setup = record { processors = 1; superblocks = 1; spare = 1; p = 1; q = 4 };
-      first = 26;
-      second = 0;
-      calls = Take 1 2048 ∷ Take 2 16 ∷ Take 1 2049 ∷ Take 1 0 ∷ Free 0 0 ∷ Free 1 4096 ∷ Free 1 16 ∷ Free 1 2048 ∷ Free 1 0 ∷ [];
-      skipped = 0;
-      expected =
-          row (Address 0) 1 (1, 0) (1, 0)
-          ∷ row (Refused 2) 0 (1, 0) (1, 0)
-          ∷ row (Refused 3) 0 (1, 0) (1, 0)
-          ∷ row (Refused 4) 0 (1, 0) (1, 0)
-          ∷ row (Refused 2) 0 (1, 0) (1, 0)
-          ∷ row (Refused 5) 0 (1, 0) (1, 0)
-          ∷ row (Refused 6) 0 (1, 0) (1, 0)
-          ∷ row (Refused 7) 0 (1, 0) (1, 0)
-          ∷ row (Moves 0) 0 (0, 0) (1, 0)
-          ∷ [];
-    }
+refused-list = list-case (setup-with 1 1 1 1 4) (26, 0)
+    (Take 1 2048 ∷ Take 2 16 ∷ Take 1 2049 ∷ Take 1 0 ∷ Free 0 0 ∷ Free 1 4096 ∷ Free 1 16 ∷ Free 1 2048 ∷ Free 1 0 ∷ []) 0
+    (row (Address 0) 1 (1, 0) (1, 0) ∷ map (λ (r : ℕ). row (Refused r) 0 (1, 0) (1, 0)) (2 ∷ 3 ∷ 4 ∷ 2 ∷ 5 ∷ 6 ∷ 7 ∷ []) ++ row (Moves 0) 0 (0, 0) (1, 0) ∷ [])
 
 -- ---- a free that moves two superblocks: twelve blocks of class 26 fill six superblocks; with 1, 1, 1, 1, 2, 2 live the heap meets
 -- both conditions of the move rule, and still does after one move
 abbrev pub two-moves-list : ListCase
-two-moves-list =
-    record {
-      setup = record { processors = 1; superblocks = 6; spare = 1; p = 1; q = 4 };
-      first = 26;
-      second = 0;
-      calls = replicate 12 (Take 1 2048) ++ Free 1 0 ∷ Free 1 4096 ∷ Free 1 8192 ∷ Free 1 12288 ∷ [];
-      skipped = 11;
-      expected =
-          row (Address 22528) 0 (12, 0) (6, 0)
-          ∷ row (Moves 0) 0 (11, 0) (6, 0)
-          ∷ row (Moves 0) 0 (10, 0) (6, 0)
-          ∷ row (Moves 0) 0 (9, 0) (6, 0)
-          ∷ row (Moves 2) 2 (8, 0) (6, 0)
-          ∷ [];
-    }
+two-moves-list = list-case (setup-with 1 6 1 1 4) (26, 0)
+    (replicate 12 (Take 1 2048) ++ Free 1 0 ∷ Free 1 4096 ∷ Free 1 8192 ∷ Free 1 12288 ∷ []) 11
+    (row (Address 22528) 0 (12, 0) (6, 0) ∷ row (Moves 0) 0 (11, 0) (6, 0) ∷ row (Moves 0) 0 (10, 0) (6, 0) ∷ row (Moves 0) 0 (9, 0) (6, 0) ∷ row (Moves 2) 2 (8, 0) (6, 0) ∷ [])
 
 -- ---- the spare superblocks that K lets a heap keep: heap 1 frees its three blocks and keeps two superblocks, heap 2 then draws
 -- two more. (q - p) × n × A = 7 × 2 × 4 = 56 is above 8 × 3 + 7 × 2 × 1 × 2 = 52, the bound with 1 for K, and within 80, the bound.
 abbrev pub spare-list : ListCase
-spare-list =
-    record {
-      setup = record { processors = 2; superblocks = 4; spare = 2; p = 1; q = 8 };
-      first = 26;
-      second = 0;
-      calls = replicate 3 (Take 1 2048) ++ Free 1 0 ∷ Free 1 2048 ∷ Free 1 4096 ∷ replicate 3 (Take 2 2048);
-      skipped = 2;
-      expected =
-          row (Address 4096) 1 (3, 0) (2, 0)
-          ∷ row (Moves 0) 0 (2, 0) (2, 0)
-          ∷ row (Moves 0) 0 (1, 0) (2, 0)
-          ∷ row (Moves 0) 0 (0, 0) (2, 0)
-          ∷ row (Address 8192) 1 (1, 0) (3, 0)
-          ∷ row (Address 10240) 0 (2, 0) (3, 0)
-          ∷ row (Address 12288) 1 (3, 0) (4, 0)
-          ∷ [];
-    }
+spare-list = list-case (setup-with 2 4 2 1 8) (26, 0)
+    (replicate 3 (Take 1 2048) ++ Free 1 0 ∷ Free 1 2048 ∷ Free 1 4096 ∷ replicate 3 (Take 2 2048)) 2
+    (row (Address 4096) 1 (3, 0) (2, 0) ∷ row (Moves 0) 0 (2, 0) (2, 0) ∷ row (Moves 0) 0 (1, 0) (2, 0) ∷ row (Moves 0) 0 (0, 0) (2, 0)
+    ∷ row (Address 8192) 1 (1, 0) (3, 0) ∷ row (Address 10240) 0 (2, 0) (3, 0) ∷ row (Address 12288) 1 (3, 0) (4, 0) ∷ [])
 
--- ---- document 02, item 1: takes of size 0 and of size 16 are live blocks of class 0 and share its superblock
+-- ---- document 02, item 1: takes of size 0 and of size 16 are live blocks of class 0 and share its superblock; none is of class 1
 abbrev pub size-0-list : ListCase
-size-0-list =
-    record {
-      setup = record { processors = 1; superblocks = 1; spare = 1; p = 1; q = 4 };
-      first = 0;
-      second = 1;
-      calls = Take 1 0 ∷ Take 1 16 ∷ Take 1 0 ∷ Free 1 0 ∷ Take 1 0 ∷ Take 1 17 ∷ [];
-      skipped = 0;
-      expected =
-          row (Address 0) 1 (1, 0) (1, 0)
-          ∷ row (Address 16) 0 (2, 0) (1, 0)
-          ∷ row (Address 32) 0 (3, 0) (1, 0)
-          ∷ row (Moves 0) 0 (2, 0) (1, 0)
-          ∷ row (Address 0) 0 (3, 0) (1, 0)
-          ∷ row (Refused 4) 0 (3, 0) (1, 0)
-          ∷ [];
-    }
+size-0-list = list-case (setup-with 1 1 1 1 4) (0, 1)
+    (Take 1 0 ∷ Take 1 16 ∷ Take 1 0 ∷ Free 1 0 ∷ Take 1 0 ∷ Take 1 17 ∷ []) 0
+    (row (Address 0) 1 (1, 0) (1, 0) ∷ row (Address 16) 0 (2, 0) (1, 0) ∷ row (Address 32) 0 (3, 0) (1, 0) ∷ row (Moves 0) 0 (2, 0) (1, 0)
+    ∷ row (Address 0) 0 (3, 0) (1, 0) ∷ row (Refused 4) 0 (3, 0) (1, 0) ∷ [])
 
 -- ---- all of them, computed
 abbrev pub list-cases : List ListCase
@@ -173,10 +112,10 @@ abbrev pub outcome-of-setup : ListCase → Outcome
 outcome-of-setup k = setupOf (k .setup) (order-of k) .answer .outcome
 
 abbrev pub rows-of : ListCase → List CallRow
-rows-of k = drop (k .skipped) (rows (k .setup) (order-of k) (k .first ∷ k .second ∷ []) (k .calls))
+rows-of k = drop (k .skipped) (rows (k .setup) (order-of k) (both-of (k .classes)) (k .calls))
 
 abbrev rows-answered-of : ListCase → List CallRow
-rows-answered-of k = drop (k .skipped) (rowsAnswered (k .setup) (order-of k) (k .first ∷ k .second ∷ []) (k .calls))
+rows-answered-of k = drop (k .skipped) (rowsAnswered (k .setup) (order-of k) (both-of (k .classes)) (k .calls))
 
 -- each setup is accepted
 each-ready : map outcome-of-setup list-cases ≡ map (λ (k : ListCase). Ready) list-cases
@@ -191,7 +130,7 @@ each-by-the-calls : (l : List ListCase) → map outcome-of-setup l ≡ map (λ (
 each-by-the-calls [] e = refl
 each-by-the-calls (k ∷ l) e =
     rw (
-      rows-are-computed (k .setup) (order-of k) (ap (λ (o : List Outcome). getD o 0 Ready) e) (k .first ∷ k .second ∷ []) (k .calls),
+      rows-are-computed (k .setup) (order-of k) (ap (λ (o : List Outcome). getD o 0 Ready) e) (both-of (k .classes)) (k .calls),
       each-by-the-calls l (ap (drop 1) e),
     )
 
