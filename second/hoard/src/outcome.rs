@@ -9,7 +9,7 @@ pub enum Refusal {
     Setup = 1,
     /// Processor 0 or above P.
     Processor = 2,
-    /// Size 0 or above 2048.
+    /// Size above 2048.
     Size = 3,
     /// No place offers a superblock.
     NoSuperblock = 4,

@@ -50,11 +50,9 @@ pub const SIZE_CLASSES: [SizeClass; 27] = [
     class(2048),
 ];
 
-/// The smallest class that holds `size`; none for 0 and above the largest block.
+/// The smallest class that holds `size`, for size 0 class 0; none above the
+/// largest block.
 pub fn class_of_size(size: u16) -> Option<u8> {
-    if size == 0 {
-        return None;
-    }
     (0u8..)
         .zip(SIZE_CLASSES.iter())
         .find(|(_, class)| class.block_size >= u32::from(size))

@@ -119,14 +119,116 @@ fn renewal_writes_n_places_and_a_take_no_other() {
     assert_eq!(order, before);
 }
 
+/// States of two heaps in which a take of class 0 by processor 1 finds its block
+/// in each of the four places, with the address it gets.
+fn states_for_class_0() -> [(State, Vec<u16>, u32); 6] {
+    let with = |owned: &[(u8, u8, u32)]| {
+        let mut state = State::new(numbers(2, 3, 1, 1, 4));
+        let mut order = vec![9; 3 * ORDER_PLACES];
+        for (number, &(owner, class, live)) in owned.iter().enumerate() {
+            own(&mut state, &mut order, number, owner, class, live);
+        }
+        (state, order)
+    };
+    let at = |(state, order), address| (state, order, address);
+    [
+        // Place 4: nothing is owned, or another heap's and a full one.
+        at(with(&[]), 0),
+        at(with(&[(2, 0, 5), (1, 0, 256)]), 2 * 4096),
+        // Place 1: the fuller one of its own two.
+        at(with(&[(1, 0, 200), (1, 0, 201)]), 4096 + 201 * 16),
+        // Place 2: of the class and partly live, or empty.
+        at(with(&[(1, 1, 3), (0, 0, 7)]), 4096 + 7 * 16),
+        at(with(&[(0, 26, 0), (0, 0, 0)]), 4096),
+        // Place 3: empty and of another class.
+        at(with(&[(0, 26, 1), (0, 26, 0)]), 4096),
+    ]
+}
+
+#[test]
+fn size_0_does_what_1_and_16_do() {
+    for (state, order, address) in states_for_class_0() {
+        let taken = [0, 1, 16].map(|size| {
+            let mut order = order.clone();
+            let answer = take(&state, 1, size, &mut order);
+            (answer, order)
+        });
+        assert_eq!(taken[0].0.outcome, Outcome::At(address));
+        let superblock = &taken[0].0.state.superblocks[address as usize / 4096];
+        assert_eq!((superblock.owner, superblock.class), (1, 0));
+        assert_eq!(taken[1], taken[0]);
+        assert_eq!(taken[2], taken[0]);
+    }
+}
+
+#[test]
+fn sizes_0_1_and_16_share_a_superblock() {
+    let mut state = State::new(numbers(1, 2, 1, 1, 2));
+    let mut order = vec![9; 2 * ORDER_PLACES];
+    for (size, address) in [(0, 0), (1, 16), (16, 32), (0, 48), (17, 4096)] {
+        let answer = take(&state, 1, size, &mut order);
+        assert_eq!(answer.outcome, Outcome::At(address), "size {size}");
+        state = answer.state;
+    }
+    assert_eq!(state.superblocks[0].class, 0);
+    assert_eq!(state.superblocks[0].live, [0b1111, 0, 0, 0]);
+    // The block freed last comes first, whichever of the sizes it was taken for.
+    for (address, next_size) in [(0, 16), (32, 0), (48, 1)] {
+        let freed = free(&state, 1, address, &mut order);
+        assert_eq!(freed.outcome, Outcome::Moved(0));
+        let answer = take(&freed.state, 1, next_size, &mut order);
+        assert_eq!(answer.outcome, Outcome::At(address));
+        assert_eq!(answer.state, state);
+    }
+}
+
+/// Checks that a take is refused so and changes nothing.
+fn take_is_refused(state: &State, order: &[u16], processor: u8, size: u16, refusal: u8) {
+    let mut lent = order.to_vec();
+    let answer = take(state, processor, size, &mut lent);
+    assert_eq!(refused(&answer), refusal, "take {processor} {size}");
+    assert_eq!(answer.state, *state);
+    assert_eq!(lent, order);
+}
+
+#[test]
+fn size_0_with_no_such_processor() {
+    for (state, order, _) in states_for_class_0() {
+        for processor in [0, 3, 255] {
+            take_is_refused(&state, &order, processor, 0, 2);
+        }
+    }
+}
+
+#[test]
+fn size_0_with_no_superblock_left() {
+    // Held by another class, full, or another heap's.
+    for (owner, class, live) in [(1, 26, 1), (1, 26, 0), (1, 0, 256), (2, 0, 1), (0, 26, 1)] {
+        let mut state = State::new(numbers(2, 1, 1, 1, 4));
+        let mut order = vec![9; ORDER_PLACES];
+        own(&mut state, &mut order, 0, owner, class, live);
+        take_is_refused(&state, &order, 1, 0, 4);
+        // The processor and a size above 2048 come first.
+        take_is_refused(&state, &order, 0, 0, 2);
+        take_is_refused(&state, &order, 3, 0, 2);
+        take_is_refused(&state, &order, 1, 2049, 3);
+        take_is_refused(&state, &order, 1, 65535, 3);
+        take_is_refused(&state, &order, 3, 2049, 2);
+    }
+}
+
 #[test]
 fn setup_numbers_before_storage_before_the_rest() {
-    let (mut state, mut order) = on_the_threshold();
-    state.superblocks[0].owner = 2;
-    assert_eq!(refused(&take(&state, 0, 0, &mut order)), 13);
-    assert_eq!(refused(&take(&state, 0, 0, &mut order[1..])), 12);
-    state.setup.p = 4;
-    assert_eq!(refused(&take(&state, 0, 0, &mut order[1..])), 13);
+    // Each of these takes but the first would have a refusal of its own.
+    for (processor, size) in [(1, 0), (0, 0), (1, 2049), (0, 2049)] {
+        let (mut state, mut order) = on_the_threshold();
+        state.superblocks[0].owner = 2;
+        assert_eq!(refused(&take(&state, processor, size, &mut order)), 13);
+        let short = &mut order[1..];
+        assert_eq!(refused(&take(&state, processor, size, short)), 12);
+        state.setup.p = 4;
+        assert_eq!(refused(&take(&state, processor, size, short)), 13);
+    }
 }
 
 #[test]

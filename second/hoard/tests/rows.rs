@@ -52,8 +52,13 @@ fn setup_is_refused(asked: Setup, length: usize, places: usize, refusal: u8) {
 
 /// A take and a free that are both refused: numbers, row and storage as they were.
 fn calls_are_refused(state: &State, length: usize, order: &[u16], refusal: u8) {
-    // The second pair of calls would have refusals of its own.
-    for (processor, size, address) in [(1, 2048, 0), (0, 0, u32::MAX)] {
+    // The last two pairs of calls would have refusals of their own.
+    for (processor, size, address) in [
+        (1, 2048, 0),
+        (1, 0, 0),
+        (0, 0, u32::MAX),
+        (0, 2049, u32::MAX),
+    ] {
         let before = row_of(state, length);
         let (mut row, mut lent) = (before.clone(), order.to_vec());
         for answer in [
@@ -148,7 +153,14 @@ fn own_refusals_on_a_row_of_64() {
     let before = row_of(&state, 64);
     let (mut row, mut lent) = (before.clone(), order.clone());
     let numbers = state.setup;
-    for (processor, size, refusal) in [(0, 0, 2), (2, 16, 2), (1, 0, 3), (1, 2049, 3)] {
+    for (processor, size, refusal) in [
+        (0, 0, 2),
+        (2, 0, 2),
+        (2, 16, 2),
+        (0, 2049, 2),
+        (1, 2049, 3),
+        (1, 65535, 3),
+    ] {
         let answer = take_row(numbers, &mut row, processor, size, &mut lent);
         assert_eq!((refused(&answer), answer.setup), (refusal, numbers));
     }
@@ -173,9 +185,26 @@ fn no_superblock_left_on_a_row() {
     let taken = take_row(numbers, &mut row, 1, 2048, &mut order);
     assert_eq!(taken.outcome, Outcome::At(0));
     let before = (row.clone(), order.clone());
-    let answer = take_row(numbers, &mut row, 1, 16, &mut order);
-    assert_eq!((refused(&answer), answer.setup), (4, numbers));
+    for size in [0, 1, 16] {
+        let answer = take_row(numbers, &mut row, 1, size, &mut order);
+        assert_eq!((refused(&answer), answer.setup), (4, numbers));
+    }
     assert_eq!((row, order), before);
+}
+
+#[test]
+fn size_0_on_a_row_does_what_1_and_16_do() {
+    let (state, order) = sound();
+    let taken = [0, 1, 16].map(|size| {
+        let (mut row, mut lent) = (row_of(&state, 64), order.clone());
+        let answer = take_row(state.setup, &mut row, 1, size, &mut lent);
+        (answer, row, lent)
+    });
+    let (answer, row, _) = &taken[0];
+    assert_eq!(answer.outcome, Outcome::At(4096));
+    assert_eq!((row[1].owner, row[1].class, row[1].live_count()), (1, 0, 1));
+    assert_eq!(taken[1], taken[0]);
+    assert_eq!(taken[2], taken[0]);
 }
 
 /// Heaps filled until no superblock is left and emptied again: on a row as on states.

@@ -19,6 +19,7 @@ fn classes_are_the_printed_ones() {
 #[test]
 fn edge_sizes() {
     let edges = [
+        (0, 0),
         (1, 0),
         (16, 0),
         (17, 1),
@@ -31,14 +32,14 @@ fn edge_sizes() {
     for (size, class) in edges {
         assert_eq!(class_of_size(size), Some(class), "size {size}");
     }
-    for size in [0, 2049, 65535] {
+    for size in 2049..=65535 {
         assert_eq!(class_of_size(size), None, "size {size}");
     }
 }
 
 #[test]
 fn each_size_takes_the_smallest_class_that_holds_it() {
-    for size in 1..=2048u16 {
+    for size in 0..=2048u16 {
         let class = usize::from(class_of_size(size).unwrap());
         assert!(SIZE_CLASSES[class].block_size >= u32::from(size));
         assert!(class == 0 || SIZE_CLASSES[class - 1].block_size < u32::from(size));

@@ -1,7 +1,7 @@
 //! Random records, the same on every run for a kind, seed and length.
 
 use hoard::{
-    read_command, write_command, Command, Setup, FREE_BYTE, LONGEST_RECORD, SIZE_CLASSES,
+    read_command, write_command, Command, Outcome, Setup, FREE_BYTE, LONGEST_RECORD, SIZE_CLASSES,
     SUPERBLOCK_BYTES,
 };
 
@@ -27,10 +27,12 @@ pub enum Kind {
     Garbage,
     /// Sizes, addresses, processors and setups at and past each limit.
     Edges,
+    /// Size 0 beside 1, 16 and 17, and often no superblock left for it.
+    Zero,
 }
 
 /// Every kind with its name.
-pub const KINDS: [(&str, Kind); 8] = [
+pub const KINDS: [(&str, Kind); 9] = [
     ("uniform", Kind::Uniform),
     ("threshold", Kind::Threshold),
     ("small", Kind::Small),
@@ -39,6 +41,7 @@ pub const KINDS: [(&str, Kind); 8] = [
     ("truncated", Kind::Truncated),
     ("garbage", Kind::Garbage),
     ("edges", Kind::Edges),
+    ("zero", Kind::Zero),
 ];
 
 /// The kind of a name.
@@ -58,15 +61,17 @@ pub fn make_record(kind: Kind, seed: u64, length: usize) -> Vec<u8> {
         Kind::Truncated => truncated(random, length),
         Kind::Garbage => garbage(random, length),
         Kind::Edges => edges(random, length).record,
+        Kind::Zero => zero(random, length).record,
     }
 }
 
 /// A run of one of the sound kinds, for the state at its end.
 pub fn any_run(random: &mut Xorshift, length: usize) -> Run {
-    match random.below(4) {
+    match random.below(5) {
         0 => uniform(random, length),
         1 => threshold(random, length),
         2 => small(random, length),
+        3 => zero(random, length),
         _ => many(random, length),
     }
 }
@@ -83,7 +88,7 @@ pub fn setup_in_limits(random: &mut Xorshift, most_processors: u8, most_superblo
     }
 }
 
-/// A size of a class, from the smallest to the block size.
+/// A size of a class, from the smallest but 0 to the block size.
 pub fn size_of_class(random: &mut Xorshift, class: u8) -> u16 {
     let class = usize::from(class);
     let smallest = match class {
@@ -93,13 +98,32 @@ pub fn size_of_class(random: &mut Xorshift, class: u8) -> u16 {
     random.between(smallest, SIZE_CLASSES[class].block_size) as u16
 }
 
-/// A call that is likely to be refused.
-pub fn odd_call(random: &mut Xorshift, run: &mut Run) {
-    let processors = run.state.setup.processors;
-    let processor = match random.below(3) {
+/// A size of a class, for class 0 in half of all cases 0.
+pub fn size_or_zero(random: &mut Xorshift, class: u8) -> u16 {
+    if class == 0 && random.chance(1, 2) {
+        return 0;
+    }
+    size_of_class(random, class)
+}
+
+/// In half of all cases 0, else a size beside it: of class 0, which they share,
+/// or 17.
+pub fn zero_or_beside(random: &mut Xorshift) -> u16 {
+    let of_class_0 = size_of_class(random, 0);
+    random.pick(&[0, 0, 0, 0, 1, 16, 17, of_class_0])
+}
+
+/// A processor, one in `whole` out of range.
+pub fn any_processor(random: &mut Xorshift, processors: u8, whole: u32) -> u8 {
+    match random.below(whole) {
         0 => random.pick(&[0, processors.wrapping_add(1), 255]),
         _ => random.byte_between(1, processors.max(1)),
-    };
+    }
+}
+
+/// A call that is likely to be refused.
+pub fn odd_call(random: &mut Xorshift, run: &mut Run) {
+    let processor = any_processor(random, run.state.setup.processors, 3);
     if random.chance(1, 3) {
         let size = random.pick(&[0, 1, 16, 17, 2048, 2049, 4096, 32768, 65535]);
         run.take(processor, size);
@@ -140,11 +164,21 @@ fn mixed_call(random: &mut Xorshift, run: &mut Run, takes: u32, classes: (u8, u8
     };
 }
 
+/// A mixed call, or one time in eight a take of size 0 or of a size beside it.
+fn mixed_or_zero_call(random: &mut Xorshift, run: &mut Run, takes: u32, classes: (u8, u8)) {
+    if random.chance(1, 8) {
+        let processor = random.byte_between(1, run.state.setup.processors);
+        run.take(processor, zero_or_beside(random));
+    } else {
+        mixed_call(random, run, takes, classes);
+    }
+}
+
 fn uniform(random: &mut Xorshift, length: usize) -> Run {
     let mut run = Run::new(setup_in_limits(random, 8, 64));
     let takes = random.between(40, 75);
     while run.calls < length && run.has_room() {
-        mixed_call(random, &mut run, takes, (0, 26));
+        mixed_or_zero_call(random, &mut run, takes, (0, 26));
     }
     run
 }
@@ -153,7 +187,7 @@ fn small(random: &mut Xorshift, length: usize) -> Run {
     let mut run = Run::new(setup_in_limits(random, 3, 4));
     let takes = random.between(45, 65);
     while run.calls < length && run.has_room() {
-        mixed_call(random, &mut run, takes, (16, 26));
+        mixed_or_zero_call(random, &mut run, takes, (16, 26));
     }
     run
 }
@@ -165,6 +199,9 @@ fn many(random: &mut Xorshift, length: usize) -> Run {
         ..setup_in_limits(random, 8, 64)
     };
     let mut run = Run::new(setup);
+    // Figures before and after a change are taken with these records: their bytes
+    // stay those of the time when size 0 was refused.
+    run.refuses_zero = true;
     while run.calls < length && run.has_room() {
         // Stretches that grow and stretches that shrink.
         let takes = random.pick(&[30, 50, 70, 90]);
@@ -193,7 +230,8 @@ fn threshold(random: &mut Xorshift, length: usize) -> Run {
         let heap = random.byte_between(1, setup.processors);
         let class = random.pick(&classes);
         fill(random, &mut run, heap, class, length);
-        free_most(random, &mut run, heap, class, length);
+        let left = random.below(8) as usize;
+        free_down_to(random, &mut run, heap, class, left, length);
     }
     run
 }
@@ -208,11 +246,18 @@ fn fill(random: &mut Xorshift, run: &mut Run, heap: u8, class: u8, length: usize
     }
 }
 
-/// Frees most blocks of a heap and class. Freeing from the fullest keeps the
-/// superblocks level, so that one free may move several of them.
-fn free_most(random: &mut Xorshift, run: &mut Run, heap: u8, class: u8, length: usize) {
+/// Frees blocks of a heap and class until so many of all blocks are left live.
+/// Freeing from the fullest keeps the superblocks level, so that one free may move
+/// several of them.
+fn free_down_to(
+    random: &mut Xorshift,
+    run: &mut Run,
+    heap: u8,
+    class: u8,
+    left: usize,
+    length: usize,
+) {
     let from = random.pick(&[PickFrom::Emptiest, PickFrom::Fullest, PickFrom::Any]);
-    let left = random.below(8) as usize;
     while run.calls < length && run.has_room() && run.live.len() > left {
         let Some(address) = run.live_of(heap, class, from, random) else {
             return;
@@ -220,7 +265,7 @@ fn free_most(random: &mut Xorshift, run: &mut Run, heap: u8, class: u8, length: 
         let processor = random.byte_between(1, run.state.setup.processors);
         run.free(processor, address);
         if random.chance(1, 12) && run.has_room() {
-            run.take(heap, size_of_class(random, class));
+            run.take(heap, size_or_zero(random, class));
         }
     }
 }
@@ -232,7 +277,7 @@ fn longest(random: &mut Xorshift) -> Vec<u8> {
     let takes = random.between(48, 60);
     let lowest = random.pick(&[0, 8, 16]);
     while run.record.len() + 12 <= LONGEST_RECORD {
-        mixed_call(random, &mut run, takes, (lowest, 26));
+        mixed_or_zero_call(random, &mut run, takes, (lowest, 26));
     }
     let left = LONGEST_RECORD - run.record.len();
     if left != 6 {
@@ -270,7 +315,10 @@ fn random_commands(random: &mut Xorshift, length: usize) -> Vec<u8> {
         let command = match random.below(2) {
             0 => Command::Take {
                 processor,
-                size: random.below(2200) as u16,
+                size: match random.below(4) {
+                    0 => zero_or_beside(random),
+                    _ => random.below(2200) as u16,
+                },
             },
             _ => Command::Free {
                 processor,
@@ -360,5 +408,94 @@ fn edges(random: &mut Xorshift, length: usize) -> Run {
 /// A size at or one past a class limit.
 fn edge_size(random: &mut Xorshift) -> u16 {
     let limit = SIZE_CLASSES[random.below(27) as usize].block_size as u16;
-    random.pick(&[0, 1, 16, 17, 2048, 2049, 65535, limit, limit, limit + 1])
+    match random.below(4) {
+        0 => random.pick(&[limit, limit, limit + 1]),
+        _ => random.pick(&[0, 0, 0, 1, 16, 17, 2048, 2049, 65535]),
+    }
+}
+
+/// Class 0 filled past one superblock, freed and shared by sizes 0, 1 and 16, while
+/// large blocks hold other superblocks: size 0 meets each of the four places and
+/// refusal 4. At a fraction of at most a half, one block fewer than a superblock
+/// holds is enough for a move.
+fn zero(random: &mut Xorshift, length: usize) -> Run {
+    let most_superblocks = random.pick(&[3, 8, 64, 64]);
+    let q = random.byte_between(2, 8);
+    let setup = Setup {
+        spare: random.pick(&[1, 1, 1, 2]),
+        p: random.byte_between(1, q / 2),
+        q,
+        ..setup_in_limits(random, 3, most_superblocks)
+    };
+    let mut run = Run::new(setup);
+    let processors = setup.processors;
+    if random.chance(1, 2) {
+        // Heap 0 gets superblocks of another class before any heap has class 0.
+        let heap = random.byte_between(1, processors);
+        fill(random, &mut run, heap, 26, length);
+        free_down_to(random, &mut run, heap, 26, 0, length);
+    }
+    while run.calls < length && run.has_room() {
+        let heap = random.byte_between(1, processors);
+        match random.below(2) {
+            0 => around_one_superblock(random, &mut run, heap, length),
+            _ => zero_stretch(random, &mut run, heap, length),
+        }
+    }
+    run
+}
+
+/// Takes blocks of class 0 until a heap has some more than a superblock holds, then
+/// frees some, so that a superblock passes to heap 0 and comes back.
+fn around_one_superblock(random: &mut Xorshift, run: &mut Run, heap: u8, length: usize) {
+    for _ in 0..random.between(2, 6) {
+        let most = random.between(257, 280);
+        fill_class_0(random, run, heap, most, length);
+        let freed = random.between(10, 60) as usize;
+        let left = run.live.len().saturating_sub(freed);
+        free_down_to(random, run, heap, 0, left, length);
+    }
+}
+
+/// Takes blocks of class 0 until the heap has so many live, or is refused one, with
+/// a call for any processor now and then.
+fn fill_class_0(random: &mut Xorshift, run: &mut Run, heap: u8, live: u32, length: usize) {
+    while run.live_count_of(heap, 0) < live && run.calls < length && run.has_room() {
+        if random.chance(1, 6) {
+            let processor = any_processor(random, run.state.setup.processors, 3);
+            zero_call(random, run, processor, 70, 5);
+        } else if let Outcome::Refused(_) = run.take(heap, size_or_zero(random, 0)) {
+            return;
+        }
+    }
+}
+
+/// A stretch of calls, most of them for one heap: more takes or more frees, few
+/// large blocks or many.
+fn zero_stretch(random: &mut Xorshift, run: &mut Run, heap: u8, length: usize) {
+    let takes = random.pick(&[30, 60, 85]);
+    let large = random.pick(&[0, 10, 50]);
+    for _ in 0..random.between(20, 120) {
+        if run.calls < length && run.has_room() {
+            let processor = match random.below(3) {
+                0 => any_processor(random, run.state.setup.processors, 3),
+                _ => heap,
+            };
+            zero_call(random, run, processor, takes, large);
+        }
+    }
+}
+
+/// A take or a free, `takes` of 100 being takes, `large` of 100 of these of large
+/// blocks. A few have a size or an address at a limit.
+fn zero_call(random: &mut Xorshift, run: &mut Run, processor: u8, takes: u32, large: u32) {
+    if random.chance(1, 25) {
+        return odd_call(random, run);
+    }
+    match run.any_live(random) {
+        Some(address) if !random.chance(takes, 100) => run.free(processor, address),
+        _ if random.chance(large, 100) => run.take(processor, random.pick(&[1024, 2048])),
+        _ if random.chance(1, 12) => run.take(processor, random.pick(&[2048, 2049, 65535])),
+        _ => run.take(processor, zero_or_beside(random)),
+    };
 }

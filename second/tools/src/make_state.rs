@@ -3,11 +3,12 @@
 //! same on lent rows.
 
 use hoard::{
-    Command, Setup, State, GLOBAL_HEAP, SIZE_CLASSES, SUPERBLOCKS, SUPERBLOCK_BYTES, UNUSED_OWNER,
+    Command, Setup, State, Superblock, GLOBAL_HEAP, SIZE_CLASSES, SUPERBLOCKS, SUPERBLOCK_BYTES,
+    UNUSED_OWNER,
 };
 
 use crate::call_form::{write_input, CallInput, MOST_PLACES};
-use crate::make_record::{any_run, edge_setup, setup_in_limits};
+use crate::make_record::{any_processor, any_run, edge_setup, setup_in_limits, zero_or_beside};
 use crate::row_form::{write_row_input, RowInput, MOST_RECORDS, ROW_BYTE};
 use crate::table::{any_call, live_addresses, most_live_of_global, Table};
 use crate::xorshift::Xorshift;
@@ -63,6 +64,11 @@ pub enum Kind {
     TwoFaults,
     /// Input that ends early or has bytes left over.
     Bytes,
+    /// A take of size 0 or beside it on a sound state, with class 0 shared, full, in
+    /// the global heap or nowhere, and often no superblock left for it.
+    Zero,
+    /// The same take on a state of any kind before this, sound or not.
+    ZeroDamaged,
     /// A sound state, or a setup, on a lent row that is mostly 64 long.
     Row,
     /// A state or setup of any other kind on a lent row of any length, with
@@ -71,7 +77,7 @@ pub enum Kind {
 }
 
 /// Every kind with its name.
-pub const KINDS: [(&str, Kind); 26] = [
+pub const KINDS: [(&str, Kind); 28] = [
     ("replayed", Kind::Replayed),
     ("built", Kind::Built),
     ("loose", Kind::Loose),
@@ -96,18 +102,21 @@ pub const KINDS: [(&str, Kind); 26] = [
     ("storage-empty", Kind::StorageEmpty),
     ("two-faults", Kind::TwoFaults),
     ("bytes", Kind::Bytes),
+    ("zero", Kind::Zero),
+    ("zero-damaged", Kind::ZeroDamaged),
     ("row", Kind::Row),
     ("row-damaged", Kind::RowDamaged),
 ];
 
 /// Kinds whose states pass the check and whose storage is enough.
-const SOUND_KINDS: [Kind; 6] = [
+const SOUND_KINDS: [Kind; 7] = [
     Kind::Replayed,
     Kind::Built,
     Kind::MoveRuleLimit,
     Kind::GlobalLimit,
     Kind::StorageExact,
     Kind::StorageLong,
+    Kind::Zero,
 ];
 
 /// Lengths of a row that is refused.
@@ -135,8 +144,9 @@ pub fn make_state(kind: Kind, seed: u64) -> Vec<u8> {
 
 /// A sound state with a call, or a setup call, on a row mostly of 64 records.
 fn row(random: &mut Xorshift) -> RowInput {
-    let kind = match random.below(4) {
+    let kind = match random.below(5) {
         0 => Kind::SetupCall,
+        1 => Kind::Zero,
         _ => random.pick(&SOUND_KINDS),
     };
     let mut input = make_input(kind, random);
@@ -151,8 +161,9 @@ fn row(random: &mut Xorshift) -> RowInput {
 /// A call of any other kind on a row of any length. Setup numbers are at times
 /// broken on top, storage is at times short, one in sixteen is no call at all.
 fn row_damaged(random: &mut Xorshift) -> Vec<u8> {
-    let kind = match random.below(3) {
-        0 => Kind::SetupCall,
+    let kind = match random.below(6) {
+        0 | 1 => Kind::SetupCall,
+        2 => Kind::ZeroDamaged,
         _ => random.pick(&KINDS[..KINDS.len() - 2]).1,
     };
     let mut input = make_input(kind, random);
@@ -206,6 +217,8 @@ fn make_input(kind: Kind, random: &mut Xorshift) -> CallInput {
             with_storage(kind, random)
         }
         Kind::TwoFaults => two_faults(random),
+        Kind::Zero => zero(random),
+        Kind::ZeroDamaged => zero_damaged(random),
         _ => damaged(kind, random),
     }
 }
@@ -503,29 +516,14 @@ fn spread(random: &mut Xorshift, live: u32, count: u32, class: u8, setup: &Setup
 
 /// Two faults at once: the first in the order of refusals counts.
 fn two_faults(random: &mut Xorshift) -> CallInput {
-    let case = random.below(7);
+    let case = random.below(9);
     let mut table = owned_and_unused(random);
     let setup = table.state.setup;
-    let (processor, above) = (1, setup.processors + 1);
-    let unused = (u32::from(setup.superblocks) - 1) * SUPERBLOCK_BYTES;
-    let call = match case {
-        2 | 3 => Command::Take {
-            processor: random.pick(&[0, above]),
-            size: random.pick(&[0, 2049]),
-        },
-        4 | 5 => Command::Free {
-            processor: random.pick(&[0, above]),
-            address: random.pick(&[unused + 1, 1, u32::MAX]),
-        },
-        6 => Command::Free {
-            processor,
-            address: unused + 1,
-        },
-        _ => any_call(random, &table.state),
-    };
+    let call = call_with_faults(case, random, &table.state);
     match case {
         0 => break_setup(random, &mut table.state.setup),
         1 | 3 | 5 => break_unused(Kind::Owner, random, &mut table),
+        7 | 8 => leave_superblock_0(&mut table.state),
         _ => {}
     }
     if case <= 1 {
@@ -536,6 +534,90 @@ fn two_faults(random: &mut Xorshift) -> CallInput {
         state: table.state,
         order: table.order,
     }
+}
+
+/// The call of a case of two faults. Those of the state go before it in cases 0, 1,
+/// 3 and 5; in 7 and 8 no superblock is left for the take.
+fn call_with_faults(case: u32, random: &mut Xorshift, state: &State) -> Command {
+    let (processor, above) = (1, state.setup.processors + 1);
+    let unused = (u32::from(state.setup.superblocks) - 1) * SUPERBLOCK_BYTES;
+    match case {
+        2 | 3 => Command::Take {
+            processor: random.pick(&[0, above]),
+            size: random.pick(&[2049, 65535]),
+        },
+        4 | 5 => Command::Free {
+            processor: random.pick(&[0, above]),
+            address: random.pick(&[unused + 1, 1, u32::MAX]),
+        },
+        6 => Command::Free {
+            processor,
+            address: unused + 1,
+        },
+        7 => Command::Take {
+            processor: random.pick(&[0, above]),
+            size: 0,
+        },
+        8 => Command::Take {
+            processor,
+            size: random.pick(&[2049, 65535]),
+        },
+        _ => any_call(random, state),
+    }
+}
+
+/// Leaves superblock 0 alone, which is partly live and not of class 0: no place
+/// offers another class a superblock.
+fn leave_superblock_0(state: &mut State) {
+    state.setup.superblocks = 1;
+    state.superblocks[1..].fill(Superblock::UNUSED);
+}
+
+/// A sound state around class 0. In one case of three live blocks hold every
+/// superblock, so that a take that finds no free block of class 0 is refused.
+fn zero(random: &mut Xorshift) -> CallInput {
+    let most_superblocks = random.pick(&[2, 6, 64]);
+    let setup = setup_in_limits(random, 4, most_superblocks);
+    let mut table = Table::new(setup, random);
+    let held = random.chance(1, 3);
+    let of_class_0 = random.pick(&[0, 3, 8]);
+    for number in 0..setup.superblocks.into() {
+        if !held && random.chance(1, 4) {
+            continue;
+        }
+        let class = if random.chance(of_class_0, 10) {
+            0
+        } else {
+            random.byte_between(1, 26)
+        };
+        let blocks = SIZE_CLASSES[usize::from(class)].blocks;
+        let fewest = u32::from(held);
+        let any = random.between(fewest, blocks);
+        let live = random.pick(&[fewest, blocks - 1, blocks, blocks, any, any]);
+        let owner = random.byte_between(0, setup.processors);
+        table.own(number, owner, class, live, random);
+    }
+    table.restore_invariants();
+    let mut input = table.with_call(random);
+    input.call = take_of_zero(random, &setup);
+    input
+}
+
+/// Mostly a take of size 0, one in six with a processor out of range.
+fn take_of_zero(random: &mut Xorshift, setup: &Setup) -> Command {
+    Command::Take {
+        processor: any_processor(random, setup.processors, 6),
+        size: zero_or_beside(random),
+    }
+}
+
+/// Such a take on a state of any other kind, with any storage.
+fn zero_damaged(random: &mut Xorshift) -> CallInput {
+    let kind = random.pick(&KINDS[..Kind::Zero as usize]).1;
+    let mut input = make_input(kind, random);
+    input.order.truncate(MOST_PLACES);
+    input.call = take_of_zero(random, &input.state.setup);
+    input
 }
 
 /// Cuts the bytes, adds to them, or changes the call kind or the number of places.

@@ -2,8 +2,8 @@
 //! that the next one can be chosen by what is live.
 
 use hoard::{
-    write_command, Command, Outcome, Setup, State, LONGEST_RECORD, ORDER_PLACES, SUPERBLOCKS,
-    SUPERBLOCK_BYTES,
+    write_command, Command, Outcome, Refusal, Setup, State, LONGEST_RECORD, ORDER_PLACES,
+    SUPERBLOCKS, SUPERBLOCK_BYTES,
 };
 
 use crate::xorshift::Xorshift;
@@ -15,6 +15,9 @@ pub struct Run {
     pub order: Vec<u16>,
     pub live: Vec<u32>,
     pub calls: usize,
+    /// Whether size 0 is refused here, as it once was: its takes are written and
+    /// the record goes on as if they had not been made.
+    pub refuses_zero: bool,
 }
 
 /// Which superblock of a heap and class a free picks its block from.
@@ -38,6 +41,7 @@ impl Run {
             order,
             live: Vec::new(),
             calls: 0,
+            refuses_zero: false,
         }
     }
 
@@ -50,6 +54,9 @@ impl Run {
     pub fn take(&mut self, processor: u8, size: u16) -> Outcome {
         write_command(&mut self.record, &Command::Take { processor, size });
         self.calls += 1;
+        if size == 0 && self.refuses_zero {
+            return Outcome::Refused(Refusal::Size);
+        }
         let answer = hoard::take(&self.state, processor, size, &mut self.order);
         if let Outcome::At(address) = answer.outcome {
             self.live.push(address);
@@ -76,6 +83,15 @@ impl Run {
             return None;
         }
         Some(random.pick(&self.live))
+    }
+
+    /// Live blocks of a heap and class.
+    pub fn live_count_of(&self, heap: u8, class: u8) -> u32 {
+        let superblocks = self.state.superblocks.iter();
+        superblocks
+            .filter(|it| it.owner == heap && it.class == class)
+            .map(|it| it.live_count())
+            .sum()
     }
 
     /// A live address of a heap and class, from the superblock asked for.

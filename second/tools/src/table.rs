@@ -6,7 +6,7 @@ use hoard::{
 };
 
 use crate::call_form::CallInput;
-use crate::make_record::size_of_class;
+use crate::make_record::{any_processor, size_or_zero, zero_or_beside};
 use crate::xorshift::Xorshift;
 
 /// A state and its order storage.
@@ -107,11 +107,7 @@ pub fn most_live_of_global(setup: &Setup, class: u8) -> u32 {
 /// A take or free for a state, mostly with a processor and size within limits
 /// and a live address.
 pub fn any_call(random: &mut Xorshift, state: &State) -> Command {
-    let processors = state.setup.processors;
-    let processor = match random.below(12) {
-        0 => random.pick(&[0, processors.wrapping_add(1), 255]),
-        _ => random.byte_between(1, processors.max(1)),
-    };
+    let processor = any_processor(random, state.setup.processors, 12);
     if random.chance(1, 2) {
         let size = any_size(random, state);
         Command::Take { processor, size }
@@ -121,10 +117,13 @@ pub fn any_call(random: &mut Xorshift, state: &State) -> Command {
     }
 }
 
-/// Mostly a size of a class that the state has superblocks of.
+/// Mostly a size of a class that the state has superblocks of, at times 0 or a size
+/// beside it, or one at the upper limit.
 fn any_size(random: &mut Xorshift, state: &State) -> u16 {
-    if random.chance(1, 12) {
-        return random.pick(&[0, 2049, 65535]);
+    match random.below(12) {
+        0 => return random.pick(&[2048, 2049, 65535]),
+        1..=3 => return zero_or_beside(random),
+        _ => {}
     }
     let owned = state
         .superblocks
@@ -139,7 +138,7 @@ fn any_size(random: &mut Xorshift, state: &State) -> u16 {
         _ if classes.is_empty() => 0,
         _ => random.pick(&classes),
     };
-    size_of_class(random, class)
+    size_or_zero(random, class)
 }
 
 /// Mostly the address of a live block of the state, if it has one.

@@ -19,6 +19,17 @@ fn whole_case_both_ways() {
 }
 
 #[test]
+fn size_0_both_ways() {
+    let text = "setup 1 2 1 1 4\ntake 1 0\ntake 255 0\nfree 1 0\n";
+    let record = to_record(text.as_bytes()).unwrap();
+    assert_eq!(record[6..14], [1, 1, 0, 0, 1, 255, 0, 0]);
+    assert_eq!(to_text(&record).unwrap(), text);
+    let key = "setup 1 2 1 1 4\ntake 1 0 at 0\ntake 255 0 refused 2\nfree 1 0 moved 0\n\
+        heap 1 class 0 superblocks 1 live 0\nend\n";
+    assert_eq!(hoard::key(&record), key.as_bytes());
+}
+
+#[test]
 fn blank_lines_comments_and_spaces_are_skipped() {
     let text = "# a paper\n\n  setup  1 2 1\t1 4 \r\n   \n# take 1 1\ntake 1 0";
     assert_eq!(
@@ -91,6 +102,7 @@ fn sound_records_come_back_as_they_were() {
         Kind::Small,
         Kind::Many,
         Kind::Edges,
+        Kind::Zero,
     ] {
         for seed in 0..5 {
             let record = make_record(kind, seed, 200);

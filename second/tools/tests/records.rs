@@ -1,9 +1,10 @@
 //! Random records: what they are like, and what holds along each of them.
 
-use std::collections::HashMap;
+use std::collections::{BTreeMap, HashMap};
 
-use hoard::{check_handed_in, ORDER_PLACES, SIZE_CLASSES, SUPERBLOCKS};
-use hoard::{class_of_size, decode, Command, Outcome, Setup, State};
+use hoard::{check_handed_in, ORDER_PLACES, SIZE_CLASSES, SUPERBLOCKS, SUPERBLOCK_BYTES};
+use hoard::{class_of_size, decode, write_command, Answer, Command, Outcome, Setup, State};
+use hoard::{GLOBAL_HEAP, UNUSED_OWNER};
 use tools::make_record::{make_record, Kind, KINDS};
 
 #[test]
@@ -12,6 +13,18 @@ fn the_same_seed_gives_the_same_record() {
         assert_eq!(make_record(kind, 5, 100), make_record(kind, 5, 100));
         assert_ne!(make_record(kind, 5, 100), make_record(kind, 6, 100));
     }
+}
+
+/// Figures of several versions are taken with this record: docs/PERFORMANCE.md.
+#[test]
+fn the_record_of_the_figures_stays_the_same() {
+    let record = make_record(Kind::Many, 1, 9000);
+    let hash = record
+        .iter()
+        .fold(0xcbf2_9ce4_8422_2325_u64, |hash, &byte| {
+            (hash ^ u64::from(byte)).wrapping_mul(0x0100_0000_01b3)
+        });
+    assert_eq!((record.len(), hash), (40032, 0xb57f_5a1b_a2ce_fec1));
 }
 
 #[test]
@@ -25,18 +38,20 @@ fn long_records_have_60000_bytes() {
 
 #[test]
 fn other_records_stay_within_60000_bytes() {
-    for kind in [Kind::Uniform, Kind::Threshold, Kind::Edges] {
+    for kind in [Kind::Uniform, Kind::Threshold, Kind::Edges, Kind::Zero] {
         let length = make_record(kind, 1, 20_000).len();
         assert!((59_990..=60_000).contains(&length), "{length}");
     }
 }
 
+/// The keys of forty records, one after the other.
+fn key_of(kind: Kind, length: usize) -> String {
+    let keys = (0..40).map(|seed| hoard::key(&make_record(kind, seed, length)));
+    keys.map(|key| String::from_utf8(key).unwrap()).collect()
+}
+
 #[test]
 fn kinds_do_what_they_are_for() {
-    let key_of = |kind, length| -> String {
-        let keys = (0..40).map(|seed| hoard::key(&make_record(kind, seed, length)));
-        keys.map(|key| String::from_utf8(key).unwrap()).collect()
-    };
     let threshold = key_of(Kind::Threshold, 600);
     assert!(threshold.matches(" moved 1").count() > 300);
     for moves in 2..=4 {
@@ -62,6 +77,19 @@ fn kinds_do_what_they_are_for() {
             broken.contains(&format!("stopped {refusal} at ")),
             "refusal {refusal}"
         );
+    }
+}
+
+#[test]
+fn zero_has_the_sizes_beside_it_and_at_the_other_limit() {
+    let key = key_of(Kind::Zero, 600);
+    for size in [0, 1, 16, 17, 2048] {
+        let taken = key.matches(&format!(" {size} at ")).count();
+        assert!(taken > 100, "size {size}: {taken}");
+    }
+    for size in [2049, 65535] {
+        let refused = key.matches(&format!(" {size} refused 3\n")).count();
+        assert!(refused > 50, "size {size}: {refused}");
     }
 }
 
@@ -110,6 +138,15 @@ fn owners_changed(before: &State, after: &State) -> u32 {
     pairs.filter(|(old, new)| old.owner != new.owner).count() as u32
 }
 
+/// Gives a command to the engine.
+fn run(command: &Command, state: &State, order: &mut [u16]) -> Answer {
+    match *command {
+        Command::Setup(asked) => hoard::setup(asked, order),
+        Command::Take { processor, size } => hoard::take(state, processor, size, order),
+        Command::Free { processor, address } => hoard::free(state, processor, address, order),
+    }
+}
+
 /// Runs a record and checks the bound, the moves and the state after each call.
 fn check_run(record: &[u8]) {
     let mut order = vec![0; SUPERBLOCKS * ORDER_PLACES];
@@ -121,13 +158,7 @@ fn check_run(record: &[u8]) {
     };
     let mut offset = 0;
     while let Ok((command, next)) = decode(record, offset) {
-        let answer = match command {
-            Command::Setup(asked) => hoard::setup(asked, &mut order),
-            Command::Take { processor, size } => hoard::take(&state, processor, size, &mut order),
-            Command::Free { processor, address } => {
-                hoard::free(&state, processor, address, &mut order)
-            }
-        };
+        let answer = run(&command, &state, &mut order);
         let changed = owners_changed(&state, &answer.state);
         match answer.outcome {
             Outcome::Moved(moves) => {
@@ -147,9 +178,120 @@ fn check_run(record: &[u8]) {
 
 #[test]
 fn bound_moves_and_state_hold_after_every_call() {
-    for kind in [Kind::Uniform, Kind::Threshold, Kind::Small, Kind::Many] {
+    for kind in [
+        Kind::Uniform,
+        Kind::Threshold,
+        Kind::Small,
+        Kind::Many,
+        Kind::Zero,
+    ] {
         for seed in 100..110 {
             check_run(&make_record(kind, seed, 500));
         }
     }
+}
+
+/// What a take of size 0 met: the place that offered its superblock, or a refusal.
+fn met_by_take(state: &State, outcome: &Outcome) -> String {
+    let &Outcome::At(address) = outcome else {
+        return outcome.to_string();
+    };
+    let superblock = &state.superblocks[(address / SUPERBLOCK_BYTES) as usize];
+    let place = match (superblock.owner, superblock.class) {
+        (UNUSED_OWNER, _) => "place 4",
+        (GLOBAL_HEAP, 0) if superblock.live_count() == 0 => "place 2, renewed",
+        (GLOBAL_HEAP, 0) => "place 2",
+        (GLOBAL_HEAP, _) => "place 3",
+        _ => "place 1",
+    };
+    place.to_string()
+}
+
+/// Counts what takes of size 0 and frees of class 0 met along a record.
+fn count_met(record: &[u8], met: &mut BTreeMap<String, u32>) {
+    let mut order = vec![0; SUPERBLOCKS * ORDER_PLACES];
+    let mut state = State::new(Setup::default());
+    let mut offset = 0;
+    while let Ok((command, next)) = decode(record, offset) {
+        let answer = run(&command, &state, &mut order);
+        let what = match (command, answer.outcome) {
+            (Command::Take { size: 0, .. }, outcome) => Some(met_by_take(&state, &outcome)),
+            (Command::Free { address, .. }, moved @ Outcome::Moved(1..)) => {
+                let class = state.superblocks[(address / SUPERBLOCK_BYTES) as usize].class;
+                (class == 0).then(|| moved.to_string())
+            }
+            _ => None,
+        };
+        if let Some(what) = what {
+            *met.entry(what).or_default() += 1;
+        }
+        state = answer.state;
+        offset = next;
+    }
+}
+
+/// The seeds that `compare` takes lead size 0 to each place and refusal it can meet.
+#[test]
+fn zero_meets_every_place() {
+    let mut met = BTreeMap::new();
+    for seed in 1..=60 {
+        count_met(&make_record(Kind::Zero, seed, 1000), &mut met);
+    }
+    let expected = [
+        ("place 1", 5000),
+        ("place 2", 20),
+        ("place 2, renewed", 8),
+        ("place 3", 10),
+        ("place 4", 20),
+        ("moved 1", 60),
+        ("refused 2", 300),
+        ("refused 4", 1000),
+    ];
+    for (what, fewest) in expected {
+        let count = met.remove(what).unwrap_or_default();
+        assert!(count >= fewest, "{what}: {count}");
+    }
+    assert!(met.is_empty(), "{met:?}");
+}
+
+/// A record with another size wherever it has 0.
+fn replace_zero(record: &[u8], by: u16) -> Vec<u8> {
+    let mut replaced = Vec::new();
+    let mut offset = 0;
+    while let Ok((mut command, next)) = decode(record, offset) {
+        if let Command::Take { size: size @ 0, .. } = &mut command {
+            *size = by;
+        }
+        write_command(&mut replaced, &command);
+        offset = next;
+    }
+    replaced
+}
+
+/// A key with another size wherever a take has 0.
+fn replace_zero_in_key(key: &str, by: u16) -> String {
+    let replace = |line: &str| match line.split(' ').collect::<Vec<_>>()[..] {
+        ["take", processor, "0", answer, number] => {
+            format!("take {processor} {by} {answer} {number}\n")
+        }
+        _ => format!("{line}\n"),
+    };
+    key.lines().map(replace).collect()
+}
+
+#[test]
+fn size_0_is_answered_as_1_and_16() {
+    let mut taken = 0;
+    for kind in [Kind::Uniform, Kind::Small, Kind::Many, Kind::Zero] {
+        for seed in 0..10 {
+            let record = make_record(kind, seed, 600);
+            let key = String::from_utf8(hoard::key(&record)).unwrap();
+            taken += key.matches(" 0 at ").count();
+            for size in [1, 16] {
+                let other = String::from_utf8(hoard::key(&replace_zero(&record, size))).unwrap();
+                assert_eq!(other, replace_zero_in_key(&key, size));
+            }
+        }
+    }
+    assert!(taken > 1000, "{taken}");
 }

@@ -197,6 +197,28 @@ fn every_order_of_refusals_is_met() {
     }
 }
 
+/// The seeds that `compare` takes give size 0 every answer it can have on a row.
+#[test]
+fn size_0_meets_every_answer() {
+    let mut met = BTreeSet::new();
+    for kind in KINDS {
+        for seed in 1..=120 {
+            let bytes = make_state(kind, seed);
+            let Some(lent) = read_row_input(&bytes) else {
+                continue;
+            };
+            if matches!(lent.input.call, Command::Take { size: 0, .. }) {
+                let text = answer_bytes(&bytes);
+                let outcome = text.lines().next().unwrap().to_string();
+                let accepted = outcome.starts_with("at ");
+                met.insert(if accepted { "at".to_string() } else { outcome });
+            }
+        }
+    }
+    let all = ["at", "refused 12", "refused 13", "refused 2", "refused 4"];
+    assert_eq!(met, BTreeSet::from(all.map(String::from)));
+}
+
 #[test]
 fn the_row_lent() {
     let setup = read_row_input(&setup_bytes(65)).unwrap();

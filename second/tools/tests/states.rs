@@ -1,5 +1,10 @@
 //! States handed in: each kind gets the answer it is made for.
 
+use std::collections::BTreeSet;
+use std::fs;
+use std::path::Path;
+
+use hoard::Command;
 use tools::call_form::{answer_bytes, read_input, run_call, write_input, BAD_INPUT};
 use tools::make_state::{make_state, Kind, KINDS};
 
@@ -43,6 +48,7 @@ fn sound_states_are_not() {
         Kind::GlobalLimit,
         Kind::StorageExact,
         Kind::StorageLong,
+        Kind::Zero,
     ];
     for kind in sound {
         for seed in SEEDS {
@@ -62,6 +68,64 @@ fn short_storage_is_refused_with_12() {
             assert_eq!(first_line(kind, seed), "refused 12", "{kind:?} {seed}");
         }
     }
+}
+
+#[test]
+fn kinds_stand_in_their_order() {
+    for (index, (_, kind)) in KINDS.into_iter().enumerate() {
+        assert_eq!(kind as usize, index, "{kind:?}");
+    }
+}
+
+/// The seeds that `compare` takes give size 0 every answer it can have. A take of
+/// size 1 or 16 has the same, with the same state and order places.
+#[test]
+fn size_0_is_answered_as_1_and_16() {
+    let mut met = BTreeSet::new();
+    for kind in [Kind::Zero, Kind::ZeroDamaged] {
+        for seed in 1..=120 {
+            let mut input = read_input(&make_state(kind, seed)).expect("a call");
+            let Command::Take { processor, .. } = input.call else {
+                panic!("{:?}", input.call);
+            };
+            let answers = [0, 1, 16].map(|size| {
+                input.call = Command::Take { processor, size };
+                let mut order = input.order.clone();
+                (run_call(&input, &mut order), order)
+            });
+            assert_eq!(answers[1], answers[0], "{kind:?} {seed}");
+            assert_eq!(answers[2], answers[0], "{kind:?} {seed}");
+            let outcome = answers[0].0.outcome.to_string();
+            let word = outcome.split(' ').next().unwrap().to_string();
+            met.insert(if word == "at" { word } else { outcome });
+        }
+    }
+    let all = ["at", "refused 12", "refused 13", "refused 2", "refused 4"];
+    assert_eq!(met, BTreeSet::from(all.map(String::from)));
+}
+
+/// Each call in `cases` gives its answer, on a state and on a row of 64 records.
+#[test]
+fn every_call_case_gives_its_answer() {
+    let cases = Path::new(env!("CARGO_MANIFEST_DIR")).join("../cases");
+    let mut count = 0;
+    for entry in fs::read_dir(cases).unwrap() {
+        let path = entry.unwrap().path();
+        if path.extension().is_none_or(|extension| extension != "call") {
+            continue;
+        }
+        let hex = fs::read_to_string(&path).unwrap();
+        let bytes = hex.split_ascii_whitespace();
+        let bytes: Vec<u8> = bytes
+            .map(|it| u8::from_str_radix(it, 16).unwrap())
+            .collect();
+        let expected = fs::read_to_string(path.with_extension("answer")).unwrap();
+        assert_eq!(answer_bytes(&bytes), expected, "{path:?}");
+        let on_row = [&[3, 64], &bytes[..]].concat();
+        assert_eq!(answer_bytes(&on_row), expected, "{path:?} on a row");
+        count += 1;
+    }
+    assert!(count >= 4);
 }
 
 #[test]
