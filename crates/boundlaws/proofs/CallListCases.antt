@@ -122,20 +122,22 @@ each-ready : map outcome-of-setup list-cases ≡ map (λ (k : ListCase). Ready) 
 unfolding setupOf withinLimits
 each-ready = refl
 
+-- the rows, by the calls behind the check
 each-answered : map rows-answered-of list-cases ≡ map (λ (k : ListCase). k .expected) list-cases
 unfolding rowsAnswered rowsOf ledgerAfter afterTake afterFree removed entriesOf stepsBy callPastCheck callDefinitions superblocksOfClass isOwnedOfClass ownersChanged
 each-answered = refl
 
-each-by-the-calls : (l : List ListCase) → map outcome-of-setup l ≡ map (λ (k : ListCase). Ready) l → map rows-of l ≡ map rows-answered-of l
-each-by-the-calls [] e = refl
-each-by-the-calls (k ∷ l) e =
+-- in a list whose setup is accepted the check passes before each call
+each-past-check : (l : List ListCase) → map outcome-of-setup l ≡ map (λ (k : ListCase). Ready) l → map rows-of l ≡ map rows-answered-of l
+each-past-check [] e = refl
+each-past-check (k ∷ l) e =
     rw (
       rows-are-computed (k .setup) (order-of k) (ap (λ (o : List Outcome). getD o 0 Ready) e) (both-of (k .classes)) (k .calls),
-      each-by-the-calls l (ap (drop 1) e),
+      each-past-check l (ap (drop 1) e),
     )
 
 pub list-cases-are-computed : map rows-of list-cases ≡ map (λ (k : ListCase). k .expected) list-cases
-list-cases-are-computed = each-by-the-calls list-cases each-ready ∙ each-answered
+list-cases-are-computed = each-past-check list-cases each-ready ∙ each-answered
 
 -- ---- the claim speaks of each: here of the whole case
 pub claims-of-whole-case : Claims (whole-list .setup) (setupOf (whole-list .setup) (order-of whole-list)) [] (λ c. 0) (stepsBy callOf (setupOf (whole-list .setup) (order-of whole-list)) (whole-list .calls))

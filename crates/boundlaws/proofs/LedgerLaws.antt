@@ -37,12 +37,12 @@ entries-of-added a c ledger d = omega arith
 
 -- ---- document 02, item 1: an accepted take of size 0
 module _ (ledger : List Entry) (i a : ℕ) where
-  -- is one live block of class 0 more, and of no other class
+  -- adds one live block, of class 0,
   pub size-0-take-counted : (c : ℕ) → entriesOf c (ledgerAfter ledger (Take i 0) (Address a)) ≡ entriesOf c ledger + one (eqb 0 c)
   unfolding ledgerAfter afterTake
   size-0-take-counted c = rw class-of-size-0 (entries-of-added a 0 ledger c)
 
-  -- and counts so in class 0's M
+  -- which counts in class 0's M
   pub size-0-take-in-peak : (peak : ℕ → ℕ) → peakWith peak (ledgerAfter ledger (Take i 0) (Address a)) 0 ≡ max (peak 0) (entriesOf 0 ledger + 1)
   size-0-take-in-peak peak = ap (max (peak 0)) (size-0-take-counted 0)
 

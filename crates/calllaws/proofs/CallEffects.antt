@@ -26,7 +26,7 @@ pub record Passed (s : State) (order : List ℕ) : Type 0 where
 pub record TakeAccepted (s : State) (order : List ℕ) (i size k : ℕ) : Type 0 where
   pub passed : Passed s order
   pub processor : (1 ≤ i) × (i ≤ s .setup .processors)
-  pub size-high : size ≤ 2048
+  pub size-le-2048 : size ≤ 2048
   pub place : ((fullest i (classOf size) s ≡ At k) × (takeOf s order i size ≡ takenFrom k s order))
       ⊎ ((fullest i (classOf size) s ≡ Nothing) × (otherPlaces (classOf size) s ≡ At k) × (takeOf s order i size ≡ takenFromOther i (classOf size) k s order))
 

@@ -330,12 +330,12 @@ module _ (s : State) (order : List ℕ) (i size k : ℕ) (shape : Shape s) (acc 
         ap (λ (x : After). x .answer .outcome) renewed-result
         ∙ ap (λ (j : ℕ). Address (addressOf k (classOf size) j))
         (ap (lastFilled (renewed order k blocks) k) (omega (arith, live-count-of-no-marks))
-        ∙ last-filled-of-renewed-is-0 order k blocks (blocks-of-le-256 (classOf size)) fits (blocks-of-pos (classOf size) (class-of-lt-27 size (acc .size-high))))
+        ∙ last-filled-of-renewed-is-0 order k blocks (blocks-of-le-256 (classOf size)) fits (blocks-of-pos (classOf size) (class-of-lt-27 size (acc .size-le-2048))))
 
     rest-ascending : stackOf after places k ≡ ascending 1 (blocks - 1)
     unfolding stackOf
     rest-ascending =
-        let pos = blocks-of-pos (classOf size) (class-of-lt-27 size (acc .size-high)) in
+        let pos = blocks-of-pos (classOf size) (class-of-lt-27 size (acc .size-le-2048)) in
         ap₂ (λ (x : List ℕ) (m : ℕ). fromLast (place x k) m) (ap (λ (x : After). x .order) renewed-result) (filled-after ∙ omega (arith, renewing .empty))
         ∙ from-last-ascending (place (renewed order k blocks) k) blocks (blocks - 1) (omega arith) (λ p l. renewed-place order k blocks p (blocks-of-le-256 (classOf size)) fits (omega arith))
         ∙ ap (λ (j : ℕ). ascending j (blocks - 1)) (omega arith)

@@ -34,6 +34,7 @@ use Rattle.calls.specs.Free.{superblockIndex, superblockHolding, blockOf, isUnm
 use Rattle.calls.specs.Calls.{callOf}
 use Rattle.calllaws.proofs.CallEffects.{Passed}
 use Rattle.calllaws.proofs.CheckedLaws.{bounds-of-is-processor}
+use Rattle.calllaws.proofs.TakeLaws.{takenByTests}
 use Rattle.calllaws.proofs.OrderWriteLaws.{fullest-below-superblocks, other-places-below-superblocks}
 
 -- two calls give the same answer and the same state, and leave the same first n places
@@ -100,11 +101,9 @@ module _ (s : State) (x y : List ℕ) (h : SameFirst (s .setup .superblocks * 25
       checked-agree (takeUnchecked s x i size) (takeUnchecked s y i size)
       (go (isProcessor s i) (isTooLarge size) (fullest i (classOf size) s) (otherPlaces (classOf size) s) refl refl refl)
     where
-      tests : List ℕ → (p w : Bool) (own other : Found) → After
-      tests l p w own other = pick (not p) (refused 2 s l) (pick w (refused 3 s l) (takenAt i (classOf size) s l own other))
-
-      go : (p w : Bool) (own other : Found) → isProcessor s i ≡ p → fullest i (classOf size) s ≡ own → otherPlaces (classOf size) s ≡ other → Passed s x → Agree n (tests x p w own other) (tests y p w own other)
-      go false w own other ep eo et passed = same-refusal 2
+      go : (processor large : Bool) (own other : Found) → isProcessor s i ≡ processor → fullest i (classOf size) s ≡ own → otherPlaces (classOf size) s ≡ other → Passed s x
+          → Agree n (takenByTests s x i (classOf size) processor large own other) (takenByTests s y i (classOf size) processor large own other)
+      go false large own other ep eo et passed = same-refusal 2
       go true true own other ep eo et passed = same-refusal 3
       go true false (At k) other ep eo et passed =
           taken-from-agrees n k s x y h (omega (arith, fullest-below-superblocks s x passed i (classOf size) k (bounds-of-is-processor s i (T-of-true (isProcessor s i) ep) .1) eo))

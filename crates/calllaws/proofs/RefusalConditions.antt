@@ -12,7 +12,7 @@ use lib.Dec.{eqb, leb}
 use Rattle.laws.specs.Sums.{pick}
 use Rattle.laws.proofs.Decides.{TypeIf, type-if-elim, Decides, true-of-decides, false-of-decides, decides-fact, decides-le, decides-nonzero, decides-differs, decides-as, decides-either, decides-both}
 use Rattle.classes.specs.Classes.{sizeOf, blocksOf, classOf, isTooLarge}
-use Rattle.classes.proofs.ClassLaws.{decides-too-large, not-too-large-of-le-2048, too-large-of-gt-2048}
+use Rattle.classes.proofs.ClassLaws.{decides-too-large}
 use Rattle.marks.specs.Marks.{markBit}
 use Rattle.marklaws.proofs.MarkLaws.{mark-bit-zero-of-no-mark, no-mark-of-mark-bit-zero}
 use Rattle.heap.specs.declared.Setup.{Setup}
@@ -21,7 +21,7 @@ use Rattle.heap.specs.declared.Found.{Found}
 use Rattle.heap.specs.declared.Found.the-variants.{At, Nothing}
 use Rattle.heap.specs.Table.{isUnused, noState}
 use Rattle.choicerules.specs.Choice.{fullest}
-use Rattle.checkrules.specs.Check.{within, withinLimits, restValid}
+use Rattle.checkrules.specs.Check.{withinLimits, restValid}
 use Rattle.heaplaws.proofs.StateFacts.{WithinLimits, Unused, Sound}
 use Rattle.heaplaws.proofs.StateCheckLaws.{facts-of-within-limits, within-limits-of-facts, sound-of-limits-and-rest, rest-valid-of-sound, facts-of-is-unused, is-unused-of-facts}
 use Rattle.calls.specs.declared.Outcome.the-variants.{Ready, Address, Moves, Refused}
@@ -33,7 +33,7 @@ use Rattle.calllaws.proofs.CallEffects.{Passed}
 use Rattle.calllaws.proofs.CheckedLaws.{checked-refuses-13-of-limits, checked-refuses-12-of-storage, checked-refuses-13-of-rest}
 use Rattle.calllaws.proofs.SetupLaws.{setup-refused-1-of-limits, setup-refused-12-of-storage}
 use Rattle.calllaws.proofs.RefusalOrder.{take-refused-2-of-processor, take-refused-3-of-too-large, take-of-valid-arguments, free-refused-2-of-processor, free-refused-5-of-unmapped, free-refused-6-of-misaligned, free-refused-7-of-not-live}
-use Rattle.calllaws.proofs.TakeLaws.{nothing-offered-of-refused-4, refused-4-of-nothing-offered}
+use Rattle.calllaws.proofs.TakeLaws.{takenByTests, nothing-offered-of-refused-4, refused-4-of-nothing-offered}
 use Rattle.calllaws.proofs.NothingOfferedLaws.{NotOffered, nothing-found-iff-not-offered}
 
 -- ---- the conditions
@@ -57,7 +57,7 @@ pub record NotProcessor (s : State) (order : List ℕ) (i : ℕ) : Type 0 where
   pub passed : Passed s order
   pub out : (i ≡ 0) ⊎ (s .setup .processors < i)
 
--- 3: "sizes above 2048"
+-- 3: "sizes above 2048" (document 02, item 1)
 pub record TooLarge (s : State) (order : List ℕ) (i size : ℕ) : Type 0 where
   pub passed : Passed s order
   pub processor : IsProcessor s i
@@ -67,7 +67,7 @@ pub record TooLarge (s : State) (order : List ℕ) (i size : ℕ) : Type 0 where
 pub record NothingOffered (s : State) (order : List ℕ) (i size : ℕ) : Type 0 where
   pub passed : Passed s order
   pub processor : IsProcessor s i
-  pub size-high : size ≤ 2048
+  pub size-le-2048 : size ≤ 2048
   pub none : (k : ℕ) → k < 64 → NotOffered s i (classOf size) k
 
 -- 5: "address at or past N × 4096, or in an unused superblock"
@@ -153,17 +153,13 @@ moves-not-refused : (m r : ℕ) → Moves m ≡ Refused r → ⊥
 moves-not-refused m r e = let z : _≡_ {A = ℕ} 0 1 = cc in omega arith
 
 -- ---- tests
--- 1 to y
-decides-within : (y v : ℕ) → Decides (within 1 y v) ((1 ≤ v) × (v ≤ y)) ((v ≡ 0) ⊎ (y < v))
-decides-within y v = decides-both (leb 1 v) (leb v y) (decides-nonzero v) (decides-le v y)
-
 decides-within-limits : (u : Setup) → Decides (withinLimits u) (WithinLimits u) (WithinLimits u → ⊥)
 decides-within-limits u = decides-fact (withinLimits u) (facts-of-within-limits u) (within-limits-of-facts u)
 
 module _ (s : State) (order : List ℕ) (i : ℕ) where
   decides-processor : Decides (isProcessor s i) (IsProcessor s i) ((i ≡ 0) ⊎ (s .setup .processors < i))
   unfolding isProcessor
-  decides-processor = decides-as (λ h. record { low = h .0; high = h .1 }, λ h. (h .low, h .high)) (λ h. h, λ h. h) (decides-within (s .setup .processors) i)
+  decides-processor = decides-as (λ h. record { low = h .0; high = h .1 }, λ h. (h .low, h .high)) (λ h. h, λ h. h) (decides-both (leb 1 i) (leb i (s .setup .processors)) (decides-nonzero i) (decides-le i (s .setup .processors)))
 
   -- ---- the check
   decides-rest-valid : WithinLimits (s .setup) → Decides (restValid s order) (Sound s order) (Sound s order → ⊥)
@@ -199,36 +195,33 @@ module _ (s : State) (order : List ℕ) (i : ℕ) where
         (takeRefusals s order i size) r (λ h. h) (λ h. h)
         (go (isProcessor s i) (isTooLarge size) (fullest i (classOf size) s) (otherPlaces (classOf size) s) decides-processor (decides-too-large size) refl refl)
       where
-        tests : (p w : Bool) (own other : Found) → After
-        tests p w own other = pick (not p) (refused 2 s order) (pick w (refused 3 s order) (takenAt i (classOf size) s order own other))
-
-        go : (p w : Bool) (own other : Found) → Decides p (IsProcessor s i) ((i ≡ 0) ⊎ (s .setup .processors < i))
-            → Decides w (2048 < size) (size ≤ 2048) → fullest i (classOf size) s ≡ own → otherPlaces (classOf size) s ≡ other
-            → Passed s order → tests p w own other .answer .outcome ≡ Refused r → ConditionOf (takeRefusals s order i size) r
-        go false w own other p z eo et passed e = condition-at-number (takeRefusals s order i size) 2 r e (record { passed = passed; out = p .says })
-        go true true own other p z eo et passed e = condition-at-number (takeRefusals s order i size) 3 r e (record { passed = passed; processor = p .says; large = z .says })
-        go true false (At k) other p z eo et passed e = absurd (address-not-refused _ r e)
-        go true false Nothing (At k) p z eo et passed e = absurd (address-not-refused _ r e)
-        go true false Nothing Nothing p z eo et passed e =
-            let f = nothing-offered-of-refused-4 s order i size (take-of-valid-arguments s order i passed size (true-of-decides decides-processor (p .says)) (not-too-large-of-le-2048 size (z .says)) ∙ rw (eo, et)) in
+        go : (processor large : Bool) (own other : Found) → Decides processor (IsProcessor s i) ((i ≡ 0) ⊎ (s .setup .processors < i))
+            → Decides large (2048 < size) (size ≤ 2048) → fullest i (classOf size) s ≡ own → otherPlaces (classOf size) s ≡ other
+            → Passed s order → takenByTests s order i (classOf size) processor large own other .answer .outcome ≡ Refused r → ConditionOf (takeRefusals s order i size) r
+        go false large own other p l eo et passed e = condition-at-number (takeRefusals s order i size) 2 r e (record { passed = passed; out = p .says })
+        go true true own other p l eo et passed e = condition-at-number (takeRefusals s order i size) 3 r e (record { passed = passed; processor = p .says; large = l .says })
+        go true false (At k) other p l eo et passed e = absurd (address-not-refused _ r e)
+        go true false Nothing (At k) p l eo et passed e = absurd (address-not-refused _ r e)
+        go true false Nothing Nothing p l eo et passed e =
+            let f = nothing-offered-of-refused-4 s order i size (take-of-valid-arguments s order i passed size (true-of-decides decides-processor (p .says)) (false-of-decides (decides-too-large size) (l .says)) ∙ rw (eo, et)) in
             condition-at-number (takeRefusals s order i size) 4 r e (record {
               passed = passed;
               processor = p .says;
-              size-high = z .says;
+              size-le-2048 = l .says;
               none = nothing-found-iff-not-offered s i (classOf size) (passed .sound .numbers .superblocks-high) .0 (record { own = f .0; zero = f .1; empty = f .2; unused = f .3 });
             })
 
     nothing-offered-refused-4 : NothingOffered s order i size → takeOf s order i size ≡ refused 4 s order
     nothing-offered-refused-4 h =
         let f = nothing-found-iff-not-offered s i (classOf size) (h .passed .sound .numbers .superblocks-high) .1 (h .none) in
-        refused-4-of-nothing-offered s order i size (h .passed) (h .processor .low) (h .processor .high) (h .size-high) (f .own) (f .zero) (f .empty) (f .unused)
+        refused-4-of-nothing-offered s order i size (h .passed) (h .processor .low) (h .processor .high) (h .size-le-2048) (f .own) (f .zero) (f .empty) (f .unused)
 
     -- a take is refused with number r exactly if r's condition holds: it applies, and none before it in the order
     pub take-refused-iff-condition : (r : ℕ) → (takeOf s order i size .answer .outcome ≡ Refused r) ↔ ConditionOf (takeRefusals s order i size) r
     unfolding takeOf
     take-refused-iff-condition = refused-iff-condition (takeOf s order i size) s order (takeRefusals s order i size) condition-of-take-refused (check-fails-refused-13 _) (storage-short-refused-12 _)
         (λ h. take-refused-2-of-processor s order i (h .passed) size (false-of-decides decides-processor (h .out)))
-        (λ h. take-refused-3-of-too-large s order i (h .passed) size (true-of-decides decides-processor (h .processor)) (too-large-of-gt-2048 size (h .large)))
+        (λ h. take-refused-3-of-too-large s order i (h .passed) size (true-of-decides decides-processor (h .processor)) (true-of-decides (decides-too-large size) (h .large)))
         nothing-offered-refused-4
 
     -- number by number: 13, 12, 2, 3, 4

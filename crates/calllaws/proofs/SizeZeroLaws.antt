@@ -1,18 +1,27 @@
--- Document 02, item 1, of a take of size 0 on every state and storage. Assumes nothing.
-use mathlib.Core.Path.{_≡_, subst}
+-- Document 02, item 1: a take of size 0. Assumes nothing.
+use mathlib.Core.Path.{_≡_, refl, subst}
 use mathlib.Core.List.{List}
 use Prim.Native.Nat.{ℕ}
 use native.Mathlib.Omega.{arith}
+use Rattle.classes.specs.Classes.{sizes, sizeOf, firstAtLeast, classOf, isTooLarge}
 use Rattle.classes.proofs.ClassLaws.{class-of-size-0}
 use Rattle.heap.specs.declared.State.{State}
 use Rattle.heaplaws.proofs.StateFacts.{Shape}
+use Rattle.calls.specs.declared.Call.the-variants.{Take}
 use Rattle.calls.specs.declared.Outcome.the-variants.{Refused}
-use Rattle.calls.specs.Take.{takeOf}
+use Rattle.calls.specs.Take.{takeUnchecked, takeOf}
+use Rattle.calls.specs.Calls.{callOf}
 use Rattle.calllaws.proofs.CallEffects.{TakeAccepted, TakeEffect}
 use Rattle.calllaws.proofs.TakeLaws.{taken-block, take-effect}
 use Rattle.calllaws.proofs.RefusalConditions.{take-refused-3}
 
--- "Size 0 now takes class 0": an accepted one takes a block of a superblock of class 0, with all that a take does
+-- "The controllers' C library turns a size of 0 into the smallest block": a take of size 0 is a take of the smallest block's size, on every state
+-- and storage
+pub take-of-size-0 : (s : State) (order : List ℕ) (i : ℕ) → callOf s order (Take i 0) ≡ callOf s order (Take i (sizeOf 0))
+unfolding callOf takeOf takeUnchecked isTooLarge sizeOf sizes classOf firstAtLeast
+take-of-size-0 s order i = refl
+
+-- "Size 0 now takes class 0": an accepted one, on a state of 64 superblocks, takes a block of a superblock of class 0, with all that a take does
 pub size-0-takes-class-0 : (s : State) (order : List ℕ) (i k : ℕ) (shape : Shape s) (acc : TakeAccepted s order i 0 k) → TakeEffect i 0 k (taken-block s order i 0 k shape acc) s (takeOf s order i 0 .answer .state)
 size-0-takes-class-0 s order i k shape acc =
     subst (λ (c : ℕ). TakeEffect i c k (taken-block s order i 0 k shape acc) s (takeOf s order i 0 .answer .state)) class-of-size-0 (take-effect s order i 0 k shape acc)

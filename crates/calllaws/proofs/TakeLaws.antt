@@ -10,8 +10,9 @@ use lib.ListN.{length}
 use lib.Dec.{leb}
 use Rattle.laws.specs.Sums.{pick}
 use Rattle.laws.proofs.TestLaws.{T-of-true}
+use Rattle.laws.proofs.Decides.{false-of-decides}
 use Rattle.classes.specs.Classes.{classOf, isTooLarge}
-use Rattle.classes.proofs.ClassLaws.{class-of-lt-27, not-too-large-of-le-2048, le-2048-of-not-too-large}
+use Rattle.classes.proofs.ClassLaws.{class-of-lt-27, decides-too-large, le-2048-of-not-too-large}
 use Rattle.heap.specs.declared.Superblock.{Superblock}
 use Rattle.heap.specs.declared.State.{State}
 use Rattle.heap.specs.declared.Found.{Found}
@@ -30,7 +31,7 @@ use Rattle.calllaws.proofs.TakeEffectLaws.{TakeResult, take-result-of-s
 
 -- ---- refusals
 -- a take past the check, by its two tests and by what place 1 and the other places offer
-abbrev takenByTests : State → List ℕ → ℕ → ℕ → Bool → Bool → Found → Found → After
+abbrev pub takenByTests : State → List ℕ → ℕ → ℕ → Bool → Bool → Found → Found → After
 takenByTests s order i c processor large own other =
     pick (not processor) (refused 2 s order) (pick large (refused 3 s order) (takenAt i c s order own other))
 
@@ -45,21 +46,21 @@ take-refused-or-accepted s order i size =
         → ((fullest i (classOf size) s ≡ At k) × (takeOf s order i size ≡ takenFrom k s order))
         ⊎ ((fullest i (classOf size) s ≡ Nothing) × (otherPlaces (classOf size) s ≡ At k) × (takeOf s order i size ≡ takenFromOther i (classOf size) k s order))
         → TakeAccepted s order i size k
-    accepted k p w passed place = record {
+    accepted k p l passed place = record {
       passed = passed;
       processor = bounds-of-is-processor s i (T-of-true (isProcessor s i) p);
-      size-high = le-2048-of-not-too-large size w;
+      size-le-2048 = le-2048-of-not-too-large size l;
       place = place;
     }
 
     go : (processor large : Bool) (own other : Found) → isProcessor s i ≡ processor → isTooLarge size ≡ large → fullest i (classOf size) s ≡ own → otherPlaces (classOf size) s ≡ other
         → Passed s order → takeOf s order i size ≡ takenByTests s order i (classOf size) processor large own other
         → ((r : ℕ) × (takeOf s order i size ≡ refused r s order)) ⊎ ((k : ℕ) × TakeAccepted s order i size k)
-    go false large own other p w f g passed e = inl (2, e)
-    go true true own other p w f g passed e = inl (3, e)
-    go true false (At k) other p w f g passed e = inr (k, accepted k p w passed (inl (f, e)))
-    go true false Nothing (At k) p w f g passed e = inr (k, accepted k p w passed (inr (f, g, e)))
-    go true false Nothing Nothing p w f g passed e = inl (4, e)
+    go false large own other p l f g passed e = inl (2, e)
+    go true true own other p l f g passed e = inl (3, e)
+    go true false (At k) other p l f g passed e = inr (k, accepted k p l passed (inl (f, e)))
+    go true false Nothing (At k) p l f g passed e = inr (k, accepted k p l passed (inr (f, g, e)))
+    go true false Nothing Nothing p l f g passed e = inl (4, e)
 
 -- no refusal of the check is 4
 next-of-checked-refused-4 : (s : State) (order : List ℕ) (next : After) → checked s order next ≡ refused 4 s order → next ≡ refused 4 s order
@@ -114,7 +115,7 @@ pub refused-4-of-nothing-offered : (s : State) (order : List ℕ) (i size : ℕ)
 unfolding takeOf takeUnchecked takenAt otherPlaces isProcessor
 refused-4-of-nothing-offered s order i size p h₁ h₂ h₃ a b c d =
     checked-is-next-of-passed s order (takeUnchecked s order i size) p
-    ∙ simp (le-leb 1 i h₁, le-leb i (s .setup .processors) h₂, not-too-large-of-le-2048 size h₃, a, b, c, d)
+    ∙ simp (le-leb 1 i h₁, le-leb i (s .setup .processors) h₂, false-of-decides (decides-too-large size) h₃, a, b, c, d)
 
 -- ---- an accepted take
 -- the superblock that gives the block, and all order places, as they are then
@@ -126,7 +127,7 @@ record TakeSourceAndResult (s : State) (order : List ℕ) (i c k : ℕ) (result 
 
 module _ (s : State) (order : List ℕ) (i size k : ℕ) (shape : Shape s) (acc : TakeAccepted s order i size k) where
   class-lt-27 : classOf size < 27
-  class-lt-27 = class-of-lt-27 size (acc .size-high)
+  class-lt-27 = class-of-lt-27 size (acc .size-le-2048)
 
   source-and-result : TakeSourceAndResult s order i (classOf size) k (takeOf s order i size)
   source-and-result =

@@ -1,4 +1,4 @@
--- The definitions that a computed case of a call opens, listed once: to open one of these names is to open all that its line names. Assumes nothing.
+-- The definitions that a computed case of a call unfolds, listed once: to unfold one of these names is to unfold all that its line names. Assumes nothing.
 use Rattle.laws.specs.Sums.{sumBelow, allBelow}
 use Rattle.classes.specs.Classes.{sizes, counts, sizeOf, blocksOf, firstAtLeast, classOf, isTooLarge}
 use Rattle.marks.specs.Marks.{bit, markBit, isMarked, withMark, withoutMark, liveCount, noMarkFrom}

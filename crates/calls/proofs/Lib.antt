@@ -2,4 +2,3 @@ pub mod CallDefinitions
 pub mod RuleCases
 pub mod CallCases
 pub mod AnswerLaws
-pub mod SizeLaws

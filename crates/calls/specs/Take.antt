@@ -64,7 +64,7 @@ takenAt i c s order (At k) other = takenFrom k s order
 takenAt i c s order Nothing (At k) = takenFromOther i c k s order
 takenAt i c s order Nothing Nothing = refused 4 s order
 
--- a take behind the check, on any state: "then take 2, 3, 4"; refusal 3 (bench word: size) is for a size that no class holds (isTooLarge)
+-- a take behind the check, on any state: "then take 2, 3, 4"; refusal 3 (bench word: size), "left for sizes above 2048" (document 02, item 1)
 unfoldable pub takeUnchecked : State → List ℕ → ℕ → ℕ → After
 takeUnchecked s order i size =
     pick (not (isProcessor s i)) (refused 2 s order)

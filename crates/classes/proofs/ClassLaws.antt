@@ -1,13 +1,13 @@
 -- The class of a size is the smallest that holds it, and which sizes none holds. Assumes nothing.
 use mathlib.Core.Path.{_≡_, refl}
-use mathlib.Core.Bool.{true, false}
+use mathlib.Core.Bool.{false}
 use Prim.Native.Nat.{ℕ, _≤_, _<_}
 use native.Mathlib.Nat.{lt-of-not-le, le-antisymm}
 use native.Mathlib.Omega.{arith}
 use borrow.Author.Tests.{ltb-true, ltb-false}
 use lib.Dec.{ltb}
 use Rattle.laws.proofs.Inequalities.{le-of-not-below}
-use Rattle.laws.proofs.Decides.{Decides, decides, true-of-decides, false-of-decides}
+use Rattle.laws.proofs.Decides.{Decides, decides}
 use Rattle.classes.specs.Classes.{sizes, sizeOf, firstAtLeast, classOf, isTooLarge}
 use Rattle.classes.proofs.FirstAtLeastLaws.{le-first-at-least, before-first-at-least-lt, first-at-least-le-length}
 use Rattle.classes.proofs.ClassTableLaws.{size-of-le-2048}
@@ -38,16 +38,19 @@ size-le-size-of-class-of s h = class-of-holds-below-27 s (class-of-lt-27 s h)
 pub class-of-too-large : (s : ℕ) → 2048 < s → classOf s ≡ 27
 class-of-too-large s h = le-antisymm (class-of-le-27 s) (le-of-not-below (λ (l : classOf s < 27). let b = class-of-holds-below-27 s l in let m = size-of-le-2048 (classOf s) in omega arith))
 
+-- a class that holds s, and below which none does, is the class of s
+pub class-of-unique : (s c : ℕ) → s ≤ sizeOf c → ((k : ℕ) → k < c → sizeOf k < s) → c ≡ classOf s
+class-of-unique s c h least =
+    let m = size-of-le-2048 c in
+    let a : s ≤ sizeOf (classOf s) = size-le-size-of-class-of s (omega arith) in
+    le-antisymm
+    (le-of-not-below (λ (l : classOf s < c). let b = least (classOf s) l in omega arith))
+    (le-of-not-below (λ (l : c < classOf s). let b = smaller-class-sizes-lt s c l in omega arith))
+
 -- ---- document 02, item 1: "Refusal 3 is left for sizes above 2048"
 pub decides-too-large : (s : ℕ) → Decides (isTooLarge s) (2048 < s) (s ≤ 2048)
 unfolding isTooLarge
 decides-too-large s = decides (ltb 2048 s) (ltb-true 2048 s) (ltb-false 2048 s) (λ l h. omega arith)
-
-pub not-too-large-of-le-2048 : (s : ℕ) → s ≤ 2048 → isTooLarge s ≡ false
-not-too-large-of-le-2048 s = false-of-decides (decides-too-large s)
-
-pub too-large-of-gt-2048 : (s : ℕ) → 2048 < s → isTooLarge s ≡ true
-too-large-of-gt-2048 s = true-of-decides (decides-too-large s)
 
 pub le-2048-of-not-too-large : (s : ℕ) → isTooLarge s ≡ false → s ≤ 2048
 unfolding isTooLarge
@@ -57,12 +60,3 @@ le-2048-of-not-too-large s = ltb-false 2048 s
 pub class-of-size-0 : classOf 0 ≡ 0
 unfolding classOf firstAtLeast sizes
 class-of-size-0 = refl
-
--- a class that holds s, and below which none does, is the class of s
-pub class-of-unique : (s c : ℕ) → s ≤ sizeOf c → ((k : ℕ) → k < c → sizeOf k < s) → c ≡ classOf s
-class-of-unique s c h least =
-    let m = size-of-le-2048 c in
-    let a : s ≤ sizeOf (classOf s) = size-le-size-of-class-of s (omega arith) in
-    le-antisymm
-    (le-of-not-below (λ (l : classOf s < c). let b = least (classOf s) l in omega arith))
-    (le-of-not-below (λ (l : c < classOf s). let b = smaller-class-sizes-lt s c l in omega arith))

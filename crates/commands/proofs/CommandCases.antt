@@ -91,6 +91,11 @@ record-of-60001-refused : commandAt (replicate 60001 3) 5 ≡ Refused 11 0
 unfolding commandDefinitions
 record-of-60001-refused = refl
 
+-- a size of 0 is read as 0 (document 02, item 1)
+size-0-read-as-0 : commandsOf (setup ++ (1 ∷ 1 ∷ 0 ∷ 0 ∷ [])) ≡ Setup 1 2 1 1 4 ∷ Take 1 0 ∷ []
+unfolding commandDefinitions
+size-0-read-as-0 = refl
+
 -- each kind of command by document 01's number, its offset, its command byte and its numbers
 pub record Values : Type 0 where
   pub number : ℕ

@@ -1,4 +1,4 @@
--- The definitions that a computed case of a record's commands opens, listed once: to open this name is to open all that its line names. Assumes nothing.
+-- The definitions that a computed case of a record's commands unfolds, listed once: to unfold this name is to unfold all that its line names. Assumes nothing.
 use Rattle.commands.specs.Record.{unlessTruncated, setupAt, unlessFirst, takeAt, freeAt, commandByFirstByte, commandAt, sizeOfCommand, isRefused, commandsFrom, commandsOf}
 
 unfoldable pub commandDefinitions : Unit {0}

@@ -24,8 +24,8 @@ setup = 0 ∷ 1 ∷ 1 ∷ 1 ∷ 1 ∷ 2 ∷ []
 abbrev take : List ℕ
 take = 1 ∷ 1 ∷ 0 ∷ 8 ∷ []
 
-abbrev take-of-size-0 : List ℕ
-take-of-size-0 = 1 ∷ 1 ∷ 0 ∷ 0 ∷ []
+abbrev size-0-take : List ℕ
+size-0-take = 1 ∷ 1 ∷ 0 ∷ 0 ∷ []
 
 abbrev take-by-processor-0 : List ℕ
 take-by-processor-0 = 1 ∷ 0 ∷ 0 ∷ 8 ∷ []
@@ -61,7 +61,7 @@ unfolding keyDefinitions
 key-after-refused-take = refl
 
 -- size 0 prints as 0 and is a live block of class 0 (document 02, item 1)
-key-of-size-0 : keyOf (setup ++ take-of-size-0) storage ≡ letters "setup 1 1 1 1 2\n" ++ letters "take 1 0 at 0\n" ++ letters "heap 1 class 0 superblocks 1 live 1\n" ++ letters "end\n"
+key-of-size-0 : keyOf (setup ++ size-0-take) storage ≡ letters "setup 1 1 1 1 2\n" ++ letters "take 1 0 at 0\n" ++ letters "heap 1 class 0 superblocks 1 live 1\n" ++ letters "end\n"
 unfolding keyDefinitions
 key-of-size-0 = refl
 

@@ -1,3 +1,4 @@
 pub mod LineDefinitions
 pub mod LineCases
+pub mod LineLaws
 pub mod LineLengthLaws

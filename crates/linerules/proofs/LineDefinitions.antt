@@ -1,4 +1,4 @@
--- The definitions that a computed case of the key's lines opens, listed once: to open this name is to open all that its line names. Assumes nothing.
+-- The definitions that a computed case of the key's lines unfolds, listed once: to unfold this name is to unfold all that its line names. Assumes nothing.
 use Rattle.laws.specs.Sums.{sumBelow}
 use Rattle.marks.specs.Marks.{liveCount, markBit, bit}
 use Rattle.textrules.specs.Text.{decimal, digits}

@@ -30,8 +30,8 @@ use Rattle.calls.specs.Setup.{setupOf}
 use Rattle.calls.specs.Take.{takeOf}
 use Rattle.calls.specs.Free.{freeOf}
 use Rattle.calls.specs.Calls.{callOf}
-use Rattle.calls.proofs.SizeLaws.{take-of-size-0}
 use Rattle.calllaws.proofs.CallEffects.{Passed}
+use Rattle.calllaws.proofs.SizeZeroLaws.{take-of-size-0}
 use Rattle.calllaws.proofs.CheckedLaws.{checked-refuses-13-of-limits, checked-refuses-12-of-storage}
 use Rattle.calllaws.proofs.SetupLaws.{setup-accepted-of-limits-and-storage as state-setup-accepts}
 use Rattle.rowrules.specs.Row.{RowAfter, stateOf, asRowAfter, rowRefused, rowAcceptedSetup, setupOn, callOn, rowSetup, rowCall}

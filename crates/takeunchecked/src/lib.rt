@@ -2,7 +2,7 @@
 // the state passes the check, which is the caller's to make; it is total, and defined on every other state too.
 ghost use mathlib.Core.Path.{_≡_};
 ghost use Rattle.heap.specs.declared.Found.the-variants.{Nothing};
-ghost use Rattle.calls.specs.Answers.{After, HasNumberAndValuesOf};
+ghost use Rattle.calls.specs.Answers.{HasNumberAndValuesOf};
 ghost use Rattle.calls.specs.Take.{otherPlaces, takenAt, takeUnchecked};
 use calls::Answer;
 use heap::Found;
