@@ -56,7 +56,9 @@ pub fn make_record(kind: Kind, seed: u64, length: usize) -> Vec<u8> {
         Kind::Uniform => uniform(random, length).record,
         Kind::Threshold => threshold(random, length).record,
         Kind::Small => small(random, length).record,
-        Kind::Many => many(random, length).record,
+        // Figures of several versions are taken with these records: their bytes stay
+        // those of the time when size 0 was refused.
+        Kind::Many => many(random, length, true).record,
         Kind::Longest => longest(random),
         Kind::Truncated => truncated(random, length),
         Kind::Garbage => garbage(random, length),
@@ -72,7 +74,7 @@ pub fn any_run(random: &mut Xorshift, length: usize) -> Run {
         1 => threshold(random, length),
         2 => small(random, length),
         3 => zero(random, length),
-        _ => many(random, length),
+        _ => many(random, length, false),
     }
 }
 
@@ -88,7 +90,7 @@ pub fn setup_in_limits(random: &mut Xorshift, most_processors: u8, most_superblo
     }
 }
 
-/// A size of a class, from the smallest but 0 to the block size.
+/// A size of a class, from the smallest above 0 to the block size.
 pub fn size_of_class(random: &mut Xorshift, class: u8) -> u16 {
     let class = usize::from(class);
     let smallest = match class {
@@ -192,16 +194,14 @@ fn small(random: &mut Xorshift, length: usize) -> Run {
     run
 }
 
-fn many(random: &mut Xorshift, length: usize) -> Run {
+fn many(random: &mut Xorshift, length: usize, refuses_zero: bool) -> Run {
     let setup = Setup {
         processors: 8,
         superblocks: random.byte_between(40, 64),
         ..setup_in_limits(random, 8, 64)
     };
     let mut run = Run::new(setup);
-    // Figures before and after a change are taken with these records: their bytes
-    // stay those of the time when size 0 was refused.
-    run.refuses_zero = true;
+    run.refuses_zero = refuses_zero;
     while run.calls < length && run.has_room() {
         // Stretches that grow and stretches that shrink.
         let takes = random.pick(&[30, 50, 70, 90]);
