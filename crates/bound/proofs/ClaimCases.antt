@@ -16,6 +16,7 @@ use Rattle.heap.specs.declared.Setup.{Setup}
 use Rattle.heap.specs.declared.State.{State}
 use Rattle.heap.specs.Table.{unused}
 use Rattle.heap.specs.Counts.{total, isOwnedOfClass, superblocksOfClass, ownersChanged}
+use Rattle.heap.proofs.CaseStates.{unnamedState}
 use Rattle.checkrules.specs.Check.{withinLimits}
 use Rattle.calls.specs.declared.Call.{Call}
 use Rattle.calls.specs.declared.Call.the-variants.{Take, Free}
@@ -67,11 +68,11 @@ of h c marks = record { owner = h; class = c; live = marks ∷ 0 ∷ 0 ∷ 0 ∷
 
 -- eight of class c in heap 0, empty, and three in heap 1 with a block live; so many in heap 2 with two; two of class 25
 abbrev pub state-of-class : ℕ → ℕ → State
-state-of-class c k = record { setup = u; table = replicate 8 (of 0 c 0) ++ replicate 3 (of 1 c 1) ++ replicate k (of 2 c 3) ++ replicate 2 (of 1 25 1) ++ replicate (51 - k) unused }
+state-of-class c k = unnamedState u (replicate 8 (of 0 c 0) ++ replicate 3 (of 1 c 1) ++ replicate k (of 2 c 3) ++ replicate 2 (of 1 25 1) ++ replicate (51 - k) unused)
 
 -- as many of class c as stated, and no other
 abbrev pub only-of-class : ℕ → ℕ → State
-only-of-class c k = record { setup = u; table = replicate k (of 0 c 0) ++ replicate (64 - k) unused }
+only-of-class c k = unnamedState u (replicate k (of 0 c 0) ++ replicate (64 - k) unused)
 
 -- a comparison at each class, by its test; a comparison that its test denies
 pub each-class-le-by-test : (f g : ℕ → ℕ) → allBelow (λ c. leb (f c) (g c)) 27 ≡ true → (c : ℕ) → c < 27 → f c ≤ g c
@@ -162,10 +163,10 @@ claim-fails-after-last-call k = not-le-by-test (k .2 .2 23 (omega arith)) refl
 
 -- a free that passes eight superblocks to heap 0; a refused one that passes one
 abbrev pub all-in-heap-2 : ℕ → State
-all-in-heap-2 k = record { setup = u; table = replicate k (of 2 24 0) ++ replicate (64 - k) unused }
+all-in-heap-2 k = unnamedState u (replicate k (of 2 24 0) ++ replicate (64 - k) unused)
 
 abbrev pub all-in-heap-0 : ℕ → State
-all-in-heap-0 k = record { setup = u; table = replicate k (of 0 24 0) ++ replicate (64 - k) unused }
+all-in-heap-0 k = unnamedState u (replicate k (of 0 24 0) ++ replicate (64 - k) unused)
 
 pub claim-fails-of-eight-moves : Claims u (after-with Ready (all-in-heap-2 8)) [] (λ c. 0) (step-with (Free 1 16) (Moves 8) (all-in-heap-0 8) ∷ []) → ⊥
 unfolding Claims OwnerChanges ownersChanged sumBelow
@@ -178,7 +179,7 @@ claim-fails-of-refused-free-move k = let z = k .1 .2 6 refl in omega arith
 -- "Each gets the state that the one before it returned and the storage as that one left it": here a state whose numbers fail the check, so that each call
 -- is refused with 13; no call of the list may leave another state, storage or outcome
 abbrev pub state-out-of-limits : State
-state-out-of-limits = record { setup = record { processors = 2; superblocks = 20; spare = 5; p = 7; q = 3 }; table = [] }
+state-out-of-limits = unnamedState (record { processors = 2; superblocks = 20; spare = 5; p = 7; q = 3 }) ([])
 
 abbrev pub after-refused-13 : List ℕ → After
 after-refused-13 order = record { answer = record { outcome = Refused 13; state = state-out-of-limits }; order = order }

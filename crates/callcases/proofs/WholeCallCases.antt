@@ -7,6 +7,7 @@ use lib.ListN.{length, replicate}
 use Rattle.heap.specs.declared.Superblock.{Superblock}
 use Rattle.heap.specs.declared.State.{State}
 use Rattle.heap.specs.Table.{unused}
+use Rattle.heap.proofs.CaseStates.{unnamedState}
 use Rattle.calls.specs.declared.Call.{Call}
 use Rattle.calls.specs.declared.Call.the-variants.{Take, Free}
 use Rattle.calls.specs.declared.Outcome.{Outcome}
@@ -42,7 +43,7 @@ pub record CallCase : Type 0 where
   pub after : List SuperblockAndPlaces
 
 abbrev pub state-of : List SuperblockAndPlaces → State
-state-of l = record { setup = setup-with 2 (length l) 1 3 7; table = table-of l }
+state-of l = unnamedState (setup-with 2 (length l) 1 3 7) (table-of l)
 
 -- what the rules leave, and what is expected: outcome, setup, all 64 superblocks and all order places
 abbrev pub result-of : CallCase → After

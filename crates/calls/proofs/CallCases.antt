@@ -5,19 +5,21 @@ use lib.ListN.{replicate}
 use Prim.Native.Nat.{ℕ}
 use Rattle.heap.specs.declared.State.{State}
 use Rattle.heap.specs.Table.{unused}
+use Rattle.heap.proofs.CaseStates.{unnamedState}
 use Rattle.calls.specs.declared.Call.{Call}
-use Rattle.calls.specs.declared.Call.the-variants.{Take, Free}
+use Rattle.calls.specs.declared.Call.the-variants.{Take, Free, NamedTake, NamedFree}
 use Rattle.calls.specs.declared.Outcome.the-variants.{Address, Moves}
 use Rattle.calls.specs.Answers.{After, refused, checked}
 use Rattle.calls.specs.Take.{takeUnchecked, takeOf}
-use Rattle.calls.specs.Free.{freeUnchecked, freeOf}
-use Rattle.calls.specs.Calls.{callOf}
+use Rattle.calls.specs.Free.{freeOf}
+use Rattle.calls.specs.Named.{namedTakeOf, namedFreeOf}
+use Rattle.calls.specs.Calls.{callOf, callUnchecked}
 use Rattle.calls.proofs.CallDefinitions.{uncheckedCallDefinitions}
 use Rattle.calls.proofs.RuleCases.{of, setup-with, after-with}
 
 -- P = 2, N = 2, K = 1, p/q = 3/7: superblocks 0 and 1, of class 26 with two blocks of 2048 bytes, are heap 2's and heap 1's
 abbrev pub pair-state : ℕ → ℕ → State
-pair-state a b = record { setup = setup-with 2 2 1 3 7; table = of 2 26 a ∷ of 1 26 b ∷ replicate 62 unused }
+pair-state a b = unnamedState (setup-with 2 2 1 3 7) (of 2 26 a ∷ of 1 26 b ∷ replicate 62 unused)
 
 -- the first two order places of each; every other place holds 77
 abbrev pub pairOrder : ℕ → ℕ → ℕ → ℕ → List ℕ
@@ -32,8 +34,7 @@ order-before = pairOrder 1 66 0 67
 
 -- ---- behind the check: a call on that state and storage
 abbrev pub unchecked : Call → After
-unchecked (Take processor size) = takeUnchecked state-before order-before processor size
-unchecked (Free processor address) = freeUnchecked state-before order-before processor address
+unchecked = callUnchecked state-before order-before
 
 -- 2 before 3; 3 before 4; 4, not 3, where no place offers a superblock for size 0; a take of 2048 from heap 1's own superblock; 2 before 5; 5 before 6, where superblock 2 is unused; 6 before 7, where block 1 is not live;
 -- 7; and processor 1 frees a block of heap 2, whose superblock stays heap 2's
@@ -46,7 +47,7 @@ unchecked-call-cases = refl
 
 -- "Size 0 now takes class 0": sizes 0, 1 and 16 each get block 9 of heap 1's superblock 1, of class 0, with block 0 live; place 254 is its last filled
 abbrev pub class-0-state : ℕ → State
-class-0-state marks = record { setup = setup-with 2 2 1 3 7; table = of 2 26 1 ∷ of 1 0 marks ∷ replicate 62 unused }
+class-0-state marks = unnamedState (setup-with 2 2 1 3 7) (of 2 26 1 ∷ of 1 0 marks ∷ replicate 62 unused)
 
 abbrev pub class-0-order : List ℕ
 class-0-order = replicate 510 77 ++ 9 ∷ 78 ∷ []
@@ -56,7 +57,9 @@ unfolding uncheckedCallDefinitions
 size-0-cases = refl
 
 -- ---- with the check before it: "Take or free: 13 for setup numbers, 12, the rest of 13, then ..", whatever the state and the storage
-pub call-of-checks-first : (s : State) (order : List ℕ) (processor n : ℕ)
-    → (callOf s order (Take processor n) ≡ checked s order (takeUnchecked s order processor n)) × (callOf s order (Free processor n) ≡ checked s order (freeUnchecked s order processor n))
-unfolding callOf takeOf freeOf
-call-of-checks-first s order processor n = (refl, refl)
+pub call-of-checks-first : (s : State) (order : List ℕ) (call : Call) → callOf s order call ≡ checked s order (callUnchecked s order call)
+unfolding callOf callUnchecked takeOf freeOf namedTakeOf namedFreeOf
+call-of-checks-first s order (Take processor size) = refl
+call-of-checks-first s order (Free processor address) = refl
+call-of-checks-first s order (NamedTake processor name size) = refl
+call-of-checks-first s order (NamedFree processor name) = refl

@@ -1,4 +1,5 @@
 pub mod CallDefinitions
 pub mod RuleCases
 pub mod CallCases
+pub mod NamedCases
 pub mod AnswerLaws

@@ -1,30 +1,22 @@
 -- Answers, the check's order, setups and the conditions of refusals, in cases that tell them from near misses, by computation. Assumes nothing.
 use mathlib.Core.Path.{_≡_, refl}
-use mathlib.Core.Bool.{true, false, not}
+use mathlib.Core.Bool.{true, false}
 use mathlib.Core.List.{List, [], _∷_, _++_, map}
-use Prim.Native.Nat.{ℕ, _+_, _-_}
+use Prim.Native.Nat.{ℕ}
 use lib.ListN.{replicate}
-use Rattle.laws.specs.Sums.{sumBelow, allBelow}
-use Rattle.classes.specs.Classes.{sizes, counts, sizeOf, blocksOf}
-use Rattle.marks.specs.Marks.{bit, markBit, isMarked, withMark, withoutMark, liveCount, noMarkFrom}
-use Rattle.order.specs.Order.{place, lastFilled, withPlace, descending, withRenewedPlaces, renewed, cleared}
-use Rattle.filledplaces.specs.FilledPlaces.{occurrences, placesInStorage, eachOnce, placesValid}
 use Rattle.heap.specs.declared.Superblock.{Superblock}
 use Rattle.heap.specs.declared.Setup.{Setup}
 use Rattle.heap.specs.declared.State.{State}
-use Rattle.heap.specs.declared.Found.{Found}
 use Rattle.heap.specs.declared.Found.the-variants.{At}
-use Rattle.heap.specs.Table.{unused, isUnused}
-use Rattle.heap.specs.Counts.{total, belongs, oneIfBelongs, liveIfBelongs, superblocksOf, blocksIn, liveOf}
-use Rattle.choicerules.specs.Choice.{prefer, chosenBelow, moreLive, fewerLive, neverPreferred, hasFree, emptyInGlobal, fullest, lowestEmpty, lowestUnused, emptiest}
-use Rattle.moverules.specs.Moves.{bothConditions, mustMove, transferred, foundTransferred, transfersUpTo, excessTransferred, invariantRestored}
-use Rattle.checkrules.specs.Check.{withinLimits, superblockValid, unusedFrom, emptinessInvariant, sparseIfGlobal, restValid}
+use Rattle.heap.specs.Table.{unused}
+use Rattle.heap.proofs.CaseStates.{unnamedState}
 use Rattle.calls.specs.declared.Outcome.{Outcome}
 use Rattle.calls.specs.declared.Outcome.the-variants.{Ready, Address, Moves, Refused}
 use Rattle.calls.specs.Answers.{After, numberOf, valuesOf, refused, checked, isProcessor}
 use Rattle.calls.specs.Setup.{setupOf}
 use Rattle.calls.specs.Take.{otherPlaces, acquired, acquiredOrder, nextBlock, addressOf, takenFrom}
 use Rattle.calls.specs.Free.{blockOf, isUnmapped, isMisaligned, isLiveAt, markCleared, orderPushed, freedAt}
+use Rattle.calls.proofs.CallDefinitions.{uncheckedCallDefinitions, callDefinitions}
 
 -- a superblock of heap h and class c with these marks in the first of its four numbers
 abbrev pub of : ℕ → ℕ → ℕ → Superblock
@@ -50,7 +42,7 @@ accepted-with order =
     record {
       answer = record {
         outcome = Ready;
-        state = record { setup = record { processors = 2; superblocks = 5; spare = 1; p = 3; q = 7 }; table = replicate 64 (record { owner = 255; class = 0; live = 0 ∷ 0 ∷ 0 ∷ 0 ∷ [] }) };
+        state = unnamedState (record { processors = 2; superblocks = 5; spare = 1; p = 3; q = 7 }) (replicate 64 (record { owner = 255; class = 0; live = 0 ∷ 0 ∷ 0 ∷ 0 ∷ [] }));
       };
       order = order;
     }
@@ -61,7 +53,7 @@ refused-setup-with r order =
     record {
       answer = record {
         outcome = Refused r;
-        state = record { setup = record { processors = 0; superblocks = 0; spare = 0; p = 0; q = 0 }; table = replicate 64 (record { owner = 255; class = 0; live = 0 ∷ 0 ∷ 0 ∷ 0 ∷ [] }) };
+        state = unnamedState (record { processors = 0; superblocks = 0; spare = 0; p = 0; q = 0 }) (replicate 64 (record { owner = 255; class = 0; live = 0 ∷ 0 ∷ 0 ∷ 0 ∷ [] }));
       };
       order = order;
     }
@@ -70,19 +62,19 @@ refused-setup-with r order =
 pub setup-refused-cases :
     setupOf (setup-with 2 5 1 7 7) (used-order 4) ∷ setupOf (setup-with 2 5 1 7 7) (used-order 0) ∷ setupOf (setup-with 2 5 1 3 7) (used-order 0) ∷ []
     ≡ refused-setup-with 1 (used-order 4) ∷ refused-setup-with 1 (used-order 0) ∷ refused-setup-with 12 (used-order 0) ∷ []
-unfolding setupOf withinLimits
+unfolding callDefinitions
 setup-refused-cases = refl
 
 -- 1280 places are enough; of 1283 the last three keep what they had
 pub setup-accepted-cases :
     setupOf (setup-with 2 5 1 3 7) (used-order 1) ∷ setupOf (setup-with 2 5 1 3 7) (used-order 4) ∷ [] ≡ accepted-with (replicate 1280 0) ∷ accepted-with (replicate 1280 0 ++ 62 ∷ 62 ∷ 62 ∷ []) ∷ []
-unfolding setupOf withinLimits cleared
+unfolding callDefinitions
 setup-accepted-cases = refl
 
 -- ---- "Take or free: 13 for setup numbers, 12, the rest of 13": a state whose superblock 0 has an owner above P, with q = 2 and storage short,
 -- with storage short, and with storage enough
 abbrev pub state-with-wrong-owner : ℕ → State
-state-with-wrong-owner q = record { setup = setup-with 2 5 1 3 q; table = of 3 26 3 ∷ replicate 63 unused }
+state-with-wrong-owner q = unnamedState (setup-with 2 5 1 3 q) (of 3 26 3 ∷ replicate 63 unused)
 
 abbrev pub after-check : After
 after-check = accepted-with []
@@ -90,16 +82,15 @@ after-check = accepted-with []
 pub checked-cases :
     checked (state-with-wrong-owner 2) (used-order 0) after-check ∷ checked (state-with-wrong-owner 7) (used-order 0) after-check ∷ checked (state-with-wrong-owner 7) (used-order 1) after-check ∷ []
     ≡ refused 13 (state-with-wrong-owner 2) (used-order 0) ∷ refused 12 (state-with-wrong-owner 7) (used-order 0) ∷ refused 13 (state-with-wrong-owner 7) (used-order 1) ∷ []
-unfolding checked withinLimits restValid superblockValid isUnused liveCount sumBelow allBelow markBit bit
+unfolding callDefinitions
 checked-cases = refl
 
 -- a state that passes, with P = 1, and storage enough: what follows
 abbrev pub state-that-passes : State
-state-that-passes = record { setup = setup-with 1 1 1 3 7; table = of 1 26 1 ∷ replicate 63 unused }
+state-that-passes = unnamedState (setup-with 1 1 1 3 7) (of 1 26 1 ∷ replicate 63 unused)
 
 pub checked-passing-case : checked state-that-passes (1 ∷ replicate 255 77) after-check ≡ after-check
-unfolding checked withinLimits restValid superblockValid unusedFrom emptinessInvariant sparseIfGlobal mustMove bothConditions total oneIfBelongs liveIfBelongs belongs superblocksOf blocksIn liveOf isUnused
-    placesValid placesInStorage eachOnce occurrences place noMarkFrom isMarked sizeOf sizes blocksOf counts liveCount sumBelow allBelow markBit bit
+unfolding callDefinitions
 checked-passing-case = refl
 
 -- a refusal: its number, the state and the storage as they were
@@ -110,72 +101,69 @@ refused-case = refl
 -- with 170 blocks of 24, has block 169 live; superblock 1 is unused
 abbrev pub refusal-state : State
 refusal-state =
-    record {
-      setup = setup-with 2 5 1 3 7;
-      table = of 1 26 3 ∷ unused ∷ of 2 26 1 ∷ of 2 20 13 ∷ record { owner = 1; class = 1; live = 0 ∷ 0 ∷ 2199023255552 ∷ 0 ∷ [] } ∷ replicate 59 unused;
-    }
+    unnamedState (setup-with 2 5 1 3 7) (of 1 26 3 ∷ unused ∷ of 2 26 1 ∷ of 2 20 13 ∷ record { owner = 1; class = 1; live = 0 ∷ 0 ∷ 2199023255552 ∷ 0 ∷ [] } ∷ replicate 59 unused)
 
 -- 2: "0 or above P"
 pub is-processor-cases : map (isProcessor refusal-state) (0 ∷ 1 ∷ 2 ∷ 3 ∷ []) ≡ false ∷ true ∷ true ∷ false ∷ []
-unfolding isProcessor
+unfolding uncheckedCallDefinitions
 is-processor-cases = refl
 
 -- 5: "address at or past N × 4096, or in an unused superblock": the first and last address of superblocks 0, 1 and 4, those past N, and past the table
 pub is-unmapped-cases :
     map (isUnmapped refusal-state) (0 ∷ 4095 ∷ 4096 ∷ 8191 ∷ 8192 ∷ 16384 ∷ 20479 ∷ 20480 ∷ 20481 ∷ 24576 ∷ 262144 ∷ [])
     ≡ false ∷ false ∷ true ∷ true ∷ false ∷ false ∷ false ∷ true ∷ true ∷ true ∷ true ∷ []
-unfolding isUnmapped isUnused liveCount sumBelow markBit bit
+unfolding uncheckedCallDefinitions
 is-unmapped-cases = refl
 
 -- the same where superblock N is in use, for N = 1, and where there is no superblock N, for N = 64
 abbrev pub all-used : ℕ → State
-all-used n = record { setup = setup-with 2 n 1 3 7; table = replicate 64 (of 1 26 3) }
+all-used n = unnamedState (setup-with 2 n 1 3 7) (replicate 64 (of 1 26 3))
 
 pub is-unmapped-past-N-cases : map (isUnmapped (all-used 1)) (4095 ∷ 4096 ∷ []) ≡ false ∷ true ∷ [] × map (isUnmapped (all-used 64)) (262143 ∷ 262144 ∷ []) ≡ false ∷ true ∷ []
-unfolding isUnmapped isUnused liveCount sumBelow markBit bit
+unfolding uncheckedCallDefinitions
 is-unmapped-past-N-cases = (refl, refl)
 
 -- 6: "offset in the superblock is no multiple of the block size, or block n or above": 12288 is where superblock 3 starts, 16384 superblock 4
 pub is-misaligned-cases :
     map (isMisaligned refusal-state) (12288 ∷ 12289 ∷ 13056 ∷ 15360 ∷ 15359 ∷ 16128 ∷ 16384 ∷ 20440 ∷ 20464 ∷ 20441 ∷ [])
     ≡ false ∷ true ∷ false ∷ false ∷ true ∷ true ∷ false ∷ false ∷ true ∷ true ∷ []
-unfolding isMisaligned blockOf sizeOf sizes blocksOf counts
+unfolding uncheckedCallDefinitions
 is-misaligned-cases = refl
 
 pub block-of-cases : map (blockOf refusal-state) (12288 ∷ 13056 ∷ 15360 ∷ 16384 ∷ 20440 ∷ []) ≡ 0 ∷ 1 ∷ 4 ∷ 0 ∷ 169 ∷ []
-unfolding blockOf sizeOf sizes
+unfolding uncheckedCallDefinitions
 block-of-cases = refl
 
 -- 7: "the block is not live"
 pub is-live-at-cases : map (isLiveAt refusal-state) (12288 ∷ 13056 ∷ 13824 ∷ 14592 ∷ 15360 ∷ 16384 ∷ 20440 ∷ []) ≡ true ∷ false ∷ true ∷ true ∷ false ∷ false ∷ true ∷ []
-unfolding isLiveAt blockOf sizeOf sizes isMarked markBit bit
+unfolding uncheckedCallDefinitions
 is-live-at-cases = refl
 
 -- ---- parts of a take. "Block j of it starts at s × 4096 + j × block size."
 pub address-of-cases : addressOf 3 20 2 ∷ addressOf 63 0 255 ∷ addressOf 17 1 169 ∷ [] ≡ 13824 ∷ 262128 ∷ 73688 ∷ []
-unfolding addressOf sizeOf sizes
+unfolding uncheckedCallDefinitions
 address-of-cases = refl
 
 -- "From places 2 to 4 it becomes owned by heap i. A superblock with nothing live is renewed for c": with nothing live, and with block 2 live
 pub acquired-cases : acquired 2 20 (of 0 23 0) ∷ acquired 2 20 (of 255 0 0) ∷ acquired 2 20 (of 0 20 4) ∷ [] ≡ of 2 20 0 ∷ of 2 20 0 ∷ of 2 20 4 ∷ []
-unfolding acquired liveCount sumBelow markBit bit
+unfolding uncheckedCallDefinitions
 acquired-cases = refl
 
 -- the places that go first: heap 0's superblock of class 24 with a block live (place 2), its lowest empty one (3), the lowest unused one (4)
 abbrev pub state-offering : Superblock → Superblock → State
-state-offering a b = record { setup = setup-with 2 3 1 3 7; table = unused ∷ a ∷ b ∷ replicate 61 unused }
+state-offering a b = unnamedState (setup-with 2 3 1 3 7) (unused ∷ a ∷ b ∷ replicate 61 unused)
 
 pub other-places-cases :
     map (otherPlaces 24) (state-offering (of 0 23 0) (of 0 24 1) ∷ state-offering (of 0 23 0) (of 0 24 0) ∷ state-offering (of 0 26 0) (of 0 23 0) ∷ state-offering (of 1 24 0) (of 2 24 1) ∷ [])
     ≡ At 2 ∷ At 2 ∷ At 1 ∷ At 0 ∷ []
-unfolding otherPlaces fullest lowestEmpty lowestUnused chosenBelow prefer moreLive neverPreferred hasFree emptyInGlobal belongs isUnused blocksOf counts liveCount sumBelow markBit bit
+unfolding uncheckedCallDefinitions
 other-places-cases = refl
 
 -- "put n - 1 - j in place j for j below n": superblock 1 with nothing live, of the class or of another, and with block 2 live
 pub acquired-order-cases :
     map (λ (b : Superblock). acquiredOrder 20 1 b (used-order 4)) (of 0 20 0 ∷ of 0 26 0 ∷ of 0 20 4 ∷ [])
     ≡ (replicate 256 61 ++ 4 ∷ 3 ∷ 2 ∷ 1 ∷ 0 ∷ replicate 1018 61 ++ replicate 4 62) ∷ (replicate 256 61 ++ 4 ∷ 3 ∷ 2 ∷ 1 ∷ 0 ∷ replicate 1018 61 ++ replicate 4 62) ∷ used-order 4 ∷ []
-unfolding acquiredOrder renewed withRenewedPlaces descending withPlace blocksOf counts liveCount sumBelow markBit bit
+unfolding uncheckedCallDefinitions
 acquired-order-cases = refl
 
 -- superblock 3 has two free blocks, 4 and 1: block 1 is taken and marked live, and every place keeps its number
@@ -184,40 +172,36 @@ order-of-3 = replicate 768 61 ++ 4 ∷ 1 ∷ replicate 254 62
 
 abbrev pub state-with-3 : ℕ → State
 state-with-3 marks =
-    record {
-      setup = setup-with 2 5 1 3 7;
-      table = of 1 26 3 ∷ unused ∷ of 2 26 1 ∷ of 2 20 marks ∷ record { owner = 1; class = 1; live = 0 ∷ 0 ∷ 2199023255552 ∷ 0 ∷ [] } ∷ replicate 59 unused;
-    }
+    unnamedState (setup-with 2 5 1 3 7) (of 1 26 3 ∷ unused ∷ of 2 26 1 ∷ of 2 20 marks ∷ record { owner = 1; class = 1; live = 0 ∷ 0 ∷ 2199023255552 ∷ 0 ∷ [] } ∷ replicate 59 unused)
 
 pub taken-from-case : takenFrom 3 refusal-state order-of-3 ≡ record { answer = record { outcome = Address 13056; state = state-with-3 15 }; order = order-of-3 }
-unfolding takenFrom nextBlock addressOf lastFilled place withPlace withMark sizeOf sizes blocksOf counts liveCount sumBelow markBit bit
+unfolding uncheckedCallDefinitions
 taken-from-case = refl
 
 -- ---- parts of a free: block 2 of superblock 3 loses its mark, and goes in its place 2
 pub mark-cleared-case : markCleared refusal-state 13824 ≡ state-with-3 9
-unfolding markCleared blockOf sizeOf sizes withoutMark
+unfolding uncheckedCallDefinitions
 mark-cleared-case = refl
 
 pub order-pushed-case : orderPushed refusal-state order-of-3 13824 ≡ replicate 768 61 ++ 4 ∷ 1 ∷ 2 ∷ replicate 253 62
-unfolding orderPushed blockOf withPlace sizeOf sizes blocksOf counts liveCount sumBelow markBit bit
+unfolding uncheckedCallDefinitions
 order-pushed-case = refl
 
 -- ---- one superblock: heap 2's, of class 20 with 5 blocks of 768 bytes
 abbrev pub one-superblock-state : ℕ → State
-one-superblock-state marks = record { setup = setup-with 2 1 1 3 7; table = of 2 20 marks ∷ replicate 63 unused }
+one-superblock-state marks = unnamedState (setup-with 2 1 1 3 7) (of 2 20 marks ∷ replicate 63 unused)
 
 abbrev pub after-with : Outcome → State → List ℕ → After
 after-with outcome s order = record { answer = record { outcome = outcome; state = s }; order = order }
 
 -- a free of block 3, with the moves of its heap and class: none
 pub freed-at-case : freedAt (one-superblock-state 29) (1 ∷ 8 ∷ 9 ∷ []) 2304 ≡ after-with (Moves 0) (one-superblock-state 21) (1 ∷ 3 ∷ 9 ∷ [])
-unfolding freedAt markCleared orderPushed blockOf withPlace withoutMark sizeOf sizes blocksOf counts liveCount sumBelow markBit bit
-    invariantRestored excessTransferred transfersUpTo transferred foundTransferred mustMove bothConditions total belongs oneIfBelongs liveIfBelongs superblocksOf blocksIn liveOf emptiest chosenBelow prefer fewerLive
+unfolding uncheckedCallDefinitions
 freed-at-case = refl
 
 -- "last in first out": blocks 0 and 3 are freed, 3 last, and 3 is the next one taken
 pub next-block-cases :
     nextBlock (one-superblock-state 20) (orderPushed (one-superblock-state 28) (orderPushed (one-superblock-state 29) (1 ∷ 7 ∷ 8 ∷ 9 ∷ []) 0) 2304) 0 ∷ nextBlock (one-superblock-state 20) (3 ∷ 0 ∷ 1 ∷ 9 ∷ []) 0 ∷ []
     ≡ 3 ∷ 1 ∷ []
-unfolding nextBlock orderPushed blockOf lastFilled withPlace place sizes sizeOf counts blocksOf liveCount sumBelow markBit bit
+unfolding uncheckedCallDefinitions
 next-block-cases = refl

@@ -2,14 +2,15 @@
 use Prim.Native.Nat.{ℕ, _+_, _-_, _*_, _/_, _%_}
 use mathlib.Core.Bool.{Bool, not}
 use mathlib.Core.List.{List}
-use lib.Dec.{eqb, leb}
+use lib.Dec.{eqb, leb, ltb}
 use Rattle.laws.specs.Sums.{pick, either}
 use Rattle.classes.specs.Classes.{sizeOf, blocksOf}
 use Rattle.marks.specs.Marks.{isMarked}
+use Rattle.names.specs.Names.{notHeld, blockNumber, withoutBlock}
 use Rattle.order.specs.Order.{withPlace}
 use Rattle.heap.specs.declared.Superblock.{Superblock}
 use Rattle.heap.specs.declared.State.{State}
-use Rattle.heap.specs.Table.{superblockAt, withSuperblock, liveIn, isUnused, withoutMarkAt}
+use Rattle.heap.specs.Table.{superblockAt, withSuperblock, withNames, liveIn, isUnused, withoutMarkAt}
 use Rattle.moverules.specs.Moves.{invariantRestored}
 use Rattle.calls.specs.Answers.{After, refused, checked, isProcessor}
 use Rattle.calls.specs.declared.Outcome.the-variants.{Moves}
@@ -50,13 +51,21 @@ markCleared s a = withSuperblock s (superblockIndex a) (withoutMarkAt (superbloc
 unfoldable pub orderPushed : State → List ℕ → ℕ → List ℕ
 orderPushed s order a = withPlace order (superblockIndex a) (blocksOf (superblockHolding s a .class) - liveIn (superblockHolding s a)) (blockOf s a)
 
+-- the number by which a name points at the block at an address; past the table there is none
+unfoldable pub blockNumberAt : State → ℕ → ℕ
+blockNumberAt s a = pick (ltb (superblockIndex a) 64) (blockNumber (superblockIndex a) (blockOf s a)) notHeld
+
+-- the block is freed, and its name let go: "A name holds from its take until its block is freed by either command" (document 02, item 2)
+unfoldable pub blockFreed : State → ℕ → State
+blockFreed s a = withNames (markCleared s a) (withoutBlock (s .names) (blockNumberAt s a))
+
 -- "The answer reports the number of superblocks moved by that free."
 unfoldable pub freedAt : State → List ℕ → ℕ → After
 freedAt s order a =
     record {
       answer = record {
-        outcome = Moves (invariantRestored (superblockHolding s a .owner) (superblockHolding s a .class) (markCleared s a) .moves);
-        state = invariantRestored (superblockHolding s a .owner) (superblockHolding s a .class) (markCleared s a) .state;
+        outcome = Moves (invariantRestored (superblockHolding s a .owner) (superblockHolding s a .class) (blockFreed s a) .moves);
+        state = invariantRestored (superblockHolding s a .owner) (superblockHolding s a .class) (blockFreed s a) .state;
       };
       order = orderPushed s order a;
     }

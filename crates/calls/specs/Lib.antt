@@ -2,4 +2,5 @@ pub mod Answers
 pub mod Setup
 pub mod Take
 pub mod Free
+pub mod Named
 pub mod Calls

@@ -15,8 +15,10 @@ pub struct Answer {
     pub state: State,
 }
 
-// A take or a free, with its numbers.
+// A take or a free, with its numbers: plain, or of a block called by name.
 pub enum Call {
     Take { processor: u8, size: u16 },
     Free { processor: u8, address: u32 },
+    NamedTake { processor: u8, name: u16, size: u16 },
+    NamedFree { processor: u8, name: u16 },
 }

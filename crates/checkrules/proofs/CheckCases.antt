@@ -2,21 +2,17 @@
 use mathlib.Core.Path.{_≡_, refl}
 use mathlib.Core.Bool.{Bool, true, false, not}
 use mathlib.Core.List.{List, [], _∷_, _++_, map}
-use Prim.Native.Nat.{ℕ, _+_, _-_}
+use Prim.Native.Nat.{ℕ, _-_, _^_}
 use lib.ListN.{length, replicate}
-use Rattle.laws.specs.Sums.{sumBelow, allBelow}
-use Rattle.classes.specs.Classes.{sizes, counts, sizeOf, blocksOf}
-use Rattle.marks.specs.Marks.{bit, markBit, isMarked, liveCount, noMarkFrom}
-use Rattle.order.specs.Order.{place}
-use Rattle.filledplaces.specs.FilledPlaces.{occurrences, placesInStorage, eachOnce, placesValid}
+use Rattle.names.specs.Names.{noNames, withName}
 use Rattle.heap.specs.declared.Superblock.{Superblock}
 use Rattle.heap.specs.declared.Setup.{Setup}
 use Rattle.heap.specs.declared.State.{State}
-use Rattle.heap.specs.Table.{unused, isUnused}
-use Rattle.heap.specs.Counts.{total, belongs, oneIfBelongs, liveIfBelongs, superblocksOf, blocksIn, liveOf}
-use Rattle.moverules.specs.Moves.{bothConditions, mustMove}
-use Rattle.checkrules.specs.Check.{withinLimits, superblockValid, unusedFrom, emptinessInvariant, sparseIfGlobal}
+use Rattle.heap.specs.Table.{unused, withNames}
+use Rattle.checkrules.specs.Check.{withinLimits, superblockValid, unusedFrom, emptinessInvariant, sparseIfGlobal, namesValid}
 use Rattle.heap.proofs.TableCases.{of, small-setup}
+use Rattle.heap.proofs.CaseStates.{unnamedState}
+use Rattle.checkrules.proofs.CheckDefinitions.{checkDefinitions}
 
 -- ---- "P 1 to 8, N 1 to 64, K 1 to 16, p 1 to q - 1, q 2 to 8": at each limit, and one past it
 abbrev pub setup-with : ℕ → ℕ → ℕ → ℕ → ℕ → Setup
@@ -27,7 +23,7 @@ pub within-limits-cases :
     map withinLimits (setup-with 1 1 1 1 2 ∷ setup-with 8 64 16 7 8 ∷ setup-with 3 9 12 2 4 ∷ []) ≡ true ∷ true ∷ true ∷ []
     × map withinLimits (setup-with 0 9 12 2 5 ∷ setup-with 9 9 12 2 5 ∷ setup-with 3 0 12 2 5 ∷ setup-with 3 65 12 2 5 ∷ setup-with 3 9 0 2 5 ∷ setup-with 3 9 17 2 5 ∷ []) ≡ replicate 6 false
     × map withinLimits (setup-with 3 9 12 0 5 ∷ setup-with 3 9 12 5 5 ∷ setup-with 3 9 12 6 5 ∷ setup-with 3 9 12 0 1 ∷ setup-with 3 9 12 1 1 ∷ setup-with 3 9 12 2 9 ∷ []) ≡ replicate 6 false
-unfolding withinLimits
+unfolding checkDefinitions
 within-limits-cases = (refl, refl, refl)
 
 -- ---- one superblock. P = 2; superblock 1's places hold 4, 0, 2 and then 9s
@@ -36,19 +32,19 @@ valid-as-superblock-1 b = superblockValid small-setup (replicate 256 7 ++ 4 ∷ 
 
 -- unused; of heap 0, 1 and 2; with all its blocks live; of class 26, with its last block live
 pub superblock-valid-cases : map valid-as-superblock-1 (unused ∷ of 0 20 10 ∷ of 1 20 10 ∷ of 2 20 10 ∷ of 2 26 3 ∷ []) ≡ replicate 5 true
-unfolding superblockValid isUnused placesValid placesInStorage eachOnce occurrences place noMarkFrom liveCount isMarked markBit bit blocksOf counts sumBelow allBelow
+unfolding checkDefinitions
 superblock-valid-cases = refl
 
 -- owner above P; owner 255 with a class or a mark; no class 27; a mark at n; a filled place that holds a live block, or one of another superblock
 pub superblock-invalid-cases : map valid-as-superblock-1 (of 3 20 10 ∷ of 255 20 10 ∷ of 255 1 0 ∷ of 255 0 1 ∷ of 1 27 0 ∷ of 2 26 7 ∷ of 1 20 9 ∷ of 1 20 2 ∷ []) ≡ replicate 8 false
-unfolding superblockValid isUnused placesValid placesInStorage eachOnce occurrences place noMarkFrom liveCount isMarked markBit bit blocksOf counts sumBelow allBelow
+unfolding checkDefinitions
 superblock-invalid-cases = refl
 
 -- "superblocks from N on unused", for N = 5: superblocks 4, 5 and 6, in use and unused
 pub unused-from-cases :
     map (λ (k : ℕ). unusedFrom 5 k (of 1 26 0)) (4 ∷ 5 ∷ 6 ∷ []) ≡ true ∷ false ∷ false ∷ []
     × map (λ (k : ℕ). unusedFrom 5 k unused) (4 ∷ 5 ∷ 63 ∷ []) ≡ true ∷ true ∷ true ∷ []
-unfolding unusedFrom isUnused liveCount sumBelow markBit bit
+unfolding checkDefinitions
 unused-from-cases = (refl, refl)
 
 -- "each superblock of heap 0 has q × live < (q - p) × n": with 3/7, of class 24, 7 × 1 < 4 × 2, and of class 18, 7 × 4 < 4 × 8 and not 7 × 5;
@@ -56,17 +52,32 @@ unused-from-cases = (refl, refl)
 pub sparse-if-global-cases :
     map (sparseIfGlobal small-setup) (of 0 24 2 ∷ of 0 24 3 ∷ of 0 18 15 ∷ of 0 18 31 ∷ of 1 24 3 ∷ of 0 24 0 ∷ []) ≡ true ∷ false ∷ true ∷ false ∷ true ∷ true ∷ []
     × map (sparseIfGlobal (setup-with 2 5 1 4 8)) (of 0 24 1 ∷ of 0 24 0 ∷ []) ≡ false ∷ true ∷ []
-unfolding sparseIfGlobal blocksOf counts liveCount sumBelow markBit bit
+unfolding checkDefinitions
 sparse-if-global-cases = (refl, refl)
 
 -- ---- "no processor heap and class meets both conditions of the move rule": two empty superblocks of one heap and class do, for K = 1, of the first
 -- heap and class and of the last; not in heap 0, nor of two heaps, nor of two classes
 abbrev pub state-of-superblocks : List Superblock → State
-state-of-superblocks l = record { setup = small-setup; table = l ++ replicate (64 - length l) unused }
+state-of-superblocks l = unnamedState small-setup (l ++ replicate (64 - length l) unused)
 
 pub emptiness-invariant-cases :
     map (λ (l : List Superblock). emptinessInvariant (state-of-superblocks l))
     ((of 1 0 0 ∷ of 1 0 0 ∷ []) ∷ (of 2 26 0 ∷ of 2 26 0 ∷ []) ∷ (of 0 26 0 ∷ of 0 26 0 ∷ of 1 26 0 ∷ of 2 26 0 ∷ of 1 25 0 ∷ []) ∷ [])
     ≡ false ∷ false ∷ true ∷ []
-unfolding emptinessInvariant allBelow mustMove bothConditions total oneIfBelongs liveIfBelongs belongs superblocksOf blocksIn liveOf sizeOf sizes blocksOf counts liveCount sumBelow markBit bit
+unfolding checkDefinitions
 emptiness-invariant-cases = refl
+
+-- ---- "each held name points at a live block, no two at one". Superblock 1, of class 20, has blocks 1 and 3 live, superblock 63 its block 255
+abbrev pub state-with-names : List ℕ → State
+state-with-names names = withNames (unnamedState small-setup (unused ∷ of 2 20 10 ∷ replicate 61 unused ++ record { owner = 1; class = 0; live = 0 ∷ 0 ∷ 0 ∷ 2 ^ 63 ∷ [] } ∷ [])) names
+
+-- no names; each live block named, by the first name and the last too; a name at block 2 of superblock 1, at block 3 of superblock 0, at block 1 of
+-- superblock 64, at the last number that is a block's; two names at block 1 of superblock 1, the first and the last, and two neighbours
+pub names-valid-cases :
+    map (λ (l : List ℕ). namesValid (state-with-names l))
+    (noNames ∷ withName (withName (withName noNames 0 257) 1023 259) 512 16383
+    ∷ withName noNames 0 258 ∷ withName noNames 1023 3 ∷ withName noNames 7 16385 ∷ withName noNames 7 65534
+    ∷ withName (withName noNames 0 257) 1023 257 ∷ withName (withName noNames 7 257) 8 257 ∷ [])
+    ≡ true ∷ true ∷ false ∷ false ∷ false ∷ false ∷ false ∷ false ∷ []
+unfolding checkDefinitions
+names-valid-cases = refl

@@ -1,2 +1,3 @@
+pub mod CheckDefinitions
 pub mod CheckCases
 pub mod WholeCheckCases

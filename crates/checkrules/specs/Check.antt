@@ -9,7 +9,8 @@ use Rattle.filledplaces.specs.FilledPlaces.{placesValid}
 use Rattle.heap.specs.declared.Superblock.{Superblock}
 use Rattle.heap.specs.declared.Setup.{Setup}
 use Rattle.heap.specs.declared.State.{State}
-use Rattle.heap.specs.Table.{superblockAt, liveIn, isUnused}
+use Rattle.names.specs.Names.{eachHeld, noTwoAtOne}
+use Rattle.heap.specs.Table.{superblockAt, liveIn, isUnused, isLiveBlock}
 use Rattle.moverules.specs.Moves.{mustMove}
 
 -- a ≤ x ≤ b
@@ -43,13 +44,18 @@ emptinessInvariant s = allBelow (λ i. allBelow (λ c. not (mustMove (suc i) c s
 unfoldable pub sparseIfGlobal : Setup → Superblock → Bool
 sparseIfGlobal u b = either (not (eqb (b .owner) 0)) (ltb (u .q * liveIn b) ((u .q - u .p) * blocksOf (b .class)))
 
+-- "each held name points at a live block, no two at one" (document 02, item 2)
+unfoldable pub namesValid : State → Bool
+namesValid s = both (eachHeld (isLiveBlock s) (s .names)) (noTwoAtOne (s .names))
+
 -- all but the setup numbers
 unfoldable pub restValid : State → List ℕ → Bool
 restValid s order =
     both (allBelow (λ k. superblockValid (s .setup) order k (superblockAt s k)) 64)
     (both (allBelow (λ k. unusedFrom (s .setup .superblocks) k (superblockAt s k)) 64)
     (both (emptinessInvariant s)
-    (allBelow (λ k. sparseIfGlobal (s .setup) (superblockAt s k)) 64)))
+    (both (allBelow (λ k. sparseIfGlobal (s .setup) (superblockAt s k)) 64)
+    (namesValid s))))
 
 -- the whole check
 unfoldable pub passes : State → List ℕ → Bool

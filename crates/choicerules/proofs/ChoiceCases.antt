@@ -13,17 +13,14 @@ use Rattle.heap.specs.Table.{unused, isUnused}
 use Rattle.heap.specs.Counts.{belongs}
 use Rattle.choicerules.specs.Choice.{prefer, chosenBelow, moreLive, fewerLive, neverPreferred, hasFree, emptyInGlobal, fullest, lowestEmpty, lowestUnused, emptiest, orElse}
 use Rattle.heap.proofs.TableCases.{of}
+use Rattle.heap.proofs.CaseStates.{unnamedState}
 
 -- N, and the superblocks: of class 16, with 10 blocks, heap 2 has a full one; heap 1 has 4, 10, 6, 6, 2 and 2 live, in that order.
 -- Heap 0 has one of class 18 with 1 live, then empty ones of classes 17, 16, 16.
 abbrev pub choice-state : ℕ → State
 choice-state n =
-    record {
-      setup = record { processors = 2; superblocks = n; spare = 1; p = 3; q = 7 };
-      table =
-          of 2 16 1023 ∷ of 1 16 15 ∷ of 1 16 1023 ∷ of 0 18 4 ∷ of 1 16 63 ∷ of 1 16 126 ∷ of 1 17 0 ∷ of 0 17 0 ∷ of 0 16 0 ∷ of 0 16 0 ∷ unused
-          ∷ of 1 16 3 ∷ of 1 16 6 ∷ unused ∷ replicate 49 unused ++ of 2 17 7 ∷ [];
-    }
+    unnamedState (record { processors = 2; superblocks = n; spare = 1; p = 3; q = 7 }) (of 2 16 1023 ∷ of 1 16 15 ∷ of 1 16 1023 ∷ of 0 18 4 ∷ of 1 16 63 ∷ of 1 16 126 ∷ of 1 17 0 ∷ of 0 17 0 ∷ of 0 16 0 ∷ of 0 16 0 ∷ unused
+          ∷ of 1 16 3 ∷ of 1 16 6 ∷ unused ∷ replicate 49 unused ++ of 2 17 7 ∷ [])
 
 -- "class c with a free block, most live first, the lower number among equals"; in heap 0 "one with nothing live counts as well"; the last superblock is seen
 pub fullest-cases :
@@ -41,7 +38,7 @@ emptiest-cases = refl
 
 -- "heap 0: the lowest-numbered superblock with nothing live, of any class"; another heap's empty one is none
 abbrev pub none-empty-in-global : State
-none-empty-in-global = record { setup = choice-state 64 .setup; table = of 1 16 0 ∷ of 0 17 4 ∷ of 0 16 1 ∷ replicate 61 unused }
+none-empty-in-global = unnamedState (choice-state 64 .setup) (of 1 16 0 ∷ of 0 17 4 ∷ of 0 16 1 ∷ replicate 61 unused)
 
 pub lowest-empty-cases : lowestEmpty (choice-state 64) ∷ lowestEmpty none-empty-in-global ∷ [] ≡ At 7 ∷ Nothing ∷ []
 unfolding lowestEmpty chosenBelow prefer neverPreferred emptyInGlobal liveCount sumBelow markBit bit

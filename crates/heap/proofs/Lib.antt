@@ -1,1 +1,2 @@
+pub mod CaseStates
 pub mod TableCases

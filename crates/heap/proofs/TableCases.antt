@@ -2,16 +2,17 @@
 use mathlib.Core.Path.{_≡_, refl}
 use mathlib.Core.Bool.{true, false}
 use mathlib.Core.List.{List, [], _∷_, _++_, map}
-use Prim.Native.Nat.{ℕ, _+_, _-_}
+use Prim.Native.Nat.{ℕ, _+_, _-_, _^_}
 use lib.ListN.{replicate}
 use Rattle.laws.specs.Sums.{sumBelow}
 use Rattle.classes.specs.Classes.{counts, blocksOf}
-use Rattle.marks.specs.Marks.{bit, markBit, withMark, withoutMark, liveCount}
+use Rattle.marks.specs.Marks.{bit, markBit, isMarked, withMark, withoutMark, liveCount}
 use Rattle.heap.specs.declared.Superblock.{Superblock}
 use Rattle.heap.specs.declared.Setup.{Setup}
 use Rattle.heap.specs.declared.State.{State}
-use Rattle.heap.specs.Table.{unused, withSuperblock, isUnused, withOwner, withMarkAt, withoutMarkAt, noState, newState}
+use Rattle.heap.specs.Table.{unused, withSuperblock, isUnused, withOwner, withMarkAt, withoutMarkAt, isLiveBlock, noState, newState}
 use Rattle.heap.specs.Counts.{total, belongs, isOwnedOfClass, oneIfBelongs, liveIfBelongs, superblocksOf, blocksIn, liveOf, superblocksOfClass, liveOfClass, ownersChanged}
+use Rattle.heap.proofs.CaseStates.{unnamedState}
 
 -- a superblock of heap h and class c with these marks in the first of its four numbers
 abbrev pub of : ℕ → ℕ → ℕ → Superblock
@@ -27,12 +28,14 @@ pub is-unused-cases :
 unfolding isUnused liveCount sumBelow markBit bit
 is-unused-cases = refl
 
--- "A refused setup hands back five zeros and 64 unused superblocks", "A new setup has every superblock unused"
+-- "A refused setup hands back five zeros and 64 unused superblocks", "A new setup has every superblock unused"; "A new or refused setup
+-- holds no names"
 pub no-state-case :
     noState
     ≡ record {
       setup = record { processors = 0; superblocks = 0; spare = 0; p = 0; q = 0 };
       table = replicate 64 (record { owner = 255; class = 0; live = 0 ∷ 0 ∷ 0 ∷ 0 ∷ [] });
+      names = replicate 1024 65535;
     }
 no-state-case = refl
 
@@ -41,6 +44,7 @@ pub new-state-case :
     ≡ record {
       setup = record { processors = 2; superblocks = 5; spare = 1; p = 3; q = 7 };
       table = replicate 64 (record { owner = 255; class = 0; live = 0 ∷ 0 ∷ 0 ∷ 0 ∷ [] });
+      names = replicate 1024 65535;
     }
 new-state-case = refl
 
@@ -52,13 +56,19 @@ pub superblock-change-cases :
 unfolding withMark withoutMark
 superblock-change-cases = refl
 
+-- block 0 of superblock 1, its last block, block 2 of superblock 6 and block 6 of superblock 63 are live; block 1 of superblock 0 and block 7 of
+-- superblock 63 are not, and there is no superblock 64 and no superblock 255
+pub is-live-block-cases :
+    map (isLiveBlock (unnamedState small-setup (of 0 16 5 ∷ record { owner = 1; class = 0; live = 1 ∷ 0 ∷ 0 ∷ 2 ^ 63 ∷ [] } ∷ replicate 4 unused ++ of 2 17 4 ∷ replicate 56 unused ++ of 1 16 64 ∷ [])))
+    (256 ∷ 511 ∷ 1538 ∷ 16134 ∷ 1 ∷ 257 ∷ 510 ∷ 16135 ∷ 16384 ∷ 65535 ∷ [])
+    ≡ true ∷ true ∷ true ∷ true ∷ false ∷ false ∷ false ∷ false ∷ false ∷ false ∷ []
+unfolding isLiveBlock isMarked markBit bit
+is-live-block-cases = refl
+
 -- ---- counts: superblocks 0 to 6 and 63 are in use; heap 1 has three of class 16, with 3, 0 and 7 blocks live
 abbrev pub counted-state : State
 counted-state =
-    record {
-      setup = small-setup;
-      table = of 1 16 7 ∷ of 2 16 31 ∷ of 0 16 0 ∷ of 1 17 15 ∷ unused ∷ of 1 16 0 ∷ of 2 17 511 ∷ replicate 56 unused ++ of 1 16 127 ∷ [];
-    }
+    unnamedState small-setup (of 1 16 7 ∷ of 2 16 31 ∷ of 0 16 0 ∷ of 1 17 15 ∷ unused ∷ of 1 16 0 ∷ of 2 17 511 ∷ replicate 56 unused ++ of 1 16 127 ∷ [])
 
 -- heap and class: superblocks, blocks, live blocks
 abbrev pub counts-by-heap : List (ℕ × ℕ × ℕ × ℕ × ℕ)

@@ -1,5 +1,5 @@
-// The state of the allocator: five setup numbers and a table of 64 superblocks. Its table and the counts over it are defined in specs/; the
-// rules on it have crates of their own (choicerules, moverules, checkrules).
+// The state of the allocator: five setup numbers, a table of 64 superblocks, and the names of blocks. Its table and the counts over it are
+// defined in specs/; the rules on it have crates of their own (choicerules, moverules, checkrules).
 
 // Owner (0 the global heap, 1 to 8 a processor's heap, 255 none), size class, and live marks: block j is bit j mod 64 of
 // number j / 64.
@@ -18,9 +18,12 @@ pub struct Setup {
     pub q: u8,
 }
 
+// The setup numbers, the superblocks, and for each of the names 0 to 1023 the block that it points at, as superblock × 256 + block, or 65535
+// where it is not held.
 pub struct State {
     pub setup: Setup,
     pub table: [Superblock; 64],
+    pub names: [u16; 1024],
 }
 
 // The number of a chosen superblock, or none.

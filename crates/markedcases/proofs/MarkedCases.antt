@@ -6,6 +6,7 @@ use lib.ListN.{length, getD, replicate}
 use Rattle.heap.specs.declared.Superblock.{Superblock}
 use Rattle.heap.specs.declared.State.{State}
 use Rattle.heap.specs.Table.{unused, superblockAt}
+use Rattle.heap.proofs.CaseStates.{unnamedState}
 use Rattle.calls.specs.declared.Call.{Call}
 use Rattle.calls.specs.declared.Call.the-variants.{Take, Free}
 use Rattle.calls.specs.declared.Outcome.{Outcome}
@@ -30,10 +31,7 @@ heap-1-superblock c live = record { owner = 1; class = c; live = live }
 -- heap 1 with these superblocks: P = 1, K = 1, p/q = 1/4, and as many superblocks as there are
 abbrev pub stateWith : List Superblock → State
 stateWith table =
-    record {
-      setup = record { processors = 1; superblocks = length table; spare = 1; p = 1; q = 4 };
-      table = table ++ replicate (64 - length table) unused;
-    }
+    unnamedState (record { processors = 1; superblocks = length table; spare = 1; p = 1; q = 4 }) (table ++ replicate (64 - length table) unused)
 
 -- one unused superblock
 abbrev pub one-unused-state : State

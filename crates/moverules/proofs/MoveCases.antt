@@ -13,6 +13,7 @@ use Rattle.heap.specs.declared.State.{State}
 use Rattle.heap.specs.declared.Moved.{Moved}
 use Rattle.heap.specs.Table.{unused}
 use Rattle.heap.specs.Counts.{total, belongs, oneIfBelongs, liveIfBelongs, superblocksOf, blocksIn, liveOf}
+use Rattle.heap.proofs.CaseStates.{unnamedState}
 use Rattle.choicerules.specs.Choice.{prefer, chosenBelow, fewerLive, emptiest}
 use Rattle.moverules.specs.Moves.{bothConditions, mustMove, transferred, foundTransferred, transfersUpTo, excessTransferred, invariantRestored}
 
@@ -32,10 +33,7 @@ pub record MoveCase : Type 0 where
 
 abbrev pub stateOfCase : MoveCase → State
 stateOfCase k =
-    record {
-      setup = record { processors = 2; superblocks = 64; spare = k .spare; p = k .p; q = k .q };
-      table = k .table ++ replicate (64 - length (k .table)) unused;
-    }
+    unnamedState (record { processors = 2; superblocks = 64; spare = k .spare; p = k .p; q = k .q }) (k .table ++ replicate (64 - length (k .table)) unused)
 
 -- "p/q = 1/4, K = 1, heap 1 class 16 with live counts 7, 7, 7, 8, 8, 8: freeing from an 8 moves two superblocks"; here that block is freed already
 abbrev pub marked-case : MoveCase
@@ -139,10 +137,7 @@ pub invariant-restored-whole-state-case :
     invariantRestored 1 16 (stateOfCase division-rounds)
     ≡ record {
       moves = 1;
-      state = record {
-        setup = record { processors = 2; superblocks = 64; spare = 1; p = 1; q = 4 };
-        table = superblock-with 1 16 8 ∷ superblock-with 0 16 7 ∷ superblock-with 1 16 8 ∷ superblock-with 1 16 7 ∷ superblock-with 1 16 7 ∷ replicate 59 unused;
-      };
+      state = unnamedState (record { processors = 2; superblocks = 64; spare = 1; p = 1; q = 4 }) (superblock-with 1 16 8 ∷ superblock-with 0 16 7 ∷ superblock-with 1 16 8 ∷ superblock-with 1 16 7 ∷ superblock-with 1 16 7 ∷ replicate 59 unused);
     }
 unfolding invariantRestored excessTransferred transfersUpTo mustMove bothConditions transferred foundTransferred emptiest chosenBelow prefer fewerLive belongs total oneIfBelongs liveIfBelongs superblocksOf blocksIn liveOf
     sumBelow sizes counts sizeOf blocksOf bit markBit liveCount

@@ -1,0 +1,88 @@
+-- Named calls in cases that tell them from near misses, by computation. Assumes nothing.
+use mathlib.Core.Path.{_≡_, refl}
+use mathlib.Core.Bool.{true, false}
+use mathlib.Core.List.{List, [], _∷_, _++_, map}
+use Prim.Native.Nat.{ℕ}
+use lib.ListN.{replicate}
+use Rattle.names.specs.Names.{noNames, withName}
+use Rattle.heap.specs.declared.State.{State}
+use Rattle.heap.specs.Table.{withNames}
+use Rattle.calls.specs.declared.Call.{Call}
+use Rattle.calls.specs.declared.Call.the-variants.{Take, Free, NamedTake, NamedFree}
+use Rattle.calls.specs.declared.Outcome.the-variants.{Ready, Address, Moves, Refused}
+use Rattle.calls.specs.Answers.{After, refused}
+use Rattle.calls.specs.Free.{blockNumberAt, blockFreed}
+use Rattle.calls.specs.Named.{isUnavailable, nameBound, boundBy, heldAddress}
+use Rattle.calls.specs.Calls.{callUnchecked}
+use Rattle.calls.proofs.CallDefinitions.{uncheckedCallDefinitions}
+use Rattle.calls.proofs.RuleCases.{after-with, refusal-state, state-with-3}
+use Rattle.calls.proofs.CallCases.{pair-state, pairOrder, order-before}
+
+-- Superblocks 0 and 1, of class 26, are heap 2's and heap 1's; block 0 of superblock 0, at 0, is live and name 5's, block 1 of superblock 1, at 6144,
+-- is live and name 1022's
+abbrev pub two-names : List ℕ
+two-names = withName (withName noNames 5 0) 1022 257
+
+abbrev pub named-state : State
+named-state = withNames (pair-state 1 2) two-names
+
+abbrev pub named-unchecked : Call → After
+named-unchecked = callUnchecked named-state order-before
+
+-- ---- parts. 14: "taken name or one above 1023"
+pub is-unavailable-cases : map (isUnavailable named-state) (5 ∷ 1022 ∷ 4 ∷ 0 ∷ 1023 ∷ 1024 ∷ 65535 ∷ []) ≡ true ∷ true ∷ false ∷ false ∷ false ∷ true ∷ true ∷ []
+unfolding uncheckedCallDefinitions
+is-unavailable-cases = refl
+
+-- superblock 3 of class 20, of blocks of 768 bytes, and 4 of class 1, of 24; past the table there is no block
+pub block-number-at-cases : map (blockNumberAt refusal-state) (12288 ∷ 13824 ∷ 20440 ∷ 262144 ∷ []) ≡ 768 ∷ 770 ∷ 1193 ∷ 65535 ∷ []
+unfolding uncheckedCallDefinitions
+block-number-at-cases = refl
+
+pub held-address-cases : map (heldAddress (withNames refusal-state (withName (withName noNames 0 770) 1023 1193))) (0 ∷ 1023 ∷ []) ≡ 13824 ∷ 20440 ∷ []
+unfolding uncheckedCallDefinitions
+held-address-cases = refl
+
+-- name 7 points at block 2 of superblock 3; the other names and the superblocks are as they were
+pub name-bound-case : nameBound 7 13824 (withNames refusal-state (withName noNames 8 768)) ≡ withNames refusal-state (withName (withName noNames 8 768) 7 770)
+unfolding uncheckedCallDefinitions
+name-bound-case = refl
+
+-- "a refused take binds none", and only an address binds one
+pub bound-by-cases :
+    boundBy Ready 7 refusal-state ∷ boundBy (Address 13824) 7 refusal-state ∷ boundBy (Moves 3) 7 refusal-state ∷ boundBy (Refused 4) 7 refusal-state ∷ []
+    ≡ refusal-state ∷ withNames refusal-state (withName noNames 7 770) ∷ refusal-state ∷ refusal-state ∷ []
+unfolding uncheckedCallDefinitions
+bound-by-cases = refl
+
+-- block 2 of superblock 3 loses its mark and its name 7; name 8, of block 0, stays
+pub block-freed-case : blockFreed (withNames refusal-state (withName (withName noNames 8 768) 7 770)) 13824 ≡ withNames (state-with-3 9) (withName noNames 8 768)
+unfolding uncheckedCallDefinitions
+block-freed-case = refl
+
+-- ---- a named take behind the check: 2 before 14, 14 before 3 for a held name and for 1024; 3, and 4 for size 0, bind none; an accepted one binds, for the
+-- first and the last free name
+pub named-take-cases :
+    map named-unchecked (NamedTake 3 5 2049 ∷ NamedTake 1 5 2049 ∷ NamedTake 1 1024 2049 ∷ NamedTake 1 1022 2048 ∷ NamedTake 1 7 2049 ∷ NamedTake 1 7 0 ∷ NamedTake 1 0 2048 ∷ NamedTake 1 1023 2048 ∷ [])
+    ≡ refused 2 named-state order-before ∷ refused 14 named-state order-before ∷ refused 14 named-state order-before ∷ refused 14 named-state order-before ∷ refused 3 named-state order-before ∷ refused 4 named-state order-before
+    ∷ after-with (Address 4096) (withNames (pair-state 1 3) (withName two-names 0 256)) order-before ∷ after-with (Address 4096) (withNames (pair-state 1 3) (withName two-names 1023 256)) order-before ∷ []
+unfolding uncheckedCallDefinitions
+named-take-cases = refl
+
+-- ---- a named free behind the check: 2 before 15; 15 for a name that is not held and for 1024; a free of name 5's block lets it go and keeps name 1022,
+-- and a plain free of that address does the same
+pub named-free-cases :
+    map named-unchecked (NamedFree 0 9 ∷ NamedFree 1 9 ∷ NamedFree 1 1024 ∷ NamedFree 1 5 ∷ Free 1 0 ∷ NamedFree 2 1022 ∷ [])
+    ≡ refused 2 named-state order-before ∷ refused 15 named-state order-before ∷ refused 15 named-state order-before
+    ∷ after-with (Moves 0) (withNames (pair-state 0 2) (withName noNames 1022 257)) (pairOrder 1 0 0 67)
+    ∷ after-with (Moves 0) (withNames (pair-state 0 2) (withName noNames 1022 257)) (pairOrder 1 0 0 67)
+    ∷ after-with (Moves 0) (withNames (pair-state 1 0) (withName noNames 5 0)) (pairOrder 1 66 0 1) ∷ []
+unfolding uncheckedCallDefinitions
+named-free-cases = refl
+
+-- a plain take keeps the names, and so do refused calls
+pub plain-call-cases :
+    map named-unchecked (Take 1 2048 ∷ Take 1 2049 ∷ Free 1 2048 ∷ [])
+    ≡ after-with (Address 4096) (withNames (pair-state 1 3) two-names) order-before ∷ refused 3 named-state order-before ∷ refused 7 named-state order-before ∷ []
+unfolding uncheckedCallDefinitions
+plain-call-cases = refl

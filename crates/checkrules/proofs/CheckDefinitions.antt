@@ -1,0 +1,17 @@
+-- The definitions that a computed case of the check unfolds, listed once: to unfold this name is to unfold all that its lines name. Assumes nothing.
+use Rattle.laws.specs.Sums.{sumBelow, allBelow}
+use Rattle.classes.specs.Classes.{sizes, counts, sizeOf, blocksOf}
+use Rattle.marks.specs.Marks.{bit, markBit, isMarked, liveCount, noMarkFrom}
+use Rattle.names.proofs.NameDefinitions.{nameDefinitions}
+use Rattle.order.specs.Order.{place}
+use Rattle.filledplaces.specs.FilledPlaces.{occurrences, placesInStorage, eachOnce, placesValid}
+use Rattle.heap.specs.Table.{isUnused, isLiveBlock}
+use Rattle.heap.specs.Counts.{total, belongs, oneIfBelongs, liveIfBelongs, superblocksOf, blocksIn, liveOf}
+use Rattle.moverules.specs.Moves.{bothConditions, mustMove}
+use Rattle.checkrules.specs.Check.{withinLimits, superblockValid, unusedFrom, emptinessInvariant, sparseIfGlobal, namesValid, restValid, passes}
+
+unfoldable pub checkDefinitions : Unit {0}
+unfolding passes withinLimits restValid superblockValid unusedFrom emptinessInvariant sparseIfGlobal namesValid isUnused isLiveBlock
+    mustMove bothConditions total oneIfBelongs liveIfBelongs belongs superblocksOf blocksIn liveOf nameDefinitions
+    placesValid placesInStorage eachOnce occurrences place noMarkFrom liveCount isMarked markBit bit sizeOf sizes blocksOf counts sumBelow allBelow
+checkDefinitions = tt

@@ -1,0 +1,2 @@
+pub mod NameDefinitions
+pub mod NameCases
