@@ -173,6 +173,7 @@ pub transferred-from-self : (h c : ℕ) (s : State) → length (s .table) ≡ 64
 transferred-from-self h c s long =
     record {
       setup = refl;
+      names = refl;
       length-is = long;
       each = λ k l. inl refl;
       others = λ i d p f. (refl, refl);
@@ -224,10 +225,15 @@ module _ (h c : ℕ) (s t : State) (k : ℕ) (r : TransferredFrom h c s t) (pos 
   unfolding transferred
   next-setup = r .setup
 
+  next-names : transferred k t .names ≡ s .names
+  unfolding transferred
+  next-names = r .names
+
   transferred-from-next : TransferredFrom h c s (transferred k t)
   transferred-from-next =
       record {
         setup = next-setup;
+        names = next-names;
         length-is = transfer-length h c t k (r .length-is) pos e;
         each = next-each;
         others = next-others;

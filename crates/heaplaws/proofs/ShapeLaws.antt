@@ -1,4 +1,4 @@
--- What the types of a table and of a state say of their lists: 64 superblocks, each with four numbers of marks. Assumes nothing.
+-- What the type of a state says of its lists: 64 superblocks, each with four numbers of marks, and 1024 names. Assumes nothing.
 use mathlib.Core.Path.{_≡_}
 use mathlib.Core.List.{List, [], _∷_}
 use Prim.Native.Nat.{ℕ, zero, suc, _<_}
@@ -11,7 +11,6 @@ use denote.Shadow.{shadow}
 use Rattle.laws.proofs.ReplacedElement.{length-of-length-map}
 use Rattle.laws.proofs.FieldArrays.{declared-array-of-field-array}
 use Rattle.heap.specs.declared.Superblock.{Superblock}
-use Rattle.heap.specs.declared.Setup.{Setup}
 use Rattle.heap.specs.declared.State.{State}
 use Rattle.heap.specs.Table.{blank}
 use Rattle.heaplaws.proofs.StateFacts.{Shape}
@@ -29,10 +28,12 @@ marks-length-of-each (b ∷ table) [] g k l = absurd g
 marks-length-of-each (b ∷ table) (v ∷ vals) g zero l = marks-length-of-superblock b (v ∷ []) (g .0)
 marks-length-of-each (b ∷ table) (v ∷ vals) g (suc k) l = marks-length-of-each table vals (g .1) k (le-of-suc-le-suc l)
 
--- of a table, with any setup
-pub shape-of-table : (u : Setup) (table : List Superblock) (vals : List Val) → Is (Array B.the-row 64) table vals → Shape (record { setup = u; table = table })
-shape-of-table u table vals g = record { length-is = g .1 .0 .1; marks-length = λ k l. marks-length-of-each table (g .0) (g .1 .1) k (rw (g .1 .0 .1) l) }
-
 -- of a state, whose type has the superblocks of its table as tuples
 pub shape-of-state : (s : State) (vals : List Val) → Is S.the-row s vals → Shape s
-shape-of-state s vals g = shape-of-table (s .setup) (s .table) _ (declared-array-of-field-array B.the-type 64 (s .table) _ (g .1 .1 .1 .0))
+shape-of-state s vals g =
+    let t = declared-array-of-field-array B.the-type 64 (s .table) _ (g .1 .1 .1 .0) in
+    record {
+      length-is = t .1 .0 .1;
+      marks-length = λ k l. marks-length-of-each (s .table) (t .0) (t .1 .1) k (rw (t .1 .0 .1) l);
+      names-length = length-of-length-map (λ (x : ℕ). x) (s .names) 1024 (g .1 .1 .1 .1 .0 .1 .0 .1);
+    }

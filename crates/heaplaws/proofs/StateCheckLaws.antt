@@ -16,14 +16,16 @@ use Rattle.laws.proofs.SumLaws.{all-at, all-of-each}
 use Rattle.classes.specs.Classes.{blocksOf}
 use Rattle.classes.proofs.ClassTableLaws.{blocks-of-le-256}
 use Rattle.marklaws.proofs.MarkLaws.{live-count-of-no-marks}
+use Rattle.names.specs.Names.{notHeld, noNames, eachHeld}
+use Rattle.namelaws.proofs.NameLaws.{each-held-of-no-names, no-two-of-no-names}
 use Rattle.filledplaces.proofs.PlacesValidLaws.{live-count-le-of-places-valid}
 use Rattle.heap.specs.declared.Superblock.{Superblock}
 use Rattle.heap.specs.declared.Setup.{Setup}
 use Rattle.heap.specs.declared.State.{State}
-use Rattle.heap.specs.Table.{blank, unused, superblockAt, withSuperblock, liveIn, isUnused, newState}
+use Rattle.heap.specs.Table.{blank, unused, superblockAt, withSuperblock, withNames, liveIn, isUnused, isLiveBlock, newState}
 use Rattle.heap.specs.Counts.{superblocksOf, liveOf, blocksIn, belongs}
 use Rattle.moverules.specs.Moves.{bothConditions, mustMove}
-use Rattle.checkrules.specs.Check.{within, withinLimits, superblockValid, unusedFrom, emptinessInvariant, sparseIfGlobal, restValid, passes}
+use Rattle.checkrules.specs.Check.{within, withinLimits, superblockValid, unusedFrom, emptinessInvariant, sparseIfGlobal, namesValid, restValid, passes}
 use Rattle.heaplaws.proofs.StateFacts.{Shape, WithinLimits, Unused, Owned, Sparse, Sound}
 use Rattle.heaplaws.proofs.CountLaws.{superblock-at-replaced, superblock-at-others, owner-and-class-of-belongs, superblocks-of-new-state}
 
@@ -173,17 +175,26 @@ sound-of-limits-and-rest s order a b =
       past-unused = λ k l. unused-of-unused-from (s .setup .superblocks) k (superblockAt s k)
           (all-at (λ k. unusedFrom (s .setup .superblocks) k (superblockAt s k)) 64 (both-left (allBelow (λ k. unusedFrom (s .setup .superblocks) k (superblockAt s k)) 64) _ b1) k l);
       invariant = not-must-move-of-emptiness-invariant s (both-left (emptinessInvariant s) _ b2);
-      sparse = λ k l. sparse-of-sparse-if-global (s .setup) (superblockAt s k) (all-at (λ k. sparseIfGlobal (s .setup) (superblockAt s k)) 64 (both-right (emptinessInvariant s) _ b2) k l);
+      sparse = λ k l. sparse-of-sparse-if-global (s .setup) (superblockAt s k) (all-at (λ k. sparseIfGlobal (s .setup) (superblockAt s k)) 64 (both-left (allBelow (λ k. sparseIfGlobal (s .setup) (superblockAt s k)) 64) _ (both-right (emptinessInvariant s) _ b2)) k l);
     }
 
-pub rest-valid-of-sound : (s : State) (order : List ℕ) → Sound s order → T (restValid s order)
+pub names-valid-of-rest : (s : State) (order : List ℕ) → T (restValid s order) → T (namesValid s)
 unfolding restValid
-rest-valid-of-sound s order h =
+names-valid-of-rest s order b =
+    both-right (allBelow (λ k. sparseIfGlobal (s .setup) (superblockAt s k)) 64) _
+    (both-right (emptinessInvariant s) _
+    (both-right (allBelow (λ k. unusedFrom (s .setup .superblocks) k (superblockAt s k)) 64) _
+    (both-right (allBelow (λ k. superblockValid (s .setup) order k (superblockAt s k)) 64) _ b)))
+
+pub rest-valid-of-sound : (s : State) (order : List ℕ) → Sound s order → T (namesValid s) → T (restValid s order)
+unfolding restValid
+rest-valid-of-sound s order h names =
     both-make (allBelow (λ k. superblockValid (s .setup) order k (superblockAt s k)) 64) _ (all-of-each (λ k. superblockValid (s .setup) order k (superblockAt s k)) 64 (λ k l. good k (h .each k l)))
     (both-make (allBelow (λ k. unusedFrom (s .setup .superblocks) k (superblockAt s k)) 64) _
     (all-of-each (λ k. unusedFrom (s .setup .superblocks) k (superblockAt s k)) 64 (λ k l. unused-from-of-unused (s .setup .superblocks) k (superblockAt s k) (h .past-unused k l)))
     (both-make (emptinessInvariant s) _ (emptiness-invariant-of-not-must-move s (h .invariant))
-    (all-of-each (λ k. sparseIfGlobal (s .setup) (superblockAt s k)) 64 (λ k l. sparse-if-global-of-sparse (s .setup) (superblockAt s k) (h .sparse k l)))))
+    (both-make (allBelow (λ k. sparseIfGlobal (s .setup) (superblockAt s k)) 64) _
+    (all-of-each (λ k. sparseIfGlobal (s .setup) (superblockAt s k)) 64 (λ k l. sparse-if-global-of-sparse (s .setup) (superblockAt s k) (h .sparse k l))) names)))
   where
     good : (k : ℕ) → Unused (superblockAt s k) ⊎ Owned (s .setup) order k (superblockAt s k) → T (superblockValid (s .setup) order k (superblockAt s k))
     good k (inl a) = superblock-valid-of-unused (s .setup) order k (superblockAt s k) a
@@ -193,9 +204,9 @@ pub sound-of-passes : (s : State) (order : List ℕ) → T (passes s order) → 
 unfolding passes
 sound-of-passes s order t = sound-of-limits-and-rest s order (both-left (withinLimits (s .setup)) _ t) (both-right (withinLimits (s .setup)) _ t)
 
-pub passes-of-sound : (s : State) (order : List ℕ) → Sound s order → T (passes s order)
+pub passes-of-sound : (s : State) (order : List ℕ) → Sound s order → T (namesValid s) → T (passes s order)
 unfolding passes
-passes-of-sound s order h = both-make (withinLimits (s .setup)) _ (within-limits-of-facts (s .setup) (h .numbers)) (rest-valid-of-sound s order h)
+passes-of-sound s order h names = both-make (withinLimits (s .setup)) _ (within-limits-of-facts (s .setup) (h .numbers)) (rest-valid-of-sound s order h names)
 
 -- ---- a new state
 pub superblock-at-new-state-unused : (u : Setup) (k : ℕ) → k < 64 → superblockAt (newState u) k ≡ unused
@@ -231,16 +242,33 @@ new-state-sound u order t = record {
     none-must-move : (h c : ℕ) → 1 ≤ h → h ≤ u .processors → c < 27 → T (mustMove h c (newState u)) → ⊥
     none-must-move h c low high lc m = new-state-not-must-move u h c (omega (arith, numbers .processors-high)) m
 
+pub new-state-names-valid : (u : Setup) → T (namesValid (newState u))
+unfolding namesValid
+new-state-names-valid u = both-make (eachHeld (isLiveBlock (newState u)) noNames) _ (each-held-of-no-names (isLiveBlock (newState u)) 1024) (no-two-of-no-names 1024)
+
 pub new-state-shape : (u : Setup) → Shape (newState u)
-new-state-shape u = record { length-is = length-replicate 64 unused; marks-length = λ k l. ap (λ (b : Superblock). length (b .live)) (superblock-at-new-state-unused u k l) }
+new-state-shape u =
+    record {
+      length-is = length-replicate 64 unused;
+      marks-length = λ k l. ap (λ (b : Superblock). length (b .live)) (superblock-at-new-state-unused u k l);
+      names-length = length-replicate 1024 notHeld;
+    }
 
 -- a superblock replaced by one with four numbers of marks keeps the shape
 pub shape-with-superblock : (s : State) (k : ℕ) (b : Superblock) → Shape s → k < 64 → length (b .live) ≡ 4 → Shape (withSuperblock s k b)
-shape-with-superblock s k b h l e = record { length-is = length-set (s .table) k b ∙ h .length-is; marks-length = λ j lj. at j lj (ℕ-discrete j k) }
+shape-with-superblock s k b h l e = record { length-is = length-set (s .table) k b ∙ h .length-is; marks-length = λ j lj. at j lj (ℕ-discrete j k); names-length = h .names-length }
   where
     at : (j : ℕ) → j < 64 → Dec (j ≡ k) → length (superblockAt (withSuperblock s k b) j .live) ≡ 4
     at j lj (yes q) = ap (λ (i : ℕ). length (superblockAt (withSuperblock s k b) i .live)) q ∙ ap (λ (d : Superblock). length (d .live)) (superblock-at-replaced s k b (h .length-is) l) ∙ e
     at j lj (no f) = ap (λ (d : Superblock). length (d .live)) (superblock-at-others s k b j f) ∙ h .marks-length j lj
+
+-- other names change nothing of the rest
+pub shape-with-names : (s : State) (names : List ℕ) → Shape s → length names ≡ 1024 → Shape (withNames s names)
+shape-with-names s names h e = record { length-is = h .length-is; marks-length = h .marks-length; names-length = e }
+
+pub sound-with-names : (s : State) (names order : List ℕ) → Sound s order → Sound (withNames s names) order
+unfolding mustMove blocksIn superblocksOf liveOf
+sound-with-names s names order h = record { numbers = h .numbers; each = h .each; past-unused = h .past-unused; invariant = h .invariant; sparse = h .sparse }
 
 -- ---- what a state that passes says of one superblock
 -- fewer live than the share of n that sparse allows are fewer than n

@@ -32,6 +32,7 @@ pub record IsBest (meets : Superblock → Bool) (preferred : Superblock → Supe
 pub record Shape (s : State) : Type 0 where
   pub length-is : length (s .table) ≡ 64
   pub marks-length : (k : ℕ) → k < 64 → length (superblockAt s k .live) ≡ 4
+  pub names-length : length (s .names) ≡ 1024
 
 -- setup numbers within their limits
 pub record WithinLimits (u : Setup) : Type 0 where
@@ -62,7 +63,7 @@ pub record Owned (u : Setup) (order : List ℕ) (k : ℕ) (b : Superblock) : Typ
 abbrev pub Sparse : Setup → Superblock → Type 0
 Sparse u b = u .q * liveIn b < (u .q - u .p) * blocksOf (b .class)
 
--- the whole check
+-- the whole check, but for the names (checkrules' namesValid)
 pub record Sound (s : State) (order : List ℕ) : Type 0 where
   pub numbers : WithinLimits (s .setup)
   pub each : (k : ℕ) → k < 64 → Unused (superblockAt s k) ⊎ Owned (s .setup) order k (superblockAt s k)
@@ -73,6 +74,7 @@ pub record Sound (s : State) (order : List ℕ) : Type 0 where
 -- what the moves of heap h and class c, from state s, have come to: t is s with some superblocks of (h, c) passed to heap 0
 pub record TransferredFrom (h c : ℕ) (s t : State) : Type 0 where
   pub setup : t .setup ≡ s .setup
+  pub names : t .names ≡ s .names
   pub length-is : length (t .table) ≡ 64
   -- a superblock is as it was, or it was heap h's of class c, is sparse, and only its owner has become 0: "a moved superblock's owner was i and is 0, the others keep theirs"
   pub each : (k : ℕ) → k < 64 → (superblockAt t k ≡ superblockAt s k) ⊎ (T (belongs h c (superblockAt s k)) × Sparse (s .setup) (superblockAt s k) × (superblockAt t k ≡ withOwner 0 (superblockAt s k)))
