@@ -18,8 +18,8 @@ use Rattle.heap.specs.declared.Found.the-variants.{At, Nothing}
 use Rattle.heap.specs.Table.{noState, newState}
 use Rattle.choicerules.specs.Choice.{fullest}
 use Rattle.checkrules.specs.Check.{withinLimits, restValid, passes}
-use Rattle.heaplaws.proofs.StateFacts.{Sound, Shape}
-use Rattle.heaplaws.proofs.StateCheckLaws.{passes-of-sound, new-state-sound}
+use Rattle.heaplaws.proofs.StateFacts.{Shape}
+use Rattle.heaplaws.proofs.StateCheckLaws.{passes-of-sound, new-state-sound, new-state-names-valid}
 use Rattle.calls.specs.declared.Outcome.the-variants.{Address, Moves, Refused}
 use Rattle.calls.specs.declared.Call.{Call}
 use Rattle.calls.specs.declared.Call.the-variants.{Take, Free}
@@ -28,7 +28,7 @@ use Rattle.calls.specs.Setup.{acceptedSetup, setupOf}
 use Rattle.calls.specs.Take.{otherPlaces, takenFrom, takenFromOther, takenAt, takeUnchecked, takeOf}
 use Rattle.calls.specs.Free.{isUnmapped, isMisaligned, isLiveAt, freedAt, freeUnchecked, freeOf}
 use Rattle.calls.specs.Calls.{callOf}
-use Rattle.calllaws.proofs.CallEffects.{TakeAccepted, FreeAccepted}
+use Rattle.calllaws.proofs.CallEffects.{Passed, TakeAccepted, FreeAccepted}
 use Rattle.calllaws.proofs.TakeLaws.{take-refused-or-accepted, take-passed}
 use Rattle.calllaws.proofs.FreeLaws.{free-refused-or-accepted, free-passed}
 
@@ -89,8 +89,8 @@ refused-passes-if-accepted : (x : After) (r : ℕ) (s : State) (order : List ℕ
 unfolding numberOf
 refused-passes-if-accepted x r s order e n z = absurd (n (ap (λ (y : After). y .answer .outcome) e ∙ ap Refused (sym (ap (λ (y : After). numberOf (y .answer .outcome)) e) ∙ z)))
 
-passes-true-of-sound : (s : State) (order : List ℕ) → Sound s order → passes s order ≡ true
-passes-true-of-sound s order h = true-of-T (passes s order) (passes-of-sound s order h)
+passes-true-of-passed : (s : State) (order : List ℕ) → Passed s order → passes s order ≡ true
+passes-true-of-passed s order p = true-of-T (passes s order) (passes-of-sound s order (p .sound) (p .names))
 
 -- ---- the calls
 pub take-passes-if-accepted : (s : State) (order : List ℕ) (i size : ℕ) → Shape s → PassesIfAccepted (takeOf s order i size .answer .outcome) (takeOf s order i size .answer .state) (takeOf s order i size .order)
@@ -99,7 +99,7 @@ take-passes-if-accepted s order i size shape = go (take-refused-or-accepted s or
     go : ((r : ℕ) × (takeOf s order i size ≡ refused r s order)) ⊎ ((k : ℕ) × TakeAccepted s order i size k)
         → PassesIfAccepted (takeOf s order i size .answer .outcome) (takeOf s order i size .answer .state) (takeOf s order i size .order)
     go (inl (r, e)) = refused-passes-if-accepted (takeOf s order i size) r s order e (take-not-refused-0 s order i size)
-    go (inr (k, acc)) = λ z. passes-true-of-sound _ _ (take-passed s order i size k shape acc .sound)
+    go (inr (k, acc)) = λ z. passes-true-of-passed _ _ (take-passed s order i size k shape acc)
 
 pub free-passes-if-accepted : (s : State) (order : List ℕ) (i a : ℕ) → Shape s → PassesIfAccepted (freeOf s order i a .answer .outcome) (freeOf s order i a .answer .state) (freeOf s order i a .order)
 free-passes-if-accepted s order i a shape = go (free-refused-or-accepted s order i a)
@@ -107,7 +107,7 @@ free-passes-if-accepted s order i a shape = go (free-refused-or-accepted s order
     go : ((r : ℕ) × (freeOf s order i a ≡ refused r s order)) ⊎ FreeAccepted s order i a
         → PassesIfAccepted (freeOf s order i a .answer .outcome) (freeOf s order i a .answer .state) (freeOf s order i a .order)
     go (inl (r, e)) = refused-passes-if-accepted (freeOf s order i a) r s order e (free-not-refused-0 s order i a)
-    go (inr acc) = λ z. passes-true-of-sound _ _ (free-passed s order i a shape acc .sound)
+    go (inr acc) = λ z. passes-true-of-passed _ _ (free-passed s order i a shape acc)
 
 pub call-passes-if-accepted : (s : State) (order : List ℕ) (call : Call) → Shape s → PassesIfAccepted (callOf s order call .answer .outcome) (callOf s order call .answer .state) (callOf s order call .order)
 unfolding callOf
@@ -123,6 +123,6 @@ unfolding setupOf numberOf
 setup-passes-if-accepted u order = go (withinLimits u) (leb (u .superblocks * 256) (length order)) refl
   where
     go : (a b : Bool) → withinLimits u ≡ a → PassesIfAccepted (setupByTests u order a b .answer .outcome) (setupByTests u order a b .answer .state) (setupByTests u order a b .order)
-    go true true e z = passes-true-of-sound (newState u) (cleared order (u .superblocks * 256)) (new-state-sound u _ (T-of-true (withinLimits u) e))
+    go true true e z = true-of-T (passes (newState u) (cleared order (u .superblocks * 256))) (passes-of-sound (newState u) _ (new-state-sound u _ (T-of-true (withinLimits u) e)) (new-state-names-valid u))
     go true false e z = absurd (omega (arith, z))
     go false b e z = absurd (omega (arith, z))

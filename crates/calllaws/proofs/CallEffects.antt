@@ -1,24 +1,29 @@
--- When a take and a free are accepted, and what they then do to a state: the facts that the claims over lists go by.
+-- When a call is accepted, and what a take and a free then do to a state: the facts that the claims over lists go by.
 use mathlib.Core.Path.{_≡_}
 use mathlib.Core.Bool.{true, false}
 use mathlib.Core.Logic.{_⊎_}
 use mathlib.Core.List.{List}
 use lib.ListN.{length}
+use lib.Dec.{T}
 use Prim.Native.Nat.{ℕ, suc, _-_, _*_, _≤_, _<_}
 use Rattle.classes.specs.Classes.{blocksOf, classOf}
 use Rattle.marks.specs.Marks.{markBit}
+use Rattle.names.specs.Names.{isHeld}
 use Rattle.heap.specs.declared.State.{State}
 use Rattle.heap.specs.Table.{superblockAt, liveIn}
 use Rattle.heap.specs.Counts.{superblocksOf, superblocksOfClass, liveOfClass, ownersChanged}
 use Rattle.heap.specs.declared.Found.the-variants.{At, Nothing}
 use Rattle.choicerules.specs.Choice.{fullest}
+use Rattle.checkrules.specs.Check.{namesValid}
 use Rattle.heaplaws.proofs.StateFacts.{Sound}
 use Rattle.calls.specs.Take.{otherPlaces, takenFrom, takenFromOther, takeOf}
 use Rattle.calls.specs.Free.{isUnmapped, isMisaligned, isLiveAt, freedAt, freeOf}
+use Rattle.calls.specs.Named.{isUnavailable, withNameBound, namedTakeOf, heldAddress, namedFreeOf}
 
 -- the state passes the check and its places are lent
 pub record Passed (s : State) (order : List ℕ) : Type 0 where
   pub sound : Sound s order
+  pub names : T (namesValid s)
   pub room : s .setup .superblocks * 256 ≤ length order
 
 -- an accepted take: the state passes, the processor is in range, the size is at most 2048, and
@@ -39,7 +44,19 @@ pub record FreeAccepted (s : State) (order : List ℕ) (i a : ℕ) : Type 0 wher
   pub live : isLiveAt s a ≡ true
   pub result-is : freeOf s order i a ≡ freedAt s order a
 
--- Heap i takes block j of superblock k, for class c; s is the state before and t after.
+-- an accepted named take: the name is free, and the plain take is accepted
+pub record NamedTakeAccepted (s : State) (order : List ℕ) (i m size k : ℕ) : Type 0 where
+  pub taken : TakeAccepted s order i size k
+  pub available : isUnavailable s m ≡ false
+  pub result-is : namedTakeOf s order i m size ≡ withNameBound m (takeOf s order i size)
+
+-- an accepted named free: the name is held, and the free of the held address is accepted
+pub record NamedFreeAccepted (s : State) (order : List ℕ) (i m : ℕ) : Type 0 where
+  pub held : T (isHeld (s .names) m)
+  pub freed : FreeAccepted s order i (heldAddress s m)
+  pub result-is : namedFreeOf s order i m ≡ freeOf s order i (heldAddress s m)
+
+-- Heap i takes block j of superblock k, for class c; s is the state before and t after. Names are no part of it: they are told apart.
 -- "an accepted take answers the address of a block that was not marked, in a superblock of the size's class, marks exactly it, and changes at most one owner"
 pub record TakeEffect (i c k j : ℕ) (s t : State) : Type 0 where
   pub below : k < s .setup .superblocks

@@ -1,31 +1,36 @@
 -- Laws of a free, in the page's words. Assumes nothing.
-use mathlib.Core.Path.{_≡_, refl, sym, ap, subst}
+use mathlib.Core.Path.{_≡_, refl, sym, ap, _∙_, subst}
 use mathlib.Core.Bool.{Bool, true, false, not}
 use mathlib.Core.Logic.{_⊎_, inl, inr}
 use mathlib.Core.List.{List}
 use Prim.Native.Nat.{ℕ, _-_, _*_, _%_, _≤_, _<_}
 use native.Mathlib.Omega.{arith}
 use lib.ListN.{length}
-use borrow.Author.Tests.{eqb-true, leb-false, not-false}
-use lib.Dec.{eqb, leb}
+use borrow.Author.Tests.{eqb-true, leb-false, lt-ltb, not-false}
+use lib.Dec.{eqb, leb, ltb}
 use Rattle.laws.specs.Sums.{pick}
-use Rattle.laws.proofs.TestLaws.{T-of-true, not-T-of-false, neither-left, neither-right}
+use Rattle.laws.proofs.TestLaws.{T-of-true, not-T-of-false, neither-left, neither-right, pick-true}
 use Rattle.classes.specs.Classes.{sizeOf, blocksOf}
 use Rattle.classes.proofs.OffsetLaws.{offset-of-block}
 use Rattle.marklaws.proofs.MarkLaws.{mark-bit-one-of-mark}
+use Rattle.names.specs.Names.{blockNumber, withoutBlock}
+use Rattle.namelaws.proofs.NameLaws.{length-without-block}
 use Rattle.orderlaws.proofs.OrderLaws.{length-with-place}
 use Rattle.heap.specs.declared.Setup.{Setup}
 use Rattle.heap.specs.declared.State.{State}
-use Rattle.heap.specs.Table.{liveIn, isUnused}
+use Rattle.heap.specs.declared.Moved.{Moved}
+use Rattle.heap.specs.Table.{withNames, liveIn, isUnused}
+use Rattle.heap.specs.Counts.{superblocksOfClass, liveOfClass, ownersChanged}
 use Rattle.heaplaws.proofs.StateFacts.{Sound, Shape, Unused, Owned}
 use Rattle.calls.specs.declared.Outcome.the-variants.{Moves}
 use Rattle.calls.specs.Answers.{After, refused, isProcessor}
 use Rattle.calls.specs.Take.{addressOf}
-use Rattle.calls.specs.Free.{superblockIndex, offsetOf, superblockHolding, blockOf, isUnmapped, isMisaligned, isLiveAt, markCleared, orderPushed, freedAt, freeUnchecked, freeOf}
+use Rattle.calls.specs.Free.{superblockIndex, offsetOf, superblockHolding, blockOf, isUnmapped, isMisaligned, isLiveAt, markCleared, orderPushed, blockNumberAt, blockFreed, freedAt, freeUnchecked, freeOf}
 use Rattle.moverules.specs.Moves.{invariantRestored}
 use Rattle.calllaws.proofs.CheckedLaws.{checked-refused-or-passed, bounds-of-is-processor}
 use Rattle.calllaws.proofs.CallEffects.{Passed, FreeAccepted, FreeEffect}
-use Rattle.heaplaws.proofs.StateCheckLaws.{is-unused-of-facts}
+use Rattle.heaplaws.proofs.StateCheckLaws.{is-unused-of-facts, shape-with-names, sound-with-names}
+use Rattle.calllaws.proofs.NamesKeptLaws.{names-valid-without-block, names-valid-after-free}
 use Rattle.calllaws.proofs.MarkClearedLaws.{LiveBlock}
 use Rattle.calllaws.proofs.InvariantRestoredLaws.{InvariantRestored, invariant-restored-after-free, invariant-restored-effect, invariant-restored-shape, invariant-restored-sound}
 
@@ -54,10 +59,33 @@ free-refused-or-accepted s order i a = by-check (checked-refused-or-passed s ord
     by-check (inl r) = inl r
     by-check (inr (passed, e)) = by-tests (isProcessor s i) (isUnmapped s a) (isMisaligned s a) (isLiveAt s a) refl refl refl refl passed e
 
+-- the names are no part of a free's effect
+free-effect-with-names : (c k j moves : ℕ) (s t : State) (names : List ℕ) → FreeEffect c k j moves (withNames s names) t → FreeEffect c k j moves s t
+unfolding ownersChanged superblocksOfClass liveOfClass
+free-effect-with-names c k j moves s t names e =
+    record {
+      below = e .below;
+      class-lt-27 = e .class-lt-27;
+      block = e .block;
+      setup = e .setup;
+      class-before = e .class-before;
+      owned-before = e .owned-before;
+      was-marked = e .was-marked;
+      not-marked = e .not-marked;
+      marks = e .marks;
+      classes = e .classes;
+      owners = e .owners;
+      changed = e .changed;
+      moves-le-q = e .moves-le-q;
+      owned = e .owned;
+      live-of-class = e .live-of-class;
+      live-of-others = e .live-of-others;
+    }
+
 module _ (s : State) (order : List ℕ) (i a : ℕ) (shape : Shape s) (acc : FreeAccepted s order i a) where
   -- the moves that it reports
   abbrev pub moves : ℕ
-  moves = invariantRestored (superblockHolding s a .owner) (superblockHolding s a .class) (markCleared s a) .moves
+  moves = invariantRestored (superblockHolding s a .owner) (superblockHolding s a .class) (blockFreed s a) .moves
 
   pub free-outcome : freeOf s order i a .answer .outcome ≡ Moves moves
   unfolding freedAt
@@ -99,8 +127,35 @@ module _ (s : State) (order : List ℕ) (i a : ℕ) (shape : Shape s) (acc : Fre
   unfolding isLiveAt
   freed-block-is-live = record { shape = shape; passed = acc .passed; below = below; owned = owned; block = block; marked = mark-bit-one-of-mark (superblockHolding s a .live) (blockOf s a) (acc .live) }
 
+  -- ---- its name
+  block-number-is : blockNumberAt s a ≡ blockNumber (superblockIndex a) (blockOf s a)
+  unfolding blockNumberAt
+  block-number-is = pick-true (ltb (superblockIndex a) 64) _ _ (lt-ltb (superblockIndex a) 64 (let l = below in let h = acc .passed .sound .numbers .superblocks-high in omega arith))
+
+  -- the state with the block's name let go, which still passes: the free is followed from there
+  abbrev nameLetGo : State
+  nameLetGo = withNames s (withoutBlock (s .names) (blockNumberAt s a))
+
+  live-without-name : LiveBlock nameLetGo order (superblockIndex a) (blockOf s a)
+  live-without-name =
+      record {
+        shape = shape-with-names s (withoutBlock (s .names) (blockNumberAt s a)) shape (length-without-block (s .names) (blockNumberAt s a) ∙ shape .names-length);
+        passed = record {
+          sound = sound-with-names s (withoutBlock (s .names) (blockNumberAt s a)) order (acc .passed .sound);
+          names = names-valid-without-block s (blockNumberAt s a) (acc .passed .names);
+          room = acc .passed .room;
+        };
+        below = below;
+        owned = owned;
+        block = block;
+        marked = freed-block-is-live .marked;
+      }
+
   -- ---- the state and the order after it
-  free-state-is : freeOf s order i a .answer .state ≡ invariantRestored (superblockHolding s a .owner) (superblockHolding s a .class) (markCleared s a) .state
+  abbrev restored : Moved
+  restored = invariantRestored (superblockHolding s a .owner) (superblockHolding s a .class) (blockFreed s a)
+
+  free-state-is : freeOf s order i a .answer .state ≡ restored .state
   unfolding freedAt
   free-state-is = ap (λ (x : After). x .answer .state) (acc .result-is)
 
@@ -108,22 +163,28 @@ module _ (s : State) (order : List ℕ) (i a : ℕ) (shape : Shape s) (acc : Fre
   unfolding freedAt
   free-order-is = ap (λ (x : After). x .order) (acc .result-is)
 
-  free-restores-invariant : InvariantRestored (superblockHolding s a .owner) (superblockHolding s a .class) (markCleared s a) (invariantRestored (superblockHolding s a .owner) (superblockHolding s a .class) (markCleared s a))
-  unfolding markCleared
-  free-restores-invariant = invariant-restored-after-free s order (superblockIndex a) (blockOf s a) freed-block-is-live
+  free-restores-invariant : InvariantRestored (superblockHolding s a .owner) (superblockHolding s a .class) (blockFreed s a) restored
+  unfolding blockFreed markCleared
+  free-restores-invariant = invariant-restored-after-free nameLetGo order (superblockIndex a) (blockOf s a) live-without-name
 
   pub free-effect : FreeEffect (superblockHolding s a .class) (superblockIndex a) (blockOf s a) moves s (freeOf s order i a .answer .state)
-  unfolding markCleared
+  unfolding blockFreed markCleared
   free-effect = subst (λ (t : State). FreeEffect (superblockHolding s a .class) (superblockIndex a) (blockOf s a) moves s t) (sym free-state-is)
-      (invariant-restored-effect s order (superblockIndex a) (blockOf s a) freed-block-is-live (invariantRestored (superblockHolding s a .owner) (superblockHolding s a .class) (markCleared s a)) free-restores-invariant)
+      (free-effect-with-names (superblockHolding s a .class) (superblockIndex a) (blockOf s a) moves s (restored .state) (withoutBlock (s .names) (blockNumberAt s a))
+      (invariant-restored-effect nameLetGo order (superblockIndex a) (blockOf s a) live-without-name restored free-restores-invariant))
+
+  -- "A name holds .. until its block is freed": the block's name is let go, and no other
+  pub free-names : freeOf s order i a .answer .state .names ≡ withoutBlock (s .names) (blockNumber (superblockIndex a) (blockOf s a))
+  unfolding blockFreed
+  free-names = ap (λ (t : State). t .names) free-state-is ∙ free-restores-invariant .from .names ∙ ap (withoutBlock (s .names)) block-number-is
 
   pub free-shape : Shape (freeOf s order i a .answer .state)
-  unfolding markCleared
-  free-shape = subst Shape (sym free-state-is) (invariant-restored-shape s order (superblockIndex a) (blockOf s a) freed-block-is-live (invariantRestored (superblockHolding s a .owner) (superblockHolding s a .class) (markCleared s a)) free-restores-invariant)
+  unfolding blockFreed markCleared
+  free-shape = subst Shape (sym free-state-is) (invariant-restored-shape nameLetGo order (superblockIndex a) (blockOf s a) live-without-name restored free-restores-invariant)
 
-  sound : Sound (invariantRestored (superblockHolding s a .owner) (superblockHolding s a .class) (markCleared s a) .state) (orderPushed s order a)
-  unfolding markCleared orderPushed
-  sound = invariant-restored-sound s order (superblockIndex a) (blockOf s a) freed-block-is-live (invariantRestored (superblockHolding s a .owner) (superblockHolding s a .class) (markCleared s a)) free-restores-invariant
+  sound : Sound (restored .state) (orderPushed s order a)
+  unfolding blockFreed markCleared orderPushed
+  sound = invariant-restored-sound nameLetGo order (superblockIndex a) (blockOf s a) live-without-name restored free-restores-invariant
 
   room : s .setup .superblocks * 256 ≤ length (orderPushed s order a)
   unfolding orderPushed
@@ -133,6 +194,7 @@ module _ (s : State) (order : List ℕ) (i a : ℕ) (shape : Shape s) (acc : Fre
   pub free-passed : Passed (freeOf s order i a .answer .state) (freeOf s order i a .order)
   free-passed =
       record {
-        sound = subst (λ (t : State). Sound t (freeOf s order i a .order)) (sym free-state-is) (subst (λ (l : List ℕ). Sound (invariantRestored (superblockHolding s a .owner) (superblockHolding s a .class) (markCleared s a) .state) l) (sym free-order-is) sound);
+        sound = subst (λ (t : State). Sound t (freeOf s order i a .order)) (sym free-state-is) (subst (λ (l : List ℕ). Sound (restored .state) l) (sym free-order-is) sound);
+        names = names-valid-after-free (superblockHolding s a .class) (superblockIndex a) (blockOf s a) moves s (freeOf s order i a .answer .state) (shape .length-is) free-effect free-names (acc .passed .names);
         room = subst (λ (u : Setup). u .superblocks * 256 ≤ length (freeOf s order i a .order)) (sym (free-effect .setup)) (subst (λ (l : List ℕ). s .setup .superblocks * 256 ≤ length l) (sym free-order-is) room);
       }

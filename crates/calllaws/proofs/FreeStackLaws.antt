@@ -8,7 +8,7 @@ use Prim.Native.Nat.{ℕ, zero, suc, _+_, _-_, _*_, _≤_, _<_}
 use native.Mathlib.Decide.{ℕ-discrete, decLt}
 use native.Mathlib.Omega.{arith}
 use borrow.Author.Tests.{eqb-true, eqb-false, eq-eqb}
-use lib.ListN.{length}
+use lib.ListN.{length, getD}
 use lib.Seq.{getD-set-same, getD-set-other, set-out}
 use lib.Dec.{eqb}
 use Rattle.laws.specs.Sums.{pick}
@@ -36,7 +36,7 @@ use Rattle.calls.specs.declared.Call.the-variants.{Take, Free}
 use Rattle.calls.specs.declared.Outcome.the-variants.{Address}
 use Rattle.calls.specs.Answers.{After, refused}
 use Rattle.calls.specs.Take.{otherPlaces, renewedFor, acquired, acquiredOrder, addressOf, takenFrom, takenFromOther, takeOf}
-use Rattle.calls.specs.Free.{superblockIndex, superblockHolding, blockOf, markCleared, orderPushed, freedAt, freeOf}
+use Rattle.calls.specs.Free.{superblockIndex, superblockHolding, blockOf, markCleared, orderPushed, blockFreed, freedAt, freeOf}
 use Rattle.calls.specs.Calls.{callOf}
 use Rattle.calllaws.proofs.CallEffects.{TakeAccepted, FreeAccepted}
 use Rattle.calllaws.proofs.TakeSourceLaws.{lastBlockOf, takenWith, taken-from-is-taken-with, taken-from-other-is-taken-with}
@@ -131,7 +131,7 @@ transferred-same-class-and-marks k s m = go (ℕ-discrete m k) (decLt k (length 
         (let e = getD-set-same (s .table) k new blank l in record { class = ap (λ (b : Superblock). b .class) e; live = ap (λ (b : Superblock). b .live) e })
     go (yes q) (no f) =
         let e : withSuperblock s k new .table ≡ s .table = set-out (s .table) k new (omega arith) in
-        record { class = ap (λ (t : List Superblock). superblockAt (record { setup = s .setup; table = t }) m .class) e; live = ap (λ (t : List Superblock). superblockAt (record { setup = s .setup; table = t }) m .live) e }
+        record { class = ap (λ (t : List Superblock). getD t m blank .class) e; live = ap (λ (t : List Superblock). getD t m blank .live) e }
 
 same-trans : (s t u : State) (m : ℕ) → SameClassAndMarks s t m → SameClassAndMarks t u m → SameClassAndMarks s u m
 same-trans s t u m a b = record { class = b .class ∙ a .class; live = b .live ∙ a .live }
@@ -175,10 +175,10 @@ module _ (s : State) (order : List ℕ) (i a : ℕ) (shape : Shape s) (acc : Fre
 
   -- the stacks after the free, by the state before the moves
   stack-after : (m : ℕ) → stackOf (freeOf s order i a .answer .state) (freeOf s order i a .order) m ≡ stackOf (markCleared s a) (orderPushed s order a) m
-  unfolding freedAt
+  unfolding freedAt blockFreed stackOf
   stack-after m =
       ap (λ (x : After). stackOf (x .answer .state) (x .order) m) (acc .result-is)
-      ∙ invariant-restored-keeps-stacks (superblockHolding s a .owner) (superblockHolding s a .class) (markCleared s a) (orderPushed s order a) m
+      ∙ invariant-restored-keeps-stacks (superblockHolding s a .owner) (superblockHolding s a .class) (blockFreed s a) (orderPushed s order a) m
 
   mark-cleared-at-home : superblockAt (markCleared s a) home ≡ withoutMarkAt (superblockHolding s a) (blockOf s a)
   unfolding markCleared

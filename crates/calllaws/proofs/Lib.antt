@@ -1,5 +1,6 @@
 pub mod CallEffects
 pub mod CheckedLaws
+pub mod NamesKeptLaws
 pub mod SetupLaws
 pub mod SuperblockLaws
 pub mod TakeSourceLaws
@@ -10,6 +11,8 @@ pub mod MarkClearedLaws
 pub mod InvariantRestoredLaws
 pub mod FreeLaws
 pub mod RefusalOrder
+pub mod AddressLaws
+pub mod NamedCallLaws
 pub mod OutcomeValues
 pub mod AcceptedCallLaws
 pub mod NothingOfferedLaws

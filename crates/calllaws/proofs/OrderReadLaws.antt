@@ -12,6 +12,7 @@ use Rattle.laws.specs.Sums.{pick, both}
 use Rattle.laws.proofs.TestLaws.{T-of-true}
 use Rattle.classes.specs.Classes.{blocksOf, classOf, isTooLarge}
 use Rattle.classes.proofs.ClassTableLaws.{blocks-of-le-256}
+use Rattle.names.specs.Names.{isHeld}
 use Rattle.order.specs.Order.{place, lastFilled, renewed}
 use Rattle.orderlaws.proofs.FirstPlaces.{SameFirst, take-equal-of-same-first, same-first-of-take-equal, same-first-place, same-first-renewed, same-first-with-place, same-first-cleared}
 use Rattle.heap.specs.declared.Setup.{Setup}
@@ -22,16 +23,19 @@ use Rattle.heap.specs.declared.Found.the-variants.{At, Nothing}
 use Rattle.heap.specs.Table.{superblockAt, withSuperblock, liveIn, withMarkAt}
 use Rattle.choicerules.specs.Choice.{fullest}
 use Rattle.checkrules.specs.Check.{withinLimits, restValid}
-use Rattle.heaplaws.proofs.StateCheckLaws.{sound-of-limits-and-rest}
+use Rattle.heaplaws.proofs.StateCheckLaws.{sound-of-limits-and-rest, names-valid-of-rest}
 use Rattle.heaplaws.proofs.CheckReadsLaws.{rest-valid-reads-only-first-places}
 use Rattle.calls.specs.declared.Call.{Call}
-use Rattle.calls.specs.declared.Call.the-variants.{Take, Free}
+use Rattle.calls.specs.declared.Call.the-variants.{Take, Free, NamedTake, NamedFree}
+use Rattle.calls.specs.declared.Answer.{Answer}
 use Rattle.calls.specs.declared.Outcome.the-variants.{Address}
 use Rattle.calls.specs.Answers.{After, refused, checked, isProcessor}
 use Rattle.calls.specs.Setup.{setupOf}
-use Rattle.calls.specs.Take.{otherPlaces, acquired, acquiredOrder, nextBlock, addressOf, takenFrom, takenFromOther, takenAt, takeUnchecked, takeOf}
-use Rattle.calls.specs.Free.{superblockIndex, superblockHolding, blockOf, isUnmapped, isMisaligned, isLiveAt, orderPushed, freedAt, freeUnchecked, freeOf}
-use Rattle.calls.specs.Calls.{callOf}
+use Rattle.calls.specs.Take.{otherPlaces, acquired, acquiredOrder, nextBlock, addressOf, takenFrom, takenFromOther, takenAt, takeUnchecked}
+use Rattle.calls.specs.Free.{superblockIndex, superblockHolding, blockOf, isUnmapped, isMisaligned, isLiveAt, orderPushed, freedAt, freeUnchecked}
+use Rattle.calls.specs.Named.{isUnavailable, boundBy, withNameBound, heldAddress, namedTakeUnchecked, namedFreeUnchecked}
+use Rattle.calls.specs.Calls.{callOf, callUnchecked}
+use Rattle.calls.proofs.CheckFirst.{call-of-checks-first}
 use Rattle.calllaws.proofs.CallEffects.{Passed}
 use Rattle.calllaws.proofs.CheckedLaws.{bounds-of-is-processor}
 use Rattle.calllaws.proofs.TakeLaws.{takenByTests}
@@ -91,15 +95,13 @@ module _ (s : State) (x y : List ℕ) (h : SameFirst (s .setup .superblocks * 25
   checked-agree a b f =
       rw (le-leb n (length x) (h .first-covers), le-leb n (length y) (h .second-covers), ← (rest-valid-reads-only-first-places s x y h))
       (agree-pick n (withinLimits (s .setup))
-      (λ l. agree-pick n (restValid s x) (λ g. f (record { sound = sound-of-limits-and-rest s x (T-of-true (withinLimits (s .setup)) l) (T-of-true (restValid s x) g); room = h .first-covers })) (λ g. same-refusal 13))
+      (λ l. agree-pick n (restValid s x) (λ g. f (record { sound = sound-of-limits-and-rest s x (T-of-true (withinLimits (s .setup)) l) (T-of-true (restValid s x) g); names = names-valid-of-rest s x (T-of-true (restValid s x) g); room = h .first-covers })) (λ g. same-refusal 13))
       (λ l. same-refusal 13))
 
   -- a take
-  take-agrees : (i size : ℕ) → Agree n (takeOf s x i size) (takeOf s y i size)
-  unfolding takeOf takeUnchecked takenAt takenFromOther
-  take-agrees i size =
-      checked-agree (takeUnchecked s x i size) (takeUnchecked s y i size)
-      (go (isProcessor s i) (isTooLarge size) (fullest i (classOf size) s) (otherPlaces (classOf size) s) refl refl refl)
+  take-agrees : (i size : ℕ) → Passed s x → Agree n (takeUnchecked s x i size) (takeUnchecked s y i size)
+  unfolding takeUnchecked takenAt takenFromOther
+  take-agrees i size = go (isProcessor s i) (isTooLarge size) (fullest i (classOf size) s) (otherPlaces (classOf size) s) refl refl refl
     where
       go : (processor large : Bool) (own other : Found) → isProcessor s i ≡ processor → fullest i (classOf size) s ≡ own → otherPlaces (classOf size) s ≡ other → Passed s x
           → Agree n (takenByTests s x i (classOf size) processor large own other) (takenByTests s y i (classOf size) processor large own other)
@@ -114,20 +116,34 @@ module _ (s : State) (x y : List ℕ) (h : SameFirst (s .setup .superblocks * 25
       go true false Nothing Nothing ep eo et passed = same-refusal 4
 
   -- a free
-  free-agrees : (i a : ℕ) → Agree n (freeOf s x i a) (freeOf s y i a)
-  unfolding freeOf freeUnchecked freedAt orderPushed
+  free-agrees : (i a : ℕ) → Agree n (freeUnchecked s x i a) (freeUnchecked s y i a)
+  unfolding freeUnchecked freedAt orderPushed
   free-agrees i a =
-      checked-agree (freeUnchecked s x i a) (freeUnchecked s y i a) (λ passed.
       agree-pick n (not (isProcessor s i)) (λ e. same-refusal 2) (λ e.
       agree-pick n (isUnmapped s a) (λ e. same-refusal 5) (λ e.
       agree-pick n (isMisaligned s a) (λ e. same-refusal 6) (λ e.
       agree-pick n (not (isLiveAt s a)) (λ e. same-refusal 7) (λ e.
-      record { answer = refl; order = same-first-with-place n x y h (superblockIndex a) (blocksOf (superblockHolding s a .class) - liveIn (superblockHolding s a)) (blockOf s a) })))))
+      record { answer = refl; order = same-first-with-place n x y h (superblockIndex a) (blocksOf (superblockHolding s a .class) - liveIn (superblockHolding s a)) (blockOf s a) }))))
+
+  -- a name bound
+  name-bound-agrees : (m : ℕ) (a b : After) → Agree n a b → Agree n (withNameBound m a) (withNameBound m b)
+  unfolding withNameBound
+  name-bound-agrees m a b g = record { answer = ap (λ (r : Answer). record { outcome = r .outcome; state = boundBy (r .outcome) m (r .state) }) (g .answer); order = g .order }
+
+  unchecked-agrees : (call : Call) → Passed s x → Agree n (callUnchecked s x call) (callUnchecked s y call)
+  unfolding callUnchecked namedTakeUnchecked namedFreeUnchecked
+  unchecked-agrees (Take i size) passed = take-agrees i size passed
+  unchecked-agrees (Free i a) passed = free-agrees i a
+  unchecked-agrees (NamedTake i m size) passed =
+      agree-pick n (not (isProcessor s i)) (λ e. same-refusal 2) (λ e.
+      agree-pick n (isUnavailable s m) (λ e. same-refusal 14) (λ e.
+      name-bound-agrees m (takeUnchecked s x i size) (takeUnchecked s y i size) (take-agrees i size passed)))
+  unchecked-agrees (NamedFree i m) passed =
+      agree-pick n (not (isProcessor s i)) (λ e. same-refusal 2) (λ e.
+      agree-pick n (not (isHeld (s .names) m)) (λ e. same-refusal 15) (λ e. free-agrees i (heldAddress s m)))
 
   call-agrees : (call : Call) → Agree n (callOf s x call) (callOf s y call)
-  unfolding callOf
-  call-agrees (Take i size) = take-agrees i size
-  call-agrees (Free i a) = free-agrees i a
+  call-agrees call = rw (call-of-checks-first s x call, call-of-checks-first s y call) (checked-agree (callUnchecked s x call) (callUnchecked s y call) (unchecked-agrees call))
 
 -- a setup
 setup-agrees : (u : Setup) (x y : List ℕ) → SameFirst (u .superblocks * 256) x y → Agree (u .superblocks * 256) (setupOf u x) (setupOf u y)

@@ -28,6 +28,7 @@ use Rattle.heaplaws.proofs.CountLaws.{total-with-superblock, one-if-belongs-is-
 use Rattle.heaplaws.proofs.StateCheckLaws.{shape-with-superblock}
 use Rattle.heaplaws.proofs.MoveLaws.{conditions-of-must-move, must-move-of-conditions}
 use Rattle.calllaws.proofs.CallEffects.{Passed, TakeEffect}
+use Rattle.calllaws.proofs.NamesKeptLaws.{names-valid-after-take}
 use Rattle.calllaws.proofs.SuperblockLaws.{owned-of-class-true, owned-of-class-false, no-live-adds-nothing, owners-changed-with-superblock-le-1}
 use Rattle.calllaws.proofs.TakeSourceLaws.{lastBlockOf, TakeSource}
 
@@ -192,9 +193,6 @@ module _ (s : State) (order : List ℕ) (i c k : ℕ) (b : Superblock) (places :
           absurd (let z : ⊥ = omega (arith, low) in z)
       at-sparse m l e (no f) = subst (Sparse (s .setup)) (sym (after-at-others m f)) (passed .sound .sparse m l (sym (ap (λ (x : Superblock). x .owner) (after-at-others m f)) ∙ e))
 
-  passed-after : Passed after places
-  passed-after = record { sound = sound-after; room = omega (arith, passed .room, gives .length-is) }
-
   shape-after : Shape after
   shape-after = shape-with-superblock s k new shape in-table (length-with-mark (b .live) j ∙ gives .marks-length)
 
@@ -262,6 +260,9 @@ module _ (s : State) (order : List ℕ) (i c k : ℕ) (b : Superblock) (places :
     live-of-class = live-class-after;
     live-of-others = live-others-after;
   }
+
+  passed-after : Passed after places
+  passed-after = record { sound = sound-after; names = names-valid-after-take i c k j s after in-marks effect refl (passed .names); room = omega (arith, passed .room, gives .length-is) }
 
   pub take-result-of-source : TakeResult i c k j s after places
   take-result-of-source = record { effect = effect; shape = shape-after; passed = passed-after }

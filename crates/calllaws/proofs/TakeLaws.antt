@@ -165,6 +165,10 @@ module _ (s : State) (order : List ℕ) (i size k : ℕ) (shape : Shape s) (acc 
   pub take-effect : TakeEffect i (classOf size) k taken-block s (takeOf s order i size .answer .state)
   take-effect = take-result .effect
 
+  -- a plain take keeps the names
+  pub take-names : takeOf s order i size .answer .state .names ≡ s .names
+  take-names = ap (λ (x : After). x .answer .state .names) (source-and-result .result-is)
+
   pub take-shape : Shape (takeOf s order i size .answer .state)
   take-shape = take-result .shape
 

@@ -57,7 +57,7 @@ unfolding takenFromOther
 taken-from-other-is-taken-with i c k s order l =
     taken-from-is-taken-with k (withSuperblock s k b) places
     ∙ ap (λ (x : Superblock). takenWith k (withSuperblock s k b) x places) (getD-set-same (s .table) k b blank l)
-    ∙ ap (λ (x : List Superblock). record { answer = record { outcome = Address (addressOf k (b .class) (lastBlockOf places k b)); state = record { setup = s .setup; table = x } }; order = places })
+    ∙ ap (λ (x : List Superblock). record { answer = record { outcome = Address (addressOf k (b .class) (lastBlockOf places k b)); state = record { setup = s .setup; table = x; names = s .names } }; order = places })
     (set-set (s .table) k b (withMarkAt b (lastBlockOf places k b)))
   where
     b : Superblock

@@ -60,7 +60,7 @@ module _ (h c : ℕ) (s t : State) (m : TransferredFrom h c s t) (k : ℕ) (l : 
       go (inr (mine, sparse, now)) = inr (owner-and-class-of-belongs h c (superblockAt s k) mine .0, ap (λ (b : Superblock). b .owner) now)
 
 pub transferred-shape : (h c : ℕ) (s t : State) → TransferredFrom h c s t → Shape s → Shape t
-transferred-shape h c s t m shape = record { length-is = m .length-is; marks-length = λ k l. ap length (transferred-live h c s t m k l) ∙ shape .marks-length k l }
+transferred-shape h c s t m shape = record { length-is = m .length-is; marks-length = λ k l. ap length (transferred-live h c s t m k l) ∙ shape .marks-length k l; names-length = ap length (m .names) ∙ shape .names-length }
 
 -- ---- the check
 -- What holds of each superblock still does, if it holds of a sparse one that passes to heap 0.

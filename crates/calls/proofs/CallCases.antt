@@ -1,4 +1,4 @@
--- Whole calls: the check first, then which refusal comes first, and an accepted take and free. By computation. Assumes nothing.
+-- Calls behind the check: which refusal comes first, and an accepted take and free. By computation. Assumes nothing.
 use mathlib.Core.Path.{_≡_, refl}
 use mathlib.Core.List.{List, [], _∷_, _++_, map}
 use lib.ListN.{replicate}
@@ -7,13 +7,11 @@ use Rattle.heap.specs.declared.State.{State}
 use Rattle.heap.specs.Table.{unused}
 use Rattle.heap.proofs.CaseStates.{unnamedState}
 use Rattle.calls.specs.declared.Call.{Call}
-use Rattle.calls.specs.declared.Call.the-variants.{Take, Free, NamedTake, NamedFree}
+use Rattle.calls.specs.declared.Call.the-variants.{Take, Free}
 use Rattle.calls.specs.declared.Outcome.the-variants.{Address, Moves}
-use Rattle.calls.specs.Answers.{After, refused, checked}
-use Rattle.calls.specs.Take.{takeUnchecked, takeOf}
-use Rattle.calls.specs.Free.{freeOf}
-use Rattle.calls.specs.Named.{namedTakeOf, namedFreeOf}
-use Rattle.calls.specs.Calls.{callOf, callUnchecked}
+use Rattle.calls.specs.Answers.{After, refused}
+use Rattle.calls.specs.Take.{takeUnchecked}
+use Rattle.calls.specs.Calls.{callUnchecked}
 use Rattle.calls.proofs.CallDefinitions.{uncheckedCallDefinitions}
 use Rattle.calls.proofs.RuleCases.{of, setup-with, after-with}
 
@@ -55,11 +53,3 @@ class-0-order = replicate 510 77 ++ 9 ∷ 78 ∷ []
 pub size-0-cases : map (takeUnchecked (class-0-state 1) class-0-order 1) (0 ∷ 1 ∷ 16 ∷ []) ≡ replicate 3 (after-with (Address 4240) (class-0-state 513) class-0-order)
 unfolding uncheckedCallDefinitions
 size-0-cases = refl
-
--- ---- with the check before it: "Take or free: 13 for setup numbers, 12, the rest of 13, then ..", whatever the state and the storage
-pub call-of-checks-first : (s : State) (order : List ℕ) (call : Call) → callOf s order call ≡ checked s order (callUnchecked s order call)
-unfolding callOf callUnchecked takeOf freeOf namedTakeOf namedFreeOf
-call-of-checks-first s order (Take processor size) = refl
-call-of-checks-first s order (Free processor address) = refl
-call-of-checks-first s order (NamedTake processor name size) = refl
-call-of-checks-first s order (NamedFree processor name) = refl

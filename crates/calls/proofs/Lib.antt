@@ -3,3 +3,4 @@ pub mod RuleCases
 pub mod CallCases
 pub mod NamedCases
 pub mod AnswerLaws
+pub mod CheckFirst

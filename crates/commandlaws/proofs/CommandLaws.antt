@@ -1,5 +1,5 @@
 -- Laws of the commands of a record: what is known of a command that was read, and the commands that follow it. Assumes nothing.
-use mathlib.Core.Path.{_≡_, refl, sym, ap, subst}
+use mathlib.Core.Path.{_≡_, refl, sym, ap, _∙_, subst}
 use mathlib.Core.Bool.{Bool, true, false}
 use mathlib.Core.List.{List, [], _∷_}
 use mathlib.Core.Logic.{⊎-elim}
@@ -10,12 +10,12 @@ use borrow.Author.Tests.{leb-false, lt-leb, le-leb}
 use lib.ListN.{length}
 use lib.Dec.{T, leb}
 use Rattle.laws.specs.Sums.{pick, either}
-use Rattle.commandlaws.proofs.RefusalTable.{CommandRow, row-of-command-at}
+use Rattle.commandlaws.proofs.RefusalTable.{CommandRow, row-of-command-at, ReadAt, no-refusal-of-read, command-iff-read-at, setup-iff-setup-at, take-iff-take-at, free-iff-free-at, named-take-iff-named-take-at, named-free-iff-named-free-at}
 use Rattle.commandlaws.proofs.RefusalTable as row
 use Rattle.commands.specs.declared.Command.{Command}
-use Rattle.commands.specs.declared.Command.the-variants.{Setup, Take, Free, Refused}
-use Rattle.littleendian.specs.Bytes.{byteAt, twoAt, fourAt}
-use Rattle.commands.specs.Record.{commandAt, sizeOfCommand, isRefused, commandsFrom, commandsOf}
+use Rattle.commands.specs.declared.Command.the-variants.{Setup, Take, Free, NamedTake, NamedFree, Refused}
+use Rattle.littleendian.specs.Bytes.{byteAt}
+use Rattle.commands.specs.Record.{commandAt, commandNumberOf, refusalOffsetOf, sizeOfCommand, isRefused, commandsFrom, commandsOf}
 
 -- ---- one command
 
@@ -26,88 +26,77 @@ pub record CommandInside (r : List ℕ) (at : ℕ) (c : Command) : Type 0 where
   pub size-ge-4 : 4 ≤ sizeOfCommand c
   pub size-le-6 : sizeOfCommand c ≤ 6
 
--- what is known of the command at a position, by its kind
-CommandFacts : List ℕ → ℕ → Command → Type 0
-CommandFacts r at (Setup processors superblocks spare p q) =
-    (length r ≤ 60000) × (at ≡ 0) × (at + 6 ≤ length r)
-    × (processors ≡ byteAt r (at + 1)) × (superblocks ≡ byteAt r (at + 2)) × (spare ≡ byteAt r (at + 3)) × (p ≡ byteAt r (at + 4)) × (q ≡ byteAt r (at + 5))
-CommandFacts r at (Take processor size) =
-    (length r ≤ 60000) × (0 < at) × (at + 4 ≤ length r) × (processor ≡ byteAt r (at + 1)) × (size ≡ twoAt r (at + 2))
-CommandFacts r at (Free processor address) =
-    (length r ≤ 60000) × (0 < at) × (at + 6 ≤ length r) × (processor ≡ byteAt r (at + 1)) × (address ≡ fourAt r (at + 2))
-CommandFacts r at (Refused number offset) = (8 ≤ number) × (number ≤ 11) × (offset ≤ 60000)
-
-command-facts-of-row : {r : List ℕ} {at : ℕ} {c : Command} → CommandRow r at c → CommandFacts r at c
-unfolding CommandFacts
-command-facts-of-row (row.record-too-long l) = (omega arith, omega arith, omega arith)
-command-facts-of-row (row.unknown l u) = (omega arith, omega arith, omega arith)
-command-facts-of-row (row.misplaced l u m) = (omega arith, omega arith, ⊎-elim (λ w. omega arith) (⊎-elim (λ w. omega arith) (λ w. omega arith)) m)
-command-facts-of-row (row.truncated l u m c i) = (omega arith, omega arith, omega arith)
-command-facts-of-row (row.past-record-end l u m c i) = (omega arith, omega arith, omega arith)
-command-facts-of-row (row.setup s f b i) = (s, f, i, refl, refl, refl, refl, refl)
-command-facts-of-row (row.take s f b i) = (s, f, i, refl, refl)
-command-facts-of-row (row.free s f b i) = (s, f, i, refl, refl)
+RefusalBounds : Command → Type 0
+RefusalBounds c = (8 ≤ commandNumberOf c) × (commandNumberOf c ≤ 11) × (refusalOffsetOf c ≤ 60000)
 
 module _ (r : List ℕ) (at : ℕ) (c : Command) (e : c ≡ commandAt r at) where
-  command-facts : CommandFacts r at c
-  command-facts = subst (CommandFacts r at) (sym e) (command-facts-of-row (row-of-command-at r at))
-
   pub command-inside : isRefused c ≡ false → CommandInside r at c
-  unfolding isRefused sizeOfCommand CommandFacts
-  command-inside f = go c f command-facts
+  unfolding ReadAt sizeOfCommand
+  command-inside f = go c (command-iff-read-at r at c f .0 (sym e))
     where
-      go : (d : Command) → isRefused d ≡ false → CommandFacts r at d → CommandInside r at d
-      go (Setup processors superblocks spare p q) f t = record { record-le-60000 = t .0; inside = t .2; size-ge-4 = omega arith; size-le-6 = le-refl 6 }
-      go (Take processor size) f t = record { record-le-60000 = t .0; inside = t .2; size-ge-4 = le-refl 4; size-le-6 = omega arith }
-      go (Free processor address) f t = record { record-le-60000 = t .0; inside = t .2; size-ge-4 = omega arith; size-le-6 = le-refl 6 }
-      go (Refused number offset) f t = absurd (subst T f tt)
-
-  setup-facts : (processors superblocks spare p q : ℕ) → c ≡ Setup processors superblocks spare p q → CommandFacts r at (Setup processors superblocks spare p q)
-  setup-facts processors superblocks spare p q k = subst (CommandFacts r at) k command-facts
-
-  take-facts : (processor size : ℕ) → c ≡ Take processor size → CommandFacts r at (Take processor size)
-  take-facts processor size k = subst (CommandFacts r at) k command-facts
-
-  free-facts : (processor address : ℕ) → c ≡ Free processor address → CommandFacts r at (Free processor address)
-  free-facts processor address k = subst (CommandFacts r at) k command-facts
+      go : (d : Command) → ReadAt r at d → CommandInside r at d
+      go (Setup processors superblocks spare p q) t = record { record-le-60000 = t .0; inside = t .3; size-ge-4 = omega arith; size-le-6 = le-refl 6 }
+      go (Take processor size) t = record { record-le-60000 = t .0; inside = t .3; size-ge-4 = le-refl 4; size-le-6 = omega arith }
+      go (Free processor address) t = record { record-le-60000 = t .0; inside = t .3; size-ge-4 = omega arith; size-le-6 = le-refl 6 }
+      go (NamedTake processor name size) t = record { record-le-60000 = t .0; inside = t .3; size-ge-4 = omega arith; size-le-6 = le-refl 6 }
+      go (NamedFree processor name) t = record { record-le-60000 = t .0; inside = t .3; size-ge-4 = le-refl 4; size-le-6 = omega arith }
+      go (Refused number offset) t = absurd t
 
   -- by kind: a setup is first, a take or a free is not
   pub setup-first-and-inside : (processors superblocks spare p q : ℕ) → c ≡ Setup processors superblocks spare p q → (length r ≤ 60000) × (at ≡ 0) × (at + 6 ≤ length r)
-  unfolding CommandFacts
-  setup-first-and-inside processors superblocks spare p q k = let t = setup-facts processors superblocks spare p q k in (t .0, t .1, t .2)
+  setup-first-and-inside processors superblocks spare p q k = let t = setup-iff-setup-at r at processors superblocks spare p q .0 (sym e ∙ k) in (t .0, t .1, t .3)
 
   pub take-later-and-inside : (processor size : ℕ) → c ≡ Take processor size → (length r ≤ 60000) × (0 < at) × (at + 4 ≤ length r)
-  unfolding CommandFacts
-  take-later-and-inside processor size k = let t = take-facts processor size k in (t .0, t .1, t .2)
+  take-later-and-inside processor size k = let t = take-iff-take-at r at processor size .0 (sym e ∙ k) in (t .0, t .1, t .3)
 
   pub free-later-and-inside : (processor address : ℕ) → c ≡ Free processor address → (length r ≤ 60000) × (0 < at) × (at + 6 ≤ length r)
-  unfolding CommandFacts
-  free-later-and-inside processor address k = let t = free-facts processor address k in (t .0, t .1, t .2)
+  free-later-and-inside processor address k = let t = free-iff-free-at r at processor address .0 (sym e ∙ k) in (t .0, t .1, t .3)
+
+  pub named-take-later-and-inside : (processor name size : ℕ) → c ≡ NamedTake processor name size → (length r ≤ 60000) × (0 < at) × (at + 6 ≤ length r)
+  named-take-later-and-inside processor name size k = let t = named-take-iff-named-take-at r at processor name size .0 (sym e ∙ k) in (t .0, t .1, t .3)
+
+  pub named-free-later-and-inside : (processor name : ℕ) → c ≡ NamedFree processor name → (length r ≤ 60000) × (0 < at) × (at + 4 ≤ length r)
+  named-free-later-and-inside processor name k = let t = named-free-iff-named-free-at r at processor name .0 (sym e ∙ k) in (t .0, t .1, t .3)
 
   -- a record's own refusals are 8 to 11, at offsets up to the longest record's end
   pub refusal-number-and-offset-bounds : (number offset : ℕ) → c ≡ Refused number offset → (8 ≤ number) × (number ≤ 11) × (offset ≤ 60000)
-  unfolding CommandFacts
-  refusal-number-and-offset-bounds number offset k = subst (CommandFacts r at) k command-facts
+  unfolding RefusalBounds commandNumberOf refusalOffsetOf isRefused
+  refusal-number-and-offset-bounds number offset k = subst RefusalBounds (sym e ∙ k) (go (row-of-command-at r at) (ap isRefused (sym e ∙ k)))
+    where
+      go : {d : Command} → CommandRow r at d → isRefused d ≡ true → RefusalBounds d
+      go (row.record-too-long l) f = (omega arith, omega arith, omega arith)
+      go (row.unknown l u) f = (omega arith, omega arith, omega arith)
+      go (row.misplaced l u m) f = (omega arith, omega arith, ⊎-elim (λ w. omega arith) (⊎-elim (λ w. omega arith) (λ w. omega arith)) m)
+      go (row.truncated l u m t i) f = (omega arith, omega arith, omega arith)
+      go (row.past-record-end l u m t i) f = (omega arith, omega arith, omega arith)
+      go (row.read d h) f = absurd (subst T (sym f ∙ no-refusal-of-read r at d h .1) tt)
 
   -- the numbers of a command fit their types where the record's bytes do
   module _ (bytes : (i : ℕ) → byteAt r i < 256) where
     pub setup-fits : (processors superblocks spare p q : ℕ) → c ≡ Setup processors superblocks spare p q → (processors < 256) × (superblocks < 256) × (spare < 256) × (p < 256) × (q < 256)
-    unfolding CommandFacts
     setup-fits processors superblocks spare p q k =
-        let t = setup-facts processors superblocks spare p q k in
-        (omega (arith, t, bytes (at + 1)), omega (arith, t, bytes (at + 2)), omega (arith, t, bytes (at + 3)), omega (arith, t, bytes (at + 4)), omega (arith, t, bytes (at + 5)))
+        let t = setup-iff-setup-at r at processors superblocks spare p q .0 (sym e ∙ k) in
+        (omega (arith, bytes (at + 1)), omega (arith, bytes (at + 2)), omega (arith, bytes (at + 3)), omega (arith, bytes (at + 4)), omega (arith, bytes (at + 5)))
 
     pub take-fits : (processor size : ℕ) → c ≡ Take processor size → (processor < 256) × (size < 65536)
-    unfolding CommandFacts
     take-fits processor size k =
-        let t = take-facts processor size k in
-        (omega (arith, t, bytes (at + 1)), omega (arith, t, bytes (at + 2), bytes (at + 2 + 1)))
+        let t = take-iff-take-at r at processor size .0 (sym e ∙ k) in
+        (omega (arith, bytes (at + 1)), omega (arith, bytes (at + 2), bytes (at + 3)))
 
     pub free-fits : (processor address : ℕ) → c ≡ Free processor address → (processor < 256) × (address < 4294967296)
-    unfolding CommandFacts
     free-fits processor address k =
-        let t = free-facts processor address k in
-        (omega (arith, t, bytes (at + 1)), omega (arith, t, bytes (at + 2), bytes (at + 2 + 1), bytes (at + 2 + 2), bytes (at + 2 + 2 + 1)))
+        let t = free-iff-free-at r at processor address .0 (sym e ∙ k) in
+        (omega (arith, bytes (at + 1)), omega (arith, bytes (at + 2), bytes (at + 3), bytes (at + 4), bytes (at + 5)))
+
+    pub named-take-fits : (processor name size : ℕ) → c ≡ NamedTake processor name size → (processor < 256) × (name < 65536) × (size < 65536)
+    named-take-fits processor name size k =
+        let t = named-take-iff-named-take-at r at processor name size .0 (sym e ∙ k) in
+        (omega (arith, bytes (at + 1)), omega (arith, bytes (at + 2), bytes (at + 3)), omega (arith, bytes (at + 4), bytes (at + 5)))
+
+    pub named-free-fits : (processor name : ℕ) → c ≡ NamedFree processor name → (processor < 256) × (name < 65536)
+    named-free-fits processor name k =
+        let t = named-free-iff-named-free-at r at processor name .0 (sym e ∙ k) in
+        (omega (arith, bytes (at + 1)), omega (arith, bytes (at + 2), bytes (at + 3)))
 
 -- ---- the commands that follow
 
@@ -183,3 +172,11 @@ module _ (r : List ℕ) (at : ℕ) (c : Command) (e : c ≡ commandAt r at) wher
   pub commands-free : (processor address : ℕ) → c ≡ Free processor address → commandsAt r at ≡ Free processor address ∷ remaining r (at + 6)
   unfolding isRefused sizeOfCommand
   commands-free processor address k = rw k at (commands-next r at c e (ap isRefused k))
+
+  pub commands-named-take : (processor name size : ℕ) → c ≡ NamedTake processor name size → commandsAt r at ≡ NamedTake processor name size ∷ remaining r (at + 6)
+  unfolding isRefused sizeOfCommand
+  commands-named-take processor name size k = rw k at (commands-next r at c e (ap isRefused k))
+
+  pub commands-named-free : (processor name : ℕ) → c ≡ NamedFree processor name → commandsAt r at ≡ NamedFree processor name ∷ remaining r (at + 4)
+  unfolding isRefused sizeOfCommand
+  commands-named-free processor name k = rw k at (commands-next r at c e (ap isRefused k))

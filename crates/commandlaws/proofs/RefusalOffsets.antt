@@ -1,5 +1,5 @@
 -- The commands of a record lie one behind the other, and a refusal's offset is where its own command begins. Assumes nothing.
-use mathlib.Core.Path.{_≡_, refl, sym, ap, subst}
+use mathlib.Core.Path.{_≡_, refl, sym, ap, _∙_, subst}
 use mathlib.Core.Bool.{Bool, true, false}
 use mathlib.Core.List.{List, [], _∷_, _++_}
 use mathlib.Core.Logic.{_⊎_, inl, inr}
@@ -12,9 +12,9 @@ use lib.ListN.{length}
 use lib.Dec.{T, leb}
 use Rattle.laws.specs.Sums.{pick, either}
 use Rattle.commands.specs.declared.Command.{Command}
-use Rattle.commands.specs.declared.Command.the-variants.{Setup, Take, Free, Refused}
+use Rattle.commands.specs.declared.Command.the-variants.{Setup, Take, Free, NamedTake, NamedFree, Refused}
 use Rattle.commands.specs.Record.{commandAt, sizeOfCommand, isRefused, commandsFrom, commandsOf}
-use Rattle.commandlaws.proofs.RefusalTable.{CommandRow, row-of-command-at}
+use Rattle.commandlaws.proofs.RefusalTable.{CommandRow, row-of-command-at, no-refusal-of-read}
 use Rattle.commandlaws.proofs.RefusalTable as row
 use Rattle.commandlaws.proofs.CommandLaws.{command-inside}
 
@@ -28,7 +28,7 @@ ReadPosition : List ℕ → ℕ → Type 0
 ReadPosition r at = (at ≡ 0) ⊎ ((length r ≤ 60000) × (at < length r))
 
 refusal-offset-is-position : (r : List ℕ) (at : ℕ) → ReadPosition r at → {c : Command} → CommandRow r at c → (number offset : ℕ) → c ≡ Refused number offset → offset ≡ at
-unfolding ReadPosition
+unfolding ReadPosition isRefused
 refusal-offset-is-position r at (inl z) (row.record-too-long l) number offset e = cc
 refusal-offset-is-position r at (inr a) (row.record-too-long l) number offset e = absurd (omega arith)
 refusal-offset-is-position r at a (row.unknown l u) number offset e = cc
@@ -36,15 +36,15 @@ refusal-offset-is-position r at a (row.misplaced l u m) number offset e = cc
 refusal-offset-is-position r at a (row.truncated l u m c i) number offset e = cc
 refusal-offset-is-position r at (inl z) (row.past-record-end l u m c i) number offset e = absurd (m (inr (inr (z, omega arith))))
 refusal-offset-is-position r at (inr a) (row.past-record-end l u m c i) number offset e = absurd (omega arith)
-refusal-offset-is-position r at a (row.setup s f b i) number offset e = absurd (let z : _≡_ {A = ℕ} 0 1 = cc in omega arith)
-refusal-offset-is-position r at a (row.take s f b i) number offset e = absurd (let z : _≡_ {A = ℕ} 0 1 = cc in omega arith)
-refusal-offset-is-position r at a (row.free s f b i) number offset e = absurd (let z : _≡_ {A = ℕ} 0 1 = cc in omega arith)
+refusal-offset-is-position r at a (row.read c h) number offset e = absurd (subst T (sym (ap isRefused e) ∙ no-refusal-of-read r at c h .1) tt)
 
 size-of-refused-command : (c : Command) → isRefused c ≡ true → sizeOfCommand c ≡ 0
 unfolding isRefused sizeOfCommand
 size-of-refused-command (Setup processors superblocks spare p q) e = absurd (subst T (sym e) tt)
 size-of-refused-command (Take processor size) e = absurd (subst T (sym e) tt)
 size-of-refused-command (Free processor address) e = absurd (subst T (sym e) tt)
+size-of-refused-command (NamedTake processor name size) e = absurd (subst T (sym e) tt)
+size-of-refused-command (NamedFree processor name) e = absurd (subst T (sym e) tt)
 size-of-refused-command (Refused number offset) e = refl
 
 -- a list with something in it is not empty

@@ -1,50 +1,54 @@
 -- The table of "Refused calls" for the commands of a record: which number is given exactly when, in its order, and which command is
 -- read exactly when. Assumes nothing.
-use mathlib.Core.Path.{_≡_, refl, sym, ap, subst}
-use mathlib.Core.Bool.{true}
-use mathlib.Core.List.{List}
+use mathlib.Core.Path.{_≡_, refl, sym, ap, _∙_, subst}
+use mathlib.Core.Bool.{true, false}
+use mathlib.Core.List.{List, [], _∷_}
 use mathlib.Core.Logic.{_↔_, _⊎_, inl, inr, ⊎-elim}
 use Prim.Native.Nat.{ℕ, _+_, _*_, _≤_, _<_}
 use native.Mathlib.Omega.{arith}
-use borrow.Author.Tests.{ltb-true, ltb-false, leb-true, leb-false, eqb-true, eqb-false, eq-eqb, ne-eqb}
-use lib.ListN.{length}
+use borrow.Author.Tests.{ltb-true, ltb-false, leb-true, leb-false, eqb-true, eqb-false, lt-ltb, le-ltb, le-leb, eq-eqb, ne-eqb}
+use lib.ListN.{length, getD}
 use lib.Dec.{T, eqb, leb, ltb}
-use Rattle.laws.specs.Sums.{pick}
+use Rattle.laws.specs.Sums.{pick, either}
 use Rattle.laws.proofs.TestLaws.{pick-elim}
 use Rattle.commands.specs.declared.Command.{Command}
-use Rattle.commands.specs.declared.Command.the-variants.{Setup, Take, Free, Refused}
+use Rattle.commands.specs.declared.Command.the-variants.{Setup, Take, Free, NamedTake, NamedFree, Refused}
 use Rattle.littleendian.specs.Bytes.{byteAt, twoAt, fourAt}
-use Rattle.commands.specs.Record.{unlessTruncated, setupAt, unlessFirst, takeAt, freeAt, commandByFirstByte, commandAt, commandNumberOf, refusalOffsetOf, commandByte, numbersOf, HasNumbersOf, isRefused}
+use Rattle.commands.specs.Record.{unlessTruncated, setupAt, unlessFirst, takeAt, freeAt, namedTakeAt, namedFreeAt, commandByFirstByte, commandAt, commandNumberOf, refusalOffsetOf, commandByte, numbersOf, HasNumbersOf, isRefused}
 
 -- a command that is the rules' has their number, offset, command byte and numbers
 pub has-numbers-of-equal : (command rules : Command) → command ≡ rules → HasNumbersOf command rules
 has-numbers-of-equal command rules e = record { number-is = ap commandNumberOf e; offset-is = ap refusalOffsetOf e; byte-is = ap commandByte e; numbers-are = ap numbersOf e }
 
--- and these tell the command
+-- the command that a number, an offset, a command byte and the numbers tell
+commandWith : ℕ → ℕ → List ℕ → List ℕ → Command
+commandWith number offset [] l = Refused number offset
+commandWith number offset (byte ∷ _) l =
+    pick (eqb byte 0) (Setup (getD l 0 0) (getD l 1 0) (getD l 2 0) (getD l 3 0) (getD l 4 0))
+    (pick (eqb byte 1) (Take (getD l 0 0) (getD l 1 0))
+    (pick (eqb byte 2) (Free (getD l 0 0) (getD l 1 0))
+    (pick (eqb byte 3) (NamedTake (getD l 0 0) (getD l 1 0) (getD l 2 0))
+    (NamedFree (getD l 0 0) (getD l 1 0)))))
+
+command-with-its-numbers : (c : Command) → commandWith (commandNumberOf c) (refusalOffsetOf c) (commandByte c) (numbersOf c) ≡ c
+unfolding commandWith commandNumberOf refusalOffsetOf commandByte numbersOf
+command-with-its-numbers (Setup _ _ _ _ _) = refl
+command-with-its-numbers (Take _ _) = refl
+command-with-its-numbers (Free _ _) = refl
+command-with-its-numbers (NamedTake _ _ _) = refl
+command-with-its-numbers (NamedFree _ _) = refl
+command-with-its-numbers (Refused _ _) = refl
+
+-- so that they tell the command
 pub equal-of-has-numbers : (command rules : Command) → HasNumbersOf command rules → command ≡ rules
-unfolding commandNumberOf refusalOffsetOf commandByte numbersOf
-equal-of-has-numbers (Setup _ _ _ _ _) (Setup _ _ _ _ _) t = cc (t .numbers-are)
-equal-of-has-numbers (Take _ _) (Take _ _) t = cc (t .numbers-are)
-equal-of-has-numbers (Free _ _) (Free _ _) t = cc (t .numbers-are)
-equal-of-has-numbers (Refused _ _) (Refused _ _) t = cc (t .number-is, t .offset-is)
-equal-of-has-numbers (Setup _ _ _ _ _) (Take _ _) t = cc (t .byte-is)
-equal-of-has-numbers (Setup _ _ _ _ _) (Free _ _) t = cc (t .byte-is)
-equal-of-has-numbers (Setup _ _ _ _ _) (Refused _ _) t = cc (t .byte-is)
-equal-of-has-numbers (Take _ _) (Setup _ _ _ _ _) t = cc (t .byte-is)
-equal-of-has-numbers (Take _ _) (Free _ _) t = cc (t .byte-is)
-equal-of-has-numbers (Take _ _) (Refused _ _) t = cc (t .byte-is)
-equal-of-has-numbers (Free _ _) (Setup _ _ _ _ _) t = cc (t .byte-is)
-equal-of-has-numbers (Free _ _) (Take _ _) t = cc (t .byte-is)
-equal-of-has-numbers (Free _ _) (Refused _ _) t = cc (t .byte-is)
-equal-of-has-numbers (Refused _ _) (Setup _ _ _ _ _) t = cc (t .byte-is)
-equal-of-has-numbers (Refused _ _) (Take _ _) t = cc (t .byte-is)
-equal-of-has-numbers (Refused _ _) (Free _ _) t = cc (t .byte-is)
+equal-of-has-numbers command rules t =
+    cc (command-with-its-numbers command, command-with-its-numbers rules, t .number-is, t .offset-is, t .byte-is, t .numbers-are)
 
 -- ---- the table's words
 
--- the bytes of the command that begins with this byte: 4 for a take, 6 for a setup or a free
+-- the bytes of the command that begins with this byte: 4 for a take or a named free, 6 for a setup, a free or a named take
 unfoldable pub bytesOf : ℕ → ℕ
-bytesOf first = pick (eqb first 1) 4 6
+bytesOf first = pick (either (eqb first 1) (eqb first 4)) 4 6
 
 -- 11: "record above 60000 bytes"
 abbrev pub TooLong : List ℕ → Type 0
@@ -52,18 +56,95 @@ TooLong r = 60000 < length r
 
 -- 8: "unknown command byte"
 abbrev pub UnknownByte : List ℕ → ℕ → Type 0
-UnknownByte r at = (at < length r) × (2 < byteAt r at)
+UnknownByte r at = (at < length r) × (4 < byteAt r at)
 
 -- 10: "a setup that is not first, a known other command that is, or no byte at all"
 abbrev pub Misplaced : List ℕ → ℕ → Type 0
 Misplaced r at =
     ((at < length r) × (0 < at) × (byteAt r at ≡ 0))
-    ⊎ ((at < length r) × (at ≡ 0) × (1 ≤ byteAt r at) × (byteAt r at ≤ 2))
+    ⊎ ((at < length r) × (at ≡ 0) × (1 ≤ byteAt r at) × (byteAt r at ≤ 4))
     ⊎ ((at ≡ 0) × (length r ≡ 0))
 
 -- 9: "the record ends inside a command"; at the record's end and past it there is no command, and no reader asks
 abbrev pub Truncated : List ℕ → ℕ → Type 0
 Truncated r at = (length r ≤ at) ⊎ (length r < at + bytesOf (byteAt r at))
+
+-- ---- the commands that are read, with the bytes that they carry: "numbers of several bytes have the low byte first"
+
+module _ (r : List ℕ) (at : ℕ) where
+  abbrev pub SetupAt : ℕ → ℕ → ℕ → ℕ → ℕ → Type 0
+  SetupAt processors superblocks spare p q =
+      (length r ≤ 60000) × (at ≡ 0) × (byteAt r at ≡ 0) × (at + 6 ≤ length r)
+      × (processors ≡ byteAt r (at + 1)) × (superblocks ≡ byteAt r (at + 2)) × (spare ≡ byteAt r (at + 3)) × (p ≡ byteAt r (at + 4)) × (q ≡ byteAt r (at + 5))
+
+  abbrev pub TakeAt : ℕ → ℕ → Type 0
+  TakeAt processor size =
+      (length r ≤ 60000) × (0 < at) × (byteAt r at ≡ 1) × (at + 4 ≤ length r) × (processor ≡ byteAt r (at + 1)) × (size ≡ byteAt r (at + 2) + 256 * byteAt r (at + 3))
+
+  abbrev pub FreeAt : ℕ → ℕ → Type 0
+  FreeAt processor address =
+      (length r ≤ 60000) × (0 < at) × (byteAt r at ≡ 2) × (at + 6 ≤ length r) × (processor ≡ byteAt r (at + 1))
+      × (address ≡ byteAt r (at + 2) + 256 * byteAt r (at + 3) + 65536 * byteAt r (at + 4) + 16777216 * byteAt r (at + 5))
+
+  abbrev pub NamedTakeAt : ℕ → ℕ → ℕ → Type 0
+  NamedTakeAt processor name size =
+      (length r ≤ 60000) × (0 < at) × (byteAt r at ≡ 3) × (at + 6 ≤ length r) × (processor ≡ byteAt r (at + 1))
+      × (name ≡ byteAt r (at + 2) + 256 * byteAt r (at + 3)) × (size ≡ byteAt r (at + 4) + 256 * byteAt r (at + 5))
+
+  abbrev pub NamedFreeAt : ℕ → ℕ → Type 0
+  NamedFreeAt processor name =
+      (length r ≤ 60000) × (0 < at) × (byteAt r at ≡ 4) × (at + 4 ≤ length r) × (processor ≡ byteAt r (at + 1)) × (name ≡ byteAt r (at + 2) + 256 * byteAt r (at + 3))
+
+  -- a command that is read, by its kind; a refusal is none
+  unfoldable pub ReadAt : Command → Type 0
+  ReadAt (Setup processors superblocks spare p q) = SetupAt processors superblocks spare p q
+  ReadAt (Take processor size) = TakeAt processor size
+  ReadAt (Free processor address) = FreeAt processor address
+  ReadAt (NamedTake processor name size) = NamedTakeAt processor name size
+  ReadAt (NamedFree processor name) = NamedFreeAt processor name
+  ReadAt (Refused number offset) = ⊥
+
+  -- what holds of every command that is read: its byte is known, it is first where it is a setup and only there, and it lies whole in a
+  -- record that is not too long
+  record Whole : Type 0 where
+    short : length r ≤ 60000
+    inside : at < length r
+    known : byteAt r at ≤ 4
+    first : byteAt r at ≡ 0 → at ≡ 0
+    later : 1 ≤ byteAt r at → 0 < at
+    whole : at + bytesOf (byteAt r at) ≤ length r
+
+  whole-of-other : 1 ≤ byteAt r at → byteAt r at ≤ 4 → length r ≤ 60000 → 0 < at → at < length r → at + bytesOf (byteAt r at) ≤ length r → Whole
+  whole-of-other some known short later inside whole = record { short = short; inside = inside; known = known; first = λ z. absurd (omega arith); later = λ z. later; whole = whole }
+
+  whole-of-read : (c : Command) → ReadAt c → Whole
+  unfolding ReadAt bytesOf
+  whole-of-read (Setup processors superblocks spare p q) h = record { short = h .0; inside = omega arith; known = omega arith; first = λ z. h .1; later = λ z. absurd (omega arith); whole = rw (h .2) (h .3) }
+  whole-of-read (Take processor size) h = whole-of-other (omega arith) (omega arith) (h .0) (h .1) (omega arith) (rw (h .2) (h .3))
+  whole-of-read (Free processor address) h = whole-of-other (omega arith) (omega arith) (h .0) (h .1) (omega arith) (rw (h .2) (h .3))
+  whole-of-read (NamedTake processor name size) h = whole-of-other (omega arith) (omega arith) (h .0) (h .1) (omega arith) (rw (h .2) (h .3))
+  whole-of-read (NamedFree processor name) h = whole-of-other (omega arith) (omega arith) (h .0) (h .1) (omega arith) (rw (h .2) (h .3))
+  whole-of-read (Refused number offset) h = absurd h
+
+  -- and it is no refusal
+  pub no-refusal-of-read : (c : Command) → ReadAt c → (commandNumberOf c ≡ 0) × (isRefused c ≡ false)
+  unfolding ReadAt commandNumberOf isRefused
+  no-refusal-of-read (Setup processors superblocks spare p q) h = (refl, refl)
+  no-refusal-of-read (Take processor size) h = (refl, refl)
+  no-refusal-of-read (Free processor address) h = (refl, refl)
+  no-refusal-of-read (NamedTake processor name size) h = (refl, refl)
+  no-refusal-of-read (NamedFree processor name) h = (refl, refl)
+  no-refusal-of-read (Refused number offset) h = absurd h
+
+byte-at-cong : (r : List ℕ) (i j : ℕ) → i ≡ j → byteAt r i ≡ byteAt r j
+byte-at-cong r i j e = ap (byteAt r) e
+
+two-at-by-bytes : (r : List ℕ) (i j : ℕ) → i + 1 ≡ j → twoAt r i ≡ byteAt r i + 256 * byteAt r j
+two-at-by-bytes r i j e = omega (arith, byte-at-cong r (i + 1) j e)
+
+four-at-by-bytes : (r : List ℕ) (at : ℕ) → fourAt r (at + 2) ≡ byteAt r (at + 2) + 256 * byteAt r (at + 3) + 65536 * byteAt r (at + 4) + 16777216 * byteAt r (at + 5)
+four-at-by-bytes r at =
+    omega (arith, byte-at-cong r (at + 2 + 1) (at + 3) (omega arith), byte-at-cong r (at + 2 + 2) (at + 4) (omega arith), byte-at-cong r (at + 2 + 2 + 1) (at + 5) (omega arith))
 
 -- ---- every command of every record, by the table
 
@@ -73,70 +154,72 @@ pub data CommandRow (r : List ℕ) (at : ℕ) : Command → Type 0 where
   misplaced : (TooLong r → ⊥) → (UnknownByte r at → ⊥) → Misplaced r at → CommandRow r at (Refused 10 at)
   truncated : (TooLong r → ⊥) → (UnknownByte r at → ⊥) → (Misplaced r at → ⊥) → Truncated r at → at < length r → CommandRow r at (Refused 9 at)
   past-record-end : (TooLong r → ⊥) → (UnknownByte r at → ⊥) → (Misplaced r at → ⊥) → Truncated r at → length r ≤ at → CommandRow r at (Refused 9 (length r))
-  setup : length r ≤ 60000 → at ≡ 0 → byteAt r at ≡ 0 → at + 6 ≤ length r
-      → CommandRow r at (Setup (byteAt r (at + 1)) (byteAt r (at + 2)) (byteAt r (at + 3)) (byteAt r (at + 4)) (byteAt r (at + 5)))
-  take : length r ≤ 60000 → 0 < at → byteAt r at ≡ 1 → at + 4 ≤ length r → CommandRow r at (Take (byteAt r (at + 1)) (twoAt r (at + 2)))
-  free : length r ≤ 60000 → 0 < at → byteAt r at ≡ 2 → at + 6 ≤ length r → CommandRow r at (Free (byteAt r (at + 1)) (fourAt r (at + 2)))
-
-bytes-take : (first : ℕ) → first ≡ 1 → bytesOf first ≡ 4
-unfolding bytesOf
-bytes-take first e = rw (eq-eqb first 1 e)
-
-bytes-other : (first : ℕ) → (first ≡ 1 → ⊥) → bytesOf first ≡ 6
-unfolding bytesOf
-bytes-other first n = rw (ne-eqb first 1 n)
+  read : (c : Command) → ReadAt r at c → CommandRow r at c
 
 module _ (r : List ℕ) (at : ℕ) (short : length r ≤ 60000) (inside : at < length r) where
-  row-of-truncated : byteAt r at ≤ 2 → (byteAt r at ≡ 0 → at ≡ 0) → (1 ≤ byteAt r at → 0 < at) → length r < at + bytesOf (byteAt r at) → CommandRow r at (Refused 9 at)
-  row-of-truncated known first later h =
+  -- a command of n bytes whose byte is known and that stands where it may
+  row-of-placed : byteAt r at ≤ 4 → (byteAt r at ≡ 0 → at ≡ 0) → (1 ≤ byteAt r at → 0 < at) → (n : ℕ) → bytesOf (byteAt r at) ≡ n
+      → (c : Command) → (at + n ≤ length r → ReadAt r at c) → CommandRow r at (unlessTruncated r at n c)
+  unfolding unlessTruncated
+  row-of-placed known first later n e c f =
+      pick-elim (CommandRow r at) (leb (at + n) (length r)) c (Refused 9 at)
+      (λ g. read c (f (leb-true (at + n) (length r) g)))
+      (λ g. let h = leb-false (at + n) (length r) g in
       truncated (λ l. omega arith) (λ u. omega arith)
       (⊎-elim (λ w. let z = first (w .2) in omega arith) (⊎-elim (λ w. let z = later (w .2) in omega arith) (λ w. omega arith)))
-      (inr h) inside
+      (inr (omega arith)) inside)
 
   row-of-setup : byteAt r at ≡ 0 → CommandRow r at (setupAt r at)
-  unfolding setupAt unlessTruncated
+  unfolding setupAt ReadAt bytesOf
   row-of-setup e =
       pick-elim (CommandRow r at) (eqb at 0) _ (Refused 10 at)
       (λ f. let first = eqb-true at 0 f in
-      pick-elim (CommandRow r at) (leb (at + 6) (length r)) _ (Refused 9 at)
-      (λ g. setup short first e (leb-true (at + 6) (length r) g))
-      (λ g. let h = leb-false (at + 6) (length r) g in row-of-truncated (omega arith) (λ z. first) (λ z. omega arith) (omega (arith, bytes-other (byteAt r at) (λ z. omega arith)))))
+      row-of-placed (omega arith) (λ z. first) (λ z. omega arith) 6 (rw e) _ (λ whole. (short, first, e, whole, refl, refl, refl, refl, refl)))
       (λ f. let later = eqb-false at 0 f in misplaced (λ l. omega arith) (λ u. omega arith) (inl (inside, omega arith, e)))
 
-  row-of-unless-first : 1 ≤ byteAt r at → byteAt r at ≤ 2 → (c : Command) → (0 < at → CommandRow r at c) → CommandRow r at (unlessFirst at c)
+  -- any other command
+  row-of-other : 1 ≤ byteAt r at → byteAt r at ≤ 4 → (n : ℕ) → bytesOf (byteAt r at) ≡ n
+      → (c : Command) → (0 < at → at + n ≤ length r → ReadAt r at c) → CommandRow r at (unlessFirst at (unlessTruncated r at n c))
   unfolding unlessFirst
-  row-of-unless-first some known c f =
-      pick-elim (CommandRow r at) (eqb at 0) (Refused 10 at) c
-      (λ e. misplaced (λ l. omega arith) (λ u. omega arith) (inr (inl (inside, eqb-true at 0 e, some, known))))
-      (λ e. f (let n = eqb-false at 0 e in omega arith))
+  row-of-other some known n e c f =
+      pick-elim (CommandRow r at) (eqb at 0) (Refused 10 at) (unlessTruncated r at n c)
+      (λ g. misplaced (λ l. omega arith) (λ u. omega arith) (inr (inl (inside, eqb-true at 0 g, some, known))))
+      (λ g. let nonzero = eqb-false at 0 g in let later : 0 < at = omega arith in
+      row-of-placed known (λ z. omega arith) (λ z. later) n e c (f later))
 
   row-of-take : byteAt r at ≡ 1 → CommandRow r at (takeAt r at)
-  unfolding takeAt unlessTruncated
-  row-of-take e =
-      row-of-unless-first (omega arith) (omega arith) _
-      (λ later. pick-elim (CommandRow r at) (leb (at + 4) (length r)) _ (Refused 9 at)
-      (λ g. take short later e (leb-true (at + 4) (length r) g))
-      (λ g. let h = leb-false (at + 4) (length r) g in row-of-truncated (omega arith) (λ z. omega arith) (λ z. later) (omega (arith, bytes-take (byteAt r at) e))))
+  unfolding takeAt ReadAt bytesOf
+  row-of-take e = row-of-other (omega arith) (omega arith) 4 (rw e) _ (λ later whole. (short, later, e, whole, refl, two-at-by-bytes r (at + 2) (at + 3) (omega arith)))
 
   row-of-free : byteAt r at ≡ 2 → CommandRow r at (freeAt r at)
-  unfolding freeAt unlessTruncated
-  row-of-free e =
-      row-of-unless-first (omega arith) (omega arith) _
-      (λ later. pick-elim (CommandRow r at) (leb (at + 6) (length r)) _ (Refused 9 at)
-      (λ g. free short later e (leb-true (at + 6) (length r) g))
-      (λ g. let h = leb-false (at + 6) (length r) g in row-of-truncated (omega arith) (λ z. omega arith) (λ z. later) (omega (arith, bytes-other (byteAt r at) (λ z. omega arith)))))
+  unfolding freeAt ReadAt bytesOf
+  row-of-free e = row-of-other (omega arith) (omega arith) 6 (rw e) _ (λ later whole. (short, later, e, whole, refl, four-at-by-bytes r at))
+
+  row-of-named-take : byteAt r at ≡ 3 → CommandRow r at (namedTakeAt r at)
+  unfolding namedTakeAt ReadAt bytesOf
+  row-of-named-take e =
+      row-of-other (omega arith) (omega arith) 6 (rw e) _
+      (λ later whole. (short, later, e, whole, refl, two-at-by-bytes r (at + 2) (at + 3) (omega arith), two-at-by-bytes r (at + 4) (at + 5) (omega arith)))
+
+  row-of-named-free : byteAt r at ≡ 4 → CommandRow r at (namedFreeAt r at)
+  unfolding namedFreeAt ReadAt bytesOf
+  row-of-named-free e = row-of-other (omega arith) (omega arith) 4 (rw e) _ (λ later whole. (short, later, e, whole, refl, two-at-by-bytes r (at + 2) (at + 3) (omega arith)))
 
   row-of-known : CommandRow r at (commandByFirstByte r at)
   unfolding commandByFirstByte
   row-of-known =
       pick-elim (CommandRow r at) (eqb (byteAt r at) 0) (setupAt r at) _ (λ e. row-of-setup (eqb-true (byteAt r at) 0 e))
       (λ e. pick-elim (CommandRow r at) (eqb (byteAt r at) 1) (takeAt r at) _ (λ f. row-of-take (eqb-true (byteAt r at) 1 f))
-      (λ f. pick-elim (CommandRow r at) (eqb (byteAt r at) 2) (freeAt r at) (Refused 8 at) (λ g. row-of-free (eqb-true (byteAt r at) 2 g))
-      (λ g.
+      (λ f. pick-elim (CommandRow r at) (eqb (byteAt r at) 2) (freeAt r at) _ (λ g. row-of-free (eqb-true (byteAt r at) 2 g))
+      (λ g. pick-elim (CommandRow r at) (eqb (byteAt r at) 3) (namedTakeAt r at) _ (λ h. row-of-named-take (eqb-true (byteAt r at) 3 h))
+      (λ h. pick-elim (CommandRow r at) (eqb (byteAt r at) 4) (namedFreeAt r at) (Refused 8 at) (λ i. row-of-named-free (eqb-true (byteAt r at) 4 i))
+      (λ i.
       let a = eqb-false (byteAt r at) 0 e in
       let b = eqb-false (byteAt r at) 1 f in
       let c = eqb-false (byteAt r at) 2 g in
-      unknown (λ l. omega arith) (inside, omega arith))))
+      let d = eqb-false (byteAt r at) 3 h in
+      let j = eqb-false (byteAt r at) 4 i in
+      unknown (λ l. omega arith) (inside, omega arith))))))
 
 pub row-of-command-at : (r : List ℕ) (at : ℕ) → CommandRow r at (commandAt r at)
 unfolding commandAt
@@ -162,17 +245,6 @@ data NumberRow (r : List ℕ) (at : ℕ) : ℕ → Type 0 where
   is-truncated : (TooLong r → ⊥) → (UnknownByte r at → ⊥) → (Misplaced r at → ⊥) → Truncated r at → NumberRow r at 9
   is-read : (TooLong r → ⊥) → (UnknownByte r at → ⊥) → (Misplaced r at → ⊥) → (Truncated r at → ⊥) → NumberRow r at 0
 
--- "numbers of several bytes have the low byte first"
-byte-at-cong : (r : List ℕ) (i j : ℕ) → i ≡ j → byteAt r i ≡ byteAt r j
-byte-at-cong r i j e = ap (byteAt r) e
-
-two-at-by-bytes : (r : List ℕ) (at : ℕ) → twoAt r (at + 2) ≡ byteAt r (at + 2) + 256 * byteAt r (at + 3)
-two-at-by-bytes r at = omega (arith, byte-at-cong r (at + 2 + 1) (at + 3) (omega arith))
-
-four-at-by-bytes : (r : List ℕ) (at : ℕ) → fourAt r (at + 2) ≡ byteAt r (at + 2) + 256 * byteAt r (at + 3) + 65536 * byteAt r (at + 4) + 16777216 * byteAt r (at + 5)
-four-at-by-bytes r at =
-    omega (arith, byte-at-cong r (at + 2 + 1) (at + 3) (omega arith), byte-at-cong r (at + 2 + 2) (at + 4) (omega arith), byte-at-cong r (at + 2 + 2 + 1) (at + 5) (omega arith))
-
 module _ (r : List ℕ) (at : ℕ) where
   number-row : {c : Command} → CommandRow r at c → NumberRow r at (commandNumberOf c)
   unfolding commandNumberOf
@@ -181,15 +253,12 @@ module _ (r : List ℕ) (at : ℕ) where
   number-row (misplaced l u m) = is-misplaced l u m
   number-row (truncated l u m c i) = is-truncated l u m c
   number-row (past-record-end l u m c i) = is-truncated l u m c
-  number-row (setup s f b i) =
-      is-read (λ l. omega arith) (λ u. omega arith) (⊎-elim (λ w. omega arith) (⊎-elim (λ w. omega arith) (λ w. omega arith)))
-      (⊎-elim (λ w. omega arith) (λ w. omega (arith, bytes-other (byteAt r at) (λ z. omega arith))))
-  number-row (take s f b i) =
-      is-read (λ l. omega arith) (λ u. omega arith) (⊎-elim (λ w. omega arith) (⊎-elim (λ w. omega arith) (λ w. omega arith)))
-      (⊎-elim (λ w. omega arith) (λ w. omega (arith, bytes-take (byteAt r at) b)))
-  number-row (free s f b i) =
-      is-read (λ l. omega arith) (λ u. omega arith) (⊎-elim (λ w. omega arith) (⊎-elim (λ w. omega arith) (λ w. omega arith)))
-      (⊎-elim (λ w. omega arith) (λ w. omega (arith, bytes-other (byteAt r at) (λ z. omega arith))))
+  number-row (read c h) =
+      let w = whole-of-read r at c h in
+      subst (NumberRow r at) (sym (no-refusal-of-read r at c h .0))
+      (is-read (λ l. omega arith) (λ u. omega arith)
+      (⊎-elim (λ m. let z = w .first (m .2) in omega arith) (⊎-elim (λ m. let z = w .later (m .2) in omega arith) (λ m. omega arith)))
+      (⊎-elim (λ m. omega arith) (λ m. omega arith)))
 
   -- ---- "Record: 11, then for each command 8, 10, 9": each number exactly when the table says, in its order
 
@@ -285,97 +354,61 @@ module _ (r : List ℕ) (at : ℕ) where
 
   -- ---- the commands that are read, exactly when, with the bytes that they carry
 
-  kind : Command → ℕ
-  kind (Setup processors superblocks spare p q) = 0
-  kind (Take processor size) = 1
-  kind (Free processor address) = 2
-  kind (Refused number offset) = 3
+  unless-truncated-of-whole : (n : ℕ) (c : Command) → at + n ≤ length r → unlessTruncated r at n c ≡ c
+  unfolding unlessTruncated
+  unless-truncated-of-whole n c h = rw (le-leb (at + n) (length r) h)
 
-  abbrev pub SetupAt : ℕ → ℕ → ℕ → ℕ → ℕ → Type 0
-  SetupAt processors superblocks spare p q =
-      (length r ≤ 60000) × (at ≡ 0) × (byteAt r at ≡ 0) × (at + 6 ≤ length r)
-      × (processors ≡ byteAt r (at + 1)) × (superblocks ≡ byteAt r (at + 2)) × (spare ≡ byteAt r (at + 3)) × (p ≡ byteAt r (at + 4)) × (q ≡ byteAt r (at + 5))
+  unless-first-of-later : (n : ℕ) (c : Command) → 0 < at → at + n ≤ length r → unlessFirst at (unlessTruncated r at n c) ≡ c
+  unfolding unlessFirst
+  unless-first-of-later n c later h = rw (ne-eqb at 0 (λ z. omega arith)) (unless-truncated-of-whole n c h)
 
-  pub setup-iff-setup-at : (processors superblocks spare p q : ℕ) → commandAt r at ≡ Setup processors superblocks spare p q ↔ SetupAt processors superblocks spare p q
-  unfolding kind
-  setup-iff-setup-at processors superblocks spare p q = (λ e. only (row-of-command-at r at) e, λ h. always (row-of-command-at r at) h)
+  command-by-first-byte-of-read-at : (c : Command) → ReadAt r at c → commandByFirstByte r at ≡ c
+  unfolding ReadAt commandByFirstByte setupAt takeAt freeAt namedTakeAt namedFreeAt
+  command-by-first-byte-of-read-at (Setup processors superblocks spare p q) h = rw (h .2, eq-eqb at 0 (h .1)) (unless-truncated-of-whole 6 _ (h .3) ∙ cc)
+  command-by-first-byte-of-read-at (Take processor size) h = rw (h .2) (unless-first-of-later 4 _ (h .1) (h .3) ∙ cc (two-at-by-bytes r (at + 2) (at + 3) (omega arith)))
+  command-by-first-byte-of-read-at (Free processor address) h = rw (h .2) (unless-first-of-later 6 _ (h .1) (h .3) ∙ cc (four-at-by-bytes r at))
+  command-by-first-byte-of-read-at (NamedTake processor name size) h =
+      rw (h .2) (unless-first-of-later 6 _ (h .1) (h .3) ∙ cc (two-at-by-bytes r (at + 2) (at + 3) (omega arith), two-at-by-bytes r (at + 4) (at + 5) (omega arith)))
+  command-by-first-byte-of-read-at (NamedFree processor name) h = rw (h .2) (unless-first-of-later 4 _ (h .1) (h .3) ∙ cc (two-at-by-bytes r (at + 2) (at + 3) (omega arith)))
+  command-by-first-byte-of-read-at (Refused number offset) h = absurd h
+
+  command-of-read-at : (c : Command) → ReadAt r at c → commandAt r at ≡ c
+  unfolding commandAt
+  command-of-read-at c h =
+      let w = whole-of-read r at c h in
+      rw (le-ltb 60000 (length r) (w .short), lt-ltb at (length r) (w .inside)) (command-by-first-byte-of-read-at c h)
+
+  pub command-iff-read-at : (c : Command) → isRefused c ≡ false → commandAt r at ≡ c ↔ ReadAt r at c
+  unfolding isRefused
+  command-iff-read-at c f = (λ e. subst (ReadAt r at) e (only (row-of-command-at r at) (ap isRefused e ∙ f)), λ h. command-of-read-at c h)
     where
-      only : {c : Command} → CommandRow r at c → c ≡ Setup processors superblocks spare p q → SetupAt processors superblocks spare p q
-      only (record-too-long l) e = absurd (let z = ap kind e in omega arith)
-      only (unknown l u) e = absurd (let z = ap kind e in omega arith)
-      only (misplaced l u m) e = absurd (let z = ap kind e in omega arith)
-      only (truncated l u m c i) e = absurd (let z = ap kind e in omega arith)
-      only (past-record-end l u m c i) e = absurd (let z = ap kind e in omega arith)
-      only (setup s f b i) e = (s, f, b, i, cc, cc, cc, cc, cc)
-      only (take s f b i) e = absurd (let z = ap kind e in omega arith)
-      only (free s f b i) e = absurd (let z = ap kind e in omega arith)
+      only : {d : Command} → CommandRow r at d → isRefused d ≡ false → ReadAt r at d
+      only (record-too-long l) f = absurd (subst T f tt)
+      only (unknown l u) f = absurd (subst T f tt)
+      only (misplaced l u m) f = absurd (subst T f tt)
+      only (truncated l u m c i) f = absurd (subst T f tt)
+      only (past-record-end l u m c i) f = absurd (subst T f tt)
+      only (read d h) f = h
 
-      always : {c : Command} → CommandRow r at c → SetupAt processors superblocks spare p q → c ≡ Setup processors superblocks spare p q
-      always (record-too-long l) h = absurd (omega arith)
-      always (unknown l u) h = absurd (omega arith)
-      always (misplaced l u m) h = absurd (⊎-elim (λ w. omega arith) (⊎-elim (λ w. omega arith) (λ w. omega arith)) m)
-      always (truncated l u m c i) h = absurd (⊎-elim (λ w. omega arith) (λ w. omega (arith, bytes-other (byteAt r at) (λ z. omega arith))) c)
-      always (past-record-end l u m c i) h = absurd (omega arith)
-      always (setup s f b i) h = cc
-      always (take s f b i) h = absurd (omega arith)
-      always (free s f b i) h = absurd (omega arith)
+  pub setup-iff-setup-at : (processors superblocks spare p q : ℕ) → commandAt r at ≡ Setup processors superblocks spare p q ↔ SetupAt r at processors superblocks spare p q
+  unfolding ReadAt isRefused
+  setup-iff-setup-at processors superblocks spare p q = command-iff-read-at (Setup processors superblocks spare p q) refl
 
-  abbrev pub TakeAt : ℕ → ℕ → Type 0
-  TakeAt processor size =
-      (length r ≤ 60000) × (0 < at) × (byteAt r at ≡ 1) × (at + 4 ≤ length r) × (processor ≡ byteAt r (at + 1)) × (size ≡ byteAt r (at + 2) + 256 * byteAt r (at + 3))
+  pub take-iff-take-at : (processor size : ℕ) → commandAt r at ≡ Take processor size ↔ TakeAt r at processor size
+  unfolding ReadAt isRefused
+  take-iff-take-at processor size = command-iff-read-at (Take processor size) refl
 
-  pub take-iff-take-at : (processor size : ℕ) → commandAt r at ≡ Take processor size ↔ TakeAt processor size
-  unfolding kind
-  take-iff-take-at processor size = (λ e. only (row-of-command-at r at) e, λ h. always (row-of-command-at r at) h)
-    where
-      only : {c : Command} → CommandRow r at c → c ≡ Take processor size → TakeAt processor size
-      only (record-too-long l) e = absurd (let z = ap kind e in omega arith)
-      only (unknown l u) e = absurd (let z = ap kind e in omega arith)
-      only (misplaced l u m) e = absurd (let z = ap kind e in omega arith)
-      only (truncated l u m c i) e = absurd (let z = ap kind e in omega arith)
-      only (past-record-end l u m c i) e = absurd (let z = ap kind e in omega arith)
-      only (setup s f b i) e = absurd (let z = ap kind e in omega arith)
-      only (take s f b i) e = (s, f, b, i, cc, cc (two-at-by-bytes r at))
-      only (free s f b i) e = absurd (let z = ap kind e in omega arith)
+  pub free-iff-free-at : (processor address : ℕ) → commandAt r at ≡ Free processor address ↔ FreeAt r at processor address
+  unfolding ReadAt isRefused
+  free-iff-free-at processor address = command-iff-read-at (Free processor address) refl
 
-      always : {c : Command} → CommandRow r at c → TakeAt processor size → c ≡ Take processor size
-      always (record-too-long l) h = absurd (omega arith)
-      always (unknown l u) h = absurd (omega arith)
-      always (misplaced l u m) h = absurd (⊎-elim (λ w. omega arith) (⊎-elim (λ w. omega arith) (λ w. omega arith)) m)
-      always (truncated l u m c i) h = absurd (⊎-elim (λ w. omega arith) (λ w. omega (arith, bytes-take (byteAt r at) (h .2))) c)
-      always (past-record-end l u m c i) h = absurd (omega arith)
-      always (setup s f b i) h = absurd (omega arith)
-      always (take s f b i) h = cc (two-at-by-bytes r at)
-      always (free s f b i) h = absurd (omega arith)
+  pub named-take-iff-named-take-at : (processor name size : ℕ) → commandAt r at ≡ NamedTake processor name size ↔ NamedTakeAt r at processor name size
+  unfolding ReadAt isRefused
+  named-take-iff-named-take-at processor name size = command-iff-read-at (NamedTake processor name size) refl
 
-  abbrev pub FreeAt : ℕ → ℕ → Type 0
-  FreeAt processor address =
-      (length r ≤ 60000) × (0 < at) × (byteAt r at ≡ 2) × (at + 6 ≤ length r) × (processor ≡ byteAt r (at + 1))
-      × (address ≡ byteAt r (at + 2) + 256 * byteAt r (at + 3) + 65536 * byteAt r (at + 4) + 16777216 * byteAt r (at + 5))
-
-  pub free-iff-free-at : (processor address : ℕ) → commandAt r at ≡ Free processor address ↔ FreeAt processor address
-  unfolding kind
-  free-iff-free-at processor address = (λ e. only (row-of-command-at r at) e, λ h. always (row-of-command-at r at) h)
-    where
-      only : {c : Command} → CommandRow r at c → c ≡ Free processor address → FreeAt processor address
-      only (record-too-long l) e = absurd (let z = ap kind e in omega arith)
-      only (unknown l u) e = absurd (let z = ap kind e in omega arith)
-      only (misplaced l u m) e = absurd (let z = ap kind e in omega arith)
-      only (truncated l u m c i) e = absurd (let z = ap kind e in omega arith)
-      only (past-record-end l u m c i) e = absurd (let z = ap kind e in omega arith)
-      only (setup s f b i) e = absurd (let z = ap kind e in omega arith)
-      only (take s f b i) e = absurd (let z = ap kind e in omega arith)
-      only (free s f b i) e = (s, f, b, i, cc, cc (four-at-by-bytes r at))
-
-      always : {c : Command} → CommandRow r at c → FreeAt processor address → c ≡ Free processor address
-      always (record-too-long l) h = absurd (omega arith)
-      always (unknown l u) h = absurd (omega arith)
-      always (misplaced l u m) h = absurd (⊎-elim (λ w. omega arith) (⊎-elim (λ w. omega arith) (λ w. omega arith)) m)
-      always (truncated l u m c i) h = absurd (⊎-elim (λ w. omega arith) (λ w. omega (arith, bytes-other (byteAt r at) (λ z. omega arith))) c)
-      always (past-record-end l u m c i) h = absurd (omega arith)
-      always (setup s f b i) h = absurd (omega arith)
-      always (take s f b i) h = absurd (omega arith)
-      always (free s f b i) h = cc (four-at-by-bytes r at)
+  pub named-free-iff-named-free-at : (processor name : ℕ) → commandAt r at ≡ NamedFree processor name ↔ NamedFreeAt r at processor name
+  unfolding ReadAt isRefused
+  named-free-iff-named-free-at processor name = command-iff-read-at (NamedFree processor name) refl
 
   -- ---- the offset of a refusal: the command's own first byte, and 0 for 11
 
@@ -388,9 +421,7 @@ module _ (r : List ℕ) (at : ℕ) where
       go (misplaced l u m) = absurd (l h)
       go (truncated l u m c i) = absurd (l h)
       go (past-record-end l u m c i) = absurd (l h)
-      go (setup s f b i) = absurd (omega arith)
-      go (take s f b i) = absurd (omega arith)
-      go (free s f b i) = absurd (omega arith)
+      go (read c w) = absurd (omega (arith, whole-of-read r at c w .short))
 
   pub refusal-offset-is-own : length r ≤ 60000 → at < length r → isRefused (commandAt r at) ≡ true → refusalOffsetOf (commandAt r at) ≡ at
   unfolding isRefused refusalOffsetOf
@@ -402,6 +433,4 @@ module _ (r : List ℕ) (at : ℕ) where
       go (misplaced l u m) e = refl
       go (truncated l u m c i) e = refl
       go (past-record-end l u m c i) e = absurd (omega arith)
-      go (setup s f b i) e = absurd (subst T (sym e) tt)
-      go (take s f b i) e = absurd (subst T (sym e) tt)
-      go (free s f b i) e = absurd (subst T (sym e) tt)
+      go (read c h) e = absurd (subst T (sym e ∙ no-refusal-of-read r at c h .1) tt)

@@ -5,7 +5,7 @@ use mathlib.Core.List.{List, [], _∷_, _++_}
 use Prim.Native.Nat.{ℕ}
 use lib.ListN.{replicate}
 use Rattle.commands.specs.declared.Command.{Command}
-use Rattle.commands.specs.declared.Command.the-variants.{Setup, Take, Free, Refused}
+use Rattle.commands.specs.declared.Command.the-variants.{Setup, Take, Free, NamedTake, NamedFree, Refused}
 use Rattle.commands.specs.Record.{commandAt, commandsOf, commandNumberOf, refusalOffsetOf, commandByte, numbersOf}
 use Rattle.commands.proofs.CommandDefinitions.{commandDefinitions}
 
@@ -29,7 +29,7 @@ no-byte : commandsOf [] ≡ Refused 10 0 ∷ []
 unfolding commandDefinitions
 no-byte = refl
 
-unknown-first : commandsOf (3 ∷ []) ≡ Refused 8 0 ∷ []
+unknown-first : commandsOf (5 ∷ []) ≡ Refused 8 0 ∷ []
 unfolding commandDefinitions
 unknown-first = refl
 
@@ -51,9 +51,9 @@ free-truncated = refl
 
 -- every byte of a command another: "numbers of several bytes have the low byte first"
 abbrev distinct-bytes : List ℕ
-distinct-bytes = 0 ∷ 3 ∷ 4 ∷ 5 ∷ 6 ∷ 7 ∷ 1 ∷ 8 ∷ 9 ∷ 10 ∷ 2 ∷ 11 ∷ 12 ∷ 13 ∷ 14 ∷ 15 ∷ []
+distinct-bytes = 0 ∷ 3 ∷ 4 ∷ 5 ∷ 6 ∷ 7 ∷ 1 ∷ 8 ∷ 9 ∷ 10 ∷ 2 ∷ 11 ∷ 12 ∷ 13 ∷ 14 ∷ 15 ∷ 3 ∷ 16 ∷ 17 ∷ 18 ∷ 19 ∷ 20 ∷ 4 ∷ 21 ∷ 22 ∷ 23 ∷ []
 
-commands-of-distinct-bytes : commandsOf distinct-bytes ≡ Setup 3 4 5 6 7 ∷ Take 8 2569 ∷ Free 11 252579084 ∷ []
+commands-of-distinct-bytes : commandsOf distinct-bytes ≡ Setup 3 4 5 6 7 ∷ Take 8 2569 ∷ Free 11 252579084 ∷ NamedTake 16 4625 5139 ∷ NamedFree 21 5910 ∷ []
 unfolding commandDefinitions
 commands-of-distinct-bytes = refl
 
@@ -82,6 +82,39 @@ free-of-one-byte : commandsOf (setup ++ (2 ∷ [])) ≡ Setup 1 2 1 1 4 ∷ Refu
 unfolding commandDefinitions
 free-of-one-byte = refl
 
+-- calls by name (document 02, item 2): the page's own, then a plain free; each truncated by one byte, and first, whole and truncated
+abbrev named-take : List ℕ
+named-take = 3 ∷ 1 ∷ 5 ∷ 0 ∷ 0 ∷ 8 ∷ []
+
+abbrev named-free : List ℕ
+named-free = 4 ∷ 1 ∷ 5 ∷ 0 ∷ []
+
+named-calls-read : commandsOf (setup ++ named-take ++ named-free ++ free) ≡ Setup 1 2 1 1 4 ∷ NamedTake 1 5 2048 ∷ NamedFree 1 5 ∷ Free 1 0 ∷ []
+unfolding commandDefinitions
+named-calls-read = refl
+
+named-take-truncated : commandsOf (setup ++ (3 ∷ 1 ∷ 5 ∷ 0 ∷ 0 ∷ [])) ≡ Setup 1 2 1 1 4 ∷ Refused 9 6 ∷ []
+unfolding commandDefinitions
+named-take-truncated = refl
+
+named-free-truncated : commandsOf (setup ++ named-take ++ (4 ∷ 1 ∷ 5 ∷ [])) ≡ Setup 1 2 1 1 4 ∷ NamedTake 1 5 2048 ∷ Refused 9 12 ∷ []
+unfolding commandDefinitions
+named-free-truncated = refl
+
+named-take-first : (commandsOf named-take ≡ Refused 10 0 ∷ []) × (commandsOf (3 ∷ 1 ∷ []) ≡ Refused 10 0 ∷ [])
+unfolding commandDefinitions
+named-take-first = (refl, refl)
+
+named-free-first : (commandsOf named-free ≡ Refused 10 0 ∷ []) × (commandsOf (4 ∷ []) ≡ Refused 10 0 ∷ [])
+unfolding commandDefinitions
+named-free-first = (refl, refl)
+
+-- any name of two bytes is read: 14 and 15 are the call's refusals
+names-read-as-they-are : commandsOf (setup ++ (3 ∷ 1 ∷ 255 ∷ 3 ∷ 0 ∷ 0 ∷ 3 ∷ 1 ∷ 0 ∷ 4 ∷ 0 ∷ 0 ∷ 4 ∷ 1 ∷ 255 ∷ 255 ∷ []))
+    ≡ Setup 1 2 1 1 4 ∷ NamedTake 1 1023 0 ∷ NamedTake 1 1024 0 ∷ NamedFree 1 65535 ∷ []
+unfolding commandDefinitions
+names-read-as-they-are = refl
+
 -- 60000 bytes are read and 60001 are not, whatever they are
 record-of-60000-read : commandAt (replicate 60000 0) 0 ≡ Setup 0 0 0 0 0
 unfolding commandDefinitions
@@ -107,11 +140,13 @@ values : List Command → List Values
 values [] = []
 values (c ∷ commands) = record { number = commandNumberOf c; offset = refusalOffsetOf c; byte = commandByte c; numbers = numbersOf c } ∷ values commands
 
-values-of-all-kinds : values (commandsOf (distinct-bytes ++ (3 ∷ [])))
+values-of-all-kinds : values (commandsOf (distinct-bytes ++ (5 ∷ [])))
     ≡ record { number = 0; offset = 0; byte = 0 ∷ []; numbers = 3 ∷ 4 ∷ 5 ∷ 6 ∷ 7 ∷ [] }
     ∷ record { number = 0; offset = 0; byte = 1 ∷ []; numbers = 8 ∷ 2569 ∷ [] }
     ∷ record { number = 0; offset = 0; byte = 2 ∷ []; numbers = 11 ∷ 252579084 ∷ [] }
-    ∷ record { number = 8; offset = 16; byte = []; numbers = [] }
+    ∷ record { number = 0; offset = 0; byte = 3 ∷ []; numbers = 16 ∷ 4625 ∷ 5139 ∷ [] }
+    ∷ record { number = 0; offset = 0; byte = 4 ∷ []; numbers = 21 ∷ 5910 ∷ [] }
+    ∷ record { number = 8; offset = 26; byte = []; numbers = [] }
     ∷ []
 unfolding values commandNumberOf refusalOffsetOf commandByte numbersOf commandDefinitions
 values-of-all-kinds = refl

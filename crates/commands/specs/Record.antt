@@ -8,7 +8,7 @@ use lib.Dec.{eqb, leb, ltb}
 use Rattle.laws.specs.Sums.{pick, either}
 use Rattle.littleendian.specs.Bytes.{byteAt, twoAt, fourAt}
 use Rattle.commands.specs.declared.Command.{Command}
-use Rattle.commands.specs.declared.Command.the-variants.{Setup, Take, Free, Refused}
+use Rattle.commands.specs.declared.Command.the-variants.{Setup, Take, Free, NamedTake, NamedFree, Refused}
 
 -- refusal 9 (bench word: cut): "the record ends inside a command", one of n bytes
 unfoldable pub unlessTruncated : List ℕ → ℕ → ℕ → Command → Command
@@ -33,13 +33,23 @@ takeAt r at = unlessFirst at (unlessTruncated r at 4 (Take (byteAt r (at + 1)) (
 unfoldable pub freeAt : List ℕ → ℕ → Command
 freeAt r at = unlessFirst at (unlessTruncated r at 6 (Free (byteAt r (at + 1)) (fourAt r (at + 2))))
 
+-- "Command 03 is a take with processor (1 byte), name (2) and size (2)" (document 02, item 2)
+unfoldable pub namedTakeAt : List ℕ → ℕ → Command
+namedTakeAt r at = unlessFirst at (unlessTruncated r at 6 (NamedTake (byteAt r (at + 1)) (twoAt r (at + 2)) (twoAt r (at + 4))))
+
+-- "04 is a free with processor (1) and name (2)" (document 02, item 2)
+unfoldable pub namedFreeAt : List ℕ → ℕ → Command
+namedFreeAt r at = unlessFirst at (unlessTruncated r at 4 (NamedFree (byteAt r (at + 1)) (twoAt r (at + 2))))
+
 -- the command by its first byte; refusal 8 (bench word: command): "unknown command byte"
 unfoldable pub commandByFirstByte : List ℕ → ℕ → Command
 commandByFirstByte r at =
     pick (eqb (byteAt r at) 0) (setupAt r at)
     (pick (eqb (byteAt r at) 1) (takeAt r at)
     (pick (eqb (byteAt r at) 2) (freeAt r at)
-    (Refused 8 at)))
+    (pick (eqb (byteAt r at) 3) (namedTakeAt r at)
+    (pick (eqb (byteAt r at) 4) (namedFreeAt r at)
+    (Refused 8 at)))))
 
 -- "Record: 11, then for each command 8, 10, 9"; refusal 11 (bench word: long): "record above 60000 bytes", which stops at 0. At the record's
 -- end and past it there is no command: 10 where there is no byte at all, else 9 at the end, which no reader meets.
@@ -54,6 +64,8 @@ unfoldable pub commandNumberOf : Command → ℕ
 commandNumberOf (Setup processors superblocks spare p q) = 0
 commandNumberOf (Take processor size) = 0
 commandNumberOf (Free processor address) = 0
+commandNumberOf (NamedTake processor name size) = 0
+commandNumberOf (NamedFree processor name) = 0
 commandNumberOf (Refused number offset) = number
 
 -- the byte offset that a refusal carries: "a refusal with its offset"; 0 for a command that is read, which carries none
@@ -61,6 +73,8 @@ unfoldable pub refusalOffsetOf : Command → ℕ
 refusalOffsetOf (Setup processors superblocks spare p q) = 0
 refusalOffsetOf (Take processor size) = 0
 refusalOffsetOf (Free processor address) = 0
+refusalOffsetOf (NamedTake processor name size) = 0
+refusalOffsetOf (NamedFree processor name) = 0
 refusalOffsetOf (Refused number offset) = offset
 
 -- the command byte; a refusal has none
@@ -68,6 +82,8 @@ unfoldable pub commandByte : Command → List ℕ
 commandByte (Setup processors superblocks spare p q) = 0 ∷ []
 commandByte (Take processor size) = 1 ∷ []
 commandByte (Free processor address) = 2 ∷ []
+commandByte (NamedTake processor name size) = 3 ∷ []
+commandByte (NamedFree processor name) = 4 ∷ []
 commandByte (Refused number offset) = []
 
 -- the numbers that a command carries, in the record's order; a refusal carries none beside its number and its offset
@@ -75,6 +91,8 @@ unfoldable pub numbersOf : Command → List ℕ
 numbersOf (Setup processors superblocks spare p q) = processors ∷ superblocks ∷ spare ∷ p ∷ q ∷ []
 numbersOf (Take processor size) = processor ∷ size ∷ []
 numbersOf (Free processor address) = processor ∷ address ∷ []
+numbersOf (NamedTake processor name size) = processor ∷ name ∷ size ∷ []
+numbersOf (NamedFree processor name) = processor ∷ name ∷ []
 numbersOf (Refused number offset) = []
 
 -- a command has the number, the offset, the command byte and the numbers of the command that the rules give
@@ -89,6 +107,8 @@ unfoldable pub sizeOfCommand : Command → ℕ
 sizeOfCommand (Setup processors superblocks spare p q) = 6
 sizeOfCommand (Take processor size) = 4
 sizeOfCommand (Free processor address) = 6
+sizeOfCommand (NamedTake processor name size) = 6
+sizeOfCommand (NamedFree processor name) = 4
 sizeOfCommand (Refused number offset) = 0
 
 -- after a command that is refused nothing more is read
@@ -96,6 +116,8 @@ unfoldable pub isRefused : Command → Bool
 isRefused (Setup processors superblocks spare p q) = false
 isRefused (Take processor size) = false
 isRefused (Free processor address) = false
+isRefused (NamedTake processor name size) = false
+isRefused (NamedFree processor name) = false
 isRefused (Refused number offset) = true
 
 -- the commands from a position on, at most as many as the first number: one is read in any case, and more until one is refused or

@@ -1,6 +1,6 @@
 // The commands of a record. What stands at a position of a record is in specs/.
 
-// A setup, a take or a free with its numbers, or a refusal with its offset.
+// A setup, a take or a free with its numbers, a take or a free by name, or a refusal with its offset.
 pub enum Command {
     Setup {
         processors: u8,
@@ -16,6 +16,15 @@ pub enum Command {
     Free {
         processor: u8,
         address: u32,
+    },
+    NamedTake {
+        processor: u8,
+        name: u16,
+        size: u16,
+    },
+    NamedFree {
+        processor: u8,
+        name: u16,
     },
     Refused {
         number: u8,

@@ -7,6 +7,8 @@ ghost use Rattle.commands.specs.Record.{
   setupAt,
   takeAt,
   freeAt,
+  namedTakeAt,
+  namedFreeAt,
   commandByFirstByte,
   commandAt,
   HasNumbersOf,
@@ -44,6 +46,12 @@ fn command_by_first_byte(bytes: &[u8], at: usize) -> Command
     }
     if first == 2 {
         return free_at(bytes, at);
+    }
+    if first == 3 {
+        return named_take_at(bytes, at);
+    }
+    if first == 4 {
+        return named_free_at(bytes, at);
     }
     refused(8, at)
 }
@@ -94,6 +102,41 @@ fn free_at(bytes: &[u8], at: usize) -> Command
         return Command::Free {
             processor: bytes[at + 1],
             address: littleendian::four_at(bytes, at + 2),
+        };
+    }
+    refused(9, at)
+}
+
+fn named_take_at(bytes: &[u8], at: usize) -> Command
+    requires { ⌜ (length (now bytes) ≤ 60000) × (at < length (now bytes)) ⌝ }
+    ensures { λ c. ⌜ c ≡ namedTakeAt (now (bytes .entry)) at ⌝ }
+{
+    if at == 0 {
+        return refused(10, at);
+    }
+    let end = at + 6;
+    if end <= bytes.len() {
+        return Command::NamedTake {
+            processor: bytes[at + 1],
+            name: littleendian::two_at(bytes, at + 2),
+            size: littleendian::two_at(bytes, at + 4),
+        };
+    }
+    refused(9, at)
+}
+
+fn named_free_at(bytes: &[u8], at: usize) -> Command
+    requires { ⌜ (length (now bytes) ≤ 60000) × (at < length (now bytes)) ⌝ }
+    ensures { λ c. ⌜ c ≡ namedFreeAt (now (bytes .entry)) at ⌝ }
+{
+    if at == 0 {
+        return refused(10, at);
+    }
+    let end = at + 4;
+    if end <= bytes.len() {
+        return Command::NamedFree {
+            processor: bytes[at + 1],
+            name: littleendian::two_at(bytes, at + 2),
         };
     }
     refused(9, at)

@@ -17,7 +17,7 @@ use Rattle.classes.specs.Classes.{blocksOf}
 use Rattle.classes.proofs.ClassTableLaws.{blocks-of-le-256}
 use Rattle.marklaws.proofs.MarkLaws.{live-count-of-no-marks}
 use Rattle.names.specs.Names.{notHeld, noNames, eachHeld}
-use Rattle.namelaws.proofs.NameLaws.{each-held-of-no-names, no-two-of-no-names}
+use Rattle.namelaws.proofs.NameLaws.{test-of-block-named, each-held-of-blocks-named, same-name-of-same-block, no-two-of-same-name, each-held-of-no-names, no-two-of-no-names}
 use Rattle.filledplaces.proofs.PlacesValidLaws.{live-count-le-of-places-valid}
 use Rattle.heap.specs.declared.Superblock.{Superblock}
 use Rattle.heap.specs.declared.Setup.{Setup}
@@ -26,7 +26,7 @@ use Rattle.heap.specs.Table.{blank, unused, superblockAt, withSuperblock, withN
 use Rattle.heap.specs.Counts.{superblocksOf, liveOf, blocksIn, belongs}
 use Rattle.moverules.specs.Moves.{bothConditions, mustMove}
 use Rattle.checkrules.specs.Check.{within, withinLimits, superblockValid, unusedFrom, emptinessInvariant, sparseIfGlobal, namesValid, restValid, passes}
-use Rattle.heaplaws.proofs.StateFacts.{Shape, WithinLimits, Unused, Owned, Sparse, Sound}
+use Rattle.heaplaws.proofs.StateFacts.{Shape, WithinLimits, Unused, Owned, Sparse, Sound, NamesSound}
 use Rattle.heaplaws.proofs.CountLaws.{superblock-at-replaced, superblock-at-others, owner-and-class-of-belongs, superblocks-of-new-state}
 
 -- ---- the setup numbers
@@ -185,6 +185,19 @@ names-valid-of-rest s order b =
     (both-right (emptinessInvariant s) _
     (both-right (allBelow (λ k. unusedFrom (s .setup .superblocks) k (superblockAt s k)) 64) _
     (both-right (allBelow (λ k. superblockValid (s .setup) order k (superblockAt s k)) 64) _ b)))
+
+-- the names
+pub names-sound-of-valid : (s : State) → T (namesValid s) → NamesSound s
+unfolding namesValid
+names-sound-of-valid s t =
+    record {
+      live = test-of-block-named (isLiveBlock s) (s .names) (both-left (eachHeld (isLiveBlock s) (s .names)) _ t);
+      distinct = same-name-of-same-block (s .names) (both-right (eachHeld (isLiveBlock s) (s .names)) _ t);
+    }
+
+pub names-valid-of-sound : (s : State) → NamesSound s → T (namesValid s)
+unfolding namesValid
+names-valid-of-sound s h = both-make (eachHeld (isLiveBlock s) (s .names)) _ (each-held-of-blocks-named (isLiveBlock s) (s .names) (h .live)) (no-two-of-same-name (s .names) (h .distinct))
 
 pub rest-valid-of-sound : (s : State) (order : List ℕ) → Sound s order → T (namesValid s) → T (restValid s order)
 unfolding restValid

@@ -7,11 +7,12 @@ use Prim.Native.Nat.{ℕ, _-_, _*_, _≤_, _<_}
 use lib.ListN.{length, getD}
 use lib.Dec.{T}
 use Rattle.classes.specs.Classes.{blocksOf}
+use Rattle.names.specs.Names.{notHeld, blockNamed}
 use Rattle.filledplaces.specs.FilledPlaces.{placesValid}
 use Rattle.heap.specs.declared.Superblock.{Superblock}
 use Rattle.heap.specs.declared.Setup.{Setup}
 use Rattle.heap.specs.declared.State.{State}
-use Rattle.heap.specs.Table.{blank, superblockAt, liveIn, withOwner}
+use Rattle.heap.specs.Table.{blank, superblockAt, liveIn, withOwner, isLiveBlock}
 use Rattle.heap.specs.Counts.{belongs, superblocksOf, liveOf, superblocksOfClass, liveOfClass}
 use Rattle.moverules.specs.Moves.{mustMove}
 
@@ -63,13 +64,18 @@ pub record Owned (u : Setup) (order : List ℕ) (k : ℕ) (b : Superblock) : Typ
 abbrev pub Sparse : Setup → Superblock → Type 0
 Sparse u b = u .q * liveIn b < (u .q - u .p) * blocksOf (b .class)
 
--- the whole check, but for the names (checkrules' namesValid)
+-- the whole check, but for the names
 pub record Sound (s : State) (order : List ℕ) : Type 0 where
   pub numbers : WithinLimits (s .setup)
   pub each : (k : ℕ) → k < 64 → Unused (superblockAt s k) ⊎ Owned (s .setup) order k (superblockAt s k)
   pub past-unused : (k : ℕ) → k < 64 → s .setup .superblocks ≤ k → Unused (superblockAt s k)
   pub invariant : (h c : ℕ) → 1 ≤ h → h ≤ s .setup .processors → c < 27 → T (mustMove h c s) → ⊥
   pub sparse : (k : ℕ) → k < 64 → superblockAt s k .owner ≡ 0 → Sparse (s .setup) (superblockAt s k)
+
+-- the names' part of the check: "each held name points at a live block, no two at one"
+pub record NamesSound (s : State) : Type 0 where
+  pub live : (m : ℕ) → (blockNamed (s .names) m ≡ notHeld → ⊥) → T (isLiveBlock s (blockNamed (s .names) m))
+  pub distinct : (l m : ℕ) → (blockNamed (s .names) l ≡ notHeld → ⊥) → blockNamed (s .names) l ≡ blockNamed (s .names) m → l ≡ m
 
 -- what the moves of heap h and class c, from state s, have come to: t is s with some superblocks of (h, c) passed to heap 0
 pub record TransferredFrom (h c : ℕ) (s t : State) : Type 0 where

@@ -9,8 +9,9 @@ use Rattle.textrules.specs.Text.{letters}
 use Rattle.heap.specs.declared.Superblock.{Superblock}
 use Rattle.heap.specs.declared.State.{State}
 use Rattle.heap.specs.Table.{unused}
+use Rattle.heap.proofs.CaseStates.{unnamedState}
 use Rattle.calls.specs.declared.Outcome.the-variants.{Address, Moves, Refused}
-use Rattle.linerules.specs.Lines.{setupLine, takeLine, freeLine, stopLine, heapLine, heapLineIf, classLines, finalLines, closingLines}
+use Rattle.linerules.specs.Lines.{setupLine, takeLine, freeLine, namedTakeLine, namedFreeLine, stopLine, heapLine, heapLineIf, classLines, finalLines, closingLines}
 use Rattle.linerules.proofs.LineDefinitions.{lineDefinitions}
 
 -- ---- the whole case
@@ -60,6 +61,36 @@ size-0-line-case : takeLine 1 0 (Address 0) ≡ letters "take 1 0 at 0\n"
 unfolding lineDefinitions
 size-0-line-case = refl
 
+-- ---- calls by name (document 02, item 2): the page's lines, refused ones, and numbers that all differ
+named-take-printed : namedTakeLine 1 5 2048 (Address 0) ≡ letters "take 1 name 5 2048 at 0\n"
+unfolding lineDefinitions
+named-take-printed = refl
+
+named-free-printed : namedFreeLine 1 5 (Moves 0) ≡ letters "free 1 name 5 moved 0\n"
+unfolding lineDefinitions
+named-free-printed = refl
+
+refused-named-take-printed : namedTakeLine 1 5 2048 (Refused 14) ≡ letters "take 1 name 5 2048 refused 14\n"
+unfolding lineDefinitions
+refused-named-take-printed = refl
+
+refused-named-free-printed : namedFreeLine 1 5 (Refused 15) ≡ letters "free 1 name 5 refused 15\n"
+unfolding lineDefinitions
+refused-named-free-printed = refl
+
+named-take-line-case : namedTakeLine 3 1023 1792 (Address 258048) ≡ letters "take 3 name 1023 1792 at 258048\n"
+unfolding lineDefinitions
+named-take-line-case = refl
+
+named-free-line-case : namedFreeLine 6 712 (Moves 5) ≡ letters "free 6 name 712 moved 5\n"
+unfolding lineDefinitions
+named-free-line-case = refl
+
+-- name 0 and size 0 print as 0, and a refused name as it is in the record
+named-line-limit-cases : (namedTakeLine 1 0 0 (Address 16) ≡ letters "take 1 name 0 0 at 16\n") × (namedFreeLine 1 65535 (Refused 15) ≡ letters "free 1 name 65535 refused 15\n")
+unfolding lineDefinitions
+named-line-limit-cases = (refl, refl)
+
 -- ---- the lines at the end: P = 2, heap 0 too, two classes of heap 1, one of them with nothing live; the superblocks stand in another order,
 -- others are unused, and owner 3 is no heap where P is 2
 abbrev superblock : ℕ → ℕ → ℕ → Superblock
@@ -67,12 +98,8 @@ superblock owner class marks = record { owner = owner; class = class; live = mar
 
 abbrev several-superblocks : State
 several-superblocks =
-    record {
-      setup = record { processors = 2; superblocks = 63; spare = 15; p = 3; q = 8 };
-      table =
-          superblock 2 26 3 ∷ superblock 1 11 0 ∷ superblock 1 0 15 ∷ superblock 3 8 1 ∷ superblock 2 26 3 ∷ unused ∷ superblock 1 11 0 ∷ superblock 0 9 31
-          ∷ superblock 2 26 1 ∷ superblock 1 0 3 ∷ superblock 2 26 3 ∷ superblock 1 11 0 ∷ replicate 52 unused;
-    }
+    unnamedState (record { processors = 2; superblocks = 63; spare = 15; p = 3; q = 8 }) (superblock 2 26 3 ∷ superblock 1 11 0 ∷ superblock 1 0 15 ∷ superblock 3 8 1 ∷ superblock 2 26 3 ∷ unused ∷ superblock 1 11 0 ∷ superblock 0 9 31
+          ∷ superblock 2 26 1 ∷ superblock 1 0 3 ∷ superblock 2 26 3 ∷ superblock 1 11 0 ∷ replicate 52 unused)
 
 -- superblocks with nothing live have a line, and a class without a superblock has none
 heap-line-if-of-nothing-live-case : heapLineIf 1 11 several-superblocks ≡ letters "heap 1 class 11 superblocks 3 live 0\n"
@@ -93,7 +120,7 @@ unfolding lineDefinitions
 final-lines-case = refl
 
 -- the whole case's own: block 0 of class 0 is live in superblock 0, block 0 of class 26 in superblock 1
-final-lines-of-whole-case : finalLines (record { setup = record { processors = 1; superblocks = 2; spare = 1; p = 1; q = 4 }; table = superblock 1 0 1 ∷ superblock 1 26 1 ∷ replicate 62 unused })
+final-lines-of-whole-case : finalLines (unnamedState (record { processors = 1; superblocks = 2; spare = 1; p = 1; q = 4 }) (superblock 1 0 1 ∷ superblock 1 26 1 ∷ replicate 62 unused))
     ≡ letters "heap 1 class 0 superblocks 1 live 1\nheap 1 class 26 superblocks 1 live 1\nend\n"
 unfolding lineDefinitions
 final-lines-of-whole-case = refl

@@ -13,7 +13,7 @@ use Rattle.heap.specs.declared.State.{State}
 use Rattle.heap.specs.Counts.{superblocksOf, liveOf}
 use Rattle.calls.specs.declared.Outcome.{Outcome}
 use Rattle.calls.specs.declared.Outcome.the-variants.{Ready, Address, Moves, Refused}
-use Rattle.linerules.specs.Lines.{setupLine, result, takeLine, freeLine, stopLine, heapLine, heapLineIf, classLines, heapLines, finalLines}
+use Rattle.linerules.specs.Lines.{setupLine, result, takeLine, freeLine, namedTakeLine, namedFreeLine, stopLine, heapLine, heapLineIf, classLines, heapLines, finalLines}
 -- the computed cases come first: a wrong definition fails there
 use Rattle.linerules.proofs.LineCases as cases
 
@@ -38,6 +38,24 @@ module _ (o : Outcome) (f : (m : ℕ) → o ≡ Moves m → m < 256) (g : (r : �
   pub length-of-free-line-le-34 : (processor address : ℕ) → processor < 256 → length (freeLine processor address o) ≤ 34
   unfolding freeLine
   length-of-free-line-le-34 processor address a = simp length-append (omega (arith, length-of-byte-decimal-le-3 processor a, length-of-decimal-le-10 address, length-of-result-le-14 o f g))
+
+-- a call by name, of any outcome
+module _ (processor name : ℕ) (o : Outcome) (a : processor < 256) (b : name < 65536) where
+  pub length-of-named-take-line-le : (size : ℕ) → size < 65536 → length (namedTakeLine processor name size o) ≤ 26 + length (result o)
+  unfolding namedTakeLine
+  length-of-named-take-line-le size h = simp length-append (omega (arith, length-of-byte-decimal-le-3 processor a, length-of-u16-decimal-le-5 name b, length-of-u16-decimal-le-5 size h))
+
+  pub length-of-named-free-line-le : length (namedFreeLine processor name o) ≤ 20 + length (result o)
+  unfolding namedFreeLine
+  length-of-named-free-line-le = simp length-append (omega (arith, length-of-byte-decimal-le-3 processor a, length-of-u16-decimal-le-5 name b))
+
+-- the result of a free, which is no address
+pub length-of-free-result-le-12 : (o : Outcome) → ((a : ℕ) → o ≡ Address a → ⊥) → ((m : ℕ) → o ≡ Moves m → m < 256) → ((r : ℕ) → o ≡ Refused r → r < 256) → length (result o) ≤ 12
+unfolding result
+length-of-free-result-le-12 Ready n f g = zero-le
+length-of-free-result-le-12 (Address a) n f g = absurd (n a refl)
+length-of-free-result-le-12 (Moves m) n f g = omega (arith, length-of-byte-decimal-le-3 m (f m refl))
+length-of-free-result-le-12 (Refused r) n f g = omega (arith, length-of-byte-decimal-le-3 r (g r refl))
 
 pub length-of-stop-line-le-26 : (number offset : ℕ) → number < 256 → length (stopLine number offset) ≤ 26
 unfolding stopLine

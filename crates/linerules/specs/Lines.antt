@@ -35,6 +35,17 @@ takeLine processor size outcome = field (letters "take ") processor ++ field (le
 unfoldable pub freeLine : ℕ → ℕ → Outcome → List ℕ
 freeLine processor address outcome = field (letters "free ") processor ++ field (letters " ") address ++ result outcome ++ letters "\n"
 
+-- how the line of a call by name begins: its word, the processor and the name
+abbrev pub processorAndName : List ℕ → ℕ → ℕ → List ℕ
+processorAndName label processor name = field label processor ++ field (letters " name ") name
+
+-- "The lines are `take 1 name 5 2048 at 0` and `free 1 name 5 moved 0`" (document 02, item 2)
+unfoldable pub namedTakeLine : ℕ → ℕ → ℕ → Outcome → List ℕ
+namedTakeLine processor name size outcome = processorAndName (letters "take ") processor name ++ field (letters " ") size ++ result outcome ++ letters "\n"
+
+unfoldable pub namedFreeLine : ℕ → ℕ → Outcome → List ℕ
+namedFreeLine processor name outcome = processorAndName (letters "free ") processor name ++ result outcome ++ letters "\n"
+
 -- "`stopped R at B` (R the number, B the command's byte offset; 0 for 11) as the last line"
 unfoldable pub stopLine : ℕ → ℕ → List ℕ
 stopLine number offset = field (letters "stopped ") number ++ field (letters " at ") offset ++ letters "\n"

@@ -1,7 +1,7 @@
 -- Laws of the marks: one set or cleared changes that mark alone, and the count by one. Assumes nothing.
 use mathlib.Core.Path.{_≡_, refl, sym, ap, ap₂, _∙_}
 use mathlib.Core.Bool.{true, false}
-use mathlib.Core.List.{List}
+use mathlib.Core.List.{List, []}
 use Prim.Native.Nat.{ℕ, zero, suc, _+_, _-_, _*_, _/_, _%_, _^_, _≤_, _<_}
 use native.Mathlib.Decide.{ℕ-discrete, decLt}
 use native.Mathlib.Omega.{arith}
@@ -41,6 +41,11 @@ mark-of-mark-bit-one l j e = eq-eqb (markBit l j) 1 e
 pub no-mark-of-mark-bit-zero : (l : List ℕ) (j : ℕ) → markBit l j ≡ 0 → isMarked l j ≡ false
 unfolding isMarked
 no-mark-of-mark-bit-zero l j e = ne-eqb (markBit l j) 1 (λ (q : markBit l j ≡ 1). omega arith)
+
+-- an empty list has no marks
+pub mark-bit-of-empty-list : (j : ℕ) → markBit [] j ≡ 0
+unfolding markBit
+mark-bit-of-empty-list j = bit-of-zero (j % 64)
 
 -- no block has a number of 256 or above
 pub mark-bit-past-256 : (l : List ℕ) (j : ℕ) → length l ≡ 4 → 256 ≤ j → markBit l j ≡ 0

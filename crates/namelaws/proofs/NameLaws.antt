@@ -91,14 +91,17 @@ each-held-cons test x names h t = both-make (either (eqb x notHeld) (test x)) _ 
     go (yes e) = either-left (eqb x notHeld) (test x) (T-of-true _ (eq-eqb x notHeld e))
     go (no f) = either-right (eqb x notHeld) (test x) (h f)
 
-pub test-of-held : (test : ℕ → Bool) (names : List ℕ) → T (eachHeld test names) → (m : ℕ) → T (isHeld names m) → T (test (blockNamed names m))
+pub test-of-block-named : (test : ℕ → Bool) (names : List ℕ) → T (eachHeld test names) → (m : ℕ) → (blockNamed names m ≡ notHeld → ⊥) → T (test (blockNamed names m))
 unfolding blockNamed
-test-of-held test names t m h = at names t m (held-facts names m h .1)
-  where
-    at : (names : List ℕ) → T (eachHeld test names) → (m : ℕ) → (blockNamed names m ≡ notHeld → ⊥) → T (test (blockNamed names m))
-    at [] t m f = absurd (f refl)
-    at (x ∷ names) t zero f = held-or-test test x names t f
-    at (x ∷ names) t (suc m) f = at names (rest-of-each test x names t) m f
+test-of-block-named test [] t m f = absurd (f refl)
+test-of-block-named test (x ∷ names) t zero f = held-or-test test x names t f
+test-of-block-named test (x ∷ names) t (suc m) f = test-of-block-named test names (rest-of-each test x names t) m f
+
+-- and the test passes where each block that a name points at does
+pub each-held-of-blocks-named : (test : ℕ → Bool) (names : List ℕ) → ((m : ℕ) → (blockNamed names m ≡ notHeld → ⊥) → T (test (blockNamed names m))) → T (eachHeld test names)
+unfolding blockNamed eachHeld
+each-held-of-blocks-named test [] h = tt
+each-held-of-blocks-named test (x ∷ names) h = each-held-cons test x names (h 0) (each-held-of-blocks-named test names (λ m. h (suc m)))
 
 -- a named block is the first name's, or is named behind it
 named-cases : (b x : ℕ) (names : List ℕ) → T (isNamed b (x ∷ names)) → (x ≡ b) ⊎ T (isNamed b names)
@@ -172,16 +175,31 @@ named-of-block-named (x ∷ names) zero b e f = named-here b x names e
 named-of-block-named (x ∷ names) (suc m) b e f = named-behind b x names (named-of-block-named names m b e f)
 
 -- two held names that point at one block are one
-pub same-name-of-same-block : (names : List ℕ) → T (noTwoAtOne names) → (l m : ℕ) → T (isHeld names l) → blockNamed names l ≡ blockNamed names m → l ≡ m
+pub same-name-of-same-block : (names : List ℕ) → T (noTwoAtOne names) → (l m : ℕ) → (blockNamed names l ≡ notHeld → ⊥) → blockNamed names l ≡ blockNamed names m → l ≡ m
 unfolding blockNamed
-same-name-of-same-block names t l m h e = at names t l m (held-facts names l h .1) e
+same-name-of-same-block [] t l m f e = absurd (f refl)
+same-name-of-same-block (x ∷ names) t zero zero f e = refl
+same-name-of-same-block (x ∷ names) t zero (suc m) f e = absurd (not-named-behind x names t f (named-of-block-named names m x (sym e) f))
+same-name-of-same-block (x ∷ names) t (suc l) zero f e = absurd (not-named-behind x names t (λ q. f (e ∙ q)) (named-of-block-named names l x e (λ q. f (e ∙ q))))
+same-name-of-same-block (x ∷ names) t (suc l) (suc m) f e = ap suc (same-name-of-same-block names (rest-of-no-two x names t) l m f e)
+
+-- a named block is some name's
+block-named-of-named : (names : List ℕ) (b : ℕ) → T (isNamed b names) → (m : ℕ) × (blockNamed names m ≡ b)
+unfolding blockNamed isNamed
+block-named-of-named [] b n = absurd n
+block-named-of-named (x ∷ names) b n =
+    ⊎-elim (λ e. (0, e)) (λ t. let h = block-named-of-named names b t in (suc (h .0), h .1)) (named-cases b x names n)
+
+-- and no two names are at one block where such names are one
+pub no-two-of-same-name : (names : List ℕ) → ((l m : ℕ) → (blockNamed names l ≡ notHeld → ⊥) → blockNamed names l ≡ blockNamed names m → l ≡ m) → T (noTwoAtOne names)
+unfolding blockNamed noTwoAtOne
+no-two-of-same-name [] h = tt
+no-two-of-same-name (x ∷ names) h =
+    no-two-cons x names (λ f n. let b = block-named-of-named names x n in apart (b .0) (h 0 (suc (b .0)) f (sym (b .1))))
+    (no-two-of-same-name names (λ l m f e. omega (arith, h (suc l) (suc m) f e)))
   where
-    at : (names : List ℕ) → T (noTwoAtOne names) → (l m : ℕ) → (blockNamed names l ≡ notHeld → ⊥) → blockNamed names l ≡ blockNamed names m → l ≡ m
-    at [] t l m f e = absurd (f refl)
-    at (x ∷ names) t zero zero f e = refl
-    at (x ∷ names) t zero (suc m) f e = absurd (not-named-behind x names t f (named-of-block-named names m x (sym e) f))
-    at (x ∷ names) t (suc l) zero f e = absurd (not-named-behind x names t (λ q. f (e ∙ q)) (named-of-block-named names l x e (λ q. f (e ∙ q))))
-    at (x ∷ names) t (suc l) (suc m) f e = ap suc (at names (rest-of-no-two x names t) l m f e)
+    apart : (m : ℕ) → 0 ≡ suc m → ⊥
+    apart m e = omega arith
 
 -- a name bound to another block names no further block
 named-with-name : (names : List ℕ) (m b x : ℕ) → T (isNamed x (withName names m b)) → (b ≡ x) ⊎ T (isNamed x names)

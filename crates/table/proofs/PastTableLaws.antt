@@ -2,21 +2,15 @@
 use mathlib.Core.Path.{_≡_, sym, ap, _∙_}
 use mathlib.Core.Bool.{false}
 use mathlib.Core.List.{List, []}
-use Prim.Native.Nat.{ℕ, _%_, _≤_}
+use Prim.Native.Nat.{ℕ, _≤_}
 use native.Mathlib.Omega.{arith}
 use lib.ListN.{length, List·getD-eq-default}
 use lib.Seq.{set-out}
-use Rattle.marks.specs.Marks.{markBit, isMarked}
-use Rattle.marklaws.proofs.BitLaws.{bit-of-zero}
-use Rattle.marklaws.proofs.MarkLaws.{no-mark-of-mark-bit-zero, live-count-zero-of-marks-clear}
+use Rattle.marks.specs.Marks.{isMarked}
+use Rattle.marklaws.proofs.MarkLaws.{mark-bit-of-empty-list, no-mark-of-mark-bit-zero, live-count-zero-of-marks-clear}
 use Rattle.heap.specs.declared.Superblock.{Superblock}
 use Rattle.heap.specs.declared.State.{State}
 use Rattle.heap.specs.Table.{blank, superblockAt, withSuperblock, liveIn, isUnused}
-
--- what stands past the table has no marks
-mark-bit-of-empty-list : (j : ℕ) → markBit [] j ≡ 0
-unfolding markBit
-mark-bit-of-empty-list j = bit-of-zero (j % 64)
 
 module _ (s : State) (k : ℕ) (long : length (s .table) ≡ 64) (h : 64 ≤ k) where
   superblock-past-table-is-blank : superblockAt s k ≡ blank

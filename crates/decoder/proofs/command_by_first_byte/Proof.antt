@@ -29,12 +29,26 @@ returns-3 : tie.Need-returns-3
 unfolding commandByFirstByte
 returns-3 c = search (eq-eqb, ne-eqb)
 
-refused-requires : tie.Need-refused-requires
-refused-requires c κs = search needs
+named-take-at-requires : tie.Need-named-take-at-requires
+named-take-at-requires c κs = search needs
 
 returns-4 : tie.Need-returns-4
 unfolding commandByFirstByte
-returns-4 c = search (ne-eqb)
+returns-4 c = search (eq-eqb, ne-eqb)
+
+named-free-at-requires : tie.Need-named-free-at-requires
+named-free-at-requires c κs = search needs
+
+returns-5 : tie.Need-returns-5
+unfolding commandByFirstByte
+returns-5 c = search (eq-eqb, ne-eqb)
+
+refused-requires : tie.Need-refused-requires
+refused-requires c κs = search needs
+
+returns-6 : tie.Need-returns-6
+unfolding commandByFirstByte
+returns-6 c = search (ne-eqb)
 
 pub command-by-first-byte-spec : {M : Type 1} → statement M
 command-by-first-byte-spec =
@@ -47,5 +61,9 @@ command-by-first-byte-spec =
     returns-2
     free-at-requires
     returns-3
+    named-take-at-requires
+    returns-4
+    named-free-at-requires
+    returns-5
     refused-requires
-    returns-4)
+    returns-6)

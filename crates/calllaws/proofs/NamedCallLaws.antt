@@ -1,0 +1,311 @@
+-- Document 02, item 2: "A named call does what the plain one does, a free with the held address". Assumes nothing.
+use mathlib.Core.Path.{_≡_, refl, sym, ap, ap₂, _∙_, subst}
+use mathlib.Core.Bool.{Bool, true, false, not}
+use mathlib.Core.Logic.{_⊎_, inl, inr}
+use mathlib.Core.List.{List}
+use Prim.Native.Nat.{ℕ, _*_, _/_, _%_, _≤_, _<_}
+use native.Mathlib.Nat.{mul-le-mul-right}
+use native.Mathlib.Decide.{decLt}
+use native.Mathlib.Omega.{arith}
+use borrow.Author.Tests.{eq-eqb, ltb-true, lt-leb, not-false}
+use lib.ListN.{length}
+use lib.Dec.{T, eqb, leb, ltb}
+use Rattle.laws.specs.Sums.{pick, either}
+use Rattle.laws.proofs.TestLaws.{T-of-true, not-T-of-false, neither-left, neither-right}
+use Rattle.classes.specs.Classes.{sizeOf, blocksOf, classOf}
+use Rattle.classes.proofs.ClassTableLaws.{blocks-of-le-256}
+use Rattle.classes.proofs.OffsetLaws.{offset-lt-4096, offset-mod-size}
+use Rattle.marks.specs.Marks.{markBit}
+use Rattle.marklaws.proofs.MarkLaws.{mark-of-mark-bit-one, marks-clear-of-live-count-zero}
+use Rattle.marklaws.proofs.NoMarkFromLaws.{mark-clear-of-no-mark-from}
+use Rattle.names.specs.Names.{blockNumber, isName, blockNamed, isHeld, withName}
+use Rattle.namelaws.proofs.NameLaws.{held-facts, block-named-with-name, block-named-with-other-name, length-with-name, not-held-without-block, block-named-without-other-block, held-cong}
+use Rattle.filledplaces.proofs.PlacesValidLaws.{no-mark-from-of-places-valid}
+use Rattle.heap.specs.declared.State.{State}
+use Rattle.heap.specs.Table.{superblockAt, withNames, isUnused}
+use Rattle.heap.specs.Counts.{superblocksOf, superblocksOfClass, liveOfClass, ownersChanged}
+use Rattle.heaplaws.proofs.StateFacts.{Shape, Unused, Owned}
+use Rattle.heaplaws.proofs.StateCheckLaws.{shape-with-names, sound-with-names, names-sound-of-valid, owned-below-superblocks, owned-of-owner, not-unused-of-owner}
+use Rattle.calls.specs.declared.Answer.{Answer}
+use Rattle.calls.specs.declared.Outcome.{Outcome}
+use Rattle.calls.specs.declared.Outcome.the-variants.{Address}
+use Rattle.calls.specs.Answers.{After, refused, isProcessor}
+use Rattle.calls.specs.Take.{addressOf, takeUnchecked, takeOf}
+use Rattle.calls.specs.Free.{superblockIndex, superblockHolding, blockOf, isUnmapped, isMisaligned, isLiveAt, freeUnchecked, freeOf}
+use Rattle.calls.specs.Named.{isUnavailable, nameBound, boundBy, withNameBound, namedTakeUnchecked, namedTakeOf, heldAddress, namedFreeUnchecked, namedFreeOf}
+use Rattle.calllaws.proofs.CallEffects.{Passed, TakeAccepted, FreeAccepted, NamedTakeAccepted, NamedFreeAccepted, TakeEffect}
+use Rattle.calllaws.proofs.CheckedLaws.{checked-refused-or-passed, checked-is-next-of-passed, bounds-of-is-processor}
+use Rattle.calllaws.proofs.NamesKeptLaws.{mark-of-live-block, live-block-in-table, names-valid-after-named-take}
+use Rattle.calllaws.proofs.AddressLaws.{address-superblock, address-offset, address-block, address-block-number}
+use Rattle.calllaws.proofs.TakeLaws.{take-refused-or-accepted, taken-block, take-address, take-effect, take-names, take-shape, take-passed}
+use Rattle.calllaws.proofs.MarkClearedLaws.{LiveBlock}
+use Rattle.calllaws.proofs.FreeLaws.{free-refused-or-accepted, free-names}
+use Rattle.calllaws.proofs.RefusalOrder.{take-is-unchecked, free-is-unchecked, free-of-live-block}
+
+-- ---- a named take
+-- a name that is free is one of 0 to 1023 and not held
+pub facts-of-available : (s : State) (m : ℕ) → isUnavailable s m ≡ false → (m < 1024) × (isHeld (s .names) m ≡ false)
+unfolding isUnavailable isName
+facts-of-available s m e =
+    (ltb-true m 1024 (not-false (ltb m 1024) (neither-left (not (ltb m 1024)) (isHeld (s .names) m) e)), neither-right (not (ltb m 1024)) (isHeld (s .names) m) e)
+
+-- "a refused take binds none"
+name-bound-of-refused : (r m : ℕ) (s : State) (order : List ℕ) → withNameBound m (refused r s order) ≡ refused r s order
+unfolding withNameBound boundBy
+name-bound-of-refused r m s order = refl
+
+module _ (s : State) (order : List ℕ) (i m : ℕ) where
+  -- behind the check, by its tests
+  abbrev pub namedTakeByTests : (processor unavailable : Bool) → After → After
+  namedTakeByTests processor unavailable plain = pick (not processor) (refused 2 s order) (pick unavailable (refused 14 s order) (withNameBound m plain))
+
+  pub named-take-is-unchecked : (size : ℕ) → Passed s order → namedTakeOf s order i m size ≡ namedTakeUnchecked s order i m size
+  unfolding namedTakeOf
+  named-take-is-unchecked size passed = checked-is-next-of-passed s order _ passed
+
+  -- "A named call does what the plain one does": on a state that passes, for a processor in range and a name that is free, a named take is the plain
+  -- take with the name bound
+  pub named-take-is-plain-take : (size : ℕ) → Passed s order → isProcessor s i ≡ true → isUnavailable s m ≡ false → namedTakeOf s order i m size ≡ withNameBound m (takeOf s order i size)
+  unfolding namedTakeUnchecked
+  named-take-is-plain-take size passed p u = named-take-is-unchecked size passed ∙ rw (p, u) (ap (withNameBound m) (sym (take-is-unchecked s order i passed size)))
+
+  -- a named take is refused and changes nothing, or is accepted
+  pub named-take-refused-or-accepted : (size : ℕ) → ((r : ℕ) × (namedTakeOf s order i m size ≡ refused r s order)) ⊎ ((k : ℕ) × NamedTakeAccepted s order i m size k)
+  unfolding namedTakeOf namedTakeUnchecked
+  named-take-refused-or-accepted size = by-check (checked-refused-or-passed s order (namedTakeUnchecked s order i m size))
+    where
+      by-plain : isUnavailable s m ≡ false → namedTakeOf s order i m size ≡ withNameBound m (takeOf s order i size) → ((r : ℕ) × (takeOf s order i size ≡ refused r s order)) ⊎ ((k : ℕ) × TakeAccepted s order i size k)
+          → ((r : ℕ) × (namedTakeOf s order i m size ≡ refused r s order)) ⊎ ((k : ℕ) × NamedTakeAccepted s order i m size k)
+      by-plain u e (inl (r, f)) = inl (r, e ∙ ap (withNameBound m) f ∙ name-bound-of-refused r m s order)
+      by-plain u e (inr (k, acc)) = inr (k, record { taken = acc; available = u; result-is = e })
+
+      by-tests : (p u : Bool) → isProcessor s i ≡ p → isUnavailable s m ≡ u → Passed s order → namedTakeOf s order i m size ≡ namedTakeByTests p u (takeUnchecked s order i size)
+          → ((r : ℕ) × (namedTakeOf s order i m size ≡ refused r s order)) ⊎ ((k : ℕ) × NamedTakeAccepted s order i m size k)
+      by-tests false u ep eu passed e = inl (2, e)
+      by-tests true true ep eu passed e = inl (14, e)
+      by-tests true false ep eu passed e = by-plain eu (named-take-is-plain-take size passed ep eu) (take-refused-or-accepted s order i size)
+
+      by-check : ((r : ℕ) × (namedTakeOf s order i m size ≡ refused r s order)) ⊎ (Passed s order × (namedTakeOf s order i m size ≡ namedTakeUnchecked s order i m size))
+          → ((r : ℕ) × (namedTakeOf s order i m size ≡ refused r s order)) ⊎ ((k : ℕ) × NamedTakeAccepted s order i m size k)
+      by-check (inl r) = inl r
+      by-check (inr (passed, e)) = by-tests (isProcessor s i) (isUnavailable s m) refl refl passed e
+
+-- the names are no part of a take's effect
+take-effect-with-names : (i c k j : ℕ) (s t : State) (names : List ℕ) → TakeEffect i c k j s t → TakeEffect i c k j s (withNames t names)
+unfolding ownersChanged superblocksOf superblocksOfClass liveOfClass
+take-effect-with-names i c k j s t names e =
+    record {
+      below = e .below;
+      class-lt-27 = e .class-lt-27;
+      block = e .block;
+      setup = e .setup;
+      others = e .others;
+      owner = e .owner;
+      class = e .class;
+      before = e .before;
+      not-marked = e .not-marked;
+      is-marked = e .is-marked;
+      marks = e .marks;
+      live = e .live;
+      one-owner-changed = e .one-owner-changed;
+      owned-of-others = e .owned-of-others;
+      owned-of-class = e .owned-of-class;
+      live-of-class = e .live-of-class;
+      live-of-others = e .live-of-others;
+    }
+
+module _ (s : State) (order : List ℕ) (i m size k : ℕ) (shape : Shape s) (acc : NamedTakeAccepted s order i m size k) where
+  abbrev plain : After
+  plain = takeOf s order i size
+
+  -- the block that it gives is the plain take's
+  abbrev pub named-taken-block : ℕ
+  named-taken-block = taken-block s order i size k shape (acc .taken)
+
+  effect : TakeEffect i (classOf size) k named-taken-block s (plain .answer .state)
+  effect = take-effect s order i size k shape (acc .taken)
+
+  below : k < 64
+  below = omega (arith, effect .below, acc .taken .passed .sound .numbers .superblocks-high)
+
+  block : named-taken-block < 256
+  block = omega (arith, effect .block, blocks-of-le-256 (classOf size))
+
+  -- its answer and its order places are the plain take's
+  pub named-take-outcome : namedTakeOf s order i m size .answer .outcome ≡ plain .answer .outcome
+  unfolding withNameBound
+  named-take-outcome = ap (λ (x : After). x .answer .outcome) (acc .result-is)
+
+  pub named-take-order : namedTakeOf s order i m size .order ≡ plain .order
+  unfolding withNameBound
+  named-take-order = ap (λ (x : After). x .order) (acc .result-is)
+
+  -- its state is the plain take's with the name bound to the block that was taken
+  pub named-take-state : namedTakeOf s order i m size .answer .state ≡ withNames (plain .answer .state) (withName (s .names) m (blockNumber k named-taken-block))
+  unfolding withNameBound boundBy nameBound
+  named-take-state =
+      ap (λ (x : After). x .answer .state) (acc .result-is)
+      ∙ ap (λ (o : Outcome). boundBy o m (plain .answer .state)) (take-address s order i size k shape (acc .taken))
+      ∙ ap₂ (λ (names : List ℕ) (b : ℕ). withNames (plain .answer .state) (withName names m b)) (take-names s order i size k shape (acc .taken))
+      (address-block-number (classOf size) k named-taken-block (effect .class-lt-27) (effect .block) (plain .answer .state) (effect .class) below)
+
+  pub named-take-names : namedTakeOf s order i m size .answer .state .names ≡ withName (s .names) m (blockNumber k named-taken-block)
+  named-take-names = ap (λ (t : State). t .names) named-take-state
+
+  pub named-take-address : namedTakeOf s order i m size .answer .outcome ≡ Address (addressOf k (classOf size) named-taken-block)
+  named-take-address = named-take-outcome ∙ take-address s order i size k shape (acc .taken)
+
+  pub named-take-effect : TakeEffect i (classOf size) k named-taken-block s (namedTakeOf s order i m size .answer .state)
+  named-take-effect =
+      subst (TakeEffect i (classOf size) k named-taken-block s) (sym named-take-state)
+      (take-effect-with-names i (classOf size) k named-taken-block s (plain .answer .state) (withName (s .names) m (blockNumber k named-taken-block)) effect)
+
+  pub named-take-shape : Shape (namedTakeOf s order i m size .answer .state)
+  named-take-shape =
+      subst Shape (sym named-take-state)
+      (shape-with-names (plain .answer .state) (withName (s .names) m (blockNumber k named-taken-block)) (take-shape s order i size k shape (acc .taken))
+      (length-with-name (s .names) m (blockNumber k named-taken-block) ∙ shape .names-length))
+
+  -- an accepted named take yields a state that passes
+  pub named-take-passed : Passed (namedTakeOf s order i m size .answer .state) (namedTakeOf s order i m size .order)
+  named-take-passed =
+      subst (λ (t : State). Passed t (namedTakeOf s order i m size .order)) (sym named-take-state)
+      (subst (λ (l : List ℕ). Passed (withNames (plain .answer .state) (withName (s .names) m (blockNumber k named-taken-block))) l) (sym named-take-order)
+      (let passed = take-passed s order i size k shape (acc .taken) in
+      record {
+        sound = sound-with-names (plain .answer .state) (withName (s .names) m (blockNumber k named-taken-block)) (plain .order) (passed .sound);
+        names = names-valid-after-named-take i (classOf size) k named-taken-block s (plain .answer .state) block effect m below (take-names s order i size k shape (acc .taken)) (acc .taken .passed .names);
+        room = passed .room;
+      }))
+
+  -- "A name holds from its take": the name points at the block that was taken, and every other name at what it did
+  pub named-take-binds-name : blockNamed (namedTakeOf s order i m size .answer .state .names) m ≡ blockNumber k named-taken-block
+  named-take-binds-name =
+      ap (λ (l : List ℕ). blockNamed l m) named-take-names
+      ∙ block-named-with-name (s .names) m (blockNumber k named-taken-block) (let l = facts-of-available s m (acc .available) .0 in let n = shape .names-length in omega arith)
+
+  pub named-take-keeps-other-names : (l : ℕ) → (l ≡ m → ⊥) → blockNamed (namedTakeOf s order i m size .answer .state .names) l ≡ blockNamed (s .names) l
+  named-take-keeps-other-names l f = ap (λ (x : List ℕ). blockNamed x l) named-take-names ∙ block-named-with-other-name (s .names) m (blockNumber k named-taken-block) l f
+
+-- ---- a named free
+module _ (s : State) (order : List ℕ) (i m : ℕ) where
+  abbrev pub namedFreeByTests : (processor held : Bool) → After → After
+  namedFreeByTests processor held plain = pick (not processor) (refused 2 s order) (pick (not held) (refused 15 s order) plain)
+
+  pub named-free-is-unchecked : Passed s order → namedFreeOf s order i m ≡ namedFreeUnchecked s order i m
+  unfolding namedFreeOf
+  named-free-is-unchecked passed = checked-is-next-of-passed s order _ passed
+
+  -- "a free with the held address": on a state that passes, for a processor in range and a name that is held, a named free is the free of that address
+  pub named-free-is-free-of-held-address : Passed s order → isProcessor s i ≡ true → isHeld (s .names) m ≡ true → namedFreeOf s order i m ≡ freeOf s order i (heldAddress s m)
+  unfolding namedFreeUnchecked
+  named-free-is-free-of-held-address passed p h = named-free-is-unchecked passed ∙ rw (p, h) (sym (free-is-unchecked s order i passed (heldAddress s m)))
+
+  -- a named free is refused and changes nothing, or is accepted
+  pub named-free-refused-or-accepted : ((r : ℕ) × (namedFreeOf s order i m ≡ refused r s order)) ⊎ NamedFreeAccepted s order i m
+  unfolding namedFreeOf namedFreeUnchecked
+  named-free-refused-or-accepted = by-check (checked-refused-or-passed s order (namedFreeUnchecked s order i m))
+    where
+      by-plain : isHeld (s .names) m ≡ true → namedFreeOf s order i m ≡ freeOf s order i (heldAddress s m) → ((r : ℕ) × (freeOf s order i (heldAddress s m) ≡ refused r s order)) ⊎ FreeAccepted s order i (heldAddress s m)
+          → ((r : ℕ) × (namedFreeOf s order i m ≡ refused r s order)) ⊎ NamedFreeAccepted s order i m
+      by-plain h e (inl (r, f)) = inl (r, e ∙ f)
+      by-plain h e (inr acc) = inr (record { held = T-of-true _ h; freed = acc; result-is = e })
+
+      by-tests : (p h : Bool) → isProcessor s i ≡ p → isHeld (s .names) m ≡ h → Passed s order → namedFreeOf s order i m ≡ namedFreeByTests p h (freeUnchecked s order i (heldAddress s m))
+          → ((r : ℕ) × (namedFreeOf s order i m ≡ refused r s order)) ⊎ NamedFreeAccepted s order i m
+      by-tests false h ep eh passed e = inl (2, e)
+      by-tests true false ep eh passed e = inl (15, e)
+      by-tests true true ep eh passed e = by-plain eh (named-free-is-free-of-held-address passed ep eh) (free-refused-or-accepted s order i (heldAddress s m))
+
+      by-check : ((r : ℕ) × (namedFreeOf s order i m ≡ refused r s order)) ⊎ (Passed s order × (namedFreeOf s order i m ≡ namedFreeUnchecked s order i m))
+          → ((r : ℕ) × (namedFreeOf s order i m ≡ refused r s order)) ⊎ NamedFreeAccepted s order i m
+      by-check (inl r) = inl r
+      by-check (inr (passed, e)) = by-tests (isProcessor s i) (isHeld (s .names) m) refl refl passed e
+
+-- ---- a held name in a state that passes: its block is live
+module _ (s : State) (order : List ℕ) (shape : Shape s) (passed : Passed s order) (m : ℕ) (held : T (isHeld (s .names) m)) where
+  abbrev number : ℕ
+  number = blockNamed (s .names) m
+
+  abbrev k : ℕ
+  k = number / 256
+
+  abbrev j : ℕ
+  j = number % 256
+
+  marked : markBit (superblockAt s k .live) j ≡ 1
+  marked = mark-of-live-block s number (names-sound-of-valid s (passed .names) .live m (held-facts (s .names) m held .1))
+
+  in-table : k < 64
+  in-table = live-block-in-table s number (shape .length-is) (names-sound-of-valid s (passed .names) .live m (held-facts (s .names) m held .1))
+
+  owned : superblockAt s k .owner ≡ 255 → ⊥
+  owned e = go (passed .sound .each k in-table)
+    where
+      go : Unused (superblockAt s k) ⊎ Owned (s .setup) order k (superblockAt s k) → ⊥
+      go (inl u) = omega (arith, marked, marks-clear-of-live-count-zero (superblockAt s k .live) (u .live) j (omega arith))
+      go (inr o) = omega (arith, o .owner, passed .sound .numbers .processors-high)
+
+  in-class : j < blocksOf (superblockAt s k .class)
+  in-class = go (decLt j (blocksOf (superblockAt s k .class)))
+    where
+      go : Dec (j < blocksOf (superblockAt s k .class)) → j < blocksOf (superblockAt s k .class)
+      go (yes l) = l
+      go (no f) =
+          let places = owned-of-owner s order (passed .sound) k in-table owned .places in
+          let clear = mark-clear-of-no-mark-from (superblockAt s k .live) (blocksOf (superblockAt s k .class)) (no-mark-from-of-places-valid order (superblockAt s k .live) k (blocksOf (superblockAt s k .class)) places) j (omega arith) (omega arith) in
+          absurd (let z : ⊥ = omega (arith, marked) in z)
+
+  pub held-block-is-live : LiveBlock s order (blockNamed (s .names) m / 256) (blockNamed (s .names) m % 256)
+  held-block-is-live = record { shape = shape; passed = passed; below = owned-below-superblocks s order (passed .sound) k in-table owned; owned = owned; block = in-class; marked = marked }
+
+-- ---- every live block can be freed by its address
+module _ (s : State) (order : List ℕ) (k j : ℕ) (live : LiveBlock s order k j) where
+  abbrev class : ℕ
+  class = superblockAt s k .class
+
+  abbrev a : ℕ
+  a = addressOf k class j
+
+  block-in-table : k < 64
+  block-in-table = omega (arith, live .below, live .passed .sound .numbers .superblocks-high)
+
+  class-lt-27 : class < 27
+  class-lt-27 = owned-of-owner s order (live .passed .sound) k block-in-table (live .owned) .class
+
+  holding : superblockIndex a ≡ k
+  holding = address-superblock class k j class-lt-27 (live .block)
+
+  live-block-mapped : isUnmapped s a ≡ false
+  unfolding isUnmapped addressOf
+  live-block-mapped =
+      ap₂ either
+      (lt-leb (s .setup .superblocks * 4096) a (let o = offset-lt-4096 class class-lt-27 j (live .block) in let l = live .below in omega arith))
+      (ap (λ (n : ℕ). isUnused (superblockAt s n)) holding ∙ not-unused-of-owner (superblockAt s k) (live .owned))
+
+  live-block-aligned : isMisaligned s a ≡ false
+  unfolding isMisaligned
+  live-block-aligned =
+      ap₂ either
+      (ap not (eq-eqb (a % 4096 % sizeOf (superblockHolding s a .class)) 0 (rw (holding, address-offset class k j class-lt-27 (live .block)) (offset-mod-size class class-lt-27 j))))
+      (ap₂ leb (ap (λ (n : ℕ). blocksOf (superblockAt s n .class)) holding) (address-block class k j class-lt-27 (live .block) s refl) ∙ lt-leb (blocksOf class) j (live .block))
+
+  live-block-live : isLiveAt s a ≡ true
+  unfolding isLiveAt
+  live-block-live = rw (address-block class k j class-lt-27 (live .block) s refl, holding) (mark-of-mark-bit-one (superblockAt s k .live) j (live .marked))
+
+  pub free-accepted-of-live-block : (i : ℕ) → isProcessor s i ≡ true → FreeAccepted s order i (addressOf k (superblockAt s k .class) j)
+  free-accepted-of-live-block i p =
+      record {
+        passed = live .passed;
+        processor = bounds-of-is-processor s i (T-of-true _ p);
+        mapped = live-block-mapped;
+        block-aligned = live-block-aligned;
+        live = live-block-live;
+        result-is = free-of-live-block s order i (live .passed) a p live-block-mapped live-block-aligned live-block-live;
+      }
+
+-- A held name's free meets none of 5, 6 and 7: for a processor in range it is accepted, on every state that passes.
+pub held-name-free-accepted : (s : State) (order : List ℕ) (i m : ℕ) → Shape s → Passed s order → isProcessor s i ≡ true → T (isHeld (s .names) m) → FreeAccepted s order i (heldAddress s m)
+unfolding heldAddress
+held-name-free-accepted s order i m shape passed p held = free-accepted-of-live-block s order (blockNamed (s .names) m / 256) (blockNamed (s .names) m % 256) (held-block-is-live s order shape passed m held) i p

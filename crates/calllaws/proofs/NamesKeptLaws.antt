@@ -1,0 +1,111 @@
+-- "each held name points at a live block, no two at one" is kept by a take, by the name bound with it, and by a free that lets its block's name go.
+-- Assumes nothing.
+use mathlib.Core.Path.{_≡_, sym, ap, _∙_, subst}
+use mathlib.Core.List.{List}
+use Prim.Native.Nat.{ℕ, _*_, _/_, _%_, _≤_, _<_}
+use native.Mathlib.Decide.{ℕ-discrete, decLt}
+use native.Mathlib.Omega.{arith}
+use lib.ListN.{length, List·getD-eq-default}
+use lib.Dec.{T}
+use Rattle.laws.proofs.TestLaws.{T-of-true, true-of-T, both-left, both-right, both-make}
+use Rattle.marks.specs.Marks.{isMarked, markBit}
+use Rattle.marklaws.proofs.MarkLaws.{mark-bit-one-of-mark, mark-of-mark-bit-one, mark-bit-of-empty-list}
+use Rattle.names.specs.Names.{notHeld, blockNumber, withName, withoutBlock, eachHeld, isNamed}
+use Rattle.namelaws.proofs.NameLaws.{test-of-named, each-held-of-tests, each-held-with-name, each-held-without-block, no-two-with-name, no-two-without-block}
+use Rattle.heap.specs.declared.Superblock.{Superblock}
+use Rattle.heap.specs.declared.State.{State}
+use Rattle.heap.specs.Table.{blank, superblockAt, withNames, isLiveBlock}
+use Rattle.checkrules.specs.Check.{namesValid}
+use Rattle.heaplaws.proofs.StateFacts.{Shape}
+use Rattle.calllaws.proofs.CallEffects.{TakeEffect, FreeEffect}
+
+-- ---- a live block by its number
+module _ (s : State) (b : ℕ) where
+  pub mark-of-live-block : T (isLiveBlock s b) → markBit (superblockAt s (b / 256) .live) (b % 256) ≡ 1
+  unfolding isLiveBlock
+  mark-of-live-block t = mark-bit-one-of-mark (superblockAt s (b / 256) .live) (b % 256) (true-of-T _ t)
+
+  pub live-block-of-mark : markBit (superblockAt s (b / 256) .live) (b % 256) ≡ 1 → T (isLiveBlock s b)
+  unfolding isLiveBlock
+  live-block-of-mark e = T-of-true _ (mark-of-mark-bit-one (superblockAt s (b / 256) .live) (b % 256) e)
+
+  -- it is one of the table's
+  pub live-block-in-table : length (s .table) ≡ 64 → T (isLiveBlock s b) → b / 256 < 64
+  live-block-in-table long t = go (decLt (b / 256) 64)
+    where
+      go : Dec (b / 256 < 64) → b / 256 < 64
+      go (yes l) = l
+      go (no f) =
+          let none : superblockAt s (b / 256) ≡ blank = List·getD-eq-default (s .table) blank (omega arith) in
+          let clear : markBit (superblockAt s (b / 256) .live) (b % 256) ≡ 0 = ap (λ (x : Superblock). markBit (x .live) (b % 256)) none ∙ mark-bit-of-empty-list (b % 256) in
+          absurd (let z : ⊥ = omega (arith, mark-of-live-block t) in z)
+
+-- a block of the table by superblock and block
+pub live-block-of-mark-at : (s : State) (k j : ℕ) → j < 256 → markBit (superblockAt s k .live) j ≡ 1 → T (isLiveBlock s (blockNumber k j))
+live-block-of-mark-at s k j l e =
+    live-block-of-mark s (blockNumber k j)
+    (let a : blockNumber k j / 256 ≡ k = omega arith in let b : blockNumber k j % 256 ≡ j = omega arith in rw (a, b) e)
+
+-- ---- a take: every live block stays live
+module _ (i c k j : ℕ) (s t : State) (block : j < 256) (effect : TakeEffect i c k j s t) where
+  live-blocks-after-take : (b : ℕ) → T (isLiveBlock s b) → T (isLiveBlock t b)
+  live-blocks-after-take b live = live-block-of-mark t b (go (ℕ-discrete (b / 256) k) (ℕ-discrete (b % 256) j))
+    where
+      was : markBit (superblockAt s (b / 256) .live) (b % 256) ≡ 1
+      was = mark-of-live-block s b live
+
+      go : Dec (b / 256 ≡ k) → Dec (b % 256 ≡ j) → markBit (superblockAt t (b / 256) .live) (b % 256) ≡ 1
+      go (no f) d = ap (λ (x : Superblock). markBit (x .live) (b % 256)) (effect .others (b / 256) f) ∙ was
+      go (yes e) (yes g) = rw (e, g) (effect .is-marked)
+      go (yes e) (no g) = rw e (effect .marks (b % 256) (omega arith) g ∙ ap (λ (m : ℕ). markBit (superblockAt s m .live) (b % 256)) (sym e) ∙ was)
+
+  pub names-valid-after-take : t .names ≡ s .names → T (namesValid s) → T (namesValid t)
+  unfolding namesValid isLiveBlock
+  names-valid-after-take same valid =
+      rw same
+      (both-make (eachHeld (isLiveBlock t) (s .names)) _ (each-held-of-tests (isLiveBlock s) (isLiveBlock t) (s .names) live-blocks-after-take (both-left (eachHeld (isLiveBlock s) (s .names)) _ valid))
+      (both-right (eachHeld (isLiveBlock s) (s .names)) _ valid))
+
+  -- the block that is taken was not live, so that no name pointed at it
+  taken-block-not-named : k < 64 → T (namesValid s) → T (isNamed (blockNumber k j) (s .names)) → ⊥
+  unfolding namesValid
+  taken-block-not-named l valid named =
+      let live = test-of-named (isLiveBlock s) (s .names) (both-left (eachHeld (isLiveBlock s) (s .names)) _ valid) (blockNumber k j) (λ (e : blockNumber k j ≡ notHeld). omega arith) named in
+      let a : blockNumber k j / 256 ≡ k = omega arith in
+      let b : blockNumber k j % 256 ≡ j = omega arith in
+      let one : markBit (superblockAt s k .live) j ≡ 1 = rw (a, b) at (mark-of-live-block s (blockNumber k j) live) in
+      omega (arith, effect .not-marked)
+
+  -- and a name may be bound to it
+  pub names-valid-after-named-take : (m : ℕ) → k < 64 → t .names ≡ s .names → T (namesValid s) → T (namesValid (withNames t (withName (s .names) m (blockNumber k j))))
+  unfolding namesValid isLiveBlock
+  names-valid-after-named-take m l same valid =
+      let now : T (namesValid t) = names-valid-after-take same valid in
+      let each : T (eachHeld (isLiveBlock t) (s .names)) = rw same at (both-left (eachHeld (isLiveBlock t) (t .names)) _ now) in
+      both-make (eachHeld (isLiveBlock t) (withName (s .names) m (blockNumber k j))) _
+      (each-held-with-name (isLiveBlock t) (s .names) m (blockNumber k j) (live-block-of-mark-at t k j block (effect .is-marked)) each)
+      (no-two-with-name (s .names) m (blockNumber k j) (taken-block-not-named l valid) (both-right (eachHeld (isLiveBlock s) (s .names)) _ valid))
+
+-- ---- a name let go leaves the check passed, the block still being live
+pub names-valid-without-block : (s : State) (b : ℕ) → T (namesValid s) → T (namesValid (withNames s (withoutBlock (s .names) b)))
+unfolding namesValid isLiveBlock
+names-valid-without-block s b valid =
+    both-make (eachHeld (isLiveBlock s) (withoutBlock (s .names) b)) _
+    (each-held-without-block (isLiveBlock s) (isLiveBlock s) (s .names) b (λ x f t. t) (both-left (eachHeld (isLiveBlock s) (s .names)) _ valid))
+    (no-two-without-block (s .names) b (both-right (eachHeld (isLiveBlock s) (s .names)) _ valid))
+
+-- ---- a free: every other live block stays live
+module _ (c k j moves : ℕ) (s t : State) (long : length (s .table) ≡ 64) (effect : FreeEffect c k j moves s t) where
+  live-blocks-after-free : (b : ℕ) → (b ≡ blockNumber k j → ⊥) → T (isLiveBlock s b) → T (isLiveBlock t b)
+  live-blocks-after-free b other live =
+      live-block-of-mark t b
+      (effect .marks (b / 256) (b % 256) (live-block-in-table s b long live) (λ h. other (let a = h .0 in let d = h .1 in omega arith)) (omega arith)
+      ∙ mark-of-live-block s b live)
+
+  pub names-valid-after-free : t .names ≡ withoutBlock (s .names) (blockNumber k j) → T (namesValid s) → T (namesValid t)
+  unfolding namesValid isLiveBlock
+  names-valid-after-free same valid =
+      rw same
+      (both-make (eachHeld (isLiveBlock t) (withoutBlock (s .names) (blockNumber k j))) _
+      (each-held-without-block (isLiveBlock s) (isLiveBlock t) (s .names) (blockNumber k j) live-blocks-after-free (both-left (eachHeld (isLiveBlock s) (s .names)) _ valid))
+      (no-two-without-block (s .names) (blockNumber k j) (both-right (eachHeld (isLiveBlock s) (s .names)) _ valid)))
