@@ -1,7 +1,7 @@
 -- "An accepted call yields a state that passes", and what an answer that is equal to the rules' tells. Assumes nothing.
 use mathlib.Core.Path.{_≡_, refl, sym, ap, _∙_}
 use mathlib.Core.Bool.{Bool, true, false, not}
-use mathlib.Core.Logic.{_⊎_, inl, inr}
+use mathlib.Core.Logic.{_⊎_, inl, inr, ⊎-elim}
 use mathlib.Core.List.{List}
 use Prim.Native.Nat.{ℕ, _*_}
 use native.Mathlib.Omega.{arith}
@@ -10,6 +10,7 @@ use lib.Dec.{leb}
 use Rattle.laws.specs.Sums.{pick}
 use Rattle.laws.proofs.TestLaws.{T-of-true, true-of-T}
 use Rattle.classes.specs.Classes.{classOf, isTooLarge}
+use Rattle.names.specs.Names.{isHeld}
 use Rattle.order.specs.Order.{cleared}
 use Rattle.heap.specs.declared.Setup.{Setup}
 use Rattle.heap.specs.declared.State.{State}
@@ -22,15 +23,18 @@ use Rattle.heaplaws.proofs.StateFacts.{Shape}
 use Rattle.heaplaws.proofs.StateCheckLaws.{passes-of-sound, new-state-sound, new-state-names-valid}
 use Rattle.calls.specs.declared.Outcome.the-variants.{Address, Moves, Refused}
 use Rattle.calls.specs.declared.Call.{Call}
-use Rattle.calls.specs.declared.Call.the-variants.{Take, Free}
+use Rattle.calls.specs.declared.Call.the-variants.{Take, Free, NamedTake, NamedFree}
 use Rattle.calls.specs.Answers.{After, numberOf, PassesIfAccepted, refused, checked, isProcessor}
 use Rattle.calls.specs.Setup.{acceptedSetup, setupOf}
-use Rattle.calls.specs.Take.{otherPlaces, takenFrom, takenFromOther, takenAt, takeUnchecked, takeOf}
-use Rattle.calls.specs.Free.{isUnmapped, isMisaligned, isLiveAt, freedAt, freeUnchecked, freeOf}
-use Rattle.calls.specs.Calls.{callOf}
-use Rattle.calllaws.proofs.CallEffects.{Passed, TakeAccepted, FreeAccepted}
+use Rattle.calls.specs.Take.{otherPlaces, takenFrom, takenFromOther, takenAt, takeUnchecked}
+use Rattle.calls.specs.Free.{isUnmapped, isMisaligned, isLiveAt, freedAt, freeUnchecked}
+use Rattle.calls.specs.Named.{isUnavailable, withNameBound, namedTakeUnchecked, heldAddress, namedFreeUnchecked}
+use Rattle.calls.specs.Calls.{callOf, callUnchecked}
+use Rattle.calls.proofs.CheckFirst.{call-of-checks-first}
+use Rattle.calllaws.proofs.CallEffects.{Passed}
 use Rattle.calllaws.proofs.TakeLaws.{take-refused-or-accepted, take-passed}
 use Rattle.calllaws.proofs.FreeLaws.{free-refused-or-accepted, free-passed}
+use Rattle.calllaws.proofs.NamedCallLaws.{named-take-refused-or-accepted, named-take-passed, named-free-refused-or-accepted, named-free-passed}
 
 -- ---- no refusal has the number 0, which is an accepted call's
 abbrev NotRefused0 : After → Type 0
@@ -66,23 +70,35 @@ taken-not-refused-0 i c s order (At k) other = address-not-refused-0 _
 taken-not-refused-0 i c s order Nothing (At k) = address-not-refused-0 _
 taken-not-refused-0 i c s order Nothing Nothing = refused-not-refused-0 4 s order (λ e. omega arith)
 
-pub take-not-refused-0 : (s : State) (order : List ℕ) (i size : ℕ) → takeOf s order i size .answer .outcome ≡ Refused 0 → ⊥
-unfolding takeOf takeUnchecked
+take-not-refused-0 : (s : State) (order : List ℕ) (i size : ℕ) → NotRefused0 (takeUnchecked s order i size)
+unfolding takeUnchecked
 take-not-refused-0 s order i size =
-    checked-not-refused-0 s order _
-    (pick-not-refused-0 (not (isProcessor s i)) _ _ (refused-not-refused-0 2 s order (λ e. omega arith))
+    pick-not-refused-0 (not (isProcessor s i)) _ _ (refused-not-refused-0 2 s order (λ e. omega arith))
     (pick-not-refused-0 (isTooLarge size) _ _ (refused-not-refused-0 3 s order (λ e. omega arith))
-    (taken-not-refused-0 i (classOf size) s order (fullest i (classOf size) s) (otherPlaces (classOf size) s))))
+    (taken-not-refused-0 i (classOf size) s order (fullest i (classOf size) s) (otherPlaces (classOf size) s)))
 
-pub free-not-refused-0 : (s : State) (order : List ℕ) (i a : ℕ) → freeOf s order i a .answer .outcome ≡ Refused 0 → ⊥
-unfolding freeOf freeUnchecked freedAt
+free-not-refused-0 : (s : State) (order : List ℕ) (i a : ℕ) → NotRefused0 (freeUnchecked s order i a)
+unfolding freeUnchecked freedAt
 free-not-refused-0 s order i a =
-    checked-not-refused-0 s order _
-    (pick-not-refused-0 (not (isProcessor s i)) _ _ (refused-not-refused-0 2 s order (λ e. omega arith))
+    pick-not-refused-0 (not (isProcessor s i)) _ _ (refused-not-refused-0 2 s order (λ e. omega arith))
     (pick-not-refused-0 (isUnmapped s a) _ _ (refused-not-refused-0 5 s order (λ e. omega arith))
     (pick-not-refused-0 (isMisaligned s a) _ _ (refused-not-refused-0 6 s order (λ e. omega arith))
     (pick-not-refused-0 (not (isLiveAt s a)) _ _ (refused-not-refused-0 7 s order (λ e. omega arith))
-    (moves-not-refused-0 _)))))
+    (moves-not-refused-0 _))))
+
+unchecked-not-refused-0 : (s : State) (order : List ℕ) (call : Call) → NotRefused0 (callUnchecked s order call)
+unfolding callUnchecked namedTakeUnchecked withNameBound namedFreeUnchecked
+unchecked-not-refused-0 s order (Take i size) = take-not-refused-0 s order i size
+unchecked-not-refused-0 s order (Free i a) = free-not-refused-0 s order i a
+unchecked-not-refused-0 s order (NamedTake i m size) =
+    pick-not-refused-0 (not (isProcessor s i)) _ _ (refused-not-refused-0 2 s order (λ e. omega arith))
+    (pick-not-refused-0 (isUnavailable s m) _ _ (refused-not-refused-0 14 s order (λ e. omega arith)) (take-not-refused-0 s order i size))
+unchecked-not-refused-0 s order (NamedFree i m) =
+    pick-not-refused-0 (not (isProcessor s i)) _ _ (refused-not-refused-0 2 s order (λ e. omega arith))
+    (pick-not-refused-0 (not (isHeld (s .names) m)) _ _ (refused-not-refused-0 15 s order (λ e. omega arith)) (free-not-refused-0 s order i (heldAddress s m)))
+
+call-not-refused-0 : (s : State) (order : List ℕ) (call : Call) → NotRefused0 (callOf s order call)
+call-not-refused-0 s order call = rw (call-of-checks-first s order call) (checked-not-refused-0 s order (callUnchecked s order call) (unchecked-not-refused-0 s order call))
 
 -- so a refused call is not accepted
 refused-passes-if-accepted : (x : After) (r : ℕ) (s : State) (order : List ℕ) → x ≡ refused r s order → NotRefused0 x → PassesIfAccepted (x .answer .outcome) (x .answer .state) (x .order)
@@ -93,26 +109,23 @@ passes-true-of-passed : (s : State) (order : List ℕ) → Passed s order → pa
 passes-true-of-passed s order p = true-of-T (passes s order) (passes-of-sound s order (p .sound) (p .names))
 
 -- ---- the calls
-pub take-passes-if-accepted : (s : State) (order : List ℕ) (i size : ℕ) → Shape s → PassesIfAccepted (takeOf s order i size .answer .outcome) (takeOf s order i size .answer .state) (takeOf s order i size .order)
-take-passes-if-accepted s order i size shape = go (take-refused-or-accepted s order i size)
-  where
-    go : ((r : ℕ) × (takeOf s order i size ≡ refused r s order)) ⊎ ((k : ℕ) × TakeAccepted s order i size k)
-        → PassesIfAccepted (takeOf s order i size .answer .outcome) (takeOf s order i size .answer .state) (takeOf s order i size .order)
-    go (inl (r, e)) = refused-passes-if-accepted (takeOf s order i size) r s order e (take-not-refused-0 s order i size)
-    go (inr (k, acc)) = λ z. passes-true-of-passed _ _ (take-passed s order i size k shape acc)
+-- a call that is refused, or leaves a state that passes
+abbrev RefusedOrPassed : State → List ℕ → After → Type 0
+RefusedOrPassed s order x = ((r : ℕ) × (x ≡ refused r s order)) ⊎ Passed (x .answer .state) (x .order)
 
-pub free-passes-if-accepted : (s : State) (order : List ℕ) (i a : ℕ) → Shape s → PassesIfAccepted (freeOf s order i a .answer .outcome) (freeOf s order i a .answer .state) (freeOf s order i a .order)
-free-passes-if-accepted s order i a shape = go (free-refused-or-accepted s order i a)
-  where
-    go : ((r : ℕ) × (freeOf s order i a ≡ refused r s order)) ⊎ FreeAccepted s order i a
-        → PassesIfAccepted (freeOf s order i a .answer .outcome) (freeOf s order i a .answer .state) (freeOf s order i a .order)
-    go (inl (r, e)) = refused-passes-if-accepted (freeOf s order i a) r s order e (free-not-refused-0 s order i a)
-    go (inr acc) = λ z. passes-true-of-passed _ _ (free-passed s order i a shape acc)
+call-refused-or-passed : (s : State) (order : List ℕ) (call : Call) → Shape s → RefusedOrPassed s order (callOf s order call)
+unfolding callOf
+call-refused-or-passed s order (Take i size) shape = ⊎-elim inl (λ h. inr (take-passed s order i size (h .0) shape (h .1))) (take-refused-or-accepted s order i size)
+call-refused-or-passed s order (Free i a) shape = ⊎-elim inl (λ h. inr (free-passed s order i a shape h)) (free-refused-or-accepted s order i a)
+call-refused-or-passed s order (NamedTake i m size) shape = ⊎-elim inl (λ h. inr (named-take-passed s order i m size (h .0) shape (h .1))) (named-take-refused-or-accepted s order i m size)
+call-refused-or-passed s order (NamedFree i m) shape = ⊎-elim inl (λ h. inr (named-free-passed s order i m shape h)) (named-free-refused-or-accepted s order i m)
 
 pub call-passes-if-accepted : (s : State) (order : List ℕ) (call : Call) → Shape s → PassesIfAccepted (callOf s order call .answer .outcome) (callOf s order call .answer .state) (callOf s order call .order)
-unfolding callOf
-call-passes-if-accepted s order (Take processor size) = take-passes-if-accepted s order processor size
-call-passes-if-accepted s order (Free processor address) = free-passes-if-accepted s order processor address
+call-passes-if-accepted s order call shape = go (call-refused-or-passed s order call shape)
+  where
+    go : RefusedOrPassed s order (callOf s order call) → PassesIfAccepted (callOf s order call .answer .outcome) (callOf s order call .answer .state) (callOf s order call .order)
+    go (inl (r, e)) = refused-passes-if-accepted (callOf s order call) r s order e (call-not-refused-0 s order call)
+    go (inr passed) = λ z. passes-true-of-passed _ _ passed
 
 -- a setup by its two tests
 abbrev setupByTests : Setup → List ℕ → Bool → Bool → After

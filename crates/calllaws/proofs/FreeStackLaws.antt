@@ -32,13 +32,15 @@ use Rattle.heaplaws.proofs.StateCheckLaws.{live-le-blocks-of-owned}
 use Rattle.heaplaws.proofs.ChoiceLaws.{best-of-fullest, facts-of-has-free}
 use Rattle.heaplaws.proofs.CountLaws.{superblock-at-replaced, superblock-at-others}
 use Rattle.calls.specs.declared.Call.{Call}
-use Rattle.calls.specs.declared.Call.the-variants.{Take, Free}
+use Rattle.calls.specs.declared.Call.the-variants.{Take, Free, NamedTake, NamedFree}
 use Rattle.calls.specs.declared.Outcome.the-variants.{Address}
 use Rattle.calls.specs.Answers.{After, refused}
 use Rattle.calls.specs.Take.{otherPlaces, renewedFor, acquired, acquiredOrder, addressOf, takenFrom, takenFromOther, takeOf}
 use Rattle.calls.specs.Free.{superblockIndex, superblockHolding, blockOf, markCleared, orderPushed, blockFreed, freedAt, freeOf}
+use Rattle.calls.specs.Named.{namedTakeOf, heldAddress, namedFreeOf}
 use Rattle.calls.specs.Calls.{callOf}
-use Rattle.calllaws.proofs.CallEffects.{TakeAccepted, FreeAccepted}
+use Rattle.calllaws.proofs.NamedCallLaws.{named-take-refused-or-accepted, named-take-state, named-take-order, named-take-shape, named-free-refused-or-accepted}
+use Rattle.calllaws.proofs.CallEffects.{TakeAccepted, FreeAccepted, NamedTakeAccepted, NamedFreeAccepted}
 use Rattle.calllaws.proofs.TakeSourceLaws.{lastBlockOf, takenWith, taken-from-is-taken-with, taken-from-other-is-taken-with}
 use Rattle.calllaws.proofs.TakeLaws.{take-refused-or-accepted, take-effect, take-shape, take-passed}
 use Rattle.calllaws.proofs.FreeLaws.{free-refused-or-accepted, free-address, free-effect, free-shape}
@@ -353,6 +355,8 @@ module _ (s : State) (order : List ℕ) (i size k : ℕ) (shape : Shape s) (acc 
 abbrev pub AvoidsSuperblock : ℕ → State → List ℕ → Call → Type 0
 AvoidsSuperblock k s order (Take i size) = TakeAccepted s order i size k → ⊥
 AvoidsSuperblock k s order (Free i a) = FreeAccepted s order i a → superblockIndex a ≡ k → ⊥
+AvoidsSuperblock k s order (NamedTake i m size) = NamedTakeAccepted s order i m size k → ⊥
+AvoidsSuperblock k s order (NamedFree i m) = NamedFreeAccepted s order i m → superblockIndex (heldAddress s m) ≡ k → ⊥
 
 -- a list of such calls, each on what the one before it left, from one state and storage to another
 pub data AvoidingRun (k : ℕ) : State → List ℕ → State → List ℕ → Type 0 where
@@ -401,10 +405,36 @@ free-keeps-stack k s order i a l shape apart = go (free-refused-or-accepted s or
       class = free-effect s order i a shape acc .classes k l;
     }
 
+-- a name bound with a take keeps what the take keeps
+named-take-keeps-stack : (k : ℕ) (s : State) (order : List ℕ) (i m size : ℕ) → Shape s → (NamedTakeAccepted s order i m size k → ⊥) → StackKept k s order (namedTakeOf s order i m size .answer .state) (namedTakeOf s order i m size .order)
+unfolding stackOf
+named-take-keeps-stack k s order i m size shape apart = go (named-take-refused-or-accepted s order i m size)
+  where
+    go : ((r : ℕ) × (namedTakeOf s order i m size ≡ refused r s order)) ⊎ ((n : ℕ) × NamedTakeAccepted s order i m size n) → StackKept k s order (namedTakeOf s order i m size .answer .state) (namedTakeOf s order i m size .order)
+    go (inl (r, e)) = refused-keeps-stack k s order r (namedTakeOf s order i m size) shape e
+    go (inr (n, acc)) =
+        let plain = take-keeps-stack k s order i size shape (λ taken. apart (record { taken = taken; available = acc .available; result-is = acc .result-is })) in
+        record {
+          shape = named-take-shape s order i m size n shape acc;
+          stack = ap₂ (λ (t : State) (places : List ℕ). stackOf t places k) (named-take-state s order i m size n shape acc) (named-take-order s order i m size n shape acc) ∙ plain .stack;
+          class = ap (λ (t : State). superblockAt t k .class) (named-take-state s order i m size n shape acc) ∙ plain .class;
+        }
+
+named-free-keeps-stack : (k : ℕ) (s : State) (order : List ℕ) (i m : ℕ) → k < 64 → Shape s → (NamedFreeAccepted s order i m → superblockIndex (heldAddress s m) ≡ k → ⊥) → StackKept k s order (namedFreeOf s order i m .answer .state) (namedFreeOf s order i m .order)
+named-free-keeps-stack k s order i m l shape apart = go (named-free-refused-or-accepted s order i m)
+  where
+    go : ((r : ℕ) × (namedFreeOf s order i m ≡ refused r s order)) ⊎ NamedFreeAccepted s order i m → StackKept k s order (namedFreeOf s order i m .answer .state) (namedFreeOf s order i m .order)
+    go (inl (r, e)) = refused-keeps-stack k s order r (namedFreeOf s order i m) shape e
+    go (inr acc) =
+        subst (λ (x : After). StackKept k s order (x .answer .state) (x .order)) (sym (acc .result-is))
+        (free-keeps-stack k s order i (heldAddress s m) l shape (λ freed. apart acc))
+
 call-keeps-stack : (k : ℕ) (s : State) (order : List ℕ) (call : Call) → k < 64 → Shape s → AvoidsSuperblock k s order call → StackKept k s order (callOf s order call .answer .state) (callOf s order call .order)
 unfolding callOf
 call-keeps-stack k s order (Take i size) l shape apart = take-keeps-stack k s order i size shape apart
 call-keeps-stack k s order (Free i a) l shape apart = free-keeps-stack k s order i a l shape apart
+call-keeps-stack k s order (NamedTake i m size) l shape apart = named-take-keeps-stack k s order i m size shape apart
+call-keeps-stack k s order (NamedFree i m) l shape apart = named-free-keeps-stack k s order i m l shape apart
 
 -- calls that neither are answered from superblock k nor free into it leave its stack
 pub avoiding-run-keeps-stack : (k : ℕ) {s t : State} {order places : List ℕ} → k < 64 → Shape s → AvoidingRun k s order t places → StackKept k s order t places

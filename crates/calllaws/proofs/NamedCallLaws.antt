@@ -39,7 +39,7 @@ use Rattle.calllaws.proofs.NamesKeptLaws.{mark-of-live-block, live-bloc
 use Rattle.calllaws.proofs.AddressLaws.{address-superblock, address-offset, address-block, address-block-number}
 use Rattle.calllaws.proofs.TakeLaws.{take-refused-or-accepted, taken-block, take-address, take-effect, take-names, take-shape, take-passed}
 use Rattle.calllaws.proofs.MarkClearedLaws.{LiveBlock}
-use Rattle.calllaws.proofs.FreeLaws.{free-refused-or-accepted, free-names}
+use Rattle.calllaws.proofs.FreeLaws.{free-refused-or-accepted, free-names, free-shape, free-passed}
 use Rattle.calllaws.proofs.RefusalOrder.{take-is-unchecked, free-is-unchecked, free-of-live-block}
 
 -- ---- a named take
@@ -222,6 +222,14 @@ module _ (s : State) (order : List ℕ) (i m : ℕ) where
       by-check (inl r) = inl r
       by-check (inr (passed, e)) = by-tests (isProcessor s i) (isHeld (s .names) m) refl refl passed e
 
+-- an accepted named free has the answer, the state and the order places of the free of the held address
+module _ (s : State) (order : List ℕ) (i m : ℕ) (shape : Shape s) (acc : NamedFreeAccepted s order i m) where
+  pub named-free-shape : Shape (namedFreeOf s order i m .answer .state)
+  named-free-shape = rw (acc .result-is) (free-shape s order i (heldAddress s m) shape (acc .freed))
+
+  pub named-free-passed : Passed (namedFreeOf s order i m .answer .state) (namedFreeOf s order i m .order)
+  named-free-passed = rw (acc .result-is) (free-passed s order i (heldAddress s m) shape (acc .freed))
+
 -- ---- a held name in a state that passes: its block is live
 module _ (s : State) (order : List ℕ) (shape : Shape s) (passed : Passed s order) (m : ℕ) (held : T (isHeld (s .names) m)) where
   abbrev number : ℕ
@@ -309,3 +317,36 @@ module _ (s : State) (order : List ℕ) (k j : ℕ) (live : LiveBlock s order k 
 pub held-name-free-accepted : (s : State) (order : List ℕ) (i m : ℕ) → Shape s → Passed s order → isProcessor s i ≡ true → T (isHeld (s .names) m) → FreeAccepted s order i (heldAddress s m)
 unfolding heldAddress
 held-name-free-accepted s order i m shape passed p held = free-accepted-of-live-block s order (blockNamed (s .names) m / 256) (blockNamed (s .names) m % 256) (held-block-is-live s order shape passed m held) i p
+
+-- ---- "A name holds .. until its block is freed by either command"
+-- the block at the held address is the name's
+held-address-block : (s : State) (order : List ℕ) (m : ℕ) → Shape s → Passed s order → T (isHeld (s .names) m)
+    → (superblockIndex (heldAddress s m) ≡ blockNamed (s .names) m / 256) × (blockOf s (heldAddress s m) ≡ blockNamed (s .names) m % 256)
+unfolding heldAddress
+held-address-block s order m shape passed held =
+    let live = held-block-is-live s order shape passed m held in
+    let known = class-lt-27 s order (blockNamed (s .names) m / 256) (blockNamed (s .names) m % 256) live in
+    (address-superblock (superblockAt s (blockNamed (s .names) m / 256) .class) (blockNamed (s .names) m / 256) (blockNamed (s .names) m % 256) known (live .block),
+    address-block (superblockAt s (blockNamed (s .names) m / 256) .class) (blockNamed (s .names) m / 256) (blockNamed (s .names) m % 256) known (live .block) s refl)
+
+-- by a plain free of the held address or of any other: the name that points at the freed block is let go, and any other keeps its block
+module _ (s : State) (order : List ℕ) (i a : ℕ) (shape : Shape s) (acc : FreeAccepted s order i a) (m : ℕ) where
+  pub free-lets-name-go : blockNamed (s .names) m ≡ blockNumber (superblockIndex a) (blockOf s a) → isHeld (freeOf s order i a .answer .state .names) m ≡ false
+  free-lets-name-go e = rw (free-names s order i a shape acc) (not-held-without-block (s .names) (blockNumber (superblockIndex a) (blockOf s a)) m e)
+
+  pub free-keeps-other-names : (blockNamed (s .names) m ≡ blockNumber (superblockIndex a) (blockOf s a) → ⊥) → blockNamed (freeOf s order i a .answer .state .names) m ≡ blockNamed (s .names) m
+  free-keeps-other-names f = rw (free-names s order i a shape acc) (block-named-without-other-block (s .names) (blockNumber (superblockIndex a) (blockOf s a)) m f)
+
+-- and by a named free: its name is let go, and no other
+module _ (s : State) (order : List ℕ) (i m : ℕ) (shape : Shape s) (acc : NamedFreeAccepted s order i m) where
+  freed-number : blockNumber (superblockIndex (heldAddress s m)) (blockOf s (heldAddress s m)) ≡ blockNamed (s .names) m
+  freed-number = let h = held-address-block s order m shape (acc .freed .passed) (acc .held) in let a = h .0 in let b = h .1 in omega arith
+
+  pub named-free-lets-name-go : isHeld (namedFreeOf s order i m .answer .state .names) m ≡ false
+  named-free-lets-name-go = rw (acc .result-is) (free-lets-name-go s order i (heldAddress s m) shape (acc .freed) m (sym freed-number))
+
+  pub named-free-keeps-other-names : (l : ℕ) → T (isHeld (s .names) l) → (l ≡ m → ⊥) → blockNamed (namedFreeOf s order i m .answer .state .names) l ≡ blockNamed (s .names) l
+  named-free-keeps-other-names l held f =
+      rw (acc .result-is)
+      (free-keeps-other-names s order i (heldAddress s m) shape (acc .freed) l
+      (λ e. f (names-sound-of-valid s (acc .freed .passed .names) .distinct l m (held-facts (s .names) l held .1) (e ∙ freed-number))))

@@ -1,7 +1,7 @@
 -- The order places that a call writes: a take those of a renewal, a free one, a setup the first N × 256. Assumes nothing.
 use mathlib.Core.Path.{_≡_, refl, sym, ap, _∙_, subst}
 use mathlib.Core.Bool.{Bool, true, false, not}
-use mathlib.Core.Logic.{_⊎_, inl, inr}
+use mathlib.Core.Logic.{_⊎_, inl, inr, ⊎-elim}
 use mathlib.Core.List.{List}
 use Prim.Native.Nat.{ℕ, _+_, _-_, _*_, _%_, _≤_, _<_}
 use native.Mathlib.Omega.{arith}
@@ -26,12 +26,14 @@ use Rattle.checkrules.specs.Check.{withinLimits}
 use Rattle.heaplaws.proofs.StateCheckLaws.{owned-below-superblocks}
 use Rattle.heaplaws.proofs.ChoiceLaws.{best-of-fullest, facts-of-has-free, facts-of-empty-in-global, best-of-lowest-empty, best-of-lowest-unused}
 use Rattle.calls.specs.declared.Call.{Call}
-use Rattle.calls.specs.declared.Call.the-variants.{Take, Free}
+use Rattle.calls.specs.declared.Call.the-variants.{Take, Free, NamedTake, NamedFree}
 use Rattle.calls.specs.Answers.{After, refused}
 use Rattle.calls.specs.Setup.{acceptedSetup, setupOf}
 use Rattle.calls.specs.Take.{otherPlaces, acquiredOrder, takenFrom, takenFromOther, takeOf}
 use Rattle.calls.specs.Free.{superblockIndex, offsetOf, superblockHolding, blockOf, isUnmapped, isMisaligned, isLiveAt, orderPushed, freedAt, freeOf}
+use Rattle.calls.specs.Named.{withNameBound, heldAddress}
 use Rattle.calls.specs.Calls.{callOf}
+use Rattle.calllaws.proofs.NamedCallLaws.{named-take-refused-or-accepted, named-free-refused-or-accepted}
 use Rattle.calllaws.proofs.CallEffects.{Passed, TakeAccepted, FreeAccepted}
 use Rattle.calllaws.proofs.TakeLaws.{take-refused-or-accepted}
 use Rattle.calllaws.proofs.FreeLaws.{free-refused-or-accepted}
@@ -253,9 +255,19 @@ free-writes-no-place-past-N s order i a = go (free-writes s order i a)
 
 -- a call writes no place from N × 256 on
 pub call-writes-only-first-places : (s : State) (order : List ℕ) (call : Call) → drop (s .setup .superblocks * 256) (callOf s order call .order) ≡ drop (s .setup .superblocks * 256) order
-unfolding callOf
+unfolding callOf withNameBound
 call-writes-only-first-places s order (Take i size) = take-writes-no-place-past-N s order i size
 call-writes-only-first-places s order (Free i a) = free-writes-no-place-past-N s order i a
+call-writes-only-first-places s order (NamedTake i m size) =
+    ⊎-elim
+    (λ h. ap (λ (x : After). drop (s .setup .superblocks * 256) (x .order)) (h .1))
+    (λ h. ap (λ (x : After). drop (s .setup .superblocks * 256) (x .order)) (h .1 .result-is) ∙ take-writes-no-place-past-N s order i size)
+    (named-take-refused-or-accepted s order i m size)
+call-writes-only-first-places s order (NamedFree i m) =
+    ⊎-elim
+    (λ h. ap (λ (x : After). drop (s .setup .superblocks * 256) (x .order)) (h .1))
+    (λ h. ap (λ (x : After). drop (s .setup .superblocks * 256) (x .order)) (h .result-is) ∙ free-writes-no-place-past-N s order i (heldAddress s m))
+    (named-free-refused-or-accepted s order i m)
 
 pub setup-writes-only-first-places : (u : Setup) (order : List ℕ) → drop (u .superblocks * 256) (setupOf u order .order) ≡ drop (u .superblocks * 256) order
 setup-writes-only-first-places u order = go (setup-writes u order)
