@@ -10,7 +10,7 @@ use borrow.Author.Tests.{le-leb}
 use Rattle.laws.specs.Sums.{sumBelow, allBelow}
 use Rattle.laws.proofs.TestLaws.{T-of-true, true-not-false}
 use Rattle.laws.proofs.SumLaws.{all-at}
-use Rattle.classes.specs.Classes.{sizes, counts, blocksOf, firstAtLeast, classOf}
+use Rattle.classes.specs.Classes.{counts, blocksOf}
 use Rattle.heap.specs.declared.Superblock.{Superblock}
 use Rattle.heap.specs.declared.Setup.{Setup}
 use Rattle.heap.specs.declared.State.{State}
@@ -19,44 +19,59 @@ use Rattle.heap.specs.Counts.{total, isOwnedOfClass, superblocksOfClass, owners
 use Rattle.heap.proofs.CaseStates.{unnamedState}
 use Rattle.checkrules.specs.Check.{withinLimits}
 use Rattle.calls.specs.declared.Call.{Call}
-use Rattle.calls.specs.declared.Call.the-variants.{Take, Free}
+use Rattle.calls.specs.declared.Call.the-variants.{Take, Free, NamedTake, NamedFree}
 use Rattle.calls.specs.declared.Outcome.{Outcome}
 use Rattle.calls.specs.declared.Outcome.the-variants.{Ready, Address, Moves, Refused}
 use Rattle.calls.specs.Answers.{After, numberOf, checked}
 use Rattle.calls.specs.Take.{takeOf}
 use Rattle.calls.specs.Calls.{callOf}
-use Rattle.bound.specs.Ledger.{Entry, removed, afterTake, afterFree, ledgerAfter, entriesOf}
+use Rattle.bound.specs.Ledger.{Name, named, unnamed, Entry, ledgerAfter, entriesOf}
 use Rattle.bound.specs.Claim.{Step, Linked, Bounded, OwnerChanges, peakWith, Claims}
+use Rattle.bound.proofs.LedgerDefinitions.{ledgerDefinitions}
 
--- ---- the ledger: blocks of classes 23, 16 and 23
-abbrev pub entry : ℕ → ℕ → Entry
-entry a c = record { address = a; size-class = c }
+-- ---- the ledger: blocks of sizes 1100, 384 and 1280, so of classes 23, 16 and 23; the second was taken by name 7, the third by name 9
+abbrev pub entry : ℕ → ℕ → Name → Entry
+entry a size name = record { address = a; size = size; name = name }
 
 abbrev pub three-entries : List Entry
-three-entries = entry 4096 23 ∷ entry 768 16 ∷ entry 9472 23 ∷ []
+three-entries = entry 4096 1100 unnamed ∷ entry 768 384 (named 7) ∷ entry 9472 1280 (named 9) ∷ []
 
--- the blocks of a class, not those at an address
-pub entries-of-cases : map (λ (c : ℕ). entriesOf c three-entries) (23 ∷ 16 ∷ 0 ∷ 768 ∷ []) ≡ 2 ∷ 1 ∷ 0 ∷ 0 ∷ []
-unfolding entriesOf
+-- the blocks of a class, not those of a size or at an address
+pub entries-of-cases : map (λ (c : ℕ). entriesOf c three-entries) (23 ∷ 16 ∷ 0 ∷ 384 ∷ 768 ∷ []) ≡ 2 ∷ 1 ∷ 0 ∷ 0 ∷ 0 ∷ []
+unfolding ledgerDefinitions
 entries-of-cases = refl
 
--- an accepted take of size 1100 adds the address that it answered, with class 23, and one of size 0 with class 0; a refused one adds nothing
+-- an accepted take of size 1100 adds the address that it answered, with its size, and one of size 0 too; a named one adds its name beside; a refused
+-- one adds nothing
 pub ledger-after-take-cases :
-    ledgerAfter three-entries (Take 2 1100) (Address 16) ∷ ledgerAfter three-entries (Take 2 0) (Address 48) ∷ ledgerAfter three-entries (Take 2 1100) (Refused 4) ∷ []
-    ≡ (entry 16 23 ∷ three-entries) ∷ (entry 48 0 ∷ three-entries) ∷ three-entries ∷ []
-unfolding ledgerAfter afterTake classOf firstAtLeast sizes
+    ledgerAfter three-entries (Take 2 1100) (Address 16) ∷ ledgerAfter three-entries (Take 2 0) (Address 48) ∷ ledgerAfter three-entries (Take 2 1100) (Refused 4)
+    ∷ ledgerAfter three-entries (NamedTake 2 5 1100) (Address 16) ∷ ledgerAfter three-entries (NamedTake 2 5 1100) (Refused 14) ∷ []
+    ≡ (entry 16 1100 unnamed ∷ three-entries) ∷ (entry 48 0 unnamed ∷ three-entries) ∷ three-entries ∷ (entry 16 1100 (named 5) ∷ three-entries) ∷ three-entries ∷ []
+unfolding ledgerDefinitions
 ledger-after-take-cases = refl
+
+-- a size of 0 is a live block of class 0
+pub entries-of-size-0-case : entriesOf 0 (ledgerAfter three-entries (NamedTake 2 5 0) (Address 48)) ≡ 1
+unfolding ledgerDefinitions
+entries-of-size-0-case = refl
 
 -- an accepted free removes the address that it freed, whatever it moved; a refused one removes nothing
 pub ledger-after-free-cases :
     ledgerAfter three-entries (Free 2 768) (Moves 0) ∷ ledgerAfter three-entries (Free 2 768) (Moves 4096) ∷ ledgerAfter three-entries (Free 1 4096) (Refused 7) ∷ ledgerAfter three-entries (Free 1 5) (Moves 1) ∷ []
-    ≡ (entry 4096 23 ∷ entry 9472 23 ∷ []) ∷ (entry 4096 23 ∷ entry 9472 23 ∷ []) ∷ three-entries ∷ three-entries ∷ []
-unfolding ledgerAfter afterFree removed
+    ≡ (entry 4096 1100 unnamed ∷ entry 9472 1280 (named 9) ∷ []) ∷ (entry 4096 1100 unnamed ∷ entry 9472 1280 (named 9) ∷ []) ∷ three-entries ∷ three-entries ∷ []
+unfolding ledgerDefinitions
 ledger-after-free-cases = refl
+
+-- an accepted named free removes the block that was taken by its name, not one at that address or of that size; a refused one removes nothing
+pub ledger-after-named-free-cases :
+    ledgerAfter three-entries (NamedFree 2 9) (Moves 0) ∷ ledgerAfter three-entries (NamedFree 2 768) (Moves 0) ∷ ledgerAfter three-entries (NamedFree 2 1280) (Moves 0) ∷ ledgerAfter three-entries (NamedFree 2 9) (Refused 15) ∷ []
+    ≡ (entry 4096 1100 unnamed ∷ entry 768 384 (named 7) ∷ []) ∷ three-entries ∷ three-entries ∷ three-entries ∷ []
+unfolding ledgerDefinitions
+ledger-after-named-free-cases = refl
 
 -- M goes up with the live blocks of its class, and does not come down
 pub peak-with-cases : peakWith (λ c. 1) three-entries 23 ∷ peakWith (λ c. 5) three-entries 23 ∷ peakWith (λ c. c) three-entries 16 ∷ peakWith (λ c. 0) three-entries 17 ∷ [] ≡ 2 ∷ 5 ∷ 16 ∷ 0 ∷ []
-unfolding entriesOf
+unfolding ledgerDefinitions
 peak-with-cases = refl
 
 -- ---- the bound. P = 2, N = 20, K = 5, p = 3, q = 7
@@ -129,6 +144,15 @@ pub refused-free-owner-change-fails : OwnerChanges 7 1 (Free 2 9) (Refused 5) �
 unfolding OwnerChanges
 refused-free-owner-change-fails k = let z = k .2 5 refl in omega arith
 
+pub refused-named-call-owner-change-fails : (OwnerChanges 7 1 (NamedTake 2 3 9) (Refused 14) → ⊥) × (OwnerChanges 7 1 (NamedFree 2 3) (Refused 15) → ⊥)
+unfolding OwnerChanges
+refused-named-call-owner-change-fails = (λ k. let z = k 14 refl in omega arith, λ k. let z = k .2 15 refl in omega arith)
+
+-- and a named free is held to what a free is
+pub named-free-owner-changes-fail : (OwnerChanges 7 8 (NamedFree 2 3) (Moves 8) → ⊥) × (OwnerChanges 7 5 (NamedFree 2 3) (Moves 4) → ⊥)
+unfolding OwnerChanges
+named-free-owner-changes-fail = (λ k. not-le-by-test (k .0) refl, λ k. let z = k .1 4 refl in omega arith)
+
 pub refused-take-owner-change-fails : OwnerChanges 7 1 (Take 2 9) (Refused 4) → ⊥
 unfolding OwnerChanges
 refused-take-owner-change-fails k = let z = k 4 refl in omega arith
@@ -142,7 +166,7 @@ step-with call outcome s = record { call = call; after = after-with outcome s }
 
 -- eleven blocks of class 23 are live, and never were more; sixteen superblocks are within 7 × 11 + 120 = 197, seventeen are not.
 abbrev pub eleven-entries : List Entry
-eleven-entries = replicate 11 (entry 9472 23)
+eleven-entries = replicate 11 (entry 9472 1280 unnamed)
 
 -- the take, and the free of its block
 abbrev pub take-and-free : List Step
@@ -150,15 +174,15 @@ take-and-free = step-with (Take 2 1100) (Address 16) (state-of-class 23 6) ∷ s
 
 -- seventeen where the take was refused, or was of another class; eighteen after the last call
 pub claim-fails-of-refused-take : Claims u (after-with Ready (state-of-class 23 5)) eleven-entries (λ c. 11) (step-with (Take 2 1100) (Refused 4) (state-of-class 23 6) ∷ []) → ⊥
-unfolding Claims Bounded superblocksOfClass total isOwnedOfClass sumBelow blocksOf counts ledgerAfter afterTake entriesOf
+unfolding Claims Bounded superblocksOfClass total isOwnedOfClass sumBelow blocksOf counts ledgerDefinitions
 claim-fails-of-refused-take k = not-le-by-test (k .2 23 (omega arith)) refl
 
 pub claim-fails-of-other-class-take : Claims u (after-with Ready (state-of-class 23 5)) eleven-entries (λ c. 11) (step-with (Take 2 1000) (Address 16) (state-of-class 23 6) ∷ []) → ⊥
-unfolding Claims Bounded superblocksOfClass total isOwnedOfClass sumBelow blocksOf counts ledgerAfter afterTake entriesOf classOf firstAtLeast sizes
+unfolding Claims Bounded superblocksOfClass total isOwnedOfClass sumBelow blocksOf counts ledgerDefinitions
 claim-fails-of-other-class-take k = not-le-by-test (k .2 23 (omega arith)) refl
 
 pub claim-fails-after-last-call : Claims u (after-with Ready (state-of-class 23 5)) eleven-entries (λ c. 11) (step-with (Take 2 1100) (Address 16) (state-of-class 23 6) ∷ step-with (Free 1 16) (Moves 1) (state-of-class 23 7) ∷ []) → ⊥
-unfolding Claims Bounded superblocksOfClass total isOwnedOfClass sumBelow blocksOf counts ledgerAfter afterTake afterFree removed entriesOf classOf firstAtLeast sizes
+unfolding Claims Bounded superblocksOfClass total isOwnedOfClass sumBelow blocksOf counts ledgerDefinitions
 claim-fails-after-last-call k = not-le-by-test (k .2 .2 23 (omega arith)) refl
 
 -- a free that passes eight superblocks to heap 0; a refused one that passes one
@@ -179,7 +203,7 @@ claim-fails-of-refused-free-move k = let z = k .1 .2 6 refl in omega arith
 -- "Each gets the state that the one before it returned and the storage as that one left it": here a state whose numbers fail the check, so that each call
 -- is refused with 13; no call of the list may leave another state, storage or outcome
 abbrev pub state-out-of-limits : State
-state-out-of-limits = unnamedState (record { processors = 2; superblocks = 20; spare = 5; p = 7; q = 3 }) ([])
+state-out-of-limits = unnamedState (record { processors = 2; superblocks = 20; spare = 5; p = 7; q = 3 }) []
 
 abbrev pub after-refused-13 : List ℕ → After
 after-refused-13 order = record { answer = record { outcome = Refused 13; state = state-out-of-limits }; order = order }
@@ -215,7 +239,7 @@ refused-without-owner-change-holds = ((omega arith, λ m e. absurd (Refused-not-
 
 -- a take that makes a twelfth block live, and so comes to seventeen superblocks; when that block is freed M is 12 still
 pub claim-holds-of-take-and-free : Claims u (after-with Ready (state-of-class 23 5)) eleven-entries (λ c. 11) take-and-free
-unfolding Claims OwnerChanges Bounded ownersChanged superblocksOfClass total isOwnedOfClass sumBelow allBelow blocksOf counts ledgerAfter afterTake afterFree removed entriesOf classOf firstAtLeast sizes
+unfolding Claims OwnerChanges Bounded ownersChanged superblocksOfClass total isOwnedOfClass sumBelow allBelow blocksOf counts ledgerDefinitions
 claim-holds-of-take-and-free = (each-class-le-by-test _ _ refl, λ r e. absurd (address-refused e), (each-class-le-by-test _ _ refl, (omega arith, λ m e. Moves-injective e, λ r e. absurd (Moves-not-Refused e)), each-class-le-by-test _ _ refl))
   where
     address-refused : {a r : ℕ} → Address a ≡ Refused r → ⊥
@@ -223,7 +247,7 @@ claim-holds-of-take-and-free = (each-class-le-by-test _ _ refl, λ r e. absurd (
 
 -- a free that passes seven superblocks to heap 0
 pub claim-holds-of-seven-moves : Claims u (after-with Ready (all-in-heap-2 7)) [] (λ c. 0) (step-with (Free 1 16) (Moves 7) (all-in-heap-0 7) ∷ [])
-unfolding Claims OwnerChanges Bounded ownersChanged superblocksOfClass total isOwnedOfClass sumBelow allBelow blocksOf counts ledgerAfter afterFree removed entriesOf
+unfolding Claims OwnerChanges Bounded ownersChanged superblocksOfClass total isOwnedOfClass sumBelow allBelow blocksOf counts ledgerDefinitions
 claim-holds-of-seven-moves = (each-class-le-by-test _ _ refl, (omega arith, λ m e. Moves-injective e, λ r e. absurd (Moves-not-Refused e)), each-class-le-by-test _ _ refl)
 
 -- two calls, each refused with 13

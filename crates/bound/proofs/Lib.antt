@@ -1,1 +1,2 @@
+pub mod LedgerDefinitions
 pub mod ClaimCases

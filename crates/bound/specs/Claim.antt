@@ -7,7 +7,7 @@ use Rattle.heap.specs.declared.Setup.{Setup}
 use Rattle.heap.specs.declared.State.{State}
 use Rattle.heap.specs.Counts.{superblocksOfClass, ownersChanged}
 use Rattle.calls.specs.declared.Call.{Call}
-use Rattle.calls.specs.declared.Call.the-variants.{Take, Free}
+use Rattle.calls.specs.declared.Call.the-variants.{Take, Free, NamedTake, NamedFree}
 use Rattle.calls.specs.declared.Outcome.{Outcome}
 use Rattle.calls.specs.declared.Outcome.the-variants.{Moves, Refused}
 use Rattle.calls.specs.Answers.{After}
@@ -20,7 +20,7 @@ pub record Step : Type 0 where
   pub after : After
 
 -- "Each gets the state that the one before it returned and the storage as that one left it; nothing else writes either meanwhile."
--- What a call leaves is what the contracts of the engine's take and free promise.
+-- What a call leaves is what the contracts of the engine's entries promise.
 unfoldable pub Linked : After → List Step → Type 0
 Linked before [] = Unit {0}
 Linked before (step ∷ steps) =
@@ -34,10 +34,17 @@ Bounded u s peak =
 
 -- "no free changes the owner of more than q superblocks, an accepted one changes exactly as many owners as it reports moves, and a
 -- refused call changes none", of a call with so many owners changed
+abbrev pub TakeOwnerChanges : ℕ → Outcome → Type 0
+TakeOwnerChanges changed outcome = (r : ℕ) → outcome ≡ Refused r → changed ≡ 0
+
+abbrev pub FreeOwnerChanges : ℕ → ℕ → Outcome → Type 0
+FreeOwnerChanges q changed outcome = (changed ≤ q) × ((m : ℕ) → outcome ≡ Moves m → changed ≡ m) × ((r : ℕ) → outcome ≡ Refused r → changed ≡ 0)
+
 unfoldable pub OwnerChanges : ℕ → ℕ → Call → Outcome → Type 0
-OwnerChanges q changed (Take processor size) outcome = (r : ℕ) → outcome ≡ Refused r → changed ≡ 0
-OwnerChanges q changed (Free processor address) outcome =
-    (changed ≤ q) × ((m : ℕ) → outcome ≡ Moves m → changed ≡ m) × ((r : ℕ) → outcome ≡ Refused r → changed ≡ 0)
+OwnerChanges q changed (Take processor size) outcome = TakeOwnerChanges changed outcome
+OwnerChanges q changed (Free processor address) outcome = FreeOwnerChanges q changed outcome
+OwnerChanges q changed (NamedTake processor name size) outcome = TakeOwnerChanges changed outcome
+OwnerChanges q changed (NamedFree processor name) outcome = FreeOwnerChanges q changed outcome
 
 -- "M is the most live blocks of the class after the setup (none) or any call up to and including this one."
 abbrev pub peakWith : (ℕ → ℕ) → List Entry → ℕ → ℕ

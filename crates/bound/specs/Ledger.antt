@@ -1,44 +1,70 @@
 -- Live blocks counted from the calls and their answers alone.
 use Prim.Native.Nat.{ℕ, _+_}
+use mathlib.Core.Bool.{Bool, false}
 use mathlib.Core.List.{List, [], _∷_}
 use lib.Dec.{eqb}
 use Rattle.laws.specs.Sums.{pick, one}
 use Rattle.classes.specs.Classes.{classOf}
 use Rattle.calls.specs.declared.Call.{Call}
-use Rattle.calls.specs.declared.Call.the-variants.{Take, Free}
+use Rattle.calls.specs.declared.Call.the-variants.{Take, Free, NamedTake, NamedFree}
 use Rattle.calls.specs.declared.Outcome.{Outcome}
 use Rattle.calls.specs.declared.Outcome.the-variants.{Ready, Address, Moves, Refused}
 
--- a live block: its address, and "the class of that take's size"
+-- the name that a block was taken by, if any
+pub data Name : Type 0 where
+  named : ℕ → Name
+  unnamed : Name
+
+-- a live block: the address that its take answered, with the size and the name of that take
 pub record Entry : Type 0 where
   pub address : ℕ
-  pub size-class : ℕ
+  pub size : ℕ
+  pub name : Name
 
--- the ledger without an address
-unfoldable pub removed : ℕ → List Entry → List Entry
-removed a [] = []
-removed a (e ∷ ledger) = pick (eqb (e .address) a) (removed a ledger) (e ∷ removed a ledger)
+-- "Its class is the class of that take's size."
+abbrev pub classOfEntry : Entry → ℕ
+classOfEntry e = classOf (e .size)
 
--- after a take of this size: an accepted one adds the address that it answered
-unfoldable pub afterTake : ℕ → List Entry → Outcome → List Entry
-afterTake size ledger Ready = ledger
-afterTake size ledger (Address a) = record { address = a; size-class = classOf size } ∷ ledger
-afterTake size ledger (Moves m) = ledger
-afterTake size ledger (Refused r) = ledger
+-- the block starts at address a
+abbrev pub isAt : ℕ → Entry → Bool
+isAt a e = eqb (e .address) a
 
--- after a free of this address: an accepted one removes it
-unfoldable pub afterFree : ℕ → List Entry → Outcome → List Entry
-afterFree a ledger Ready = ledger
-afterFree a ledger (Address b) = ledger
-afterFree a ledger (Moves m) = removed a ledger
-afterFree a ledger (Refused r) = ledger
+-- the block was taken by name m
+unfoldable pub isCalled : ℕ → Name → Bool
+isCalled m (named n) = eqb n m
+isCalled m unnamed = false
 
--- "A block is live when an accepted take answered its address and no accepted call has freed that address since."
+abbrev pub hasName : ℕ → Entry → Bool
+hasName m e = isCalled m (e .name)
+
+-- the ledger without the blocks that pass a test
+unfoldable pub removed : (Entry → Bool) → List Entry → List Entry
+removed test [] = []
+removed test (e ∷ ledger) = pick (test e) (removed test ledger) (e ∷ removed test ledger)
+
+-- after a take of this size and name: an accepted one adds the address that it answered
+unfoldable pub afterTake : ℕ → Name → List Entry → Outcome → List Entry
+afterTake size name ledger Ready = ledger
+afterTake size name ledger (Address a) = record { address = a; size = size; name = name } ∷ ledger
+afterTake size name ledger (Moves m) = ledger
+afterTake size name ledger (Refused r) = ledger
+
+-- after a free of the blocks that pass the test: an accepted one removes them
+unfoldable pub afterFree : (Entry → Bool) → List Entry → Outcome → List Entry
+afterFree test ledger Ready = ledger
+afterFree test ledger (Address b) = ledger
+afterFree test ledger (Moves m) = removed test ledger
+afterFree test ledger (Refused r) = ledger
+
+-- "A block is live when an accepted take answered its address and no accepted call has freed that address since." A named free frees the
+-- address that the take by its name answered (document 02, item 2).
 unfoldable pub ledgerAfter : List Entry → Call → Outcome → List Entry
-ledgerAfter ledger (Take processor size) outcome = afterTake size ledger outcome
-ledgerAfter ledger (Free processor address) outcome = afterFree address ledger outcome
+ledgerAfter ledger (Take processor size) outcome = afterTake size unnamed ledger outcome
+ledgerAfter ledger (Free processor address) outcome = afterFree (isAt address) ledger outcome
+ledgerAfter ledger (NamedTake processor name size) outcome = afterTake size (named name) ledger outcome
+ledgerAfter ledger (NamedFree processor name) outcome = afterFree (hasName name) ledger outcome
 
 -- the live blocks of class c
 unfoldable pub entriesOf : ℕ → List Entry → ℕ
 entriesOf c [] = 0
-entriesOf c (e ∷ ledger) = one (eqb (e .size-class) c) + entriesOf c ledger
+entriesOf c (e ∷ ledger) = one (eqb (classOfEntry e) c) + entriesOf c ledger

@@ -10,37 +10,37 @@ use Rattle.laws.specs.Sums.{both, one}
 use Rattle.classes.proofs.ClassLaws.{class-of-size-0}
 use Rattle.calls.specs.declared.Call.the-variants.{Take}
 use Rattle.calls.specs.declared.Outcome.the-variants.{Address}
-use Rattle.bound.specs.Ledger.{Entry, removed, afterTake, ledgerAfter, entriesOf}
+use Rattle.bound.specs.Ledger.{unnamed, Entry, classOfEntry, isAt, removed, afterTake, ledgerAfter, entriesOf}
 use Rattle.bound.specs.Claim.{peakWith}
 
 -- how often the ledger has a block of class c at address a
 unfoldable pub entriesAt : List Entry → ℕ → ℕ → ℕ
 entriesAt [] a c = 0
-entriesAt (e ∷ ledger) a c = one (both (eqb (e .address) a) (eqb (e .size-class) c)) + entriesAt ledger a c
+entriesAt (e ∷ ledger) a c = one (both (isAt a e) (eqb (classOfEntry e) c)) + entriesAt ledger a c
 
 -- ---- one entry added
 pub entries-at-empty : (a c : ℕ) → entriesAt [] a c ≡ 0
 unfolding entriesAt
 entries-at-empty a c = refl
 
-pub entries-at-added : (a c : ℕ) (ledger : List Entry) (b d : ℕ) → entriesAt (record { address = a; size-class = c } ∷ ledger) b d ≡ entriesAt ledger b d + one (both (eqb a b) (eqb c d))
+pub entries-at-added : (e : Entry) (ledger : List Entry) (b d : ℕ) → entriesAt (e ∷ ledger) b d ≡ entriesAt ledger b d + one (both (isAt b e) (eqb (classOfEntry e) d))
 unfolding entriesAt
-entries-at-added a c ledger b d = omega arith
+entries-at-added e ledger b d = omega arith
 
 pub entries-of-empty : (c : ℕ) → entriesOf c [] ≡ 0
 unfolding entriesOf
 entries-of-empty c = refl
 
-pub entries-of-added : (a c : ℕ) (ledger : List Entry) (d : ℕ) → entriesOf d (record { address = a; size-class = c } ∷ ledger) ≡ entriesOf d ledger + one (eqb c d)
+pub entries-of-added : (e : Entry) (ledger : List Entry) (d : ℕ) → entriesOf d (e ∷ ledger) ≡ entriesOf d ledger + one (eqb (classOfEntry e) d)
 unfolding entriesOf
-entries-of-added a c ledger d = omega arith
+entries-of-added e ledger d = omega arith
 
 -- ---- document 02, item 1: an accepted take of size 0
 module _ (ledger : List Entry) (i a : ℕ) where
   -- adds one live block, of class 0,
   pub size-0-take-counted : (c : ℕ) → entriesOf c (ledgerAfter ledger (Take i 0) (Address a)) ≡ entriesOf c ledger + one (eqb 0 c)
   unfolding ledgerAfter afterTake
-  size-0-take-counted c = rw class-of-size-0 (entries-of-added a 0 ledger c)
+  size-0-take-counted c = entries-of-added (record { address = a; size = 0; name = unnamed }) ledger c ∙ ap (λ (d : ℕ). entriesOf c ledger + one (eqb d c)) class-of-size-0
 
   -- which counts in class 0's M
   pub size-0-take-in-peak : (peak : ℕ → ℕ) → peakWith peak (ledgerAfter ledger (Take i 0) (Address a)) 0 ≡ max (peak 0) (entriesOf 0 ledger + 1)
@@ -49,32 +49,32 @@ module _ (ledger : List Entry) (i a : ℕ) where
 -- ---- an address removed
 module _ (a : ℕ) where
   -- it is met no more
-  pub entries-at-removed : (ledger : List Entry) (c : ℕ) → entriesAt (removed a ledger) a c ≡ 0
+  pub entries-at-removed : (ledger : List Entry) (c : ℕ) → entriesAt (removed (isAt a) ledger) a c ≡ 0
   unfolding entriesAt removed
   entries-at-removed [] c = refl
   entries-at-removed (e ∷ ledger) c = go (entries-at-removed ledger c) (ℕ-discrete (e .address) a)
     where
-      go : entriesAt (removed a ledger) a c ≡ 0 → Dec (e .address ≡ a) → entriesAt (removed a (e ∷ ledger)) a c ≡ 0
+      go : entriesAt (removed (isAt a) ledger) a c ≡ 0 → Dec (e .address ≡ a) → entriesAt (removed (isAt a) (e ∷ ledger)) a c ≡ 0
       go ih (yes q) = rw (eq-eqb (e .address) a q) ih
       go ih (no f) = rw (ne-eqb (e .address) a f, ne-eqb (e .address) a f) (omega arith)
 
   -- every other address is met as often as before
-  pub entries-at-others-removed : (ledger : List Entry) (b c : ℕ) → (a ≡ b → ⊥) → entriesAt (removed a ledger) b c ≡ entriesAt ledger b c
+  pub entries-at-others-removed : (ledger : List Entry) (b c : ℕ) → (a ≡ b → ⊥) → entriesAt (removed (isAt a) ledger) b c ≡ entriesAt ledger b c
   unfolding entriesAt removed
   entries-at-others-removed [] b c other = refl
   entries-at-others-removed (e ∷ ledger) b c other = go (entries-at-others-removed ledger b c other) (ℕ-discrete (e .address) a)
     where
-      go : entriesAt (removed a ledger) b c ≡ entriesAt ledger b c → Dec (e .address ≡ a) → entriesAt (removed a (e ∷ ledger)) b c ≡ entriesAt (e ∷ ledger) b c
+      go : entriesAt (removed (isAt a) ledger) b c ≡ entriesAt ledger b c → Dec (e .address ≡ a) → entriesAt (removed (isAt a) (e ∷ ledger)) b c ≡ entriesAt (e ∷ ledger) b c
       go ih (yes q) = rw (eq-eqb (e .address) a q, ne-eqb (e .address) b (λ p. other (sym q ∙ p))) (omega arith)
       go ih (no f) = rw (ne-eqb (e .address) a f) (omega arith)
 
   -- a class loses as many entries as it had at the address
-  pub entries-of-removed : (ledger : List Entry) (c : ℕ) → entriesOf c (removed a ledger) + entriesAt ledger a c ≡ entriesOf c ledger
+  pub entries-of-removed : (ledger : List Entry) (c : ℕ) → entriesOf c (removed (isAt a) ledger) + entriesAt ledger a c ≡ entriesOf c ledger
   unfolding entriesAt removed entriesOf
   entries-of-removed [] c = refl
   entries-of-removed (e ∷ ledger) c = go (entries-of-removed ledger c) (ℕ-discrete (e .address) a)
     where
-      go : entriesOf c (removed a ledger) + entriesAt ledger a c ≡ entriesOf c ledger → Dec (e .address ≡ a)
-          → entriesOf c (removed a (e ∷ ledger)) + entriesAt (e ∷ ledger) a c ≡ entriesOf c (e ∷ ledger)
+      go : entriesOf c (removed (isAt a) ledger) + entriesAt ledger a c ≡ entriesOf c ledger → Dec (e .address ≡ a)
+          → entriesOf c (removed (isAt a) (e ∷ ledger)) + entriesAt (e ∷ ledger) a c ≡ entriesOf c (e ∷ ledger)
       go ih (yes q) = rw (eq-eqb (e .address) a q) (omega arith)
       go ih (no f) = rw (ne-eqb (e .address) a f) (omega arith)

@@ -1,5 +1,6 @@
 pub mod LedgerLaws
 pub mod LiveAtLaws
+pub mod LedgerNames
 pub mod BoundLaws
 pub mod CallInvariantLaws
 pub mod Demand3

@@ -13,7 +13,7 @@ use Rattle.laws.specs.Sums.{pick, both, one}
 use Rattle.laws.proofs.TestLaws.{one-of-equal, one-of-different}
 use Rattle.classes.specs.Classes.{sizeOf, blocksOf}
 use Rattle.classes.proofs.ClassTableLaws.{size-of-ge-16, blocks-of-le-256}
-use Rattle.classes.proofs.OffsetLaws.{offset-lt-4096, block-of-offset, offset-mod-size, offset-of-block}
+use Rattle.classes.proofs.OffsetLaws.{block-of-offset, offset-mod-size, offset-of-block}
 use Rattle.marks.specs.Marks.{markBit}
 use Rattle.marklaws.proofs.MarkLaws.{marks-clear-of-live-count-zero}
 use Rattle.heap.specs.declared.Superblock.{Superblock}
@@ -23,6 +23,7 @@ use Rattle.heap.specs.Table.{blank, unused, superblockAt, liveIn, newState}
 use Rattle.heap.specs.Counts.{isOwnedOfClass, liveOfClass}
 use Rattle.calls.specs.Take.{addressOf}
 use Rattle.calllaws.proofs.CallEffects.{TakeEffect, FreeEffect}
+use Rattle.calllaws.proofs.AddressLaws.{address-superblock, address-offset}
 
 -- 1 where a heap owns the superblock for class c and its block j is live, else 0
 unfoldable pub liveFor : ℕ → Superblock → ℕ → ℕ
@@ -72,15 +73,6 @@ block-below c a known =
     let z : 16 ≤ sizeOf c = size-of-ge-16 c known in
     let m : 256 * 16 ≤ 256 * sizeOf c = mul-le-mul-left 256 z in
     div-lt-iff-lt-mul {k = sizeOf c} {x = a % 4096} {y = 256} (omega arith) .1 (omega arith)
-
-module _ (c k j : ℕ) (known : c < 27) (block : j < blocksOf c) where
-  address-superblock : addressOf k c j / 4096 ≡ k
-  unfolding addressOf
-  address-superblock = let o = offset-lt-4096 c known j block in omega arith
-
-  address-offset : addressOf k c j % 4096 ≡ j * sizeOf c
-  unfolding addressOf
-  address-offset = let o = offset-lt-4096 c known j block in omega arith
 
 -- an address whose offset is a multiple of the block size is its block's
 address-of-block-at : (a c : ℕ) → a % 4096 % sizeOf c ≡ 0 → addressOf (a / 4096) c (a % 4096 / sizeOf c) ≡ a

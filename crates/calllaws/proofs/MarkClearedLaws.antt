@@ -117,7 +117,7 @@ module _ (s : State) (order : List ℕ) (k j : ℕ) (live : LiveBlock s order k 
   mark-cleared-owner = mark-cleared-each (λ m b. b .owner ≡ superblockAt s m .owner) refl (λ m l f. refl)
 
   pub mark-cleared-bit : markBit (superblockAt (withMarkCleared s k j) k .live) j ≡ 0
-  mark-cleared-bit = ap (λ (b : Superblock). markBit (b .live) j) mark-cleared-at-superblock ∙ without-mark-same (superblockAt s k .live) j four block-lt-256
+  mark-cleared-bit = ap (λ (b : Superblock). markBit (b .live) j) mark-cleared-at-superblock ∙ without-mark-same (superblockAt s k .live) j
 
   pub mark-cleared-other-bits : (m b : ℕ) → m < 64 → ((m ≡ k) × (b ≡ j) → ⊥) → markBit (superblockAt (withMarkCleared s k j) m .live) b ≡ markBit (superblockAt s m .live) b
   mark-cleared-other-bits m b l = mark-cleared-each (λ m x. ((m ≡ k) × (b ≡ j) → ⊥) → markBit (x .live) b ≡ markBit (superblockAt s m .live) b)

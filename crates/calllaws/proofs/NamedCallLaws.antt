@@ -278,29 +278,29 @@ module _ (s : State) (order : List ℕ) (k j : ℕ) (live : LiveBlock s order k 
   block-in-table : k < 64
   block-in-table = omega (arith, live .below, live .passed .sound .numbers .superblocks-high)
 
-  class-lt-27 : class < 27
-  class-lt-27 = owned-of-owner s order (live .passed .sound) k block-in-table (live .owned) .class
+  pub live-class-lt-27 : superblockAt s k .class < 27
+  live-class-lt-27 = owned-of-owner s order (live .passed .sound) k block-in-table (live .owned) .class
 
   holding : superblockIndex a ≡ k
-  holding = address-superblock class k j class-lt-27 (live .block)
+  holding = address-superblock class k j live-class-lt-27 (live .block)
 
   live-block-mapped : isUnmapped s a ≡ false
   unfolding isUnmapped addressOf
   live-block-mapped =
       ap₂ either
-      (lt-leb (s .setup .superblocks * 4096) a (let o = offset-lt-4096 class class-lt-27 j (live .block) in let l = live .below in omega arith))
+      (lt-leb (s .setup .superblocks * 4096) a (let o = offset-lt-4096 class live-class-lt-27 j (live .block) in let l = live .below in omega arith))
       (ap (λ (n : ℕ). isUnused (superblockAt s n)) holding ∙ not-unused-of-owner (superblockAt s k) (live .owned))
 
   live-block-aligned : isMisaligned s a ≡ false
   unfolding isMisaligned
   live-block-aligned =
       ap₂ either
-      (ap not (eq-eqb (a % 4096 % sizeOf (superblockHolding s a .class)) 0 (rw (holding, address-offset class k j class-lt-27 (live .block)) (offset-mod-size class class-lt-27 j))))
-      (ap₂ leb (ap (λ (n : ℕ). blocksOf (superblockAt s n .class)) holding) (address-block class k j class-lt-27 (live .block) s refl) ∙ lt-leb (blocksOf class) j (live .block))
+      (ap not (eq-eqb (a % 4096 % sizeOf (superblockHolding s a .class)) 0 (rw (holding, address-offset class k j live-class-lt-27 (live .block)) (offset-mod-size class live-class-lt-27 j))))
+      (ap₂ leb (ap (λ (n : ℕ). blocksOf (superblockAt s n .class)) holding) (address-block class k j live-class-lt-27 (live .block) s refl) ∙ lt-leb (blocksOf class) j (live .block))
 
   live-block-live : isLiveAt s a ≡ true
   unfolding isLiveAt
-  live-block-live = rw (address-block class k j class-lt-27 (live .block) s refl, holding) (mark-of-mark-bit-one (superblockAt s k .live) j (live .marked))
+  live-block-live = rw (address-block class k j live-class-lt-27 (live .block) s refl, holding) (mark-of-mark-bit-one (superblockAt s k .live) j (live .marked))
 
   pub free-accepted-of-live-block : (i : ℕ) → isProcessor s i ≡ true → FreeAccepted s order i (addressOf k (superblockAt s k .class) j)
   free-accepted-of-live-block i p =
@@ -325,7 +325,7 @@ held-address-block : (s : State) (order : List ℕ) (m : ℕ) → Shape s → Pa
 unfolding heldAddress
 held-address-block s order m shape passed held =
     let live = held-block-is-live s order shape passed m held in
-    let known = class-lt-27 s order (blockNamed (s .names) m / 256) (blockNamed (s .names) m % 256) live in
+    let known = live-class-lt-27 s order (blockNamed (s .names) m / 256) (blockNamed (s .names) m % 256) live in
     (address-superblock (superblockAt s (blockNamed (s .names) m / 256) .class) (blockNamed (s .names) m / 256) (blockNamed (s .names) m % 256) known (live .block),
     address-block (superblockAt s (blockNamed (s .names) m / 256) .class) (blockNamed (s .names) m / 256) (blockNamed (s .names) m % 256) known (live .block) s refl)
 

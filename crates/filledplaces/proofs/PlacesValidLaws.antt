@@ -125,7 +125,7 @@ module _ (order live : List ℕ) (s n : ℕ) (small : n ≤ 256) (good : T (plac
           at j l (yes q) =
               let g = block-once-of-places-valid order live s n good j l in
               let o : one (eqb b j) ≡ 1 = ap (λ (k : ℕ). one (eqb b k)) q ∙ one-of-equal b in
-              let m : markBit (withoutMark live b) j ≡ 0 = ap (markBit (withoutMark live b)) q ∙ without-mark-same live b long (omega arith) in
+              let m : markBit (withoutMark live b) j ≡ 0 = ap (markBit (withoutMark live b)) q ∙ without-mark-same live b in
               let w : markBit live j ≡ 1 = ap (markBit live) q ∙ marked in
               omega (arith, occurrences-after-free j)
           at j l (no f) = omega (arith, block-once-of-places-valid order live s n good j l, occurrences-after-free j, one-of-different b j (λ q. f (sym q)), without-mark-other live b j f)

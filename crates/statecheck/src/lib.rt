@@ -1,5 +1,5 @@
 // The check of a state handed in: the setup numbers, the order places lent, then the rest. The rest is what is asked of each
-// superblock alone, and the emptiness invariant.
+// superblock alone, the emptiness invariant, and the names.
 ghost use mathlib.Core.Path.{_≡_};
 ghost use Rattle.checkrules.specs.Check.{restValid};
 ghost use Rattle.statecheck.specs.FirstRefusal.{firstRefusal};
@@ -12,7 +12,10 @@ fn rest_valid(s: State, order: &[u16]) -> bool
     if !superblockcheck::each_valid(s, order) {
         return false;
     }
-    invariantcheck::emptiness_invariant(s)
+    if !invariantcheck::emptiness_invariant(s) {
+        return false;
+    }
+    namecheck::names_valid(s)
 }
 
 // The refusals that take and free share: 13 for setup numbers, 12, the rest of 13; 0 where none applies.

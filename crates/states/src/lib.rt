@@ -22,7 +22,7 @@ pub fn is_processor(s: State, processor: u8) -> bool
     processor <= s.setup.processors
 }
 
-// A new setup's state: its numbers and 64 unused superblocks.
+// A new setup's state: its numbers, 64 unused superblocks and no names.
 pub fn new_state(u: Setup) -> State
     ensures { λ r. ⌜ r ≡ newState u ⌝ }
 {
@@ -34,10 +34,11 @@ pub fn new_state(u: Setup) -> State
     State {
         setup: u,
         table: [b; 64],
+        names: [65535u16; 1024],
     }
 }
 
-// What a refused setup hands back: five zeros and 64 unused superblocks.
+// What a refused setup hands back: five zeros, 64 unused superblocks and no names.
 pub fn no_state() -> State
     ensures { λ r. ⌜ r ≡ noState ⌝ }
 {

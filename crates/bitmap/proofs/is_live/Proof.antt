@@ -1,7 +1,9 @@
 -- `bitmap::is_live` meets its contract: the code's shift and remainder are the definition of a mark, and past block 255 no mark is set. Assumes nothing.
-use mathlib.Core.Path.{refl, sym}
+use mathlib.Core.Path.{_≡_, refl, sym}
+use native.Mathlib.Omega.{arith}
+use lib.ListN.{length}
 use Rattle.marks.specs.Marks.{bit, markBit, isMarked}
-use Rattle.marklaws.proofs.MarkLaws.{mark-bit-past-256, no-mark-of-mark-bit-zero}
+use Rattle.marklaws.proofs.MarkLaws.{mark-bit-past-the-end, no-mark-of-mark-bit-zero}
 use borrow.Author.Needs.{needs}
 use Rattle.bitmap.proofs.is_live.Statement.{statement}
 use Rattle.bitmap.proofs.is_live.Tie as tie
@@ -9,7 +11,8 @@ use Rattle.bitmap.proofs.is_live.Tie as tie
 returns : tie.Need-returns
 returns c =
     let a = c .before .args in
-    sym (no-mark-of-mark-bit-zero (a .t1) (a .j) (mark-bit-past-256 (a .t1) (a .j) (search needs) (c .if1 .taken)))
+    let long : length (a .t1) ≡ 4 = search needs in
+    sym (no-mark-of-mark-bit-zero (a .t1) (a .j) (mark-bit-past-the-end (a .t1) (a .j) (omega arith)))
 
 mul-result : tie.Need-mul-result
 mul-result c = search needs

@@ -1,0 +1,2 @@
+pub mod MarksOfTableLaws
+pub mod NameScanLaws
