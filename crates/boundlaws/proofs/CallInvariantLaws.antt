@@ -41,25 +41,30 @@ pub record Listed (s : State) (ledger : List Entry) : Type 0 where
   pub counted : (c : ℕ) → c < 27 → entriesOf c ledger ≡ liveOfClass c s
 
 module _ (c k j : ℕ) (s t : State) (one-more-live : OneMoreLive c k j s t) (ledger : List Entry) where
-  listed-added : Listed s ledger → Listed t (record { address = addressOf k c j; size-class = c } ∷ ledger)
-  listed-added h =
+  listed-added : (e : Entry) → e .address ≡ addressOf k c j → classOfEntry e ≡ c → Listed s ledger → Listed t (e ∷ ledger)
+  listed-added e at class h =
       record {
         blocks = λ a d l.
-            entries-at-added (addressOf k c j) c ledger a d
+            entries-at-added e ledger a d
+            ∙ ap₂ (λ (x y : ℕ). entriesAt ledger a d + one (both (eqb x a) (eqb y d))) at class
             ∙ ap (λ (x : ℕ). x + one (both (eqb (addressOf k c j) a) (eqb c d))) (h .blocks a d l)
             ∙ sym (live-at-one-more c k j s t one-more-live a d l);
         counted = λ d l.
-            entries-of-added (addressOf k c j) c ledger d
+            entries-of-added e ledger d
+            ∙ ap (λ (y : ℕ). entriesOf d ledger + one (eqb y d)) class
             ∙ ap (λ (x : ℕ). x + one (eqb c d)) (h .counted d l)
             ∙ sym (one-more-live .live d);
       }
 
-  listed-removed : Listed t ledger → Listed s (removed (addressOf k c j) ledger)
+  abbrev without-address : List Entry
+  without-address = removed (isAt (addressOf k c j)) ledger
+
+  listed-removed : Listed t ledger → Listed s without-address
   listed-removed h = record { blocks = λ a d l. without a d l (ℕ-discrete (addressOf k c j) a); counted = one-live-less }
     where
-      without : (a d : ℕ) → d < 27 → Dec (addressOf k c j ≡ a) → entriesAt (removed (addressOf k c j) ledger) a d ≡ liveAt s a d
+      without : (a d : ℕ) → d < 27 → Dec (addressOf k c j ≡ a) → entriesAt without-address a d ≡ liveAt s a d
       without a d l (yes e) =
-          ap (λ (x : ℕ). entriesAt (removed (addressOf k c j) ledger) x d) (sym e)
+          ap (λ (x : ℕ). entriesAt without-address x d) (sym e)
           ∙ entries-at-removed (addressOf k c j) ledger d
           ∙ sym (live-at-before-is-zero c k j s t one-more-live d l)
           ∙ ap (λ (x : ℕ). liveAt s x d) e
@@ -70,7 +75,7 @@ module _ (c k j : ℕ) (s t : State) (one-more-live : OneMoreLive c k j s t) (le
           let o : one (both (eqb (addressOf k c j) a) (eqb c d)) ≡ 0 = ap (λ (x : Bool). one (both x (eqb c d))) (ne-eqb (addressOf k c j) a f) in
           omega arith
 
-      one-live-less : (d : ℕ) → d < 27 → entriesOf d (removed (addressOf k c j) ledger) ≡ liveOfClass d s
+      one-live-less : (d : ℕ) → d < 27 → entriesOf d without-address ≡ liveOfClass d s
       one-live-less d l =
           let x = entries-of-removed (addressOf k c j) ledger d in
           let y = h .blocks (addressOf k c j) d l in

@@ -1,12 +1,16 @@
 //! The check of a state handed in.
 
 use crate::engine::{over_emptiness_threshold, Usage};
+use crate::names::NOT_HELD;
 use crate::outcome::Refusal;
 use crate::size_class::SIZE_CLASSES;
 use crate::state::{Setup, State, Superblock, GLOBAL_HEAP, ORDER_PLACES};
 
 /// Most processors of a setup within limits.
 const MOST_PROCESSORS: usize = 8;
+
+/// Names that are passed over together where none is held.
+const NAMES_AT_ONCE: usize = 16;
 
 /// Live and all blocks of each heap and class.
 type UsageTable = [[Usage; SIZE_CLASSES.len()]; MOST_PROCESSORS + 1];
@@ -47,8 +51,8 @@ fn check_storage(setup: &Setup, order: &[u16]) -> Result<(), Refusal> {
 /// Checks the state and storage given to a take or free, in the order of the
 /// refusals: setup numbers, length of the storage, then the rest of the state.
 pub fn check_handed_in(state: &State, order: &[u16]) -> Result<(), Refusal> {
-    check_numbers_and_storage(&state.setup, order)?;
-    if !superblocks_are_sound(state, order) {
+    check_numbers_and_storage(&state.control.setup, order)?;
+    if !superblocks_are_sound(state, order) || !names_are_sound(state) {
         return Err(Refusal::State);
     }
     Ok(())
@@ -56,13 +60,14 @@ pub fn check_handed_in(state: &State, order: &[u16]) -> Result<(), Refusal> {
 
 /// The check of the superblocks, with the usage of every heap counted on the way.
 fn superblocks_are_sound(state: &State, order: &[u16]) -> bool {
+    let setup = &state.control.setup;
     let mut usage: UsageTable = Default::default();
     for (number, superblock) in state.superblocks.iter().enumerate() {
         if *superblock == Superblock::UNUSED {
             continue;
         }
-        let known = number < usize::from(state.setup.superblocks)
-            && superblock.owner <= state.setup.processors
+        let known = number < usize::from(setup.superblocks)
+            && superblock.owner <= setup.processors
             && usize::from(superblock.class) < SIZE_CLASSES.len();
         if !known {
             return false;
@@ -71,12 +76,40 @@ fn superblocks_are_sound(state: &State, order: &[u16]) -> bool {
         if !marks_are_in_range(superblock) || !order_is_sound(superblock, places) {
             return false;
         }
-        if superblock.owner == GLOBAL_HEAP && !empty_enough_for_global(&state.setup, superblock) {
+        if superblock.owner == GLOBAL_HEAP && !empty_enough_for_global(setup, superblock) {
             return false;
         }
         usage[usize::from(superblock.owner)][usize::from(superblock.class)].add(superblock);
     }
-    !any_heap_over_threshold(&state.setup, &usage)
+    !any_heap_over_threshold(setup, &usage)
+}
+
+/// Whether each held name points at a live block and no two at one, in superblocks
+/// that passed their check: these mark no block but those they have.
+fn names_are_sound(state: &State) -> bool {
+    // Marks of the live blocks that no name has pointed at yet. Block j of
+    // superblock s is bit s x 256 + j of them all, which is its number in names.
+    let mut unnamed = state.superblocks.map(|superblock| superblock.live);
+    let words = unnamed.as_flattened_mut();
+    let groups = state.control.names.0.chunks_exact(NAMES_AT_ONCE);
+    let numbers = groups.filter(|group| any_held(group)).flatten();
+    numbers.filter(|&&number| number != NOT_HELD).all(|number| {
+        let Some(word) = words.get_mut(usize::from(number / 64)) else {
+            return false;
+        };
+        let bit = 1 << (number % 64);
+        let is_unnamed = *word & bit != 0;
+        *word &= !bit;
+        is_unnamed
+    })
+}
+
+/// Whether any of a few names is held. There is no early end, so that the compiler
+/// compares them at once.
+fn any_held(group: &[u16]) -> bool {
+    group
+        .iter()
+        .fold(false, |held, &number| held | (number != NOT_HELD))
 }
 
 /// Whether no block at n or above is marked live.

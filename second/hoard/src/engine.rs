@@ -1,7 +1,9 @@
-//! The three calls: setup, take and free.
+//! The calls: setup, take and free, the last two also by name.
 
 use crate::check::{check_handed_in, check_setup};
+use crate::names::BlockId;
 use crate::outcome::{Answer, Outcome, Refusal};
+use crate::record::Command;
 use crate::size_class::{class_of_size, SizeClass, SIZE_CLASSES, SUPERBLOCK_BYTES};
 use crate::state::{Setup, State, Superblock, GLOBAL_HEAP, ORDER_PLACES, UNUSED_OWNER};
 
@@ -28,6 +30,21 @@ struct Offer {
     from_own_heap: bool,
 }
 
+/// Makes the call that a command asks for.
+pub fn run(command: &Command, state: &State, order: &mut [u16]) -> Answer {
+    match *command {
+        Command::Setup(asked) => setup(asked, order),
+        Command::Take { processor, size } => take(state, processor, size, order),
+        Command::Free { processor, address } => free(state, processor, address, order),
+        Command::NamedTake {
+            processor,
+            name,
+            size,
+        } => take_named(state, processor, name, size, order),
+        Command::NamedFree { processor, name } => free_named(state, processor, name, order),
+    }
+}
+
 /// Sets up: every superblock unused, the order places of the setup all 0.
 pub fn setup(asked: Setup, order: &mut [u16]) -> Answer {
     if let Err(refusal) = check_setup(&asked, order) {
@@ -45,39 +62,66 @@ pub fn setup(asked: Setup, order: &mut [u16]) -> Answer {
 
 /// Takes a block of at least `size` bytes for a processor.
 pub fn take(state: &State, processor: u8, size: u16, order: &mut [u16]) -> Answer {
-    let mut next = state.clone();
-    let outcome = match take_block(&mut next, processor, size, order) {
-        Ok(address) => Outcome::At(address),
-        Err(refusal) => Outcome::Refused(refusal),
-    };
-    Answer {
-        outcome,
-        state: next,
-    }
+    answer(state, processor, order, |next, order| {
+        let block = take_block(next, processor, size, order)?;
+        Ok(Outcome::At(next.address_of(block)))
+    })
+}
+
+/// Takes such a block and makes `name` hold it.
+pub fn take_named(state: &State, processor: u8, name: u16, size: u16, order: &mut [u16]) -> Answer {
+    answer(state, processor, order, |next, order| {
+        if !next.control.names.is_available(name) {
+            return Err(Refusal::TakenName);
+        }
+        let block = take_block(next, processor, size, order)?;
+        next.control.names.bind(name, block);
+        Ok(Outcome::At(next.address_of(block)))
+    })
 }
 
 /// Frees the block at `address`, whichever heap owns its superblock.
 pub fn free(state: &State, processor: u8, address: u32, order: &mut [u16]) -> Answer {
+    answer(state, processor, order, |next, order| {
+        let block = find_block(next, address)?;
+        Ok(Outcome::Moved(free_block(next, block, order)))
+    })
+}
+
+/// Frees the block that `name` holds.
+pub fn free_named(state: &State, processor: u8, name: u16, order: &mut [u16]) -> Answer {
+    answer(state, processor, order, |next, order| {
+        let held = next.control.names.block_of(name);
+        let block = held.ok_or(Refusal::NameNotHeld)?;
+        Ok(Outcome::Moved(free_block(next, block, order)))
+    })
+}
+
+/// Makes a call on a copy of the state, once state, storage and processor have
+/// passed. The call changes copy and storage only where it is not refused.
+fn answer(
+    state: &State,
+    processor: u8,
+    order: &mut [u16],
+    call: impl FnOnce(&mut State, &mut [u16]) -> Result<Outcome, Refusal>,
+) -> Answer {
     let mut next = state.clone();
-    let outcome = match free_block(&mut next, processor, address, order) {
-        Ok(moves) => Outcome::Moved(moves),
-        Err(refusal) => Outcome::Refused(refusal),
-    };
+    let outcome = check_handed_in(state, order)
+        .and_then(|()| check_processor(&state.control.setup, processor))
+        .and_then(|()| call(&mut next, order));
     Answer {
-        outcome,
+        outcome: outcome.unwrap_or_else(Outcome::Refused),
         state: next,
     }
 }
 
-/// The take itself. State and storage change only once no refusal is left.
+/// The take itself, in a state that has passed.
 fn take_block(
     state: &mut State,
     processor: u8,
     size: u16,
     order: &mut [u16],
-) -> Result<u32, Refusal> {
-    check_handed_in(state, order)?;
-    check_processor(state, processor)?;
+) -> Result<BlockId, Refusal> {
     let class = class_of_size(size).ok_or(Refusal::Size)?;
     let offer = find_superblock(state, processor, class).ok_or(Refusal::NoSuperblock)?;
 
@@ -92,34 +136,30 @@ fn take_block(
     let last_filled = superblock.free_count() - 1;
     let block = u32::from(places[last_filled as usize]);
     superblock.mark(block);
-    Ok(offer.number as u32 * SUPERBLOCK_BYTES + block * superblock.size_class().block_size)
+    Ok(BlockId {
+        superblock: offer.number,
+        block,
+    })
 }
 
-/// The free itself. State and storage change only once no refusal is left.
-fn free_block(
-    state: &mut State,
-    processor: u8,
-    address: u32,
-    order: &mut [u16],
-) -> Result<u32, Refusal> {
-    check_handed_in(state, order)?;
-    check_processor(state, processor)?;
-    let (number, block) = find_block(state, address)?;
-
-    let superblock = &mut state.superblocks[number];
+/// The free itself, of a live block in a state that has passed. Returns the number
+/// of superblocks moved.
+fn free_block(state: &mut State, freed: BlockId, order: &mut [u16]) -> u32 {
+    let superblock = &mut state.superblocks[freed.superblock];
     let next_place = superblock.free_count();
-    superblock.unmark(block);
-    places_of(order, number)[next_place as usize] = block as u16;
+    superblock.unmark(freed.block);
+    places_of(order, freed.superblock)[next_place as usize] = freed.block as u16;
+    state.control.names.release(freed);
 
     let (owner, class) = (superblock.owner, superblock.class);
     if owner == GLOBAL_HEAP {
-        return Ok(0);
+        return 0;
     }
-    Ok(transfer_excess(state, owner, class))
+    transfer_excess(state, owner, class)
 }
 
-fn check_processor(state: &State, processor: u8) -> Result<(), Refusal> {
-    if processor == 0 || processor > state.setup.processors {
+fn check_processor(setup: &Setup, processor: u8) -> Result<(), Refusal> {
+    if processor == 0 || processor > setup.processors {
         return Err(Refusal::Processor);
     }
     Ok(())
@@ -168,7 +208,7 @@ fn first_empty_of_global(state: &State) -> Option<usize> {
 
 /// Place 4: the first unused superblock of the setup.
 fn first_unused(state: &State) -> Option<usize> {
-    state.superblocks[..usize::from(state.setup.superblocks)]
+    state.superblocks[..usize::from(state.control.setup.superblocks)]
         .iter()
         .position(|superblock| superblock.owner == UNUSED_OWNER)
 }
@@ -183,10 +223,10 @@ pub fn renew(superblock: &mut Superblock, class: u8, places: &mut [u16]) {
     }
 }
 
-/// The superblock and block of a live address.
-fn find_block(state: &State, address: u32) -> Result<(usize, u32), Refusal> {
+/// The live block at an address.
+fn find_block(state: &State, address: u32) -> Result<BlockId, Refusal> {
     let number = (address / SUPERBLOCK_BYTES) as usize;
-    if number >= usize::from(state.setup.superblocks) {
+    if number >= usize::from(state.control.setup.superblocks) {
         return Err(Refusal::UnmappedAddress);
     }
     let superblock = &state.superblocks[number];
@@ -202,7 +242,10 @@ fn find_block(state: &State, address: u32) -> Result<(usize, u32), Refusal> {
     if !superblock.is_live(block) {
         return Err(Refusal::NotLive);
     }
-    Ok((number, block))
+    Ok(BlockId {
+        superblock: number,
+        block,
+    })
 }
 
 /// The order places of one superblock.
@@ -231,7 +274,11 @@ fn heap_is_over_threshold(state: &State, heap: u8, class: u8) -> bool {
             usage.add(superblock);
         }
     }
-    over_emptiness_threshold(&state.setup, &SIZE_CLASSES[usize::from(class)], &usage)
+    over_emptiness_threshold(
+        &state.control.setup,
+        &SIZE_CLASSES[usize::from(class)],
+        &usage,
+    )
 }
 
 /// Whether both conditions of the move rule hold: more than K superblocks' worth

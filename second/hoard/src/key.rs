@@ -2,8 +2,8 @@
 
 use std::fmt::{self, Display, Write};
 
-use crate::engine::{free, setup, take, Usage};
-use crate::outcome::{Answer, Outcome, Refusal};
+use crate::engine::{run, Usage};
+use crate::outcome::{Outcome, Refusal};
 use crate::record::{decode, Command, Stop, LONGEST_RECORD};
 use crate::size_class::SIZE_CLASSES;
 use crate::state::{Setup, State, ORDER_PLACES, SUPERBLOCKS};
@@ -53,18 +53,9 @@ fn print_commands(record: &[u8], text: &mut String) -> Result<State, Stop> {
     }
 }
 
-/// Gives a command to the engine.
-fn run(command: &Command, state: &State, order: &mut [u16]) -> Answer {
-    match *command {
-        Command::Setup(asked) => setup(asked, order),
-        Command::Take { processor, size } => take(state, processor, size, order),
-        Command::Free { processor, address } => free(state, processor, address, order),
-    }
-}
-
 /// Prints a line for each heap and class with a superblock.
 fn print_heaps(state: &State, text: &mut String) {
-    for heap in 0..=state.setup.processors {
+    for heap in 0..=state.control.setup.processors {
         for class in 0..SIZE_CLASSES.len() as u8 {
             print_heap_and_class(state, heap, class, text);
         }
@@ -100,6 +91,12 @@ impl Display for Command {
             Command::Setup(setup) => write!(f, "setup {setup}"),
             Command::Take { processor, size } => write!(f, "take {processor} {size}"),
             Command::Free { processor, address } => write!(f, "free {processor} {address}"),
+            Command::NamedTake {
+                processor,
+                name,
+                size,
+            } => write!(f, "take {processor} name {name} {size}"),
+            Command::NamedFree { processor, name } => write!(f, "free {processor} name {name}"),
         }
     }
 }

@@ -2,9 +2,11 @@
 //!
 //! A record is a setup and a run of takes and frees. Heap 0 is the global heap,
 //! heaps 1 to P belong to processors. Each superblock holds blocks of one size
-//! class and has a free list, kept in the lent order storage. [`setup`], [`take`]
-//! and [`free`] are the calls; [`setup_row`], [`take_row`] and [`free_row`] are the
-//! same on superblocks lent as a row; [`key`] answers a whole record.
+//! class and has a free list, kept in the lent order storage. A take may give its
+//! block a name, by which it may be freed. [`setup`], [`take`], [`free`],
+//! [`take_named`] and [`free_named`] are the calls, [`run`] makes the one that a
+//! command asks for; those on superblocks lent as a row end in `_row`; [`key`]
+//! answers a whole record.
 //!
 //! The engine scans: nothing is cached between calls, and each call checks the
 //! whole state it is given.
@@ -12,6 +14,7 @@
 mod check;
 mod engine;
 mod key;
+mod names;
 mod outcome;
 mod record;
 mod row;
@@ -19,13 +22,18 @@ mod size_class;
 mod state;
 
 pub use check::{check_handed_in, setup_within_limits};
-pub use engine::{free, over_emptiness_threshold, renew, setup, take, Usage};
+pub use engine::{
+    free, free_named, over_emptiness_threshold, renew, run, setup, take, take_named, Usage,
+};
 pub use key::key;
+pub use names::{BlockId, Names, NAMES, NOT_HELD};
 pub use outcome::{Answer, Outcome, Refusal, RowAnswer};
 pub use record::{
-    decode, read_command, write_command, Command, Stop, FREE_BYTE, LONGEST_RECORD, SETUP_BYTE,
-    TAKE_BYTE,
+    decode, read_command, write_command, Bytes, Command, Stop, FREE_BYTE, LONGEST_RECORD,
+    NAMED_FREE_BYTE, NAMED_TAKE_BYTE, SETUP_BYTE, TAKE_BYTE,
 };
-pub use row::{free_row, setup_row, take_row};
+pub use row::{free_named_row, free_row, run_row, setup_row, take_named_row, take_row};
 pub use size_class::{class_of_size, SizeClass, SIZE_CLASSES, SUPERBLOCK_BYTES};
-pub use state::{Setup, State, Superblock, GLOBAL_HEAP, ORDER_PLACES, SUPERBLOCKS, UNUSED_OWNER};
+pub use state::{
+    Control, Setup, State, Superblock, GLOBAL_HEAP, ORDER_PLACES, SUPERBLOCKS, UNUSED_OWNER,
+};

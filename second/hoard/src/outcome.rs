@@ -1,6 +1,6 @@
 //! Outcomes of calls and the refusals with their numbers.
 
-use crate::state::{Setup, State};
+use crate::state::{Control, State};
 
 /// Why a call or a record was refused.
 #[derive(Clone, Copy, Debug, PartialEq, Eq)]
@@ -31,6 +31,10 @@ pub enum Refusal {
     Storage = 12,
     /// The state fails its check.
     State = 13,
+    /// A name to bind that is held, or above 1023.
+    TakenName = 14,
+    /// A name to free that is not held.
+    NameNotHeld = 15,
 }
 
 impl Refusal {
@@ -60,10 +64,10 @@ pub struct Answer {
     pub state: State,
 }
 
-/// Outcome of a call on a lent row and the setup numbers handed back; the
-/// superblocks are in the row.
+/// Outcome of a call on a lent row and the setup numbers and names handed back;
+/// the superblocks are in the row.
 #[derive(Clone, Debug, PartialEq, Eq)]
 pub struct RowAnswer {
     pub outcome: Outcome,
-    pub setup: Setup,
+    pub control: Control,
 }

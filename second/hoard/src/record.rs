@@ -9,6 +9,9 @@ pub const LONGEST_RECORD: usize = 60000;
 pub const SETUP_BYTE: u8 = 0;
 pub const TAKE_BYTE: u8 = 1;
 pub const FREE_BYTE: u8 = 2;
+pub const NAMED_TAKE_BYTE: u8 = 3;
+/// The last command byte; those above are unknown.
+pub const NAMED_FREE_BYTE: u8 = 4;
 
 /// One command of a record.
 #[derive(Clone, Copy, Debug, PartialEq, Eq)]
@@ -16,6 +19,87 @@ pub enum Command {
     Setup(Setup),
     Take { processor: u8, size: u16 },
     Free { processor: u8, address: u32 },
+    NamedTake { processor: u8, name: u16, size: u16 },
+    NamedFree { processor: u8, name: u16 },
+}
+
+impl Command {
+    /// The byte that a record has for this command.
+    pub fn byte(&self) -> u8 {
+        match self {
+            Command::Setup(_) => SETUP_BYTE,
+            Command::Take { .. } => TAKE_BYTE,
+            Command::Free { .. } => FREE_BYTE,
+            Command::NamedTake { .. } => NAMED_TAKE_BYTE,
+            Command::NamedFree { .. } => NAMED_FREE_BYTE,
+        }
+    }
+
+    /// The command of a byte and the numbers behind it. None for an unknown byte,
+    /// or where the numbers end early.
+    pub fn read_numbers(byte: u8, bytes: &mut Bytes) -> Option<Command> {
+        Some(match byte {
+            SETUP_BYTE => Command::Setup(Setup::from_numbers(bytes.read()?)),
+            TAKE_BYTE => Command::Take {
+                processor: u8::from_le_bytes(bytes.read()?),
+                size: u16::from_le_bytes(bytes.read()?),
+            },
+            FREE_BYTE => Command::Free {
+                processor: u8::from_le_bytes(bytes.read()?),
+                address: u32::from_le_bytes(bytes.read()?),
+            },
+            NAMED_TAKE_BYTE => Command::NamedTake {
+                processor: u8::from_le_bytes(bytes.read()?),
+                name: u16::from_le_bytes(bytes.read()?),
+                size: u16::from_le_bytes(bytes.read()?),
+            },
+            NAMED_FREE_BYTE => Command::NamedFree {
+                processor: u8::from_le_bytes(bytes.read()?),
+                name: u16::from_le_bytes(bytes.read()?),
+            },
+            _ => return None,
+        })
+    }
+
+    /// Appends the numbers that stand behind the command byte.
+    pub fn write_numbers(&self, bytes: &mut Vec<u8>) {
+        match *self {
+            Command::Setup(setup) => bytes.extend(setup.numbers()),
+            Command::Take { processor, size } => {
+                bytes.push(processor);
+                bytes.extend(size.to_le_bytes());
+            }
+            Command::Free { processor, address } => {
+                bytes.push(processor);
+                bytes.extend(address.to_le_bytes());
+            }
+            Command::NamedTake {
+                processor,
+                name,
+                size,
+            } => {
+                bytes.push(processor);
+                bytes.extend(name.to_le_bytes());
+                bytes.extend(size.to_le_bytes());
+            }
+            Command::NamedFree { processor, name } => {
+                bytes.push(processor);
+                bytes.extend(name.to_le_bytes());
+            }
+        }
+    }
+}
+
+/// Bytes still to be read.
+pub struct Bytes<'a>(pub &'a [u8]);
+
+impl Bytes<'_> {
+    /// The next bytes, if there are as many.
+    pub fn read<const COUNT: usize>(&mut self) -> Option<[u8; COUNT]> {
+        let (first, rest) = self.0.split_first_chunk()?;
+        self.0 = rest;
+        Some(*first)
+    }
 }
 
 /// A refusal that ends the record, with the byte offset of its command.
@@ -30,7 +114,7 @@ pub struct Stop {
 pub fn decode(record: &[u8], offset: usize) -> Result<(Command, usize), Stop> {
     let stop = |refusal| Stop { refusal, offset };
     let byte = *record.get(offset).ok_or(stop(Refusal::MisplacedCommand))?;
-    if byte > FREE_BYTE {
+    if byte > NAMED_FREE_BYTE {
         return Err(stop(Refusal::UnknownCommand));
     }
     let is_setup = byte == SETUP_BYTE;
@@ -44,41 +128,17 @@ pub fn decode(record: &[u8], offset: usize) -> Result<(Command, usize), Stop> {
 /// The command at `offset`, wherever it stands, and the offset after it.
 pub fn read_command(record: &[u8], offset: usize) -> Result<(Command, usize), Stop> {
     let stop = |refusal| Stop { refusal, offset };
-    let bytes = &record[offset..];
-    let (&byte, fields) = bytes.split_first().ok_or(stop(Refusal::TruncatedCommand))?;
-    let (command, length) = match (byte, fields) {
-        (SETUP_BYTE, &[p_count, n, k, p, q, ..]) => (
-            Command::Setup(Setup::from_numbers([p_count, n, k, p, q])),
-            6,
-        ),
-        (TAKE_BYTE, &[processor, low, high, ..]) => {
-            let size = u16::from_le_bytes([low, high]);
-            (Command::Take { processor, size }, 4)
-        }
-        (FREE_BYTE, &[processor, a, b, c, d, ..]) => {
-            let address = u32::from_le_bytes([a, b, c, d]);
-            (Command::Free { processor, address }, 6)
-        }
-        (SETUP_BYTE | TAKE_BYTE | FREE_BYTE, _) => return Err(stop(Refusal::TruncatedCommand)),
-        _ => return Err(stop(Refusal::UnknownCommand)),
-    };
-    Ok((command, offset + length))
+    let bytes = &mut Bytes(&record[offset..]);
+    let [byte] = bytes.read().ok_or(stop(Refusal::TruncatedCommand))?;
+    if byte > NAMED_FREE_BYTE {
+        return Err(stop(Refusal::UnknownCommand));
+    }
+    let command = Command::read_numbers(byte, bytes).ok_or(stop(Refusal::TruncatedCommand))?;
+    Ok((command, record.len() - bytes.0.len()))
 }
 
 /// Appends a command to a record.
 pub fn write_command(record: &mut Vec<u8>, command: &Command) {
-    match *command {
-        Command::Setup(setup) => {
-            record.push(SETUP_BYTE);
-            record.extend(setup.numbers());
-        }
-        Command::Take { processor, size } => {
-            record.extend([TAKE_BYTE, processor]);
-            record.extend(size.to_le_bytes());
-        }
-        Command::Free { processor, address } => {
-            record.extend([FREE_BYTE, processor]);
-            record.extend(address.to_le_bytes());
-        }
-    }
+    record.push(command.byte());
+    command.write_numbers(record);
 }

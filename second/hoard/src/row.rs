@@ -1,10 +1,25 @@
-//! The three calls on a lent row: the superblocks are records that the caller
-//! lends, in a row of any length, and an accepted call edits them there.
+//! The calls on a lent row: the superblocks are records that the caller lends, in
+//! a row of any length, and an accepted call edits them there. Setup numbers and
+//! names go in and come back by value.
 
 use crate::check::{check_numbers_and_storage, check_setup};
-use crate::engine::{free, setup, take};
+use crate::engine::{run, setup};
 use crate::outcome::{Answer, Outcome, Refusal, RowAnswer};
-use crate::state::{Setup, State, Superblock, SUPERBLOCKS};
+use crate::record::Command;
+use crate::state::{Control, Setup, State, Superblock, SUPERBLOCKS};
+
+/// Makes the call that a command asks for. A setup does not look at `control`.
+pub fn run_row(
+    command: &Command,
+    control: Control,
+    row: &mut [Superblock],
+    order: &mut [u16],
+) -> RowAnswer {
+    match *command {
+        Command::Setup(asked) => setup_row(asked, row, order),
+        _ => edit_row(command, control, row, order),
+    }
+}
 
 /// Sets up on a lent row. Refusals: 1, 12, then 13 for a row that is not 64
 /// long. What the row holds is not checked; an accepted setup writes every
@@ -16,54 +31,82 @@ pub fn setup_row(asked: Setup, row: &mut [Superblock], order: &mut [u16]) -> Row
         Ok(()) => None,
     };
     match refusal {
-        Some(refusal) => RowAnswer {
-            outcome: Outcome::Refused(refusal),
-            setup: Setup::default(),
-        },
+        Some(refusal) => refused(Control::new(Setup::default()), refusal),
         None => write_back(setup(asked, order), row),
     }
 }
 
 /// Takes a block on a lent row. Refusals: 13 for the setup numbers, 12, 13 for
 /// the row's length and the rest of the check, then the take's own. A refused
-/// take changes nothing and hands back the setup numbers it was given.
+/// take changes nothing and hands back the setup numbers and names it was given.
 pub fn take_row(
-    numbers: Setup,
+    control: Control,
     row: &mut [Superblock],
     processor: u8,
     size: u16,
     order: &mut [u16],
 ) -> RowAnswer {
-    match borrowed_state(numbers, row, order) {
-        Ok(state) => write_back(take(&state, processor, size, order), row),
-        Err(refusal) => refused(numbers, refusal),
-    }
+    edit_row(&Command::Take { processor, size }, control, row, order)
 }
 
-/// Frees a block on a lent row, with the refusals of [`take_row`] and then the
-/// free's own.
+/// Takes a block by name, with the refusals of [`take_row`] and 14.
+pub fn take_named_row(
+    control: Control,
+    row: &mut [Superblock],
+    processor: u8,
+    name: u16,
+    size: u16,
+    order: &mut [u16],
+) -> RowAnswer {
+    let take = Command::NamedTake {
+        processor,
+        name,
+        size,
+    };
+    edit_row(&take, control, row, order)
+}
+
+/// Frees a block on a lent row, with the refusals of [`take_row`] up to 2 and then
+/// the free's own.
 pub fn free_row(
-    numbers: Setup,
+    control: Control,
     row: &mut [Superblock],
     processor: u8,
     address: u32,
     order: &mut [u16],
 ) -> RowAnswer {
-    match borrowed_state(numbers, row, order) {
-        Ok(state) => write_back(free(&state, processor, address, order), row),
-        Err(refusal) => refused(numbers, refusal),
-    }
+    edit_row(&Command::Free { processor, address }, control, row, order)
 }
 
-/// The state in a row, if setup numbers, storage and the row's length pass. The
-/// superblocks are checked by the call on that state.
-fn borrowed_state(numbers: Setup, row: &[Superblock], order: &[u16]) -> Result<State, Refusal> {
-    check_numbers_and_storage(&numbers, order)?;
-    let superblocks = row.try_into().map_err(|_| Refusal::State)?;
-    Ok(State {
-        setup: numbers,
+/// Frees a block by name, with the refusals of [`take_row`] up to 2 and then 15.
+pub fn free_named_row(
+    control: Control,
+    row: &mut [Superblock],
+    processor: u8,
+    name: u16,
+    order: &mut [u16],
+) -> RowAnswer {
+    edit_row(&Command::NamedFree { processor, name }, control, row, order)
+}
+
+/// Makes a take or free on the state in a row.
+fn edit_row(
+    command: &Command,
+    control: Control,
+    row: &mut [Superblock],
+    order: &mut [u16],
+) -> RowAnswer {
+    if let Err(refusal) = check_numbers_and_storage(&control.setup, order) {
+        return refused(control, refusal);
+    }
+    let Ok(superblocks) = row.try_into() else {
+        return refused(control, Refusal::State);
+    };
+    let state = State {
+        control,
         superblocks,
-    })
+    };
+    write_back(run(command, &state, order), row)
 }
 
 /// Puts the superblocks of an accepted call in the row, which is 64 long.
@@ -73,13 +116,13 @@ fn write_back(answer: Answer, row: &mut [Superblock]) -> RowAnswer {
     }
     RowAnswer {
         outcome: answer.outcome,
-        setup: answer.state.setup,
+        control: answer.state.control,
     }
 }
 
-fn refused(numbers: Setup, refusal: Refusal) -> RowAnswer {
+fn refused(control: Control, refusal: Refusal) -> RowAnswer {
     RowAnswer {
         outcome: Outcome::Refused(refusal),
-        setup: numbers,
+        control,
     }
 }

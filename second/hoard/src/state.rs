@@ -1,6 +1,7 @@
-//! Setup, superblocks and the state handed from call to call.
+//! Setup, superblocks and the state handed from call to call, names included.
 
-use crate::size_class::{SizeClass, SIZE_CLASSES};
+use crate::names::{BlockId, Names};
+use crate::size_class::{SizeClass, SIZE_CLASSES, SUPERBLOCK_BYTES};
 
 /// Superblocks that a state carries, used or not.
 pub const SUPERBLOCKS: usize = 64;
@@ -103,19 +104,42 @@ impl Superblock {
     }
 }
 
-/// What a call is handed and hands back: the setup and 64 superblocks.
+/// What goes from call to call beside the superblocks.
+#[derive(Clone, Debug, PartialEq, Eq)]
+pub struct Control {
+    pub setup: Setup,
+    pub names: Names,
+}
+
+impl Control {
+    /// A setup with no name held.
+    pub fn new(setup: Setup) -> Control {
+        Control {
+            setup,
+            names: Names::NONE,
+        }
+    }
+}
+
+/// What a call is handed and hands back: setup, names and 64 superblocks.
 #[derive(Clone, Debug, PartialEq, Eq)]
 pub struct State {
-    pub setup: Setup,
+    pub control: Control,
     pub superblocks: [Superblock; SUPERBLOCKS],
 }
 
 impl State {
-    /// A state with every superblock unused.
+    /// A state with every superblock unused and no name held.
     pub fn new(setup: Setup) -> State {
         State {
-            setup,
+            control: Control::new(setup),
             superblocks: [Superblock::UNUSED; SUPERBLOCKS],
         }
+    }
+
+    /// The address of a block; its superblock must be one of the 64, of a known class.
+    pub fn address_of(&self, block: BlockId) -> u32 {
+        let class = self.superblocks[block.superblock].size_class();
+        block.superblock as u32 * SUPERBLOCK_BYTES + block.block * class.block_size
     }
 }

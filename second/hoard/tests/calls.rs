@@ -1,6 +1,6 @@
 //! Setup, take and free on states and storage handed in.
 
-use hoard::{free, renew, setup, take};
+use hoard::{free, free_named, renew, setup, take, take_named};
 use hoard::{Answer, Outcome, Refusal, Setup, State, Superblock, ORDER_PLACES, SUPERBLOCKS};
 
 fn numbers(processors: u8, superblocks: u8, spare: u8, p: u8, q: u8) -> Setup {
@@ -226,7 +226,7 @@ fn setup_numbers_before_storage_before_the_rest() {
         assert_eq!(refused(&take(&state, processor, size, &mut order)), 13);
         let short = &mut order[1..];
         assert_eq!(refused(&take(&state, processor, size, short)), 12);
-        state.setup.p = 4;
+        state.control.setup.p = 4;
         assert_eq!(refused(&take(&state, processor, size, short)), 13);
     }
 }
@@ -243,6 +243,8 @@ fn refused_calls_hand_back_the_state_they_were_given() {
     for answer in [
         take(&state, 1, 16, &mut order),
         free(&state, 1, 0, &mut order),
+        take_named(&state, 1, 0, 16, &mut order),
+        free_named(&state, 1, 0, &mut order),
     ] {
         assert_eq!(answer.outcome, Outcome::Refused(Refusal::State));
         assert_eq!(answer.state, state);
@@ -254,7 +256,7 @@ fn refused_calls_hand_back_the_state_they_were_given() {
 fn fails_after(change: impl Fn(&mut State, &mut Vec<u16>)) {
     let (mut state, mut order) = on_the_threshold();
     state.superblocks[5] = Superblock::UNUSED;
-    state.setup.spare = 2;
+    state.control.setup.spare = 2;
     assert_eq!(
         take(&state, 1, 16, &mut order).outcome,
         Outcome::At(5 * 4096)
@@ -263,11 +265,13 @@ fn fails_after(change: impl Fn(&mut State, &mut Vec<u16>)) {
     change(&mut state, &mut order);
     assert_eq!(refused(&take(&state, 1, 16, &mut order)), 13);
     assert_eq!(refused(&free(&state, 1, 0, &mut order)), 13);
+    assert_eq!(refused(&take_named(&state, 1, 0, 16, &mut order)), 13);
+    assert_eq!(refused(&free_named(&state, 1, 0, &mut order)), 13);
 }
 
 #[test]
 fn each_clause_of_the_state_check() {
-    fails_after(|state, _| state.setup.q = 9);
+    fails_after(|state, _| state.control.setup.q = 9);
     fails_after(|state, _| state.superblocks[5].owner = 2);
     fails_after(|state, _| state.superblocks[0].owner = 254);
     fails_after(|state, _| state.superblocks[0].class = 27);
@@ -283,6 +287,7 @@ fn each_clause_of_the_state_check() {
         order.resize(7 * ORDER_PLACES, 0);
         own(state, order, 6, 0, 26, 0);
     });
-    fails_after(|state, _| state.setup.spare = 1);
+    fails_after(|state, _| state.control.setup.spare = 1);
     fails_after(|state, order| own(state, order, 5, 0, 26, 2));
+    fails_after(|state, _| state.control.names.0[1023] = 16384);
 }

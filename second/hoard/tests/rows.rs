@@ -1,7 +1,8 @@
-//! Setup, take and free on lent rows of every length around 64.
+//! Setup, take and free, plain and by name, on lent rows of every length around 64.
 
-use hoard::{free, free_row, renew, setup, setup_row, take, take_row};
-use hoard::{Answer, Outcome, RowAnswer, Setup, State, Superblock, ORDER_PLACES, SUPERBLOCKS};
+use hoard::{free_named_row, free_row, renew, run, run_row, setup, setup_row};
+use hoard::{take_named_row, take_row, BlockId, Command, Control, Names, Outcome, RowAnswer};
+use hoard::{Setup, State, Superblock, ORDER_PLACES, SUPERBLOCKS};
 
 const LENGTHS: [usize; 5] = [0, 1, 63, 64, 65];
 
@@ -10,6 +11,11 @@ const ODD: Superblock = Superblock {
     owner: 9,
     class: 9,
     live: [9; 4],
+};
+
+const FIRST_BLOCK: BlockId = BlockId {
+    superblock: 0,
+    block: 0,
 };
 
 fn numbers(processors: u8, superblocks: u8, spare: u8, p: u8, q: u8) -> Setup {
@@ -23,13 +29,15 @@ fn refused(answer: &RowAnswer) -> u8 {
     }
 }
 
-/// Two superblocks, the first of heap 1 and class 26 with block 0 live.
+/// Two superblocks, the first of heap 1 and class 26 with block 0 live, which name 7
+/// holds.
 fn sound() -> (State, Vec<u16>) {
     let mut state = State::new(numbers(1, 2, 1, 1, 4));
     let mut order = vec![7; 2 * ORDER_PLACES];
     state.superblocks[0].owner = 1;
     renew(&mut state.superblocks[0], 26, &mut order);
     state.superblocks[0].mark(0);
+    state.control.names.bind(7, FIRST_BLOCK);
     (state, order)
 }
 
@@ -45,13 +53,15 @@ fn setup_is_refused(asked: Setup, length: usize, places: usize, refusal: u8) {
     let (mut row, mut order) = (vec![ODD; length], vec![7; places]);
     let answer = setup_row(asked, &mut row, &mut order);
     assert_eq!(refused(&answer), refusal, "{asked:?} {length} {places}");
-    assert_eq!(answer.setup, Setup::default());
+    assert_eq!(answer.control, Control::new(Setup::default()));
     assert_eq!(row, vec![ODD; length]);
     assert_eq!(order, vec![7; places]);
 }
 
-/// A take and a free that are both refused: numbers, row and storage as they were.
+/// Takes and frees, plain and by name, that are all refused: numbers, names, row and
+/// storage as they were.
 fn calls_are_refused(state: &State, length: usize, order: &[u16], refusal: u8) {
+    let control = || state.control.clone();
     // The last two pairs of calls would have refusals of their own.
     for (processor, size, address) in [
         (1, 2048, 0),
@@ -62,11 +72,13 @@ fn calls_are_refused(state: &State, length: usize, order: &[u16], refusal: u8) {
         let before = row_of(state, length);
         let (mut row, mut lent) = (before.clone(), order.to_vec());
         for answer in [
-            take_row(state.setup, &mut row, processor, size, &mut lent),
-            free_row(state.setup, &mut row, processor, address, &mut lent),
+            take_row(control(), &mut row, processor, size, &mut lent),
+            free_row(control(), &mut row, processor, address, &mut lent),
+            take_named_row(control(), &mut row, processor, 1024, size, &mut lent),
+            free_named_row(control(), &mut row, processor, 5, &mut lent),
         ] {
             assert_eq!(refused(&answer), refusal, "{length} {}", order.len());
-            assert_eq!(answer.setup, state.setup);
+            assert_eq!(answer.control, state.control);
         }
         assert_eq!(row, before);
         assert_eq!(lent, order);
@@ -100,7 +112,7 @@ fn accepted_setup_writes_the_whole_row() {
     let (mut row, mut order) = (vec![ODD; 64], vec![7; 3 * ORDER_PLACES]);
     let answer = setup_row(asked, &mut row, &mut order);
     assert_eq!(answer.outcome, Outcome::Ready);
-    assert_eq!(answer.setup, asked);
+    assert_eq!(answer.control, Control::new(asked));
     assert_eq!(row, vec![Superblock::UNUSED; 64]);
     assert!(order[..2 * ORDER_PLACES].iter().all(|&place| place == 0));
     assert!(order[2 * ORDER_PLACES..].iter().all(|&place| place == 7));
@@ -112,25 +124,28 @@ fn state_numbers_before_storage_before_length() {
     for length in LENGTHS {
         // Numbers outside their limits are 13 whatever the storage.
         for out_of_limits in [[0, 2, 1, 1, 4], [1, 65, 1, 1, 4], [1, 2, 1, 4, 4], [0; 5]] {
-            let state = State {
-                setup: Setup::from_numbers(out_of_limits),
-                ..sound.clone()
-            };
+            let mut state = sound.clone();
+            state.control.setup = Setup::from_numbers(out_of_limits);
             for places in [0, 1, order.len() - 1, order.len()] {
                 calls_are_refused(&state, length, &order[..places], 13);
             }
         }
-        // Short storage is 12 whatever the row's length, and whatever it holds.
+        // Short storage is 12 whatever the row's length, and whatever row and names
+        // hold.
         let mut damaged = sound.clone();
         damaged.superblocks[0].owner = 2;
+        let mut misnamed = sound.clone();
+        misnamed.control.names.0[1023] = 1;
         for places in [0, 1, order.len() - 1] {
-            calls_are_refused(&sound, length, &order[..places], 12);
-            calls_are_refused(&damaged, length, &order[..places], 12);
+            for state in [&sound, &damaged, &misnamed] {
+                calls_are_refused(state, length, &order[..places], 12);
+            }
         }
-        // The length and what the row holds are 13, before the calls' own.
+        // The length and what row and names hold are 13, before the calls' own.
         if length > 0 {
             calls_are_refused(&damaged, length, &order, 13);
         }
+        calls_are_refused(&misnamed, length, &order, 13);
         if length != SUPERBLOCKS {
             calls_are_refused(&sound, length, &order, 13);
         }
@@ -152,7 +167,10 @@ fn own_refusals_on_a_row_of_64() {
     let (state, order) = sound();
     let before = row_of(&state, 64);
     let (mut row, mut lent) = (before.clone(), order.clone());
-    let numbers = state.setup;
+    let control = || state.control.clone();
+    let check = |answer: RowAnswer, refusal| {
+        assert_eq!((refused(&answer), answer.control), (refusal, control()));
+    };
     for (processor, size, refusal) in [
         (0, 0, 2),
         (2, 0, 2),
@@ -161,8 +179,11 @@ fn own_refusals_on_a_row_of_64() {
         (1, 2049, 3),
         (1, 65535, 3),
     ] {
-        let answer = take_row(numbers, &mut row, processor, size, &mut lent);
-        assert_eq!((refused(&answer), answer.setup), (refusal, numbers));
+        let answer = take_row(control(), &mut row, processor, size, &mut lent);
+        check(answer, refusal);
+        // A name that is available changes none of these.
+        let answer = take_named_row(control(), &mut row, processor, 1023, size, &mut lent);
+        check(answer, refusal);
     }
     for (processor, address, refusal) in [
         (0, 8192, 2),
@@ -171,23 +192,69 @@ fn own_refusals_on_a_row_of_64() {
         (1, 1, 6),
         (1, 2048, 7),
     ] {
-        let answer = free_row(numbers, &mut row, processor, address, &mut lent);
-        assert_eq!((refused(&answer), answer.setup), (refusal, numbers));
+        let answer = free_row(control(), &mut row, processor, address, &mut lent);
+        check(answer, refusal);
+    }
+    for (processor, name, size, refusal) in [
+        (0, 7, 2049, 2),
+        (2, 1024, 16, 2),
+        (1, 7, 16, 14),
+        (1, 7, 2049, 14),
+        (1, 1024, 2049, 14),
+        (1, 65535, 0, 14),
+    ] {
+        let answer = take_named_row(control(), &mut row, processor, name, size, &mut lent);
+        check(answer, refusal);
+    }
+    for (processor, name, refusal) in [
+        (0, 7, 2),
+        (2, 8, 2),
+        (1, 8, 15),
+        (1, 1023, 15),
+        (1, 1024, 15),
+        (1, 65535, 15),
+    ] {
+        let answer = free_named_row(control(), &mut row, processor, name, &mut lent);
+        check(answer, refusal);
     }
     assert_eq!((row, lent), (before, order));
+}
+
+#[test]
+fn names_go_in_and_come_back_by_value() {
+    let (state, order) = sound();
+    let (mut row, mut lent) = (row_of(&state, 64), order.clone());
+    let taken = take_named_row(state.control.clone(), &mut row, 1, 1023, 2048, &mut lent);
+    assert_eq!(taken.outcome, Outcome::At(2048));
+    assert_eq!(taken.control.names.block_of(7), Some(FIRST_BLOCK));
+    assert_eq!(taken.control.names.0[1023], 1);
+    // A plain free lets the name of its block go, a free by name its own.
+    let freed = free_row(taken.control, &mut row, 1, 0, &mut lent);
+    assert_eq!(freed.outcome, Outcome::Moved(0));
+    let held: Vec<u16> = freed.control.names.held().map(|(name, _)| name).collect();
+    assert_eq!(held, [1023]);
+    let freed = free_named_row(freed.control, &mut row, 1, 1023, &mut lent);
+    assert_eq!(freed.outcome, Outcome::Moved(0));
+    assert_eq!(freed.control.names, Names::NONE);
+    assert_eq!((row[0].owner, row[0].live_count()), (1, 0));
 }
 
 #[test]
 fn no_superblock_left_on_a_row() {
     let numbers = numbers(1, 1, 1, 1, 4);
     let (mut row, mut order) = (vec![ODD; 64], vec![7; ORDER_PLACES]);
-    setup_row(numbers, &mut row, &mut order);
-    let taken = take_row(numbers, &mut row, 1, 2048, &mut order);
+    let control = setup_row(numbers, &mut row, &mut order).control;
+    let taken = take_row(control, &mut row, 1, 2048, &mut order);
     assert_eq!(taken.outcome, Outcome::At(0));
     let before = (row.clone(), order.clone());
+    let control = || taken.control.clone();
     for size in [0, 1, 16] {
-        let answer = take_row(numbers, &mut row, 1, size, &mut order);
-        assert_eq!((refused(&answer), answer.setup), (4, numbers));
+        for answer in [
+            take_row(control(), &mut row, 1, size, &mut order),
+            take_named_row(control(), &mut row, 1, 0, size, &mut order),
+        ] {
+            assert_eq!((refused(&answer), answer.control), (4, control()));
+        }
     }
     assert_eq!((row, order), before);
 }
@@ -197,7 +264,7 @@ fn size_0_on_a_row_does_what_1_and_16_do() {
     let (state, order) = sound();
     let taken = [0, 1, 16].map(|size| {
         let (mut row, mut lent) = (row_of(&state, 64), order.clone());
-        let answer = take_row(state.setup, &mut row, 1, size, &mut lent);
+        let answer = take_row(state.control.clone(), &mut row, 1, size, &mut lent);
         (answer, row, lent)
     });
     let (answer, row, _) = &taken[0];
@@ -207,46 +274,69 @@ fn size_0_on_a_row_does_what_1_and_16_do() {
     assert_eq!(taken[2], taken[0]);
 }
 
-/// Heaps filled until no superblock is left and emptied again: on a row as on states.
+/// The same calls on a state and on a row.
+struct Both {
+    state: State,
+    order: Vec<u16>,
+    row: Vec<Superblock>,
+    row_order: Vec<u16>,
+}
+
+impl Both {
+    fn call(&mut self, command: Command) -> Outcome {
+        let control = self.state.control.clone();
+        let answer = run(&command, &self.state, &mut self.order);
+        let on_row = run_row(&command, control, &mut self.row, &mut self.row_order);
+        assert_eq!(on_row.outcome, answer.outcome);
+        assert_eq!(on_row.control, answer.state.control);
+        assert_eq!(self.row, answer.state.superblocks);
+        assert_eq!(self.row_order, self.order);
+        self.state = answer.state;
+        answer.outcome
+    }
+}
+
+/// Heaps filled until no superblock is left and emptied again, heap 2 by name: on a
+/// row as on states.
 #[test]
 fn calls_on_a_row_are_those_on_a_state() {
     let numbers = numbers(2, 8, 1, 1, 4);
-    let (mut row, mut row_order) = (vec![ODD; 64], vec![7; 9 * ORDER_PLACES]);
-    let mut order = row_order.clone();
-    let mut state = setup(numbers, &mut order).state;
-    setup_row(numbers, &mut row, &mut row_order);
+    let mut row = vec![ODD; 64];
+    let mut order = vec![7; 9 * ORDER_PLACES];
+    setup_row(numbers, &mut row, &mut order.clone());
+    let state = setup(numbers, &mut order).state;
+    let row_order = order.clone();
+    let mut both = Both {
+        state,
+        order,
+        row,
+        row_order,
+    };
     let mut moved = 0;
     for size in [384, 2048, 16, 384] {
-        let mut live = Vec::new();
-        for processor in [1, 2].into_iter().cycle() {
-            let answer = take(&state, processor, size, &mut order);
-            let on_row = take_row(numbers, &mut row, processor, size, &mut row_order);
-            same(&answer, &on_row, &row);
-            assert_eq!(row_order, order);
-            state = answer.state;
-            match answer.outcome {
-                Outcome::At(address) => live.push(address),
+        let mut frees = Vec::new();
+        for name in 0.. {
+            let (processor, named) = (name as u8 % 2 + 1, name % 2 == 1);
+            let take = Command::Take { processor, size };
+            let take_named = Command::NamedTake {
+                processor,
+                name,
+                size,
+            };
+            match both.call(if named { take_named } else { take }) {
+                Outcome::At(_) if named => frees.push(Command::NamedFree { processor, name }),
+                Outcome::At(address) => frees.push(Command::Free { processor, address }),
                 _ => break,
             }
         }
-        for address in live {
-            let answer = free(&state, 1, address, &mut order);
-            let on_row = free_row(numbers, &mut row, 1, address, &mut row_order);
-            same(&answer, &on_row, &row);
-            assert_eq!(row_order, order);
-            state = answer.state;
-            match answer.outcome {
+        for free in frees {
+            match both.call(free) {
                 Outcome::Moved(count) => moved += count,
-                other => panic!("{address}: {other:?}"),
+                other => panic!("{free:?}: {other:?}"),
             }
         }
+        assert_eq!(both.state.control.names, Names::NONE);
     }
     // Each heap keeps one superblock of a class: 8 - 2, 6 - 2, 4 - 2 and 4 - 2 move.
     assert_eq!(moved, 14);
-}
-
-fn same(answer: &Answer, on_row: &RowAnswer, row: &[Superblock]) {
-    assert_eq!(on_row.outcome, answer.outcome);
-    assert_eq!(on_row.setup, answer.state.setup);
-    assert_eq!(row, answer.state.superblocks);
 }

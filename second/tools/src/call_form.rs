@@ -3,7 +3,9 @@
 
 use std::fmt::Write;
 
-use hoard::{Answer, Command, Outcome, Setup, State, Superblock, FREE_BYTE, SETUP_BYTE, TAKE_BYTE};
+use hoard::{
+    Answer, BlockId, Bytes, Command, Control, Outcome, Setup, State, Superblock, SETUP_BYTE,
+};
 
 use crate::row_form::{answer_row_input, read_row_input, ROW_BYTE};
 
@@ -34,37 +36,29 @@ pub fn answer_bytes(bytes: &[u8]) -> String {
 /// Runs the call and prints its answer.
 pub fn answer_input(input: &CallInput) -> String {
     let mut order = input.order.clone();
-    let answer = run_call(input, &mut order);
-    let Answer { outcome, state } = answer;
-    print_answer(
-        &outcome,
-        &state.setup,
-        &state.superblocks,
-        &input.order,
-        &order,
-    )
+    let Answer { outcome, state } = run_call(input, &mut order);
+    let State {
+        control,
+        superblocks,
+    } = &state;
+    print_answer(&outcome, control, superblocks, &input.order, &order)
 }
 
 /// Runs the call on the storage given.
 pub fn run_call(input: &CallInput, order: &mut [u16]) -> Answer {
-    match input.call {
-        Command::Setup(asked) => hoard::setup(asked, order),
-        Command::Take { processor, size } => hoard::take(&input.state, processor, size, order),
-        Command::Free { processor, address } => {
-            hoard::free(&input.state, processor, address, order)
-        }
-    }
+    hoard::run(&input.call, &input.state, order)
 }
 
-/// The lines of an answer: outcome, setup, superblocks in use, changed places.
+/// The lines of an answer: outcome, setup, superblocks in use, held names, changed
+/// places.
 pub(crate) fn print_answer(
     outcome: &Outcome,
-    setup: &Setup,
+    control: &Control,
     superblocks: &[Superblock],
     before: &[u16],
     after: &[u16],
 ) -> String {
-    let mut text = format!("{outcome}\nsetup {setup}\n");
+    let mut text = format!("{outcome}\nsetup {}\n", control.setup);
     for (number, superblock) in superblocks.iter().enumerate() {
         if *superblock == Superblock::UNUSED {
             continue;
@@ -77,6 +71,9 @@ pub(crate) fn print_answer(
         )
         .expect("writing to a string does not fail");
     }
+    for (name, BlockId { superblock, block }) in control.names.held() {
+        text += &format!("name {name} superblock {superblock} block {block}\n");
+    }
     for (place, (old, new)) in before.iter().zip(after).enumerate() {
         if old != new {
             text += &format!("place {place} {new}\n");
@@ -88,27 +85,12 @@ pub(crate) fn print_answer(
 /// The call in `bytes`, if they are one call and nothing more.
 pub fn read_input(bytes: &[u8]) -> Option<CallInput> {
     let mut bytes = Bytes(bytes);
-    let [kind] = bytes.next()?;
-    let setup = Setup::from_numbers(bytes.next()?);
-    let mut state = State::new(setup);
-    let call = match kind {
-        SETUP_BYTE => Command::Setup(setup),
-        TAKE_BYTE => Command::Take {
-            processor: u8::from_le_bytes(bytes.next()?),
-            size: u16::from_le_bytes(bytes.next()?),
-        },
-        FREE_BYTE => Command::Free {
-            processor: u8::from_le_bytes(bytes.next()?),
-            address: u32::from_le_bytes(bytes.next()?),
-        },
-        _ => return None,
+    let [kind] = bytes.read()?;
+    let (call, state) = match kind {
+        SETUP_BYTE => read_setup(&mut bytes)?,
+        _ => read_call_on_state(kind, &mut bytes)?,
     };
-    if kind != SETUP_BYTE {
-        for superblock in &mut state.superblocks {
-            *superblock = read_superblock(&mut bytes)?;
-        }
-    }
-    let places = u32::from_le_bytes(bytes.next()?);
+    let places = u32::from_le_bytes(bytes.read()?);
     if places as usize > MOST_PLACES {
         return None;
     }
@@ -116,22 +98,31 @@ pub fn read_input(bytes: &[u8]) -> Option<CallInput> {
     Some(CallInput { call, state, order })
 }
 
-/// Bytes still to be read.
-struct Bytes<'a>(&'a [u8]);
+/// A setup, which is handed no state.
+fn read_setup(bytes: &mut Bytes) -> Option<(Command, State)> {
+    let asked = Setup::from_numbers(bytes.read()?);
+    Some((Command::Setup(asked), State::new(asked)))
+}
 
-impl Bytes<'_> {
-    fn next<const COUNT: usize>(&mut self) -> Option<[u8; COUNT]> {
-        let (first, rest) = self.0.split_first_chunk()?;
-        self.0 = rest;
-        Some(*first)
+/// Another call, whose numbers stand between the setup numbers of the state and
+/// the rest of it.
+fn read_call_on_state(kind: u8, bytes: &mut Bytes) -> Option<(Command, State)> {
+    let mut state = State::new(Setup::from_numbers(bytes.read()?));
+    let call = Command::read_numbers(kind, bytes)?;
+    for superblock in &mut state.superblocks {
+        *superblock = read_superblock(bytes)?;
     }
+    for number in &mut state.control.names.0 {
+        *number = u16::from_le_bytes(bytes.read()?);
+    }
+    Some((call, state))
 }
 
 fn read_superblock(bytes: &mut Bytes) -> Option<Superblock> {
-    let [owner, class] = bytes.next()?;
+    let [owner, class] = bytes.read()?;
     let mut live = [0; 4];
     for marks in &mut live {
-        *marks = u64::from_le_bytes(bytes.next()?);
+        *marks = u64::from_le_bytes(bytes.read()?);
     }
     Some(Superblock { owner, class, live })
 }
@@ -151,35 +142,29 @@ fn read_places(bytes: &[u8], places: u32) -> Option<Vec<u16>> {
 
 /// The bytes of a call.
 pub fn write_input(input: &CallInput) -> Vec<u8> {
-    let mut bytes = Vec::new();
-    match input.call {
-        Command::Setup(asked) => {
-            bytes.push(SETUP_BYTE);
-            bytes.extend(asked.numbers());
-        }
-        Command::Take { processor, size } => {
-            bytes.push(TAKE_BYTE);
-            bytes.extend(input.state.setup.numbers());
-            bytes.push(processor);
-            bytes.extend(size.to_le_bytes());
-            write_superblocks(&mut bytes, &input.state);
-        }
-        Command::Free { processor, address } => {
-            bytes.push(FREE_BYTE);
-            bytes.extend(input.state.setup.numbers());
-            bytes.push(processor);
-            bytes.extend(address.to_le_bytes());
-            write_superblocks(&mut bytes, &input.state);
-        }
+    let CallInput { call, state, order } = input;
+    let mut bytes = vec![call.byte()];
+    if let Command::Setup(_) = call {
+        call.write_numbers(&mut bytes);
+    } else {
+        bytes.extend(state.control.setup.numbers());
+        call.write_numbers(&mut bytes);
+        write_superblocks(&mut bytes, &state.superblocks);
+        write_numbers(&mut bytes, &state.control.names.0);
     }
-    bytes.extend((input.order.len() as u32).to_le_bytes());
-    bytes.extend(input.order.iter().flat_map(|place| place.to_le_bytes()));
+    bytes.extend((order.len() as u32).to_le_bytes());
+    write_numbers(&mut bytes, order);
     bytes
 }
 
-fn write_superblocks(bytes: &mut Vec<u8>, state: &State) {
-    for superblock in &state.superblocks {
+fn write_superblocks(bytes: &mut Vec<u8>, superblocks: &[Superblock]) {
+    for superblock in superblocks {
         bytes.extend([superblock.owner, superblock.class]);
         bytes.extend(superblock.live.iter().flat_map(|marks| marks.to_le_bytes()));
     }
+}
+
+/// Writes names or order places.
+fn write_numbers(bytes: &mut Vec<u8>, numbers: &[u16]) {
+    bytes.extend(numbers.iter().flat_map(|number| number.to_le_bytes()));
 }

@@ -4,6 +4,7 @@
 pub mod call_form;
 pub mod make_record;
 pub mod make_state;
+pub mod naming;
 pub mod paper;
 pub mod row_form;
 pub mod run;

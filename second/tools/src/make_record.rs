@@ -1,12 +1,18 @@
 //! Random records, the same on every run for a kind, seed and length.
 
 use hoard::{
-    read_command, write_command, Command, Outcome, Setup, FREE_BYTE, LONGEST_RECORD, SIZE_CLASSES,
-    SUPERBLOCK_BYTES,
+    read_command, write_command, Command, Outcome, Setup, LONGEST_RECORD, NAMED_FREE_BYTE,
+    SIZE_CLASSES, SUPERBLOCK_BYTES,
 };
 
+use crate::naming::{
+    available_name, edge_name, free_of_live, held_name, name_to_bind, name_to_free,
+};
 use crate::run::{PickFrom, Run};
 use crate::xorshift::Xorshift;
+
+/// Of 100 calls, how many are by name in records that have other aims.
+const NAMED_SHARES: [u32; 3] = [0, 30, 70];
 
 /// Kinds of records.
 #[derive(Clone, Copy, Debug, PartialEq, Eq)]
@@ -29,10 +35,14 @@ pub enum Kind {
     Edges,
     /// Size 0 beside 1, 16 and 17, and often no superblock left for it.
     Zero,
+    /// Names held, freed either way and used again, or refused.
+    Names,
+    /// Eight processors and all classes, with several hundred names held.
+    ManyNamed,
 }
 
 /// Every kind with its name.
-pub const KINDS: [(&str, Kind); 9] = [
+pub const KINDS: [(&str, Kind); 11] = [
     ("uniform", Kind::Uniform),
     ("threshold", Kind::Threshold),
     ("small", Kind::Small),
@@ -42,6 +52,8 @@ pub const KINDS: [(&str, Kind); 9] = [
     ("garbage", Kind::Garbage),
     ("edges", Kind::Edges),
     ("zero", Kind::Zero),
+    ("names", Kind::Names),
+    ("many-named", Kind::ManyNamed),
 ];
 
 /// The kind of a name.
@@ -56,25 +68,26 @@ pub fn make_record(kind: Kind, seed: u64, length: usize) -> Vec<u8> {
         Kind::Uniform => uniform(random, length).record,
         Kind::Threshold => threshold(random, length).record,
         Kind::Small => small(random, length).record,
-        // Figures of several versions are taken with these records: their bytes stay
-        // those of the time when size 0 was refused.
-        Kind::Many => many(random, length, true).record,
+        Kind::Many => many(random, length, &FIRST_VERSION).record,
         Kind::Longest => longest(random),
         Kind::Truncated => truncated(random, length),
         Kind::Garbage => garbage(random, length),
         Kind::Edges => edges(random, length).record,
         Kind::Zero => zero(random, length).record,
+        Kind::Names => names(random, length).record,
+        Kind::ManyNamed => many(random, length, &MOSTLY_NAMED).record,
     }
 }
 
 /// A run of one of the sound kinds, for the state at its end.
 pub fn any_run(random: &mut Xorshift, length: usize) -> Run {
-    match random.below(5) {
+    match random.below(6) {
         0 => uniform(random, length),
         1 => threshold(random, length),
         2 => small(random, length),
         3 => zero(random, length),
-        _ => many(random, length, false),
+        4 => names(random, length),
+        _ => many(random, length, &HALF_NAMED),
     }
 }
 
@@ -87,6 +100,22 @@ pub fn setup_in_limits(random: &mut Xorshift, most_processors: u8, most_superblo
         spare: random.pick(&[1, 1, 1, 2, 3, 16]),
         p: random.byte_between(1, q - 1),
         q,
+    }
+}
+
+/// The same with few spare superblocks and a fraction of at most a half, so that
+/// heaps give up superblocks early.
+fn setup_with_early_moves(
+    random: &mut Xorshift,
+    most_processors: u8,
+    most_superblocks: u8,
+) -> Setup {
+    let q = random.byte_between(2, 8);
+    Setup {
+        spare: random.pick(&[1, 1, 1, 2]),
+        p: random.byte_between(1, q / 2),
+        q,
+        ..setup_in_limits(random, most_processors, most_superblocks)
     }
 }
 
@@ -125,7 +154,10 @@ pub fn any_processor(random: &mut Xorshift, processors: u8, whole: u32) -> u8 {
 
 /// A call that is likely to be refused.
 pub fn odd_call(random: &mut Xorshift, run: &mut Run) {
-    let processor = any_processor(random, run.state.setup.processors, 3);
+    if run.is_next_named(random) {
+        return odd_named_call(random, run);
+    }
+    let processor = any_processor(random, run.state.control.setup.processors, 3);
     if random.chance(1, 3) {
         let size = random.pick(&[0, 1, 16, 17, 2048, 2049, 4096, 32768, 65535]);
         run.take(processor, size);
@@ -135,9 +167,25 @@ pub fn odd_call(random: &mut Xorshift, run: &mut Run) {
     }
 }
 
+/// A call by name that is likely to be refused.
+fn odd_named_call(random: &mut Xorshift, run: &mut Run) {
+    let processor = any_processor(random, run.state.control.setup.processors, 3);
+    let names = &run.state.control.names;
+    let edge = edge_name(random);
+    let available = available_name(random, names).unwrap_or(edge);
+    if random.chance(1, 2) {
+        let held = held_name(random, names).unwrap_or(edge);
+        let name = random.pick(&[held, edge, available]);
+        let size = random.pick(&[0, 16, 2048, 2049, 65535]);
+        run.take_named(processor, name, size);
+    } else {
+        run.free_named(processor, random.pick(&[edge, available]));
+    }
+}
+
 /// An address that is likely to be unmapped, misaligned or not live.
 fn odd_address(random: &mut Xorshift, run: &Run) -> u32 {
-    let end = u32::from(run.state.setup.superblocks) * SUPERBLOCK_BYTES;
+    let end = u32::from(run.state.control.setup.superblocks) * SUPERBLOCK_BYTES;
     let near = run.any_live(random).unwrap_or(0);
     match random.below(8) {
         0 => random.word(),
@@ -156,12 +204,15 @@ fn mixed_call(random: &mut Xorshift, run: &mut Run, takes: u32, classes: (u8, u8
     if random.chance(1, 25) {
         return odd_call(random, run);
     }
-    let processor = random.byte_between(1, run.state.setup.processors);
+    let processor = random.byte_between(1, run.state.control.setup.processors);
     match run.any_live(random) {
-        Some(address) if !random.chance(takes, 100) => run.free(processor, address),
+        Some(address) if !random.chance(takes, 100) => {
+            run.free_either_way(random, processor, address)
+        }
         _ => {
             let class = random.byte_between(classes.0, classes.1);
-            run.take(processor, size_of_class(random, class))
+            let size = size_of_class(random, class);
+            run.take_either_way(random, processor, size)
         }
     };
 }
@@ -169,8 +220,9 @@ fn mixed_call(random: &mut Xorshift, run: &mut Run, takes: u32, classes: (u8, u8
 /// A mixed call, or one time in eight a take of size 0 or of a size beside it.
 fn mixed_or_zero_call(random: &mut Xorshift, run: &mut Run, takes: u32, classes: (u8, u8)) {
     if random.chance(1, 8) {
-        let processor = random.byte_between(1, run.state.setup.processors);
-        run.take(processor, zero_or_beside(random));
+        let processor = random.byte_between(1, run.state.control.setup.processors);
+        let size = zero_or_beside(random);
+        run.take_either_way(random, processor, size);
     } else {
         mixed_call(random, run, takes, classes);
     }
@@ -178,6 +230,7 @@ fn mixed_or_zero_call(random: &mut Xorshift, run: &mut Run, takes: u32, classes:
 
 fn uniform(random: &mut Xorshift, length: usize) -> Run {
     let mut run = Run::new(setup_in_limits(random, 8, 64));
+    run.named = random.pick(&NAMED_SHARES);
     let takes = random.between(40, 75);
     while run.calls < length && run.has_room() {
         mixed_or_zero_call(random, &mut run, takes, (0, 26));
@@ -187,6 +240,7 @@ fn uniform(random: &mut Xorshift, length: usize) -> Run {
 
 fn small(random: &mut Xorshift, length: usize) -> Run {
     let mut run = Run::new(setup_in_limits(random, 3, 4));
+    run.named = random.pick(&NAMED_SHARES);
     let takes = random.between(45, 65);
     while run.calls < length && run.has_room() {
         mixed_or_zero_call(random, &mut run, takes, (16, 26));
@@ -194,17 +248,53 @@ fn small(random: &mut Xorshift, length: usize) -> Run {
     run
 }
 
-fn many(random: &mut Xorshift, length: usize, refuses_zero: bool) -> Run {
+/// How a record of many heaps and classes makes its calls.
+struct Style {
+    refuses_zero: bool,
+    /// Of 100 calls, how many are by name.
+    named: u32,
+    /// It begins with blocks for as many names, and grows while fewer are held.
+    fewest_names: usize,
+}
+
+/// Figures of several versions are taken with these records: their bytes stay those
+/// of the time when size 0 was refused and there were no names.
+const FIRST_VERSION: Style = Style {
+    refuses_zero: true,
+    named: 0,
+    fewest_names: 0,
+};
+
+const HALF_NAMED: Style = Style {
+    refuses_zero: false,
+    named: 50,
+    fewest_names: 0,
+};
+
+const MOSTLY_NAMED: Style = Style {
+    refuses_zero: false,
+    named: 90,
+    fewest_names: 400,
+};
+
+fn many(random: &mut Xorshift, length: usize, style: &Style) -> Run {
     let setup = Setup {
         processors: 8,
         superblocks: random.byte_between(40, 64),
         ..setup_in_limits(random, 8, 64)
     };
     let mut run = Run::new(setup);
-    run.refuses_zero = refuses_zero;
+    run.refuses_zero = style.refuses_zero;
+    run.named = style.named;
+    if style.fewest_names > 0 {
+        fill_each_heap(random, &mut run, length);
+    }
     while run.calls < length && run.has_room() {
         // Stretches that grow and stretches that shrink.
-        let takes = random.pick(&[30, 50, 70, 90]);
+        let mut takes = random.pick(&[30, 50, 70, 90]);
+        if run.state.control.names.held().count() < style.fewest_names {
+            takes = 97;
+        }
         for _ in 0..random.between(20, 120) {
             if run.calls < length && run.has_room() {
                 mixed_call(random, &mut run, takes, (0, 26));
@@ -212,6 +302,14 @@ fn many(random: &mut Xorshift, length: usize, refuses_zero: bool) -> Run {
         }
     }
     run
+}
+
+/// Takes a superblock's worth of small blocks for each heap, some hundred in all.
+fn fill_each_heap(random: &mut Xorshift, run: &mut Run, length: usize) {
+    for heap in 1..=run.state.control.setup.processors {
+        let class = random.byte_between(4, 10);
+        fill(random, run, heap, class, 1, length);
+    }
 }
 
 /// Fills a heap and class, then frees most of it, below its threshold, again and again.
@@ -225,23 +323,25 @@ fn threshold(random: &mut Xorshift, length: usize) -> Run {
         q,
     };
     let mut run = Run::new(setup);
+    run.named = random.pick(&NAMED_SHARES);
     let classes = [random.byte_between(11, 26), random.byte_between(15, 26)];
     while run.calls < length && run.has_room() {
         let heap = random.byte_between(1, setup.processors);
         let class = random.pick(&classes);
-        fill(random, &mut run, heap, class, length);
+        fill(random, &mut run, heap, class, 16, length);
         let left = random.below(8) as usize;
         free_down_to(random, &mut run, heap, class, left, length);
     }
     run
 }
 
-/// Takes some superblocks' worth of blocks.
-fn fill(random: &mut Xorshift, run: &mut Run, heap: u8, class: u8, length: usize) {
+/// Takes the blocks of one superblock or more, up to `most`.
+fn fill(random: &mut Xorshift, run: &mut Run, heap: u8, class: u8, most: u32, length: usize) {
     let blocks = SIZE_CLASSES[usize::from(class)].blocks;
-    for _ in 0..random.between(blocks, 16 * blocks) {
+    for _ in 0..random.between(blocks, most * blocks) {
         if run.calls < length && run.has_room() {
-            run.take(heap, size_of_class(random, class));
+            let size = size_of_class(random, class);
+            run.take_either_way(random, heap, size);
         }
     }
 }
@@ -262,10 +362,11 @@ fn free_down_to(
         let Some(address) = run.live_of(heap, class, from, random) else {
             return;
         };
-        let processor = random.byte_between(1, run.state.setup.processors);
-        run.free(processor, address);
+        let processor = random.byte_between(1, run.state.control.setup.processors);
+        run.free_either_way(random, processor, address);
         if random.chance(1, 12) && run.has_room() {
-            run.take(heap, size_or_zero(random, class));
+            let size = size_or_zero(random, class);
+            run.take_either_way(random, heap, size);
         }
     }
 }
@@ -274,6 +375,7 @@ fn free_down_to(
 /// or two commands that fill these.
 fn longest(random: &mut Xorshift) -> Vec<u8> {
     let mut run = Run::new(setup_in_limits(random, 8, 64));
+    run.named = random.pick(&NAMED_SHARES);
     let takes = random.between(48, 60);
     let lowest = random.pick(&[0, 8, 16]);
     while run.record.len() + 12 <= LONGEST_RECORD {
@@ -284,7 +386,8 @@ fn longest(random: &mut Xorshift) -> Vec<u8> {
         run.take(1, 16);
     }
     match left {
-        8 => run.take(1, 16),
+        8 => run.free_named(1, 0),
+        10 => run.take_named(1, 0, 16),
         _ => run.free(1, 0),
     };
     run.record
@@ -312,25 +415,38 @@ fn random_commands(random: &mut Xorshift, length: usize) -> Vec<u8> {
     write_command(&mut record, &Command::Setup(setup));
     for _ in 0..length {
         let processor = random.byte_between(0, setup.processors + 1);
-        let command = match random.below(2) {
-            0 => Command::Take {
-                processor,
-                size: match random.below(4) {
-                    0 => zero_or_beside(random),
-                    _ => random.below(2200) as u16,
-                },
-            },
-            _ => Command::Free {
-                processor,
-                address: random.below(66) * SUPERBLOCK_BYTES + random.below(8) * 16,
-            },
-        };
+        let command = random_command(random, processor);
         write_command(&mut record, &command);
         if random.chance(1, 100) {
-            record.push(random.byte_between(0, FREE_BYTE + 1));
+            record.push(random.byte_between(0, NAMED_FREE_BYTE + 1));
         }
     }
     record
+}
+
+/// A command with random numbers; few names, so that some are held.
+fn random_command(random: &mut Xorshift, processor: u8) -> Command {
+    let name = match random.below(4) {
+        0 => edge_name(random),
+        _ => random.below(12) as u16,
+    };
+    let size = match random.below(4) {
+        0 => zero_or_beside(random),
+        _ => random.below(2200) as u16,
+    };
+    match random.below(4) {
+        0 => Command::Take { processor, size },
+        1 => Command::Free {
+            processor,
+            address: random.below(66) * SUPERBLOCK_BYTES + random.below(8) * 16,
+        },
+        2 => Command::NamedTake {
+            processor,
+            name,
+            size,
+        },
+        _ => Command::NamedFree { processor, name },
+    }
 }
 
 /// A sound record with one to four bytes changed, command bytes more often.
@@ -340,7 +456,10 @@ fn damaged(random: &mut Xorshift, length: usize) -> Vec<u8> {
     for _ in 0..random.between(1, 4) {
         let (at, byte) = match random.below(2) {
             0 => (random.below(record.len() as u32) as usize, random.byte()),
-            _ => (random.pick(&starts), random.byte_between(0, FREE_BYTE + 1)),
+            _ => (
+                random.pick(&starts),
+                random.byte_between(0, NAMED_FREE_BYTE + 1),
+            ),
         };
         record[at] = byte;
     }
@@ -380,24 +499,26 @@ pub fn edge_setup(random: &mut Xorshift) -> Setup {
     setup
 }
 
-/// Sizes at class limits, wrong processors, addresses around every limit, and
-/// double frees.
+/// Sizes at class limits, wrong processors, addresses and names around every limit,
+/// and double frees.
 fn edges(random: &mut Xorshift, length: usize) -> Run {
     let mut run = Run::new(edge_setup(random));
-    let processors = run.state.setup.processors.max(1);
+    run.named = 40;
+    let processors = run.state.control.setup.processors.max(1);
     while run.calls < length && run.has_room() {
         let processor = random.byte_between(1, processors);
         match random.below(10) {
             0..=3 => {
                 let size = edge_size(random);
-                run.take(processor, size);
+                run.take_either_way(random, processor, size);
             }
             4..=6 => odd_call(random, &mut run),
             _ => {
                 let address = run.any_live(random).unwrap_or(0);
-                run.free(processor, address);
+                let free = free_of_live(random, &run.state, processor, address, run.named);
+                run.call(free);
                 if random.chance(1, 3) && run.has_room() {
-                    run.free(processor, address);
+                    run.call(free);
                 }
             }
         }
@@ -420,19 +541,13 @@ fn edge_size(random: &mut Xorshift) -> u16 {
 /// holds is enough for a move.
 fn zero(random: &mut Xorshift, length: usize) -> Run {
     let most_superblocks = random.pick(&[3, 8, 64, 64]);
-    let q = random.byte_between(2, 8);
-    let setup = Setup {
-        spare: random.pick(&[1, 1, 1, 2]),
-        p: random.byte_between(1, q / 2),
-        q,
-        ..setup_in_limits(random, 3, most_superblocks)
-    };
+    let setup = setup_with_early_moves(random, 3, most_superblocks);
     let mut run = Run::new(setup);
     let processors = setup.processors;
     if random.chance(1, 2) {
         // Heap 0 gets superblocks of another class before any heap has class 0.
         let heap = random.byte_between(1, processors);
-        fill(random, &mut run, heap, 26, length);
+        fill(random, &mut run, heap, 26, 16, length);
         free_down_to(random, &mut run, heap, 26, 0, length);
     }
     while run.calls < length && run.has_room() {
@@ -462,7 +577,7 @@ fn around_one_superblock(random: &mut Xorshift, run: &mut Run, heap: u8, length:
 fn fill_class_0(random: &mut Xorshift, run: &mut Run, heap: u8, live: u32, length: usize) {
     while run.live_count_of(heap, 0) < live && run.calls < length && run.has_room() {
         if random.chance(1, 6) {
-            let processor = any_processor(random, run.state.setup.processors, 3);
+            let processor = any_processor(random, run.state.control.setup.processors, 3);
             zero_call(random, run, processor, 70, 5);
         } else if let Outcome::Refused(_) = run.take(heap, size_or_zero(random, 0)) {
             return;
@@ -478,7 +593,7 @@ fn zero_stretch(random: &mut Xorshift, run: &mut Run, heap: u8, length: usize) {
     for _ in 0..random.between(20, 120) {
         if run.calls < length && run.has_room() {
             let processor = match random.below(3) {
-                0 => any_processor(random, run.state.setup.processors, 3),
+                0 => any_processor(random, run.state.control.setup.processors, 3),
                 _ => heap,
             };
             zero_call(random, run, processor, takes, large);
@@ -498,4 +613,99 @@ fn zero_call(random: &mut Xorshift, run: &mut Run, processor: u8, takes: u32, la
         _ if random.chance(1, 12) => run.take(processor, random.pick(&[2048, 2049, 65535])),
         _ => run.take(processor, zero_or_beside(random)),
     };
+}
+
+/// Names taken, held, freed by name and by address and used again, over few
+/// superblocks or many.
+fn names(random: &mut Xorshift, length: usize) -> Run {
+    let most_superblocks = random.pick(&[4, 16, 64, 64]);
+    let setup = setup_with_early_moves(random, 4, most_superblocks);
+    let mut run = Run::new(setup);
+    run.named = 85;
+    let classes = [random.byte_between(0, 26), random.byte_between(17, 23)];
+    while run.calls < length && run.has_room() {
+        let heap = random.byte_between(1, setup.processors);
+        match random.below(3) {
+            0 => names_to_heap_0(random, &mut run, heap, classes[1], length),
+            _ => names_stretch(random, &mut run, heap, &classes, length),
+        }
+    }
+    run
+}
+
+/// Fills some superblocks and frees part of their blocks, so that superblocks with
+/// named blocks pass to heap 0.
+fn names_to_heap_0(random: &mut Xorshift, run: &mut Run, heap: u8, class: u8, length: usize) {
+    fill(random, run, heap, class, 5, length);
+    let blocks = SIZE_CLASSES[usize::from(class)].blocks;
+    let freed = random.between(blocks, 3 * blocks) as usize;
+    let left = run.live.len().saturating_sub(freed);
+    free_down_to(random, run, heap, class, left, length);
+}
+
+/// A stretch of calls, most of them for one heap: more takes or more frees.
+fn names_stretch(random: &mut Xorshift, run: &mut Run, heap: u8, classes: &[u8], length: usize) {
+    let takes = random.pick(&[30, 50, 70]);
+    let mut recent = 0;
+    for _ in 0..random.between(10, 40) {
+        if run.calls < length && run.has_room() {
+            let processor = match random.below(4) {
+                0 => any_processor(random, run.state.control.setup.processors, 3),
+                _ => heap,
+            };
+            recent = if random.chance(takes, 100) {
+                names_take(random, run, processor, classes, recent)
+            } else {
+                names_free(random, run, processor, recent)
+            };
+        }
+    }
+}
+
+/// A take, three in four by name. Returns the name used last.
+fn names_take(
+    random: &mut Xorshift,
+    run: &mut Run,
+    processor: u8,
+    classes: &[u8],
+    recent: u16,
+) -> u16 {
+    let size = match random.below(10) {
+        0 => random.pick(&[0, 2048, 2049, 65535]),
+        _ => {
+            let class = random.pick(classes);
+            size_or_zero(random, class)
+        }
+    };
+    if random.chance(1, 4) {
+        run.take(processor, size);
+        return recent;
+    }
+    let name = match random.below(4) {
+        0 => recent,
+        _ => name_to_bind(random, &run.state.control.names, 12),
+    };
+    run.take_named(processor, name, size);
+    name
+}
+
+/// A free, three in four by name, the others mostly of a named block by its
+/// address. Returns the name used last.
+fn names_free(random: &mut Xorshift, run: &mut Run, processor: u8, recent: u16) -> u16 {
+    let names = &run.state.control.names;
+    if random.chance(3, 4) {
+        let name = match random.below(4) {
+            0 => recent,
+            _ => name_to_free(random, names),
+        };
+        run.free_named(processor, name);
+        return name;
+    }
+    let name = held_name(random, names).filter(|_| random.chance(3, 4));
+    let address = match name.and_then(|name| run.address_of_name(name)) {
+        Some(address) => address,
+        None => run.any_live(random).unwrap_or(0),
+    };
+    run.free(processor, address);
+    name.unwrap_or(recent)
 }

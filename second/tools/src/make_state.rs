@@ -3,14 +3,15 @@
 //! same on lent rows.
 
 use hoard::{
-    Command, Setup, State, Superblock, GLOBAL_HEAP, SIZE_CLASSES, SUPERBLOCKS, SUPERBLOCK_BYTES,
-    UNUSED_OWNER,
+    BlockId, Command, Names, Setup, State, Superblock, GLOBAL_HEAP, NAMED_FREE_BYTE, NAMES,
+    NOT_HELD, ORDER_PLACES, SIZE_CLASSES, SUPERBLOCKS, SUPERBLOCK_BYTES, UNUSED_OWNER,
 };
 
 use crate::call_form::{write_input, CallInput, MOST_PLACES};
 use crate::make_record::{any_processor, any_run, edge_setup, setup_in_limits, zero_or_beside};
-use crate::row_form::{write_row_input, RowInput, MOST_RECORDS, ROW_BYTE};
-use crate::table::{any_call, live_addresses, most_live_of_global, Table};
+use crate::naming::{available_name, free_of_live, held_name};
+use crate::row_form::{write_row_input, RowInput, MOST_RECORDS};
+use crate::table::{live_addresses, most_live_of_global, named_call, owned_blocks, Table};
 use crate::xorshift::Xorshift;
 
 /// Kinds of states.
@@ -52,6 +53,16 @@ pub enum Kind {
     GlobalFull,
     /// The same with one fewer: sound.
     GlobalLimit,
+    /// A name at a block that is not live.
+    NameFree,
+    /// A name at an unused superblock.
+    NameUnused,
+    /// A name at a block number at n or above.
+    NameHigh,
+    /// A name whose number is no block of the 64 superblocks.
+    NameRange,
+    /// Two names at one block.
+    NameTwice,
     /// One order place fewer than N x 256.
     StorageShort,
     /// Just N x 256 order places.
@@ -69,6 +80,8 @@ pub enum Kind {
     Zero,
     /// The same take on a state of any kind before this, sound or not.
     ZeroDamaged,
+    /// A take or free by name on a sound state with many names.
+    Named,
     /// A sound state, or a setup, on a lent row that is mostly 64 long.
     Row,
     /// A state or setup of any other kind on a lent row of any length, with
@@ -77,7 +90,7 @@ pub enum Kind {
 }
 
 /// Every kind with its name.
-pub const KINDS: [(&str, Kind); 28] = [
+pub const KINDS: [(&str, Kind); 34] = [
     ("replayed", Kind::Replayed),
     ("built", Kind::Built),
     ("loose", Kind::Loose),
@@ -96,6 +109,11 @@ pub const KINDS: [(&str, Kind); 28] = [
     ("move-rule-limit", Kind::MoveRuleLimit),
     ("global-full", Kind::GlobalFull),
     ("global-limit", Kind::GlobalLimit),
+    ("name-free", Kind::NameFree),
+    ("name-unused", Kind::NameUnused),
+    ("name-high", Kind::NameHigh),
+    ("name-range", Kind::NameRange),
+    ("name-twice", Kind::NameTwice),
     ("storage-short", Kind::StorageShort),
     ("storage-exact", Kind::StorageExact),
     ("storage-long", Kind::StorageLong),
@@ -104,12 +122,13 @@ pub const KINDS: [(&str, Kind); 28] = [
     ("bytes", Kind::Bytes),
     ("zero", Kind::Zero),
     ("zero-damaged", Kind::ZeroDamaged),
+    ("named", Kind::Named),
     ("row", Kind::Row),
     ("row-damaged", Kind::RowDamaged),
 ];
 
 /// Kinds whose states pass the check and whose storage is enough.
-const SOUND_KINDS: [Kind; 7] = [
+pub const SOUND_KINDS: [Kind; 8] = [
     Kind::Replayed,
     Kind::Built,
     Kind::MoveRuleLimit,
@@ -117,7 +136,20 @@ const SOUND_KINDS: [Kind; 7] = [
     Kind::StorageExact,
     Kind::StorageLong,
     Kind::Zero,
+    Kind::Named,
 ];
+
+/// Kinds with a fault of names.
+const NAME_FAULTS: [Kind; 5] = [
+    Kind::NameFree,
+    Kind::NameUnused,
+    Kind::NameHigh,
+    Kind::NameRange,
+    Kind::NameTwice,
+];
+
+/// Numbers below this stand for blocks of the 64 superblocks.
+const BLOCK_NUMBERS: u16 = (SUPERBLOCKS * ORDER_PLACES) as u16;
 
 /// Lengths of a row that is refused.
 const WRONG_LENGTHS: [u8; 4] = [0, 1, 63, 65];
@@ -144,9 +176,10 @@ pub fn make_state(kind: Kind, seed: u64) -> Vec<u8> {
 
 /// A sound state with a call, or a setup call, on a row mostly of 64 records.
 fn row(random: &mut Xorshift) -> RowInput {
-    let kind = match random.below(5) {
+    let kind = match random.below(6) {
         0 => Kind::SetupCall,
         1 => Kind::Zero,
+        2 | 3 => Kind::Named,
         _ => random.pick(&SOUND_KINDS),
     };
     let mut input = make_input(kind, random);
@@ -169,15 +202,15 @@ fn row_damaged(random: &mut Xorshift) -> Vec<u8> {
     let mut input = make_input(kind, random);
     input.order.truncate(MOST_PLACES);
     if random.chance(1, 4) {
-        let needed = input.state.setup.order_places();
+        let needed = input.state.control.setup.order_places();
         let short = random.below(needed as u32 + 1) as usize;
         let length = random.pick(&[needed.saturating_sub(1), short, 0]);
         input.order.truncate(length);
     }
     if random.chance(1, 4) {
-        break_setup(random, &mut input.state.setup);
+        break_setup(random, &mut input.state.control.setup);
         if let Command::Setup(asked) = &mut input.call {
-            *asked = input.state.setup;
+            *asked = input.state.control.setup;
         }
     }
     let length = match random.below(5) {
@@ -191,11 +224,12 @@ fn row_damaged(random: &mut Xorshift) -> Vec<u8> {
     bytes
 }
 
-/// Makes the row too long, puts a row in a row, or cuts the bytes or adds to them.
+/// Makes the row too long, changes the call byte (255 makes it a row in a row), or
+/// cuts the bytes or adds to them.
 fn spoil_row(random: &mut Xorshift, bytes: &mut Vec<u8>) {
     match random.below(6) {
         0 => bytes[1] = random.pick(&[MOST_RECORDS + 1, 128, 255]),
-        1 => bytes[2] = random.byte_between(ROW_BYTE, 255),
+        1 => bytes[2] = random.byte_between(NAMED_FREE_BYTE + 1, 255),
         2 => bytes.truncate(random.below(4) as usize),
         3 => bytes.truncate(random.below(bytes.len() as u32) as usize),
         4 => {
@@ -219,6 +253,7 @@ fn make_input(kind: Kind, random: &mut Xorshift) -> CallInput {
         Kind::TwoFaults => two_faults(random),
         Kind::Zero => zero(random),
         Kind::ZeroDamaged => zero_damaged(random),
+        Kind::Named => named(random),
         _ => damaged(kind, random),
     }
 }
@@ -263,12 +298,15 @@ fn built(random: &mut Xorshift) -> CallInput {
     let setup = setup_in_limits(random, 8, 64);
     let mut table = scatter(random, setup, setup.superblocks);
     table.restore_invariants();
+    table.name_some_blocks(random);
     table.with_call(random)
 }
 
 fn loose(random: &mut Xorshift) -> CallInput {
     let setup = setup_in_limits(random, 8, 64);
-    scatter(random, setup, setup.superblocks).with_call(random)
+    let mut table = scatter(random, setup, setup.superblocks);
+    table.name_some_blocks(random);
+    table.with_call(random)
 }
 
 /// A sound state or a setup within limits, with storage of the length that the kind names.
@@ -285,7 +323,7 @@ fn with_storage(kind: Kind, random: &mut Xorshift) -> CallInput {
             }
         }
     };
-    let needed = input.state.setup.order_places();
+    let needed = input.state.control.setup.order_places();
     let length = match kind {
         Kind::StorageShort => needed - 1,
         Kind::StorageExact => needed,
@@ -328,6 +366,7 @@ fn owned_and_unused(random: &mut Xorshift) -> Table {
     let live = random.between(1, blocks - 2);
     table.own(0, owner, class, live, random);
     table.restore_invariants();
+    table.name_some_blocks(random);
     table
 }
 
@@ -335,7 +374,7 @@ fn owned_and_unused(random: &mut Xorshift) -> Table {
 fn damaged(kind: Kind, random: &mut Xorshift) -> CallInput {
     let mut table = owned_and_unused(random);
     match kind {
-        Kind::SetupNumber => break_setup(random, &mut table.state.setup),
+        Kind::SetupNumber => break_setup(random, &mut table.state.control.setup),
         Kind::MarkHigh => {
             let superblock = &mut table.state.superblocks[0];
             let blocks = superblock.size_class().blocks;
@@ -346,14 +385,68 @@ fn damaged(kind: Kind, random: &mut Xorshift) -> CallInput {
         }
         Kind::GlobalFull | Kind::GlobalLimit => around_global_limit(kind, random, &mut table),
         Kind::Beyond => own_beyond(random, &mut table),
+        kind if NAME_FAULTS.contains(&kind) => break_names(kind, random, &mut table.state),
         _ => break_unused(kind, random, &mut table),
     }
     table.with_call(random)
 }
 
+/// Makes a name point where there is no live block, or two at one.
+fn break_names(kind: Kind, random: &mut Xorshift, state: &mut State) {
+    let number = match kind {
+        Kind::NameTwice => return name_twice(random, state),
+        Kind::NameFree => random.pick(&owned_blocks(state, false)).number(),
+        Kind::NameUnused => block_of_unused(random, &state.control.setup).number(),
+        Kind::NameHigh => high_block(random, state).number(),
+        _ => {
+            let any = random.between(BLOCK_NUMBERS.into(), u32::from(NOT_HELD) - 1) as u16;
+            random.pick(&[BLOCK_NUMBERS, NOT_HELD - 1, any, any])
+        }
+    };
+    let name = any_name(random);
+    state.control.names.0[name] = number;
+}
+
+/// A block of the unused last superblock of the setup, or of one from N on.
+fn block_of_unused(random: &mut Xorshift, setup: &Setup) -> BlockId {
+    BlockId {
+        superblock: random.between(u32::from(setup.superblocks) - 1, 63) as usize,
+        block: random.below(256),
+    }
+}
+
+/// A block number past the last of superblock 0, whose class has fewer than 256.
+fn high_block(random: &mut Xorshift, state: &State) -> BlockId {
+    let blocks = state.superblocks[0].size_class().blocks;
+    BlockId {
+        superblock: 0,
+        block: random.pick(&[blocks, (blocks + 255) / 2, 255]),
+    }
+}
+
+/// The first name, the last or any.
+fn any_name(random: &mut Xorshift) -> usize {
+    let last = NAMES - 1;
+    let any = random.below(NAMES as u32) as usize;
+    random.pick(&[0, last, any, any])
+}
+
+/// Makes two names point at one live block: the first and the last, neighbours, or
+/// any two.
+fn name_twice(random: &mut Xorshift, state: &mut State) {
+    let last = NAMES - 1;
+    let name = any_name(random);
+    let other = (name + random.between(1, last as u32) as usize) % NAMES;
+    let neighbour = if name == last { name - 1 } else { name + 1 };
+    let (name, other) = random.pick(&[(0, last), (name, neighbour), (name, other)]);
+    let number = random.pick(&owned_blocks(state, true)).number();
+    state.control.names.0[name] = number;
+    state.control.names.0[other] = number;
+}
+
 /// Gives a superblock from N on to a heap, with an order of its own.
 fn own_beyond(random: &mut Xorshift, table: &mut Table) {
-    let setup = table.state.setup;
+    let setup = table.state.control.setup;
     let number = random.between(setup.superblocks.into(), 63) as usize;
     let owner = random.byte_between(0, setup.processors);
     let class = random.byte_between(0, 26);
@@ -390,8 +483,8 @@ fn break_order(kind: Kind, random: &mut Xorshift, table: &mut Table) {
 
 /// Breaks the unused last superblock of the setup.
 fn break_unused(kind: Kind, random: &mut Xorshift, table: &mut Table) {
-    let processors = table.state.setup.processors;
-    let number = usize::from(table.state.setup.superblocks) - 1;
+    let processors = table.state.control.setup.processors;
+    let number = usize::from(table.state.control.setup.superblocks) - 1;
     match kind {
         Kind::Owner => {
             let owner = random.pick(&[processors + 1, 100, UNUSED_OWNER - 1]);
@@ -411,9 +504,9 @@ fn break_unused(kind: Kind, random: &mut Xorshift, table: &mut Table) {
 /// Makes the last superblock of the setup one of the global heap with just too
 /// many live blocks, or with the most it may have.
 fn around_global_limit(kind: Kind, random: &mut Xorshift, table: &mut Table) {
-    let number = usize::from(table.state.setup.superblocks) - 1;
+    let number = usize::from(table.state.control.setup.superblocks) - 1;
     let class = random.byte_between(0, 26);
-    let most = most_live_of_global(&table.state.setup, class);
+    let most = most_live_of_global(&table.state.control.setup, class);
     let live = most + u32::from(kind == Kind::GlobalFull);
     table.own(number, GLOBAL_HEAP, class, live, random);
 }
@@ -432,11 +525,12 @@ fn around_threshold(random: &mut Xorshift, more: u32) -> CallInput {
     for (number, live) in live_counts.into_iter().enumerate() {
         table.own(number, heap, class, live, random);
     }
+    table.name_some_blocks(random);
     let mut input = table.with_call(random);
     if live > 0 && random.chance(3, 4) {
         let processor = random.byte_between(1, setup.processors);
         let address = address_to_free(random, &input.state);
-        input.call = Command::Free { processor, address };
+        input.call = free_of_live(random, &input.state, processor, address, 50);
     }
     input
 }
@@ -514,20 +608,27 @@ fn spread(random: &mut Xorshift, live: u32, count: u32, class: u8, setup: &Setup
     counts
 }
 
-/// Two faults at once: the first in the order of refusals counts.
+/// Two faults or more at once, of state, storage and call: the first in the order
+/// of refusals counts.
 fn two_faults(random: &mut Xorshift) -> CallInput {
-    let case = random.below(9);
     let mut table = owned_and_unused(random);
-    let setup = table.state.setup;
-    let call = call_with_faults(case, random, &table.state);
-    match case {
-        0 => break_setup(random, &mut table.state.setup),
-        1 | 3 | 5 => break_unused(Kind::Owner, random, &mut table),
-        7 | 8 => leave_superblock_0(&mut table.state),
+    let short = table.state.control.setup.order_places() - 1;
+    let mut call = call_with_two_faults(random, &table.state);
+    match random.below(10) {
+        0 => {
+            break_setup(random, &mut table.state.control.setup);
+            table.order.truncate(short);
+        }
+        1 => {
+            break_owner_or_name(random, &mut table);
+            table.order.truncate(short);
+        }
+        2 | 3 => break_owner_or_name(random, &mut table),
+        4 | 5 => {
+            leave_superblock_0(&mut table.state);
+            call = take_with_none_left(random, &table.state);
+        }
         _ => {}
-    }
-    if case <= 1 {
-        table.order.truncate(setup.order_places() - 1);
     }
     CallInput {
         call,
@@ -536,41 +637,91 @@ fn two_faults(random: &mut Xorshift) -> CallInput {
     }
 }
 
-/// The call of a case of two faults. Those of the state go before it in cases 0, 1,
-/// 3 and 5; in 7 and 8 no superblock is left for the take.
-fn call_with_faults(case: u32, random: &mut Xorshift, state: &State) -> Command {
-    let (processor, above) = (1, state.setup.processors + 1);
-    let unused = (u32::from(state.setup.superblocks) - 1) * SUPERBLOCK_BYTES;
-    match case {
-        2 | 3 => Command::Take {
-            processor: random.pick(&[0, above]),
-            size: random.pick(&[2049, 65535]),
-        },
-        4 | 5 => Command::Free {
-            processor: random.pick(&[0, above]),
-            address: random.pick(&[unused + 1, 1, u32::MAX]),
-        },
-        6 => Command::Free {
-            processor,
-            address: unused + 1,
-        },
-        7 => Command::Take {
-            processor: random.pick(&[0, above]),
-            size: 0,
-        },
-        8 => Command::Take {
-            processor,
-            size: random.pick(&[2049, 65535]),
-        },
-        _ => any_call(random, state),
+/// Breaks the owner of a superblock or, more often, a name.
+fn break_owner_or_name(random: &mut Xorshift, table: &mut Table) {
+    if random.chance(1, 6) {
+        break_unused(Kind::Owner, random, table);
+    } else {
+        let kind = random.pick(&NAME_FAULTS);
+        break_names(kind, random, &mut table.state);
     }
 }
 
-/// Leaves superblock 0 alone, which is partly live and not of class 0: no place
-/// offers another class a superblock.
+/// A call with two faults of its own.
+fn call_with_two_faults(random: &mut Xorshift, state: &State) -> Command {
+    let processor = no_processor(random, &state.control.setup);
+    let size = random.pick(&[2049, 65535]);
+    let taken = taken_name(random, &state.control.names);
+    let unused = (u32::from(state.control.setup.superblocks) - 1) * SUPERBLOCK_BYTES;
+    match random.below(6) {
+        0 => Command::Take { processor, size },
+        1 => Command::Free {
+            processor,
+            address: random.pick(&[unused + 1, 1, u32::MAX]),
+        },
+        2 => Command::Free {
+            processor: 1,
+            address: unused + 1,
+        },
+        3 => Command::NamedTake {
+            processor,
+            name: taken,
+            size: random.pick(&[16, size]),
+        },
+        4 => Command::NamedTake {
+            processor: 1,
+            name: taken,
+            size,
+        },
+        _ => Command::NamedFree {
+            processor,
+            name: available_name(random, &state.control.names).unwrap_or(1024),
+        },
+    }
+}
+
+/// A take with a fault of its own where only superblock 0 is left, which has no
+/// block for it.
+fn take_with_none_left(random: &mut Xorshift, state: &State) -> Command {
+    match random.below(3) {
+        0 => Command::Take {
+            processor: no_processor(random, &state.control.setup),
+            size: 0,
+        },
+        1 => Command::Take {
+            processor: 1,
+            size: random.pick(&[2049, 65535]),
+        },
+        _ => Command::NamedTake {
+            processor: 1,
+            name: taken_name(random, &state.control.names),
+            size: 0,
+        },
+    }
+}
+
+/// A processor out of range.
+fn no_processor(random: &mut Xorshift, setup: &Setup) -> u8 {
+    random.pick(&[0, setup.processors + 1])
+}
+
+/// A name that no take can bind.
+fn taken_name(random: &mut Xorshift, names: &Names) -> u16 {
+    let high = random.pick(&[1024, 65535]);
+    let held = held_name(random, names).unwrap_or(high);
+    random.pick(&[held, held, high])
+}
+
+/// Leaves superblock 0 alone, which is partly live and not of class 0, and its
+/// names: no place offers another class a superblock.
 fn leave_superblock_0(state: &mut State) {
-    state.setup.superblocks = 1;
+    state.control.setup.superblocks = 1;
     state.superblocks[1..].fill(Superblock::UNUSED);
+    for number in &mut state.control.names.0 {
+        if usize::from(*number) >= ORDER_PLACES {
+            *number = NOT_HELD;
+        }
+    }
 }
 
 /// A sound state around class 0. In one case of three live blocks hold every
@@ -598,6 +749,7 @@ fn zero(random: &mut Xorshift) -> CallInput {
         table.own(number, owner, class, live, random);
     }
     table.restore_invariants();
+    table.name_some_blocks(random);
     let mut input = table.with_call(random);
     input.call = take_of_zero(random, &setup);
     input
@@ -616,8 +768,43 @@ fn zero_damaged(random: &mut Xorshift) -> CallInput {
     let kind = random.pick(&KINDS[..Kind::Zero as usize]).1;
     let mut input = make_input(kind, random);
     input.order.truncate(MOST_PLACES);
-    input.call = take_of_zero(random, &input.state.setup);
+    input.call = take_of_zero(random, &input.state.control.setup);
     input
+}
+
+/// A take or free by name on a sound state with many names, in one case of six with
+/// all of them held.
+fn named(random: &mut Xorshift) -> CallInput {
+    let mut table = match random.below(4) {
+        0 => crowded(random),
+        _ => {
+            // With few superblocks there is often none left for a take.
+            let most_superblocks = random.pick(&[3, 64]);
+            let setup = setup_in_limits(random, 8, most_superblocks);
+            scatter(random, setup, setup.superblocks)
+        }
+    };
+    table.restore_invariants();
+    let most = random.pick(&[30, NAMES, NAMES]);
+    table.name_blocks(most, random);
+    let mut input = table.with_call(random);
+    input.call = named_call(random, &input.state, 6);
+    input
+}
+
+/// Live blocks for every name: 18 superblocks or more of small blocks, nearly full.
+fn crowded(random: &mut Xorshift) -> Table {
+    let mut setup = setup_in_limits(random, 8, 64);
+    setup.superblocks = setup.superblocks.max(18);
+    let mut table = Table::new(setup, random);
+    for number in 0..usize::from(setup.superblocks) {
+        let class = random.byte_between(0, 6);
+        let blocks = SIZE_CLASSES[usize::from(class)].blocks;
+        let live = random.between(blocks * 9 / 10, blocks);
+        let owner = random.byte_between(1, setup.processors);
+        table.own(number, owner, class, live, random);
+    }
+    table
 }
 
 /// Cuts the bytes, adds to them, or changes the call kind or the number of places.
@@ -628,7 +815,7 @@ fn spoil_length(random: &mut Xorshift, bytes: &mut Vec<u8>) {
             bytes.pop();
         }
         2 => bytes.push(random.byte()),
-        3 => bytes[0] = random.byte_between(3, 255),
-        _ => bytes.truncate(random.below(2200) as usize),
+        3 => bytes[0] = random.byte_between(NAMED_FREE_BYTE + 1, 255),
+        _ => bytes.truncate(random.below(4300) as usize),
     }
 }

@@ -73,33 +73,60 @@ fn read_line(line: &[u8]) -> Result<Command, String> {
     let mut words = line.split_ascii_whitespace();
     let command = words.next().unwrap_or("");
     let fields: Vec<&str> = words.collect();
-    match command {
-        "setup" => {
-            let [processors, superblocks, spare, p, q] = exactly("setup", "P N K p q", &fields)?;
-            Ok(Command::Setup(Setup {
-                processors: byte("P", processors)?,
-                superblocks: byte("N", superblocks)?,
-                spare: byte("K", spare)?,
-                p: byte("p", p)?,
-                q: byte("q", q)?,
-            }))
-        }
-        "take" => {
-            let [processor, size] = exactly("take", "processor size", &fields)?;
-            Ok(Command::Take {
-                processor: byte("processor", processor)?,
-                size: number("size", size, u64::from(u16::MAX))? as u16,
-            })
-        }
-        "free" => {
-            let [processor, address] = exactly("free", "processor address", &fields)?;
-            Ok(Command::Free {
-                processor: byte("processor", processor)?,
-                address: number("address", address, u64::from(u32::MAX))? as u32,
-            })
-        }
-        other => Err(format!("unknown command \"{other}\" (setup, take or free)")),
+    match (command, &fields[..]) {
+        ("setup", fields) => setup(fields),
+        ("take", [processor, "name", rest @ ..]) => named_take(&[&[*processor], rest].concat()),
+        ("take", fields) => take(fields),
+        ("free", [processor, "name", rest @ ..]) => named_free(&[&[*processor], rest].concat()),
+        ("free", fields) => free(fields),
+        _ => Err(format!(
+            "unknown command \"{command}\" (setup, take or free)"
+        )),
     }
+}
+
+fn setup(fields: &[&str]) -> Result<Command, String> {
+    let [processors, superblocks, spare, p, q] = exactly("setup", "P N K p q", fields)?;
+    Ok(Command::Setup(Setup {
+        processors: byte("P", processors)?,
+        superblocks: byte("N", superblocks)?,
+        spare: byte("K", spare)?,
+        p: byte("p", p)?,
+        q: byte("q", q)?,
+    }))
+}
+
+fn take(fields: &[&str]) -> Result<Command, String> {
+    let [processor, size] = exactly("take", "processor size", fields)?;
+    Ok(Command::Take {
+        processor: byte("processor", processor)?,
+        size: two_bytes("size", size)?,
+    })
+}
+
+fn free(fields: &[&str]) -> Result<Command, String> {
+    let [processor, address] = exactly("free", "processor address", fields)?;
+    Ok(Command::Free {
+        processor: byte("processor", processor)?,
+        address: number("address", address, u64::from(u32::MAX))? as u32,
+    })
+}
+
+fn named_take(fields: &[&str]) -> Result<Command, String> {
+    let [processor, name, size] = exactly("take by name", "processor name size", fields)?;
+    Ok(Command::NamedTake {
+        processor: byte("processor", processor)?,
+        name: two_bytes("name", name)?,
+        size: two_bytes("size", size)?,
+    })
+}
+
+fn named_free(fields: &[&str]) -> Result<Command, String> {
+    let [processor, name] = exactly("free by name", "processor name", fields)?;
+    Ok(Command::NamedFree {
+        processor: byte("processor", processor)?,
+        name: two_bytes("name", name)?,
+    })
 }
 
 /// The fields of a command, if there are as many as it has.
@@ -117,6 +144,11 @@ fn exactly<'a, const COUNT: usize>(
 /// A field of one byte.
 fn byte(name: &str, digits: &str) -> Result<u8, String> {
     Ok(number(name, digits, u64::from(u8::MAX))? as u8)
+}
+
+/// A field of two bytes.
+fn two_bytes(name: &str, digits: &str) -> Result<u16, String> {
+    Ok(number(name, digits, u64::from(u16::MAX))? as u16)
 }
 
 /// A field of decimal digits, 0 to `most`.

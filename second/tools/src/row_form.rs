@@ -6,7 +6,7 @@ use hoard::{Command, RowAnswer, Superblock};
 use crate::call_form::{print_answer, read_input, write_input, CallInput};
 
 /// First byte of a call on a lent row.
-pub const ROW_BYTE: u8 = 3;
+pub const ROW_BYTE: u8 = 255;
 
 /// The most records of a row.
 pub const MOST_RECORDS: u8 = 65;
@@ -26,8 +26,8 @@ pub struct RowInput {
 }
 
 impl RowInput {
-    /// The row lent: for a take or free the superblocks of the form and then
-    /// filler, for a setup filler alone.
+    /// The row lent: for a setup filler alone, else the superblocks of the form and
+    /// then filler.
     pub fn row(&self) -> Vec<Superblock> {
         let mut row = match self.input.call {
             Command::Setup(_) => Vec::new(),
@@ -60,18 +60,11 @@ pub fn write_row_input(input: &RowInput) -> Vec<u8> {
 pub fn answer_row_input(input: &RowInput) -> String {
     let mut row = input.row();
     let mut order = input.input.order.clone();
-    let RowAnswer { outcome, setup } = run_row_call(&input.input, &mut row, &mut order);
-    print_answer(&outcome, &setup, &row, &input.input.order, &order)
+    let RowAnswer { outcome, control } = run_row_call(&input.input, &mut row, &mut order);
+    print_answer(&outcome, &control, &row, &input.input.order, &order)
 }
 
 /// Runs the call on the row and storage given.
 pub fn run_row_call(input: &CallInput, row: &mut [Superblock], order: &mut [u16]) -> RowAnswer {
-    let numbers = input.state.setup;
-    match input.call {
-        Command::Setup(asked) => hoard::setup_row(asked, row, order),
-        Command::Take { processor, size } => hoard::take_row(numbers, row, processor, size, order),
-        Command::Free { processor, address } => {
-            hoard::free_row(numbers, row, processor, address, order)
-        }
-    }
+    hoard::run_row(&input.call, input.state.control.clone(), row, order)
 }

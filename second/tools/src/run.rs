@@ -6,6 +6,7 @@ use hoard::{
     SUPERBLOCKS, SUPERBLOCK_BYTES,
 };
 
+use crate::naming::{free_of_live, name_to_bind};
 use crate::xorshift::Xorshift;
 
 /// A record, the state after it, and the addresses that are live.
@@ -18,6 +19,8 @@ pub struct Run {
     /// Whether size 0 is refused here, as it once was: its takes are written and
     /// the record goes on as if they had not been made.
     pub refuses_zero: bool,
+    /// Of 100 calls that may be by name, how many are.
+    pub named: u32,
 }
 
 /// Which superblock of a heap and class a free picks its block from.
@@ -42,6 +45,7 @@ impl Run {
             live: Vec::new(),
             calls: 0,
             refuses_zero: false,
+            named: 0,
         }
     }
 
@@ -50,31 +54,92 @@ impl Run {
         self.record.len() + 6 <= LONGEST_RECORD
     }
 
-    /// Writes and runs a take.
-    pub fn take(&mut self, processor: u8, size: u16) -> Outcome {
-        write_command(&mut self.record, &Command::Take { processor, size });
+    /// Writes and runs a take or free.
+    pub fn call(&mut self, command: Command) -> Outcome {
+        write_command(&mut self.record, &command);
         self.calls += 1;
-        if size == 0 && self.refuses_zero {
+        if self.refuses_zero && matches!(command, Command::Take { size: 0, .. }) {
             return Outcome::Refused(Refusal::Size);
         }
-        let answer = hoard::take(&self.state, processor, size, &mut self.order);
-        if let Outcome::At(address) = answer.outcome {
-            self.live.push(address);
+        let freed = self.address_freed(&command);
+        let answer = hoard::run(&command, &self.state, &mut self.order);
+        match answer.outcome {
+            Outcome::At(address) => self.live.push(address),
+            Outcome::Moved(_) => self.live.retain(|&live| Some(live) != freed),
+            _ => {}
         }
         self.state = answer.state;
         answer.outcome
     }
 
-    /// Writes and runs a free.
-    pub fn free(&mut self, processor: u8, address: u32) -> Outcome {
-        write_command(&mut self.record, &Command::Free { processor, address });
-        self.calls += 1;
-        let answer = hoard::free(&self.state, processor, address, &mut self.order);
-        if let Outcome::Moved(_) = answer.outcome {
-            self.live.retain(|&live| live != address);
+    /// The address that a free, if it is accepted, frees.
+    fn address_freed(&self, command: &Command) -> Option<u32> {
+        match *command {
+            Command::Free { address, .. } => Some(address),
+            Command::NamedFree { name, .. } => self.address_of_name(name),
+            _ => None,
         }
-        self.state = answer.state;
-        answer.outcome
+    }
+
+    /// Writes and runs a plain take.
+    pub fn take(&mut self, processor: u8, size: u16) -> Outcome {
+        self.call(Command::Take { processor, size })
+    }
+
+    /// Writes and runs a plain free.
+    pub fn free(&mut self, processor: u8, address: u32) -> Outcome {
+        self.call(Command::Free { processor, address })
+    }
+
+    /// Writes and runs a take by name.
+    pub fn take_named(&mut self, processor: u8, name: u16, size: u16) -> Outcome {
+        self.call(Command::NamedTake {
+            processor,
+            name,
+            size,
+        })
+    }
+
+    /// Writes and runs a free by name.
+    pub fn free_named(&mut self, processor: u8, name: u16) -> Outcome {
+        self.call(Command::NamedFree { processor, name })
+    }
+
+    /// Takes, in the run's share of cases by a name.
+    pub fn take_either_way(&mut self, random: &mut Xorshift, processor: u8, size: u16) -> Outcome {
+        if self.is_next_named(random) {
+            let name = name_to_bind(random, &self.state.control.names, 40);
+            self.take_named(processor, name, size)
+        } else {
+            self.take(processor, size)
+        }
+    }
+
+    /// Frees a live block, in the run's share of cases by its name.
+    pub fn free_either_way(
+        &mut self,
+        random: &mut Xorshift,
+        processor: u8,
+        address: u32,
+    ) -> Outcome {
+        self.call(free_of_live(
+            random,
+            &self.state,
+            processor,
+            address,
+            self.named,
+        ))
+    }
+
+    /// Whether the next call is by name. Where none is to be, no number is drawn.
+    pub fn is_next_named(&self, random: &mut Xorshift) -> bool {
+        self.named > 0 && random.chance(self.named, 100)
+    }
+
+    /// The address that a name holds.
+    pub fn address_of_name(&self, name: u16) -> Option<u32> {
+        let block = self.state.control.names.block_of(name)?;
+        Some(self.state.address_of(block))
     }
 
     /// Any live address.

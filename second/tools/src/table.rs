@@ -1,12 +1,13 @@
 //! A state and its order storage, built superblock by superblock.
 
 use hoard::{
-    over_emptiness_threshold, Command, Setup, State, Superblock, Usage, GLOBAL_HEAP, ORDER_PLACES,
-    SIZE_CLASSES, SUPERBLOCKS, SUPERBLOCK_BYTES,
+    over_emptiness_threshold, BlockId, Command, Setup, State, Superblock, Usage, GLOBAL_HEAP,
+    NAMES, ORDER_PLACES, SIZE_CLASSES, SUPERBLOCKS, SUPERBLOCK_BYTES, UNUSED_OWNER,
 };
 
 use crate::call_form::CallInput;
 use crate::make_record::{any_processor, size_or_zero, zero_or_beside};
+use crate::naming::{name_to_bind, name_to_free};
 use crate::xorshift::Xorshift;
 
 /// A state and its order storage.
@@ -47,7 +48,7 @@ impl Table {
     /// Brings the owners within the state check: too full superblocks of the
     /// global heap go to heap 1, then each heap transfers its excess.
     pub fn restore_invariants(&mut self) {
-        let setup = self.state.setup;
+        let setup = self.state.control.setup;
         for superblock in &mut self.state.superblocks {
             if superblock.owner == GLOBAL_HEAP
                 && superblock.live_count() > most_live_of_global(&setup, superblock.class)
@@ -72,7 +73,7 @@ impl Table {
             }
         }
         let class = &SIZE_CLASSES[usize::from(class)];
-        over_emptiness_threshold(&self.state.setup, class, &usage)
+        over_emptiness_threshold(&self.state.control.setup, class, &usage)
     }
 
     fn transfer_emptiest(&mut self, heap: u8, class: u8) {
@@ -85,10 +86,27 @@ impl Table {
             .owner = GLOBAL_HEAP;
     }
 
+    /// Gives any names to any live blocks, to at most so many.
+    pub fn name_blocks(&mut self, most: usize, random: &mut Xorshift) {
+        let mut blocks = owned_blocks(&self.state, true);
+        let mut names: Vec<u16> = (0..NAMES as u16).collect();
+        random.shuffle(&mut blocks);
+        random.shuffle(&mut names);
+        for (name, block) in names.into_iter().zip(blocks).take(most) {
+            self.state.control.names.bind(name, block);
+        }
+    }
+
+    /// Gives names to none, some or all of the live blocks.
+    pub fn name_some_blocks(&mut self, random: &mut Xorshift) {
+        let most = random.pick(&[0, 4, 40, NAMES]);
+        self.name_blocks(most, random);
+    }
+
     /// The table with a call and, at random, as much storage as it needs or more.
     pub fn with_call(mut self, random: &mut Xorshift) -> CallInput {
         if random.chance(1, 2) {
-            self.order.truncate(self.state.setup.order_places());
+            self.order.truncate(self.state.control.setup.order_places());
         }
         CallInput {
             call: any_call(random, &self.state),
@@ -105,15 +123,38 @@ pub fn most_live_of_global(setup: &Setup, class: u8) -> u32 {
 }
 
 /// A take or free for a state, mostly with a processor and size within limits
-/// and a live address.
+/// and a live address. One in three is by name.
 pub fn any_call(random: &mut Xorshift, state: &State) -> Command {
-    let processor = any_processor(random, state.setup.processors, 12);
+    if random.chance(1, 3) {
+        return named_call(random, state, 12);
+    }
+    let processor = any_processor(random, state.control.setup.processors, 12);
     if random.chance(1, 2) {
         let size = any_size(random, state);
         Command::Take { processor, size }
     } else {
         let address = any_address(random, state);
         Command::Free { processor, address }
+    }
+}
+
+/// A take or free by name for a state, one in `whole` with a processor out of range.
+pub fn named_call(random: &mut Xorshift, state: &State, whole: u32) -> Command {
+    let names = &state.control.names;
+    let processor = any_processor(random, state.control.setup.processors, whole);
+    if random.chance(1, 2) {
+        Command::NamedTake {
+            processor,
+            name: name_to_bind(random, names, 12),
+            size: match random.below(6) {
+                0 => random.pick(&[2049, 65535]),
+                1 => random.between(0, 2048) as u16,
+                _ => any_size(random, state),
+            },
+        }
+    } else {
+        let name = name_to_free(random, names);
+        Command::NamedFree { processor, name }
     }
 }
 
@@ -128,7 +169,7 @@ fn any_size(random: &mut Xorshift, state: &State) -> u16 {
     let owned = state
         .superblocks
         .iter()
-        .filter(|it| it.owner <= state.setup.processors);
+        .filter(|it| it.owner <= state.control.setup.processors);
     let classes: Vec<u8> = owned
         .map(|it| it.class)
         .filter(|&class| class < 27)
@@ -145,7 +186,7 @@ fn any_size(random: &mut Xorshift, state: &State) -> u16 {
 fn any_address(random: &mut Xorshift, state: &State) -> u32 {
     let live = live_addresses(state);
     if live.is_empty() || random.chance(1, 8) {
-        let end = u32::from(state.setup.superblocks) * SUPERBLOCK_BYTES;
+        let end = u32::from(state.control.setup.superblocks) * SUPERBLOCK_BYTES;
         return random.pick(&[0, 16, 17, end, end.wrapping_sub(1), u32::MAX]);
     }
     let address = random.pick(&live);
@@ -156,15 +197,27 @@ fn any_address(random: &mut Xorshift, state: &State) -> u32 {
     }
 }
 
-/// The addresses of all marked blocks of superblocks with a known class.
-pub fn live_addresses(state: &State) -> Vec<u32> {
-    let mut addresses = Vec::new();
-    for (number, superblock) in (0u32..).zip(&state.superblocks) {
+/// The live blocks, or the free ones, of owned superblocks with a known class.
+pub fn owned_blocks(state: &State, live: bool) -> Vec<BlockId> {
+    let mut found = Vec::new();
+    for (number, superblock) in state.superblocks.iter().enumerate() {
         let Some(class) = SIZE_CLASSES.get(usize::from(superblock.class)) else {
             continue;
         };
-        let marked = (0..class.blocks).filter(|&block| superblock.is_live(block));
-        addresses.extend(marked.map(|block| number * SUPERBLOCK_BYTES + block * class.block_size));
+        if superblock.owner == UNUSED_OWNER {
+            continue;
+        }
+        let blocks = (0..class.blocks).filter(|&block| superblock.is_live(block) == live);
+        found.extend(blocks.map(|block| BlockId {
+            superblock: number,
+            block,
+        }));
     }
-    addresses
+    found
+}
+
+/// The addresses of all live blocks.
+pub fn live_addresses(state: &State) -> Vec<u32> {
+    let blocks = owned_blocks(state, true).into_iter();
+    blocks.map(|block| state.address_of(block)).collect()
 }

@@ -30,6 +30,20 @@ fn size_0_both_ways() {
 }
 
 #[test]
+fn names_both_ways() {
+    let text = "setup 1 2 1 1 4\ntake 1 name 5 2048\nfree 1 name 5\n\
+        take 255 name 65535 65535\nfree 0 name 1024\n";
+    let record = to_record(text.as_bytes()).unwrap();
+    assert_eq!(record[6..16], [3, 1, 5, 0, 0, 8, 4, 1, 5, 0]);
+    assert_eq!(record[16..], [3, 255, 255, 255, 255, 255, 4, 0, 0, 4]);
+    assert_eq!(to_text(&record).unwrap(), text);
+    let key = "setup 1 2 1 1 4\ntake 1 name 5 2048 at 0\nfree 1 name 5 moved 0\n\
+        take 255 name 65535 65535 refused 2\nfree 0 name 1024 refused 2\n\
+        heap 1 class 26 superblocks 1 live 0\nend\n";
+    assert_eq!(hoard::key(&record), key.as_bytes());
+}
+
+#[test]
 fn blank_lines_comments_and_spaces_are_skipped() {
     let text = "# a paper\n\n  setup  1 2 1\t1 4 \r\n   \n# take 1 1\ntake 1 0";
     assert_eq!(
@@ -56,6 +70,10 @@ fn errors_name_the_line() {
     assert_eq!(error_of("setup 1 2 1 1 4 5"), too_many);
     let answered = "line 1: take has 2 numbers (processor size), here are 4";
     assert_eq!(error_of("take 1 2048 at 0"), answered);
+    let no_size = "line 1: take by name has 3 numbers (processor name size), here are 2";
+    assert_eq!(error_of("take 1 name 5"), no_size);
+    let no_name = "line 1: free by name has 2 numbers (processor name), here are 1";
+    assert_eq!(error_of("free 1 name"), no_name);
     let binary = to_record(b"take 1 1\n\xff\xfe").unwrap_err();
     assert_eq!(binary.to_string(), "line 2: not plain text");
 }
@@ -68,6 +86,9 @@ fn errors_name_the_number() {
     assert_eq!(error_of("take 1 65536"), size);
     let address = "line 1: address 4294967296 is out of range (0 to 4294967295)";
     assert_eq!(error_of("free 1 4294967296"), address);
+    let name = "line 1: name 65536 is out of range (0 to 65535)";
+    assert_eq!(error_of("take 1 name 65536 16"), name);
+    assert_eq!(error_of("free 1 name 65536"), name);
     let huge = "line 1: address 99999999999999999999 is out of range (0 to 4294967295)";
     assert_eq!(error_of("free 1 99999999999999999999"), huge);
     let minus = "line 1: q \"-4\" is not a decimal number";
@@ -80,17 +101,19 @@ fn errors_name_the_number() {
 fn errors_name_the_byte() {
     let error_of = |record: &[u8]| to_text(record).unwrap_err().to_string();
     assert_eq!(
-        error_of(&[1, 1, 16, 0, 3]),
-        "byte 4: unknown command byte 03"
+        error_of(&[1, 1, 16, 0, 5]),
+        "byte 4: unknown command byte 05"
     );
     assert_eq!(
         error_of(&[0, 1, 2]),
         "byte 0: the record ends inside this command"
     );
-    assert_eq!(
-        error_of(&[1, 1, 16, 0, 2]),
-        "byte 4: the record ends inside this command"
-    );
+    for cut in [&[2][..], &[3, 1, 5, 0, 0], &[4, 1, 5]] {
+        assert_eq!(
+            error_of(&[&[1, 1, 16, 0], cut].concat()),
+            "byte 4: the record ends inside this command"
+        );
+    }
     assert_eq!(to_text(&[]).unwrap(), "");
 }
 
@@ -103,6 +126,8 @@ fn sound_records_come_back_as_they_were() {
         Kind::Many,
         Kind::Edges,
         Kind::Zero,
+        Kind::Names,
+        Kind::ManyNamed,
     ] {
         for seed in 0..5 {
             let record = make_record(kind, seed, 200);

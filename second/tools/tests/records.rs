@@ -1,11 +1,14 @@
 //! Random records: what they are like, and what holds along each of them.
 
+mod replay;
+
 use std::collections::{BTreeMap, HashMap};
 
-use hoard::{check_handed_in, ORDER_PLACES, SIZE_CLASSES, SUPERBLOCKS, SUPERBLOCK_BYTES};
-use hoard::{class_of_size, decode, write_command, Answer, Command, Outcome, Setup, State};
-use hoard::{GLOBAL_HEAP, UNUSED_OWNER};
+use hoard::{check_handed_in, class_of_size, decode, write_command, Answer, Command, Outcome};
+use hoard::{Refusal, State, GLOBAL_HEAP, SIZE_CLASSES, SUPERBLOCK_BYTES, UNUSED_OWNER};
 use tools::make_record::{make_record, Kind, KINDS};
+
+use replay::replay;
 
 #[test]
 fn the_same_seed_gives_the_same_record() {
@@ -38,7 +41,13 @@ fn long_records_have_60000_bytes() {
 
 #[test]
 fn other_records_stay_within_60000_bytes() {
-    for kind in [Kind::Uniform, Kind::Threshold, Kind::Edges, Kind::Zero] {
+    for kind in [
+        Kind::Uniform,
+        Kind::Threshold,
+        Kind::Edges,
+        Kind::Zero,
+        Kind::Names,
+    ] {
         let length = make_record(kind, 1, 20_000).len();
         assert!((59_990..=60_000).contains(&length), "{length}");
     }
@@ -60,6 +69,8 @@ fn kinds_do_what_they_are_for() {
             "{moves} moves"
         );
     }
+    let two_by_name = |line: &&str| line.contains(" name ") && line.ends_with(" moved 2");
+    assert!(threshold.lines().filter(two_by_name).count() > 5);
     assert!(key_of(Kind::Small, 100).matches(" refused 4\n").count() > 100);
     let many = key_of(Kind::Many, 800);
     (0..27).for_each(|class| assert!(many.contains(&format!("heap 8 class {class} "))));
@@ -93,36 +104,59 @@ fn zero_has_the_sizes_beside_it_and_at_the_other_limit() {
     }
 }
 
-/// Live blocks by address, counted from the calls and their answers alone.
+/// Live blocks and held names by address, counted from the calls and their answers
+/// alone.
 struct Ledger {
     classes: HashMap<u32, usize>,
+    names: HashMap<u16, u32>,
     live: [u64; 27],
     most: [u64; 27],
 }
 
 impl Ledger {
     fn note(&mut self, command: &Command, outcome: &Outcome) {
-        match (command, outcome) {
-            (Command::Take { size, .. }, Outcome::At(address)) => {
-                let class = usize::from(class_of_size(*size).unwrap());
-                assert!(
-                    self.classes.insert(*address, class).is_none(),
-                    "taken twice"
-                );
-                self.live[class] += 1;
-                self.most[class] = self.most[class].max(self.live[class]);
+        match (*command, *outcome) {
+            (Command::Take { size, .. }, Outcome::At(address)) => self.take(size, address),
+            (Command::NamedTake { name, size, .. }, Outcome::At(address)) => {
+                assert!(name < 1024, "bound {name}");
+                assert!(self.names.insert(name, address).is_none(), "bound twice");
+                self.take(size, address);
             }
-            (Command::Free { address, .. }, Outcome::Moved(_)) => {
-                let class = self.classes.remove(address).expect("freed while live");
-                self.live[class] -= 1;
+            (Command::Free { address, .. }, Outcome::Moved(_)) => self.free(address),
+            (Command::NamedFree { name, .. }, Outcome::Moved(_)) => self.free(self.names[&name]),
+            (Command::NamedTake { name, .. }, Outcome::Refused(Refusal::TakenName)) => {
+                assert!(name > 1023 || self.names.contains_key(&name));
+            }
+            (Command::NamedFree { name, .. }, Outcome::Refused(Refusal::NameNotHeld)) => {
+                assert!(!self.names.contains_key(&name));
             }
             _ => {}
         }
     }
 
+    fn take(&mut self, size: u16, address: u32) {
+        let class = usize::from(class_of_size(size).unwrap());
+        assert!(self.classes.insert(address, class).is_none(), "taken twice");
+        self.live[class] += 1;
+        self.most[class] = self.most[class].max(self.live[class]);
+    }
+
+    fn free(&mut self, address: u32) {
+        let class = self.classes.remove(&address).expect("freed while live");
+        self.live[class] -= 1;
+        self.names.retain(|_, held| *held != address);
+    }
+
+    /// The state holds the names that the calls bound and did not free.
+    fn check_names(&self, state: &State) {
+        let held = state.control.names.held();
+        let held = held.map(|(name, block)| (name, state.address_of(block)));
+        assert_eq!(held.collect::<HashMap<_, _>>(), self.names);
+    }
+
     /// (q - p) n A is at most q M + (q - p) P K n, for each class.
     fn check_bound(&self, state: &State) {
-        let [processors, _, spare, p, q] = state.setup.numbers().map(u64::from);
+        let [processors, _, spare, p, q] = state.control.setup.numbers().map(u64::from);
         for (class, size_class) in SIZE_CLASSES.iter().enumerate() {
             let n = u64::from(size_class.blocks);
             let owned = |it: &&hoard::Superblock| it.owner != 255 && usize::from(it.class) == class;
@@ -138,42 +172,31 @@ fn owners_changed(before: &State, after: &State) -> u32 {
     pairs.filter(|(old, new)| old.owner != new.owner).count() as u32
 }
 
-/// Gives a command to the engine.
-fn run(command: &Command, state: &State, order: &mut [u16]) -> Answer {
-    match *command {
-        Command::Setup(asked) => hoard::setup(asked, order),
-        Command::Take { processor, size } => hoard::take(state, processor, size, order),
-        Command::Free { processor, address } => hoard::free(state, processor, address, order),
-    }
-}
-
-/// Runs a record and checks the bound, the moves and the state after each call.
+/// Runs a record and checks the bound, the moves, the names and the state after each
+/// call.
 fn check_run(record: &[u8]) {
-    let mut order = vec![0; SUPERBLOCKS * ORDER_PLACES];
-    let mut state = State::new(Setup::default());
     let mut ledger = Ledger {
         classes: HashMap::new(),
+        names: HashMap::new(),
         live: [0; 27],
         most: [0; 27],
     };
-    let mut offset = 0;
-    while let Ok((command, next)) = decode(record, offset) {
-        let answer = run(&command, &state, &mut order);
-        let changed = owners_changed(&state, &answer.state);
-        match answer.outcome {
+    replay(record, |step| {
+        let Answer { outcome, state } = step.answer;
+        let changed = owners_changed(step.before, state);
+        match *outcome {
             Outcome::Moved(moves) => {
                 assert_eq!(moves, changed);
-                assert!(moves <= u32::from(state.setup.q));
+                assert!(moves <= u32::from(state.control.setup.q));
             }
             Outcome::At(_) => assert!(changed <= 1),
             _ => assert_eq!(changed, 0),
         }
-        ledger.note(&command, &answer.outcome);
-        ledger.check_bound(&answer.state);
-        check_handed_in(&answer.state, &order).expect("an accepted call yields a sound state");
-        state = answer.state;
-        offset = next;
-    }
+        ledger.note(&step.command, outcome);
+        ledger.check_bound(state);
+        ledger.check_names(state);
+        check_handed_in(state, step.order).expect("an accepted call yields a sound state");
+    });
 }
 
 #[test]
@@ -184,6 +207,8 @@ fn bound_moves_and_state_hold_after_every_call() {
         Kind::Small,
         Kind::Many,
         Kind::Zero,
+        Kind::Names,
+        Kind::ManyNamed,
     ] {
         for seed in 100..110 {
             check_run(&make_record(kind, seed, 500));
@@ -209,25 +234,19 @@ fn met_by_take(state: &State, outcome: &Outcome) -> String {
 
 /// Counts what takes of size 0 and frees of class 0 met along a record.
 fn count_met(record: &[u8], met: &mut BTreeMap<String, u32>) {
-    let mut order = vec![0; SUPERBLOCKS * ORDER_PLACES];
-    let mut state = State::new(Setup::default());
-    let mut offset = 0;
-    while let Ok((command, next)) = decode(record, offset) {
-        let answer = run(&command, &state, &mut order);
-        let what = match (command, answer.outcome) {
-            (Command::Take { size: 0, .. }, outcome) => Some(met_by_take(&state, &outcome)),
+    replay(record, |step| {
+        let what = match (step.command, step.answer.outcome) {
+            (Command::Take { size: 0, .. }, outcome) => Some(met_by_take(step.before, &outcome)),
             (Command::Free { address, .. }, moved @ Outcome::Moved(1..)) => {
-                let class = state.superblocks[(address / SUPERBLOCK_BYTES) as usize].class;
-                (class == 0).then(|| moved.to_string())
+                let number = (address / SUPERBLOCK_BYTES) as usize;
+                (step.before.superblocks[number].class == 0).then(|| moved.to_string())
             }
             _ => None,
         };
         if let Some(what) = what {
             *met.entry(what).or_default() += 1;
         }
-        state = answer.state;
-        offset = next;
-    }
+    });
 }
 
 /// The seeds that `compare` takes lead size 0 to each place and refusal it can meet.
@@ -259,8 +278,10 @@ fn replace_zero(record: &[u8], by: u16) -> Vec<u8> {
     let mut replaced = Vec::new();
     let mut offset = 0;
     while let Ok((mut command, next)) = decode(record, offset) {
-        if let Command::Take { size: size @ 0, .. } = &mut command {
-            *size = by;
+        if let Command::Take { size, .. } | Command::NamedTake { size, .. } = &mut command {
+            if *size == 0 {
+                *size = by;
+            }
         }
         write_command(&mut replaced, &command);
         offset = next;
@@ -274,6 +295,9 @@ fn replace_zero_in_key(key: &str, by: u16) -> String {
         ["take", processor, "0", answer, number] => {
             format!("take {processor} {by} {answer} {number}\n")
         }
+        ["take", processor, "name", name, "0", answer, number] => {
+            format!("take {processor} name {name} {by} {answer} {number}\n")
+        }
         _ => format!("{line}\n"),
     };
     key.lines().map(replace).collect()
@@ -282,7 +306,13 @@ fn replace_zero_in_key(key: &str, by: u16) -> String {
 #[test]
 fn size_0_is_answered_as_1_and_16() {
     let mut taken = 0;
-    for kind in [Kind::Uniform, Kind::Small, Kind::Many, Kind::Zero] {
+    for kind in [
+        Kind::Uniform,
+        Kind::Small,
+        Kind::Many,
+        Kind::Zero,
+        Kind::Names,
+    ] {
         for seed in 0..10 {
             let record = make_record(kind, seed, 600);
             let key = String::from_utf8(hoard::key(&record)).unwrap();

@@ -1,18 +1,24 @@
 //! Calls on lent rows: their form, and what the two kinds of rows meet.
 
+mod call_bytes;
+
 use std::collections::BTreeSet;
 
-use hoard::{Command, Outcome, Setup, Superblock};
+use hoard::{Command, Control, Outcome, Setup, Superblock};
 use tools::call_form::{answer_bytes, run_call, BAD_INPUT};
 use tools::make_state::{make_state, Kind};
 use tools::row_form::{read_row_input, run_row_call, write_row_input, FILLER};
 
+use call_bytes::on_unused;
+
 const KINDS: [Kind; 2] = [Kind::Row, Kind::RowDamaged];
 const SEEDS: std::ops::Range<u64> = 0..400;
+/// Seeds of each kind that `compare` takes.
+const COMPARED: std::ops::RangeInclusive<u64> = 1..=200;
 
 /// A setup within limits on a row, with 256 places of which the last is 5.
 fn setup_bytes(length: u8) -> Vec<u8> {
-    let mut bytes = vec![3, length, 0, 1, 1, 1, 1, 2];
+    let mut bytes = vec![255, length, 0, 1, 1, 1, 1, 2];
     bytes.extend(256u32.to_le_bytes());
     bytes.extend([0; 510]);
     bytes.extend([5, 0]);
@@ -21,14 +27,7 @@ fn setup_bytes(length: u8) -> Vec<u8> {
 
 /// A take of 2048 bytes from unused superblocks on a row.
 fn take_bytes(length: u8) -> Vec<u8> {
-    let mut bytes = vec![3, length, 1, 1, 1, 1, 1, 2, 1, 0, 8];
-    for _ in 0..64 {
-        bytes.push(255);
-        bytes.extend([0; 33]);
-    }
-    bytes.extend(256u32.to_le_bytes());
-    bytes.extend([0; 512]);
-    bytes
+    on_unused(&[255, length, 1, 1, 1, 1, 1, 2, 1, 0, 8])
 }
 
 fn filler_lines(numbers: std::ops::Range<u8>) -> String {
@@ -88,7 +87,7 @@ fn bad_input() {
             assert_eq!(answer_bytes(&bytes[..length]), BAD_INPUT, "{length}");
         }
         assert_eq!(answer_bytes(&[&bytes[..], &[0]].concat()), BAD_INPUT);
-        assert_eq!(answer_bytes(&[&[3, 64], &bytes[..]].concat()), BAD_INPUT);
+        assert_eq!(answer_bytes(&[&[255, 64], &bytes[..]].concat()), BAD_INPUT);
     }
 }
 
@@ -126,17 +125,16 @@ fn rows_against_states() {
         let answer = run_call(input, &mut order);
         if lent.length == 64 {
             assert_eq!(on_row.outcome, answer.outcome);
-            assert_eq!(on_row.setup, answer.state.setup);
+            assert_eq!(on_row.control, answer.state.control);
             assert_eq!(row_order, order);
         } else {
-            let lawful = hoard::setup_within_limits(&input.state.setup);
+            let setup = &input.state.control.setup;
+            let lawful = hoard::setup_within_limits(setup);
             let is_setup = matches!(input.call, Command::Setup(_));
             let refusal = match (lawful, is_setup) {
                 (false, true) => hoard::Refusal::Setup,
                 (false, false) => hoard::Refusal::State,
-                _ if input.order.len() < input.state.setup.order_places() => {
-                    hoard::Refusal::Storage
-                }
+                _ if input.order.len() < setup.order_places() => hoard::Refusal::Storage,
                 _ => hoard::Refusal::State,
             };
             assert_eq!(on_row.outcome, Outcome::Refused(refusal));
@@ -145,10 +143,10 @@ fn rows_against_states() {
             (Outcome::Refused(_), call) => {
                 assert_eq!((row, &row_order), (before, &input.order));
                 let handed_back = match call {
-                    Command::Setup(_) => Setup::default(),
-                    _ => input.state.setup,
+                    Command::Setup(_) => Control::new(Setup::default()),
+                    _ => input.state.control.clone(),
                 };
-                assert_eq!(on_row.setup, handed_back);
+                assert_eq!(on_row.control, handed_back);
             }
             (Outcome::Ready, _) => assert_eq!(row, [Superblock::UNUSED; 64]),
             _ => assert_eq!(row, answer.state.superblocks),
@@ -162,7 +160,7 @@ fn rows_against_states() {
 fn every_order_of_refusals_is_met() {
     let mut met = BTreeSet::new();
     for kind in KINDS {
-        for seed in 1..=120 {
+        for seed in COMPARED {
             let bytes = make_state(kind, seed);
             let text = answer_bytes(&bytes);
             let outcome = text.lines().next().unwrap();
@@ -197,26 +195,45 @@ fn every_order_of_refusals_is_met() {
     }
 }
 
-/// The seeds that `compare` takes give size 0 every answer it can have on a row.
-#[test]
-fn size_0_meets_every_answer() {
+/// The answers to some calls, among the seeds that `compare` takes.
+fn answers_to(selected: impl Fn(&Command) -> bool) -> BTreeSet<String> {
     let mut met = BTreeSet::new();
     for kind in KINDS {
-        for seed in 1..=120 {
+        for seed in COMPARED {
             let bytes = make_state(kind, seed);
-            let Some(lent) = read_row_input(&bytes) else {
-                continue;
-            };
-            if matches!(lent.input.call, Command::Take { size: 0, .. }) {
+            if read_row_input(&bytes).is_some_and(|lent| selected(&lent.input.call)) {
                 let text = answer_bytes(&bytes);
-                let outcome = text.lines().next().unwrap().to_string();
-                let accepted = outcome.starts_with("at ");
-                met.insert(if accepted { "at".to_string() } else { outcome });
+                let outcome = text.lines().next().unwrap();
+                let is_refused = outcome.starts_with("refused");
+                let word = outcome.split(' ').next().unwrap();
+                met.insert(if is_refused { outcome } else { word }.to_string());
             }
         }
     }
+    met
+}
+
+#[test]
+fn size_0_meets_every_answer() {
+    let met = answers_to(|call| matches!(call, Command::Take { size: 0, .. }));
     let all = ["at", "refused 12", "refused 13", "refused 2", "refused 4"];
     assert_eq!(met, BTreeSet::from(all.map(String::from)));
+}
+
+#[test]
+fn takes_by_name_meet_every_answer() {
+    let met = answers_to(|call| matches!(call, Command::NamedTake { .. }));
+    let refused = [2, 3, 4, 12, 13, 14].map(|number| format!("refused {number}"));
+    let all = ["at".to_string()].into_iter().chain(refused);
+    assert_eq!(met, all.collect());
+}
+
+#[test]
+fn frees_by_name_meet_every_answer() {
+    let met = answers_to(|call| matches!(call, Command::NamedFree { .. }));
+    let refused = [2, 12, 13, 15].map(|number| format!("refused {number}"));
+    let all = ["moved".to_string()].into_iter().chain(refused);
+    assert_eq!(met, all.collect());
 }
 
 #[test]

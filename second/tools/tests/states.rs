@@ -1,12 +1,16 @@
 //! States handed in: each kind gets the answer it is made for.
 
+mod call_bytes;
+
 use std::collections::BTreeSet;
 use std::fs;
 use std::path::Path;
 
-use hoard::Command;
+use hoard::{Command, State, FREE_BYTE, NAMED_FREE_BYTE, NAMES};
 use tools::call_form::{answer_bytes, read_input, run_call, write_input, BAD_INPUT};
-use tools::make_state::{make_state, Kind, KINDS};
+use tools::make_state::{make_state, Kind, KINDS, SOUND_KINDS};
+
+use call_bytes::on_unused;
 
 const SEEDS: std::ops::Range<u64> = 0..60;
 
@@ -31,6 +35,11 @@ fn broken_states_are_refused_with_13() {
         Kind::Beyond,
         Kind::MoveRule,
         Kind::GlobalFull,
+        Kind::NameFree,
+        Kind::NameUnused,
+        Kind::NameHigh,
+        Kind::NameRange,
+        Kind::NameTwice,
     ];
     for kind in broken {
         for seed in SEEDS {
@@ -41,16 +50,7 @@ fn broken_states_are_refused_with_13() {
 
 #[test]
 fn sound_states_are_not() {
-    let sound = [
-        Kind::Replayed,
-        Kind::Built,
-        Kind::MoveRuleLimit,
-        Kind::GlobalLimit,
-        Kind::StorageExact,
-        Kind::StorageLong,
-        Kind::Zero,
-    ];
-    for kind in sound {
+    for kind in SOUND_KINDS {
         for seed in SEEDS {
             let line = first_line(kind, seed);
             assert!(
@@ -68,6 +68,54 @@ fn short_storage_is_refused_with_12() {
             assert_eq!(first_line(kind, seed), "refused 12", "{kind:?} {seed}");
         }
     }
+}
+
+/// The states of the first seeds of a kind, as many as `compare` takes of it.
+fn states_of(kind: Kind, count: u64) -> impl Iterator<Item = State> {
+    let input = move |seed| read_input(&make_state(kind, seed)).expect("a call");
+    (1..=count).map(move |seed| input(seed).state)
+}
+
+#[test]
+fn sound_states_hold_no_name_or_many() {
+    for kind in [
+        Kind::Replayed,
+        Kind::Built,
+        Kind::MoveRuleLimit,
+        Kind::GlobalLimit,
+        Kind::Zero,
+    ] {
+        let counts = states_of(kind, 17).map(|state| state.control.names.held().count());
+        let counts: Vec<usize> = counts.collect();
+        assert!(counts.contains(&0), "{kind:?}: {counts:?}");
+        assert!(counts.iter().any(|&held| held > 30), "{kind:?}: {counts:?}");
+    }
+    let mut counts = states_of(Kind::Named, 60).map(|state| state.control.names.held().count());
+    assert!(counts.any(|held| held == NAMES));
+}
+
+#[test]
+fn broken_names_stand_at_the_limits() {
+    let numbers = states_of(Kind::NameRange, 30).flat_map(|state| state.control.names.0);
+    let numbers: BTreeSet<u16> = numbers.collect();
+    assert!(numbers.contains(&16384) && numbers.contains(&65534));
+
+    let pairs: Vec<(u16, u16)> = states_of(Kind::NameTwice, 30)
+        .filter_map(|state| names_at_one_block(&state))
+        .collect();
+    assert_eq!(pairs.len(), 30);
+    assert!(pairs.contains(&(0, 1023)));
+    assert!(pairs.iter().any(|(name, other)| name + 1 == *other));
+    assert!(pairs.iter().any(|(name, other)| name + 1 < *other));
+}
+
+/// The first name whose block a later one has too, and that one.
+fn names_at_one_block(state: &State) -> Option<(u16, u16)> {
+    let held: Vec<_> = state.control.names.held().collect();
+    held.iter().enumerate().find_map(|(index, &(name, block))| {
+        let other = held[index + 1..].iter().find(|other| other.1 == block)?;
+        Some((name, other.0))
+    })
 }
 
 #[test]
@@ -121,7 +169,7 @@ fn every_call_case_gives_its_answer() {
             .collect();
         let expected = fs::read_to_string(path.with_extension("answer")).unwrap();
         assert_eq!(answer_bytes(&bytes), expected, "{path:?}");
-        let on_row = [&[3, 64], &bytes[..]].concat();
+        let on_row = [&[255, 64], &bytes[..]].concat();
         assert_eq!(answer_bytes(&on_row), expected, "{path:?} on a row");
         count += 1;
     }
@@ -142,12 +190,20 @@ fn spoiled_bytes_are_bad_input() {
 
 #[test]
 fn frees_at_the_threshold_move_up_to_eight() {
-    let moves = |seed| first_line(Kind::MoveRuleLimit, seed);
-    let lines: Vec<String> = (0..2000).map(moves).collect();
-    for moves in 1..=8 {
-        assert!(lines.contains(&format!("moved {moves}")), "{moves} moves");
+    let mut met = BTreeSet::new();
+    for seed in 0..2000 {
+        let bytes = make_state(Kind::MoveRuleLimit, seed);
+        met.insert((bytes[0], first_line(Kind::MoveRuleLimit, seed)));
     }
-    assert!(!lines.contains(&"moved 9".to_string()));
+    for free in [FREE_BYTE, NAMED_FREE_BYTE] {
+        for moves in 1..=8 {
+            assert!(
+                met.contains(&(free, format!("moved {moves}"))),
+                "{free} {moves}"
+            );
+        }
+        assert!(!met.contains(&(free, "moved 9".to_string())));
+    }
 }
 
 #[test]
@@ -192,14 +248,20 @@ fn printed_form() {
     bytes[5] = 1;
     assert_eq!(answer_bytes(&bytes), "refused 1\nsetup 0 0 0 0 0\nend\n");
 
-    let mut bytes = vec![1, 1, 1, 1, 1, 2, 1, 0, 8];
-    for _ in 0..64 {
-        bytes.push(255);
-        bytes.extend([0; 33]);
-    }
-    bytes.extend(256u32.to_le_bytes());
-    bytes.extend([0; 512]);
+    let bytes = on_unused(&[1, 1, 1, 1, 1, 2, 1, 0, 8]);
     let taken =
         "at 0\nsetup 1 1 1 1 2\nsuperblock 0 owner 1 class 26 live 1 0 0 0\nplace 0 1\nend\n";
     assert_eq!(answer_bytes(&bytes), taken);
+}
+
+#[test]
+fn printed_form_of_names() {
+    let mut bytes = on_unused(&[4, 1, 1, 1, 1, 2, 1, 0, 4]);
+    assert_eq!(answer_bytes(&bytes), "refused 15\nsetup 1 1 1 1 2\nend\n");
+    // Held, but at no block: the first name and the last.
+    bytes[2185..2187].copy_from_slice(&[0, 0]);
+    bytes[4231..4233].copy_from_slice(&[254, 255]);
+    let refused = "refused 13\nsetup 1 1 1 1 2\nname 0 superblock 0 block 0\n\
+        name 1023 superblock 255 block 254\nend\n";
+    assert_eq!(answer_bytes(&bytes), refused);
 }

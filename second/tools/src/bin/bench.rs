@@ -131,15 +131,7 @@ fn time_of_checks(record: &[u8]) -> Duration {
         if std::hint::black_box(checked).is_ok() {
             total += start.elapsed();
         }
-        let answer = match command {
-            hoard::Command::Setup(asked) => hoard::setup(asked, &mut order),
-            hoard::Command::Take { processor, size } => {
-                hoard::take(&state, processor, size, &mut order)
-            }
-            hoard::Command::Free { processor, address } => {
-                hoard::free(&state, processor, address, &mut order)
-            }
-        };
+        let answer = hoard::run(&command, &state, &mut order);
         state = answer.state;
         offset = next_offset;
     }

@@ -1,0 +1,71 @@
+//! Blocks called by name.
+
+use crate::state::ORDER_PLACES;
+
+/// Names that a state may hold: 0 to 1023.
+pub const NAMES: usize = 1024;
+/// Number that stands for no block: the name is not held.
+pub const NOT_HELD: u16 = u16::MAX;
+
+/// A block, by its superblock and its number there.
+#[derive(Clone, Copy, Debug, PartialEq, Eq)]
+pub struct BlockId {
+    pub superblock: usize,
+    pub block: u32,
+}
+
+impl BlockId {
+    /// The block that a held name's number stands for.
+    pub fn from_number(number: u16) -> BlockId {
+        BlockId {
+            superblock: usize::from(number) / ORDER_PLACES,
+            block: u32::from(number) % ORDER_PLACES as u32,
+        }
+    }
+
+    /// The number of a name that holds this block: superblock x 256 + block.
+    pub fn number(self) -> u16 {
+        (self.superblock * ORDER_PLACES) as u16 + self.block as u16
+    }
+}
+
+/// The number of each name's block.
+#[derive(Clone, Debug, PartialEq, Eq)]
+pub struct Names(pub [u16; NAMES]);
+
+impl Names {
+    /// No name held.
+    pub const NONE: Names = Names([NOT_HELD; NAMES]);
+
+    /// Whether a take may bind the name: it is below 1024 and not held.
+    pub fn is_available(&self, name: u16) -> bool {
+        self.0.get(usize::from(name)) == Some(&NOT_HELD)
+    }
+
+    /// The block that a name holds; names above 1023 hold none.
+    pub fn block_of(&self, name: u16) -> Option<BlockId> {
+        let number = *self.0.get(usize::from(name))?;
+        (number != NOT_HELD).then(|| BlockId::from_number(number))
+    }
+
+    /// The held names and their blocks, names rising.
+    pub fn held(&self) -> impl Iterator<Item = (u16, BlockId)> + '_ {
+        (0..NAMES as u16).filter_map(|name| Some((name, self.block_of(name)?)))
+    }
+
+    /// Makes an available name hold a block.
+    pub fn bind(&mut self, name: u16, block: BlockId) {
+        self.0[usize::from(name)] = block.number();
+    }
+
+    /// Lets the name of a block go, if it has one.
+    pub fn release(&mut self, block: BlockId) {
+        let freed = block.number();
+        // Without an early end the compiler compares many names at once.
+        for number in &mut self.0 {
+            if *number == freed {
+                *number = NOT_HELD;
+            }
+        }
+    }
+}

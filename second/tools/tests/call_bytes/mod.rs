@@ -1,0 +1,15 @@
+//! The bytes of a call, for tests of its form.
+
+/// A call on unused superblocks with no name held and 256 order places: the bytes
+/// up to the superblocks, and those behind them.
+pub fn on_unused(call: &[u8]) -> Vec<u8> {
+    let mut bytes = call.to_vec();
+    for _ in 0..64 {
+        bytes.push(255);
+        bytes.extend([0; 33]);
+    }
+    bytes.extend([255; 2048]);
+    bytes.extend(256u32.to_le_bytes());
+    bytes.extend([0; 512]);
+    bytes
+}
