@@ -8,16 +8,17 @@ use Rattle.heap.specs.declared.State.{State}
 use Rattle.heap.specs.Counts.{isOwnedOfClass, superblocksOfClass, ownersChanged}
 use Rattle.checkrules.specs.Check.{withinLimits}
 use Rattle.calls.specs.declared.Call.{Call}
-use Rattle.calls.specs.declared.Call.the-variants.{Take, Free}
+use Rattle.calls.specs.declared.Call.the-variants.{Take, Free, NamedTake, NamedFree}
 use Rattle.calls.specs.declared.Outcome.{Outcome}
 use Rattle.calls.specs.declared.Outcome.the-variants.{Ready, Address, Moves, Refused}
 use Rattle.calls.specs.Setup.{setupOf}
-use Rattle.calls.specs.Calls.{callOf}
+use Rattle.calls.specs.Calls.{callOf, callUnchecked}
 use Rattle.calls.proofs.CallDefinitions.{callDefinitions}
 use Rattle.calls.proofs.RuleCases.{setup-with}
-use Rattle.bound.specs.Ledger.{Entry, removed, afterTake, afterFree, ledgerAfter, entriesOf}
+use Rattle.bound.specs.Ledger.{Entry, ledgerAfter, entriesOf}
 use Rattle.bound.specs.Claim.{Step, Claims}
-use Rattle.boundlaws.proofs.CallListLaws.{callPastCheck, stepsBy, steps-are-past-check, demand-3-calls}
+use Rattle.bound.proofs.LedgerDefinitions.{ledgerDefinitions}
+use Rattle.boundlaws.proofs.CallListLaws.{stepsBy, steps-are-unchecked, demand-3-calls}
 
 -- What one call of a list answered, how many owners it changed, and after it, for some classes, the ledger's live blocks and
 -- the superblocks that any heap owns.
@@ -42,11 +43,11 @@ rows u order classes calls = rowsOf classes (setupOf u order .answer .state) [] 
 
 -- and as they are computed
 rowsAnswered : Setup → List ℕ → List ℕ → List Call → List CallRow
-rowsAnswered u order classes calls = rowsOf classes (setupOf u order .answer .state) [] (stepsBy callPastCheck (setupOf u order) calls)
+rowsAnswered u order classes calls = rowsOf classes (setupOf u order .answer .state) [] (stepsBy callUnchecked (setupOf u order) calls)
 
 rows-are-computed : (u : Setup) (order : List ℕ) → setupOf u order .answer .outcome ≡ Ready → (classes : List ℕ) (calls : List Call) → rows u order classes calls ≡ rowsAnswered u order classes calls
 unfolding rows rowsAnswered
-rows-are-computed u order ready classes calls = ap (rowsOf classes (setupOf u order .answer .state) []) (steps-are-past-check u order ready calls)
+rows-are-computed u order ready classes calls = ap (rowsOf classes (setupOf u order .answer .state) []) (steps-are-unchecked u order ready calls)
 
 -- A list of calls after a setup, with as many order places as its superblocks have, and its rows for two classes, but for the first few.
 pub record ListCase : Type 0 where
@@ -104,9 +105,18 @@ size-0-list = list-case (setup-with 1 1 1 1 4) (0, 1)
     (row (Address 0) 1 (1, 0) (1, 0) ∷ row (Address 16) 0 (2, 0) (1, 0) ∷ row (Address 32) 0 (3, 0) (1, 0) ∷ row (Moves 0) 0 (2, 0) (1, 0)
     ∷ row (Address 0) 0 (3, 0) (1, 0) ∷ row (Refused 4) 0 (3, 0) (1, 0) ∷ [])
 
+-- ---- document 02, item 2: plain and named calls mixed, with two superblocks of class 26. Name 5 is bound, held (14), let go by a free of its address, so
+-- that it is not held (15) and may be bound again, and freed by name; 1024 is no name; a take refused with 3 binds none
+abbrev pub named-list : ListCase
+named-list = list-case (setup-with 1 2 1 1 4) (26, 0)
+    (NamedTake 1 5 2048 ∷ NamedTake 1 5 2048 ∷ Take 1 2048 ∷ NamedTake 1 1024 16 ∷ Free 1 0 ∷ NamedFree 1 5 ∷ NamedTake 1 5 2000 ∷ NamedTake 1 7 2049 ∷ NamedFree 1 7 ∷ NamedTake 1 1023 2048 ∷ NamedFree 1 5 ∷ NamedFree 1 1023 ∷ []) 0
+    (row (Address 0) 1 (1, 0) (1, 0) ∷ row (Refused 14) 0 (1, 0) (1, 0) ∷ row (Address 2048) 0 (2, 0) (1, 0) ∷ row (Refused 14) 0 (2, 0) (1, 0) ∷ row (Moves 0) 0 (1, 0) (1, 0)
+    ∷ row (Refused 15) 0 (1, 0) (1, 0) ∷ row (Address 0) 0 (2, 0) (1, 0) ∷ row (Refused 3) 0 (2, 0) (1, 0) ∷ row (Refused 15) 0 (2, 0) (1, 0) ∷ row (Address 4096) 1 (3, 0) (2, 0)
+    ∷ row (Moves 0) 0 (2, 0) (2, 0) ∷ row (Moves 1) 1 (1, 0) (2, 0) ∷ [])
+
 -- ---- all of them, computed
 abbrev pub list-cases : List ListCase
-list-cases = whole-list ∷ refused-list ∷ two-moves-list ∷ spare-list ∷ size-0-list ∷ []
+list-cases = whole-list ∷ refused-list ∷ two-moves-list ∷ spare-list ∷ size-0-list ∷ named-list ∷ []
 
 abbrev pub outcome-of-setup : ListCase → Outcome
 outcome-of-setup k = setupOf (k .setup) (order-of k) .answer .outcome
@@ -124,7 +134,7 @@ each-ready = refl
 
 -- the rows, by the calls behind the check
 each-answered : map rows-answered-of list-cases ≡ map (λ (k : ListCase). k .expected) list-cases
-unfolding rowsAnswered rowsOf ledgerAfter afterTake afterFree removed entriesOf stepsBy callPastCheck callDefinitions superblocksOfClass isOwnedOfClass ownersChanged
+unfolding rowsAnswered rowsOf ledgerDefinitions stepsBy callDefinitions superblocksOfClass isOwnedOfClass ownersChanged
 each-answered = refl
 
 -- in a list whose setup is accepted the check passes before each call

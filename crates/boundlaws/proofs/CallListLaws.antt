@@ -5,29 +5,21 @@ use Prim.Native.Nat.{ℕ}
 use Rattle.heap.specs.declared.Setup.{Setup}
 use Rattle.heap.specs.declared.State.{State}
 use Rattle.calls.specs.declared.Call.{Call}
-use Rattle.calls.specs.declared.Call.the-variants.{Take, Free}
 use Rattle.calls.specs.declared.Outcome.the-variants.{Ready}
 use Rattle.calls.specs.Answers.{After}
 use Rattle.calls.specs.Setup.{setupOf}
-use Rattle.calls.specs.Take.{takeUnchecked}
-use Rattle.calls.specs.Free.{freeUnchecked}
-use Rattle.calls.specs.Calls.{callOf}
+use Rattle.calls.specs.Calls.{callOf, callUnchecked}
+use Rattle.calls.proofs.CheckFirst.{call-of-checks-first}
 use Rattle.calllaws.proofs.CallEffects.{Passed}
 use Rattle.bound.specs.Ledger.{Entry, ledgerAfter}
 use Rattle.bound.specs.Claim.{Step, Linked, Claims, peakWith}
-use Rattle.calllaws.proofs.RefusalOrder.{take-is-unchecked, free-is-unchecked}
+use Rattle.calllaws.proofs.CheckedLaws.{checked-is-next-of-passed}
 use Rattle.boundlaws.proofs.CallInvariantLaws.{ListInvariant, after-call}
 use Rattle.boundlaws.proofs.Demand3.{list-invariant-after-setup, demand-3}
 
--- what a call leaves, where the check has passed
-unfoldable pub callPastCheck : State → List ℕ → Call → After
-callPastCheck s order (Take i size) = takeUnchecked s order i size
-callPastCheck s order (Free i a) = freeUnchecked s order i a
-
-pub call-of-is-call-past-check : (s : State) (order : List ℕ) (call : Call) → Passed s order → callOf s order call ≡ callPastCheck s order call
-unfolding callOf callPastCheck
-call-of-is-call-past-check s order (Take i size) p = take-is-unchecked s order i p size
-call-of-is-call-past-check s order (Free i a) p = free-is-unchecked s order i p a
+-- a call is the one behind the check, where the state passes
+pub call-of-is-unchecked : (s : State) (order : List ℕ) (call : Call) → Passed s order → callOf s order call ≡ callUnchecked s order call
+call-of-is-unchecked s order call p = call-of-checks-first s order call ∙ checked-is-next-of-passed s order (callUnchecked s order call) p
 
 -- the calls of a list with what each left: "Each gets the state that the one before it returned and the storage as that one left it"
 unfoldable pub stepsBy : (State → List ℕ → Call → After) → After → List Call → List Step
@@ -47,18 +39,18 @@ pub demand-3-calls : (u : Setup) (order : List ℕ) → setupOf u order .answer 
     → Claims u (setupOf u order) [] (λ c. 0) (stepsBy callOf (setupOf u order) calls)
 demand-3-calls u order ready calls = demand-3 u order (setupOf u order) refl ready (stepsBy callOf (setupOf u order) calls) (steps-linked (setupOf u order) calls)
 
-steps-are-past-check-from : (u : Setup) (before : After) (ledger : List Entry) (peak : ℕ → ℕ) (calls : List Call) → ListInvariant u (before .answer .state) (before .order) ledger peak
-    → stepsBy callOf before calls ≡ stepsBy callPastCheck before calls
+steps-are-unchecked-from : (u : Setup) (before : After) (ledger : List Entry) (peak : ℕ → ℕ) (calls : List Call) → ListInvariant u (before .answer .state) (before .order) ledger peak
+    → stepsBy callOf before calls ≡ stepsBy callUnchecked before calls
 unfolding stepsBy
-steps-are-past-check-from u before ledger peak [] g = refl
-steps-are-past-check-from u before ledger peak (call ∷ calls) g =
+steps-are-unchecked-from u before ledger peak [] g = refl
+steps-are-unchecked-from u before ledger peak (call ∷ calls) g =
     let after = callOf (before .answer .state) (before .order) call in
     let n = after-call u (before .answer .state) (before .order) ledger peak g call in
-    let e = call-of-is-call-past-check (before .answer .state) (before .order) call (g .passed) in
-    ap (λ (l : List Step). record { call = call; after = after } ∷ l) (steps-are-past-check-from u after (ledgerAfter ledger call (after .answer .outcome)) (peakWith peak (ledgerAfter ledger call (after .answer .outcome))) calls (n .invariant))
-    ∙ ap (λ (x : After). let step : Step = record { call = call; after = x } in step ∷ stepsBy callPastCheck x calls) e
+    let e = call-of-is-unchecked (before .answer .state) (before .order) call (g .passed) in
+    ap (λ (l : List Step). record { call = call; after = after } ∷ l) (steps-are-unchecked-from u after (ledgerAfter ledger call (after .answer .outcome)) (peakWith peak (ledgerAfter ledger call (after .answer .outcome))) calls (n .invariant))
+    ∙ ap (λ (x : After). let step : Step = record { call = call; after = x } in step ∷ stepsBy callUnchecked x calls) e
 
 -- after an accepted setup the check is never in the way
-pub steps-are-past-check : (u : Setup) (order : List ℕ) → setupOf u order .answer .outcome ≡ Ready → (calls : List Call)
-    → stepsBy callOf (setupOf u order) calls ≡ stepsBy callPastCheck (setupOf u order) calls
-steps-are-past-check u order ready calls = steps-are-past-check-from u (setupOf u order) [] (λ c. 0) calls (list-invariant-after-setup u order ready)
+pub steps-are-unchecked : (u : Setup) (order : List ℕ) → setupOf u order .answer .outcome ≡ Ready → (calls : List Call)
+    → stepsBy callOf (setupOf u order) calls ≡ stepsBy callUnchecked (setupOf u order) calls
+steps-are-unchecked u order ready calls = steps-are-unchecked-from u (setupOf u order) [] (λ c. 0) calls (list-invariant-after-setup u order ready)

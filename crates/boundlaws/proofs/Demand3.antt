@@ -21,9 +21,11 @@ use Rattle.calls.specs.Setup.{setupOf}
 use Rattle.bound.specs.Ledger.{Entry, ledgerAfter}
 use Rattle.bound.specs.Claim.{Step, Linked, Bounded, Claims, peakWith}
 use Rattle.calllaws.proofs.SetupLaws.{accepted-setup-of-ready, setup-refused-12-of-storage}
+use Rattle.heaplaws.proofs.StateCheckLaws.{new-state-names-valid}
 use Rattle.heaplaws.proofs.CountLaws.{owned-of-new-state, live-of-class-of-new-state}
 use Rattle.boundlaws.proofs.LedgerLaws.{entries-at-empty, entries-of-empty}
 use Rattle.boundlaws.proofs.LiveAtLaws.{live-at-of-new-state}
+use Rattle.boundlaws.proofs.LedgerNames.{EntryAgrees, each-entry-empty}
 use Rattle.boundlaws.proofs.CallInvariantLaws.{Listed, ListInvariant, AfterCall, after-call}
 
 -- ---- after the setup
@@ -56,7 +58,14 @@ list-invariant-after-setup u order ready =
     let h = accepted-setup-of-ready u order ready in
     let room : u .superblocks * 256 ≤ length (cleared order (u .superblocks * 256)) = subst (λ (n : ℕ). u .superblocks * 256 ≤ n) (sym (length-cleared order (u .superblocks * 256))) (storage-of-ready-setup u order (h .0) ready) in
     subst (λ (x : After). ListInvariant u (x .answer .state) (x .order) [] (λ c. 0)) (sym (h .1))
-    (record { passed = record { sound = h .2; room = room }; shape = h .3; setup = refl; listed = ledger-of-new-state u; bounded = bound-of-new-state u })
+    (record {
+      passed = record { sound = h .2; names = new-state-names-valid u; room = room };
+      shape = h .3;
+      setup = refl;
+      listed = ledger-of-new-state u;
+      names = each-entry-empty (EntryAgrees (newState u));
+      bounded = bound-of-new-state u;
+    })
 
 -- ---- after each call
 claims-of-list-invariant : (u : Setup) (before : After) (ledger : List Entry) (peak : ℕ → ℕ) (steps : List Step)
@@ -68,7 +77,7 @@ claims-of-list-invariant u before ledger peak (step ∷ steps) g linked = (g .bo
     n : AfterCall u (before .answer .state) ledger peak (step .call) (step .after)
     n = subst (AfterCall u (before .answer .state) ledger peak (step .call)) (sym (linked .0)) (after-call u (before .answer .state) (before .order) ledger peak g (step .call))
 
--- For every accepted setup, whatever stood in the storage before, and every list of takes and frees after it.
+-- For every accepted setup, whatever stood in the storage before, and every list of takes and frees after it, plain and named.
 pub demand-3 : (u : Setup) (order : List ℕ) (start : After) → start ≡ setupOf u order → start .answer .outcome ≡ Ready
     → (steps : List Step) → Linked start steps → Claims u start [] (λ c. 0) steps
 demand-3 u order start e ready steps linked =
