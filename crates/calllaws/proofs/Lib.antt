@@ -17,6 +17,7 @@ pub mod OutcomeValues
 pub mod AcceptedCallLaws
 pub mod NothingOfferedLaws
 pub mod RefusalConditions
+pub mod NamedRefusalConditions
 pub mod OrderWriteLaws
 pub mod OrderReadLaws
 pub mod FreeStackLaws

@@ -50,7 +50,7 @@ facts-of-available s m e =
     (ltb-true m 1024 (not-false (ltb m 1024) (neither-left (not (ltb m 1024)) (isHeld (s .names) m) e)), neither-right (not (ltb m 1024)) (isHeld (s .names) m) e)
 
 -- "a refused take binds none"
-name-bound-of-refused : (r m : ℕ) (s : State) (order : List ℕ) → withNameBound m (refused r s order) ≡ refused r s order
+pub name-bound-of-refused : (r m : ℕ) (s : State) (order : List ℕ) → withNameBound m (refused r s order) ≡ refused r s order
 unfolding withNameBound boundBy
 name-bound-of-refused r m s order = refl
 

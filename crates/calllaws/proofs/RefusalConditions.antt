@@ -118,7 +118,7 @@ ConditionOf [] r = ⊥
 ConditionOf (x ∷ rest) r = TypeIf (eqb r (x .0)) (x .1) (ConditionOf rest r)
 
 -- G, given that each condition of the list gives F at its number
-abbrev ImpliedByEach : (ℕ → Type 0) → List (ℕ × Type 0) → Type 0 → Type 0
+abbrev pub ImpliedByEach : (ℕ → Type 0) → List (ℕ × Type 0) → Type 0 → Type 0
 ImpliedByEach F [] G = G
 ImpliedByEach F (x ∷ rest) G = (x .1 → F (x .0)) → ImpliedByEach F rest G
 
@@ -127,14 +127,14 @@ implied-map F [] k g = k g
 implied-map F (x ∷ rest) k g = λ f. implied-map F rest k (g f)
 
 -- then the condition of number r gives F at r
-condition-by-number : (F : ℕ → Type 0) (listed : List (ℕ × Type 0)) → ImpliedByEach F listed ((r : ℕ) → ConditionOf listed r → F r)
+pub condition-by-number : (F : ℕ → Type 0) (listed : List (ℕ × Type 0)) → ImpliedByEach F listed ((r : ℕ) → ConditionOf listed r → F r)
 condition-by-number F [] = λ r h. absurd h
 condition-by-number F (x ∷ rest) = λ f. implied-map F rest
     (λ g r. type-if-elim (eqb r (x .0)) {A = x .1} {B = ConditionOf rest r} (λ e h. subst F (sym (eqb-true r (x .0) e)) (f h)) (g r))
     (condition-by-number F rest)
 
 -- a call refuses with number r exactly on the condition of r, if each refusal has its condition and each condition gives its refusal
-refused-iff-condition : (x : After) (s : State) (order : List ℕ) (listed : List (ℕ × Type 0)) → ((r : ℕ) → x .answer .outcome ≡ Refused r → ConditionOf listed r)
+pub refused-iff-condition : (x : After) (s : State) (order : List ℕ) (listed : List (ℕ × Type 0)) → ((r : ℕ) → x .answer .outcome ≡ Refused r → ConditionOf listed r)
     → ImpliedByEach (λ (n : ℕ). x ≡ refused n s order) listed ((r : ℕ) → (x .answer .outcome ≡ Refused r) ↔ ConditionOf listed r)
 refused-iff-condition x s order listed f = implied-map F listed (λ g r. (f r, λ h. ap (λ (y : After). y .answer .outcome) (g r h))) (condition-by-number F listed)
   where
@@ -143,13 +143,13 @@ refused-iff-condition x s order listed f = implied-map F listed (λ g r. (f r, �
 
 -- ---- outcomes
 -- the condition of the number of a refusal
-condition-at-number : (listed : List (ℕ × Type 0)) (n r : ℕ) → Refused n ≡ Refused r → ConditionOf listed n → ConditionOf listed r
+pub condition-at-number : (listed : List (ℕ × Type 0)) (n r : ℕ) → Refused n ≡ Refused r → ConditionOf listed n → ConditionOf listed r
 condition-at-number listed n r e = let q : n ≡ r = cc in subst (ConditionOf listed) q
 
 address-not-refused : (a r : ℕ) → Address a ≡ Refused r → ⊥
 address-not-refused a r e = let z : _≡_ {A = ℕ} 0 1 = cc in omega arith
 
-moves-not-refused : (m r : ℕ) → Moves m ≡ Refused r → ⊥
+pub moves-not-refused : (m r : ℕ) → Moves m ≡ Refused r → ⊥
 moves-not-refused m r e = let z : _≡_ {A = ℕ} 0 1 = cc in omega arith
 
 -- ---- tests
@@ -157,7 +157,7 @@ decides-within-limits : (u : Setup) → Decides (withinLimits u) (WithinLimits u
 decides-within-limits u = decides-fact (withinLimits u) (facts-of-within-limits u) (within-limits-of-facts u)
 
 module _ (s : State) (order : List ℕ) (i : ℕ) where
-  decides-processor : Decides (isProcessor s i) (IsProcessor s i) ((i ≡ 0) ⊎ (s .setup .processors < i))
+  pub decides-processor : Decides (isProcessor s i) (IsProcessor s i) ((i ≡ 0) ⊎ (s .setup .processors < i))
   unfolding isProcessor
   decides-processor = decides-as (λ h. record { low = h .0; high = h .1 }, λ h. (h .low, h .high)) (λ h. h, λ h. h) (decides-both (leb 1 i) (leb i (s .setup .processors)) (decides-nonzero i) (decides-le i (s .setup .processors)))
 
@@ -169,7 +169,7 @@ module _ (s : State) (order : List ℕ) (i : ℕ) where
       (λ h. rest-valid-of-sound s order (h .0) (names-valid-of-sound s (h .1)))
 
   -- what the check refuses, or what it goes on with
-  checked-refused : (next : After) (listed : List (ℕ × Type 0)) (r : ℕ) → (CheckFails s order → ConditionOf listed 13) → (StorageShort s order → ConditionOf listed 12)
+  pub checked-refused : (next : After) (listed : List (ℕ × Type 0)) (r : ℕ) → (CheckFails s order → ConditionOf listed 13) → (StorageShort s order → ConditionOf listed 12)
       → (Passed s order → next .answer .outcome ≡ Refused r → ConditionOf listed r) → checked s order next .answer .outcome ≡ Refused r → ConditionOf listed r
   unfolding checked
   checked-refused next listed r f g h = go (withinLimits (s .setup)) (leb (s .setup .superblocks * 256) (length order)) (restValid s order)
@@ -183,11 +183,11 @@ module _ (s : State) (order : List ℕ) (i : ℕ) where
       go true true false l m d e = condition-at-number listed 13 r e (f (rest-fails (l .says) (m .says) (d (l .says) .says)))
       go true true true l m d e = let q = d (l .says) .says in h (record { sound = q .0; names = names-valid-of-sound s (q .1); room = m .says }) e
 
-  check-fails-refused-13 : (next : After) → CheckFails s order → checked s order next ≡ refused 13 s order
+  pub check-fails-refused-13 : (next : After) → CheckFails s order → checked s order next ≡ refused 13 s order
   check-fails-refused-13 next (limits-fail f) = checked-refuses-13-of-limits s order next (false-of-decides (decides-within-limits (s .setup)) f)
   check-fails-refused-13 next (rest-fails l room f) = checked-refuses-13-of-rest s order next (true-of-decides (decides-within-limits (s .setup)) l) room (false-of-decides (decides-rest-valid l) f)
 
-  storage-short-refused-12 : (next : After) → StorageShort s order → checked s order next ≡ refused 12 s order
+  pub storage-short-refused-12 : (next : After) → StorageShort s order → checked s order next ≡ refused 12 s order
   storage-short-refused-12 next h = checked-refuses-12-of-storage s order next (true-of-decides (decides-within-limits (s .setup)) (h .numbers)) (h .short)
 
   -- ---- a take
@@ -214,7 +214,7 @@ module _ (s : State) (order : List ℕ) (i : ℕ) where
               none = nothing-found-iff-not-offered s i (classOf size) (passed .sound .numbers .superblocks-high) .0 (record { own = f .0; zero = f .1; empty = f .2; unused = f .3 });
             })
 
-    nothing-offered-refused-4 : NothingOffered s order i size → takeOf s order i size ≡ refused 4 s order
+    pub nothing-offered-refused-4 : NothingOffered s order i size → takeOf s order i size ≡ refused 4 s order
     nothing-offered-refused-4 h =
         let f = nothing-found-iff-not-offered s i (classOf size) (h .passed .sound .numbers .superblocks-high) .1 (h .none) in
         refused-4-of-nothing-offered s order i size (h .passed) (h .processor .low) (h .processor .high) (h .size-le-2048) (f .own) (f .zero) (f .empty) (f .unused)
