@@ -4,5 +4,6 @@ pub mod LedgerNames
 pub mod BoundLaws
 pub mod CallInvariantLaws
 pub mod Demand3
+pub mod NamesAgree
 pub mod CallListLaws
 pub mod CallListCases

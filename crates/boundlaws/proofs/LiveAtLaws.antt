@@ -50,7 +50,7 @@ module _ (c : ℕ) (b : Superblock) where
       both-false true = refl
       both-false false = refl
 
-  live-for-owned : (j : ℕ) → (b .owner ≡ 255 → ⊥) → b .class ≡ c → liveFor c b j ≡ markBit (b .live) j
+  pub live-for-owned : (j : ℕ) → (b .owner ≡ 255 → ⊥) → b .class ≡ c → liveFor c b j ≡ markBit (b .live) j
   unfolding liveFor
   live-for-owned j f e = rw (owned-of-class-true f e)
 
@@ -94,7 +94,7 @@ pub record OneMoreLive (c k j : ℕ) (s t : State) : Type 0 where
   pub others-same : (d m b : ℕ) → m < 64 → b < 256 → ((d ≡ c) × (m ≡ k) × (b ≡ j) → ⊥) → liveFor d (superblockAt t m) b ≡ liveFor d (superblockAt s m) b
   pub live : (d : ℕ) → liveOfClass d t ≡ liveOfClass d s + one (eqb c d)
 
-live-at-of-address : (s : State) (c k j : ℕ) → c < 27 → k < 64 → j < blocksOf c → liveAt s (addressOf k c j) c ≡ liveFor c (superblockAt s k) j
+pub live-at-of-address : (s : State) (c k j : ℕ) → c < 27 → k < 64 → j < blocksOf c → liveAt s (addressOf k c j) c ≡ liveFor c (superblockAt s k) j
 unfolding liveAt
 live-at-of-address s c k j known below block =
     rw (address-superblock c k j known block, address-offset c k j known block, block-of-offset c known j, offset-mod-size c known j, lt-ltb k 64 below)

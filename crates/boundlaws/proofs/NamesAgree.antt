@@ -1,0 +1,104 @@
+-- Document 02, item 2: the names of the ledger, from the calls and their answers alone, and those of the state agree after every list of calls.
+-- Assumes nothing.
+use mathlib.Core.Path.{_≡_, refl, sym, ap, ap₂, _∙_, subst}
+use mathlib.Core.Bool.{Bool, true, false}
+use mathlib.Core.List.{List, [], _∷_}
+use Prim.Native.Nat.{ℕ, _+_, _/_, _%_, _<_}
+use native.Mathlib.Decide.{ℕ-discrete}
+use native.Mathlib.Omega.{arith}
+use borrow.Author.Tests.{eq-eqb, ne-eqb}
+use lib.Dec.{T, eqb}
+use Rattle.laws.specs.Sums.{both, either, one}
+use Rattle.laws.proofs.TestLaws.{T-of-true, true-of-T, both-make, either-left, either-right}
+use Rattle.names.specs.Names.{blockNamed, isHeld}
+use Rattle.heap.specs.declared.Setup.{Setup}
+use Rattle.heap.specs.declared.State.{State}
+use Rattle.heap.specs.Table.{superblockAt}
+use Rattle.calls.specs.declared.Outcome.the-variants.{Ready}
+use Rattle.calls.specs.Answers.{After}
+use Rattle.calls.specs.Setup.{setupOf}
+use Rattle.calls.specs.Named.{heldAddress}
+use Rattle.calllaws.proofs.MarkClearedLaws.{LiveBlock}
+use Rattle.calllaws.proofs.NamedCallLaws.{held-block-is-live, live-class-lt-27}
+use Rattle.bound.specs.Ledger.{Entry, classOfEntry, isAt, hasName, ledgerAfter}
+use Rattle.bound.specs.Claim.{Step, Linked, peakWith}
+use Rattle.boundlaws.proofs.LedgerLaws.{entriesAt}
+use Rattle.boundlaws.proofs.LiveAtLaws.{liveAt, live-for-owned, live-at-of-address}
+use Rattle.boundlaws.proofs.LedgerNames.{EachEntry, each-entry-map, holdsAddress, EntryAgrees}
+use Rattle.boundlaws.proofs.CallInvariantLaws.{ListInvariant, AfterCall, after-call}
+use Rattle.boundlaws.proofs.Demand3.{list-invariant-after-setup}
+
+-- some entry passes the test
+unfoldable pub someEntry : (Entry → Bool) → List Entry → Bool
+someEntry test [] = false
+someEntry test (e ∷ ledger) = either (test e) (someEntry test ledger)
+
+-- each block of the ledger has just the name that the state has for it, and each name that the state holds is in the ledger, with its block's address
+pub record NamesAgree (s : State) (ledger : List Entry) : Type 0 where
+  pub entries : EachEntry (λ e. (m : ℕ) → hasName m e ≡ holdsAddress s m (e .address)) ledger
+  pub held : (m : ℕ) → T (isHeld (s .names) m) → T (someEntry (λ e. both (hasName m e) (isAt (heldAddress s m) e)) ledger)
+
+-- ---- a held name's block is in the ledger
+module _ (s : State) (m : ℕ) (held : T (isHeld (s .names) m)) (c : ℕ) where
+  entry-of-count : (ledger : List Entry) → EachEntry (EntryAgrees s) ledger → 0 < entriesAt ledger (heldAddress s m) c → T (someEntry (λ e. both (hasName m e) (isAt (heldAddress s m) e)) ledger)
+  unfolding EachEntry entriesAt someEntry holdsAddress
+  entry-of-count [] h l = omega arith
+  entry-of-count (e ∷ ledger) h l = go (ℕ-discrete (e .address) (heldAddress s m)) (entry-of-count ledger (h .1))
+    where
+      go : Dec (e .address ≡ heldAddress s m) → (0 < entriesAt ledger (heldAddress s m) c → T (someEntry (λ e. both (hasName m e) (isAt (heldAddress s m) e)) ledger))
+          → T (either (both (hasName m e) (isAt (heldAddress s m) e)) (someEntry (λ e. both (hasName m e) (isAt (heldAddress s m) e)) ledger))
+      go (yes q) ih =
+          let at : T (isAt (heldAddress s m) e) = T-of-true (isAt (heldAddress s m) e) (eq-eqb (e .address) (heldAddress s m) q) in
+          let named : T (hasName m e) = T-of-true (hasName m e) (h .0 .name-agrees m ∙ ap₂ both (true-of-T (isHeld (s .names) m) held) (true-of-T (isAt (heldAddress s m) e) at)) in
+          either-left (both (hasName m e) (isAt (heldAddress s m) e)) _ (both-make (hasName m e) (isAt (heldAddress s m) e) named at)
+      go (no f) ih =
+          let none : one (both (isAt (heldAddress s m) e) (eqb (classOfEntry e) c)) ≡ 0 = ap (λ (t : Bool). one (both t (eqb (classOfEntry e) c))) (ne-eqb (e .address) (heldAddress s m) f) in
+          either-right (both (hasName m e) (isAt (heldAddress s m) e)) _ (ih (omega arith))
+
+names-agree-of-list-invariant : (u : Setup) (s : State) (order : List ℕ) (ledger : List Entry) (peak : ℕ → ℕ) → ListInvariant u s order ledger peak → NamesAgree s ledger
+unfolding heldAddress
+names-agree-of-list-invariant u s order ledger peak g =
+    record {
+      entries = each-entry-map (EntryAgrees s) (EntryAgrees s) (λ e. (m : ℕ) → hasName m e ≡ holdsAddress s m (e .address)) ledger (λ e h _. h .name-agrees) (g .names) (g .names);
+      held = λ m held. listed m held;
+    }
+  where
+    listed : (m : ℕ) → T (isHeld (s .names) m) → T (someEntry (λ e. both (hasName m e) (isAt (heldAddress s m) e)) ledger)
+    listed m held =
+        let k : ℕ = blockNamed (s .names) m / 256 in
+        let j : ℕ = blockNamed (s .names) m % 256 in
+        let live : LiveBlock s order k j = held-block-is-live s order (g .shape) (g .passed) m held in
+        let c : ℕ = superblockAt s k .class in
+        let known = live-class-lt-27 s order k j live in
+        let one-live : liveAt s (heldAddress s m) c ≡ 1 =
+            live-at-of-address s c k j known (omega (arith, live .below, g .passed .sound .numbers .superblocks-high)) (live .block) ∙ live-for-owned c (superblockAt s k) j (live .owned) refl ∙ live .marked in
+        entry-of-count s m held c ledger (g .names) (omega (arith, g .listed .blocks (heldAddress s m) c known))
+
+-- ---- along a list of calls
+-- the ledger after the calls of a list
+unfoldable pub ledgerOf : List Entry → List Step → List Entry
+ledgerOf ledger [] = ledger
+ledgerOf ledger (step ∷ steps) = ledgerOf (ledgerAfter ledger (step .call) (step .after .answer .outcome)) steps
+
+-- what the last of them left
+unfoldable pub lastAfter : After → List Step → After
+lastAfter before [] = before
+lastAfter before (step ∷ steps) = lastAfter (step .after) steps
+
+names-agree-from : (u : Setup) (before : After) (ledger : List Entry) (peak : ℕ → ℕ) (steps : List Step) → ListInvariant u (before .answer .state) (before .order) ledger peak → Linked before steps
+    → NamesAgree (lastAfter before steps .answer .state) (ledgerOf ledger steps)
+unfolding Linked ledgerOf lastAfter
+names-agree-from u before ledger peak [] g linked = names-agree-of-list-invariant u (before .answer .state) (before .order) ledger peak g
+names-agree-from u before ledger peak (step ∷ steps) g linked =
+    names-agree-from u (step .after) (ledgerAfter ledger (step .call) (step .after .answer .outcome)) (peakWith peak (ledgerAfter ledger (step .call) (step .after .answer .outcome))) steps (n .invariant) (linked .1)
+  where
+    n : AfterCall u (before .answer .state) ledger peak (step .call) (step .after)
+    n = subst (AfterCall u (before .answer .state) ledger peak (step .call)) (sym (linked .0)) (after-call u (before .answer .state) (before .order) ledger peak g (step .call))
+
+-- After every accepted setup and every list of calls after it, plain and named: the ledger's names and the state's agree.
+pub ledger-and-state-names-agree : (u : Setup) (order : List ℕ) (start : After) → start ≡ setupOf u order → start .answer .outcome ≡ Ready → (steps : List Step) → Linked start steps
+    → NamesAgree (lastAfter start steps .answer .state) (ledgerOf [] steps)
+ledger-and-state-names-agree u order start e ready steps linked =
+    names-agree-from u start [] (λ c. 0) steps
+    (subst (λ (x : After). ListInvariant u (x .answer .state) (x .order) [] (λ c. 0)) (sym e) (list-invariant-after-setup u order (ap (λ (x : After). x .answer .outcome) (sym e) ∙ ready)))
+    linked
