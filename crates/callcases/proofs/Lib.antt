@@ -1,1 +1,2 @@
 pub mod WholeCallCases
+pub mod NamedCallCases

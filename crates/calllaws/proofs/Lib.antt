@@ -13,6 +13,7 @@ pub mod FreeLaws
 pub mod RefusalOrder
 pub mod AddressLaws
 pub mod NamedCallLaws
+pub mod NameLifetime
 pub mod OutcomeValues
 pub mod AcceptedCallLaws
 pub mod NothingOfferedLaws

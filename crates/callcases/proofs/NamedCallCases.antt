@@ -1,0 +1,66 @@
+-- Whole calls on states with names, with all that they leave, in cases that tell the rules from near misses. By computation. Assumes nothing.
+use mathlib.Core.Path.{_≡_, refl}
+use mathlib.Core.List.{List, [], _∷_, map}
+use Prim.Native.Nat.{ℕ}
+use Rattle.names.specs.Names.{noNames, withName}
+use Rattle.heap.specs.declared.State.{State}
+use Rattle.heap.specs.Table.{withNames}
+use Rattle.calls.specs.declared.Call.{Call}
+use Rattle.calls.specs.declared.Call.the-variants.{Take, Free, NamedTake, NamedFree}
+use Rattle.calls.specs.declared.Outcome.{Outcome}
+use Rattle.calls.specs.declared.Outcome.the-variants.{Refused}
+use Rattle.calls.specs.Answers.{After}
+use Rattle.calls.specs.Calls.{callOf}
+use Rattle.calls.proofs.CallDefinitions.{callDefinitions}
+use Rattle.callcases.proofs.WholeCallCases.{SuperblockAndPlaces, CallCase, state-of, order-of, from-place-2, three-moves, nothing-offered}
+
+-- what a call does to superblocks and places, and the names before and after it
+pub record NamedCallCase : Type 0 where
+  pub named-call : Call
+  pub effect : CallCase
+  pub names : List ℕ
+  pub names-after : List ℕ
+
+abbrev pub named-result-of : NamedCallCase → After
+named-result-of r = callOf (withNames (state-of (r .effect .before)) (r .names)) (order-of (r .effect .before)) (r .named-call)
+
+abbrev pub named-expected-of : NamedCallCase → After
+named-expected-of r =
+    record {
+      answer = record { outcome = r .effect .outcome; state = withNames (state-of (r .effect .after)) (r .names-after) };
+      order = order-of (r .effect .after);
+    }
+
+-- the first names point at these blocks
+abbrev pub naming : List (ℕ × ℕ) → List ℕ
+naming [] = noNames
+naming (x ∷ l) = withName (naming l) (x .0) (x .1)
+
+-- ---- a take from place 2 that binds name 9 to block 2 of superblock 3; name 4, of block 1 of superblock 3, stays
+abbrev pub named-from-place-2 : NamedCallCase
+named-from-place-2 = record { named-call = NamedTake 2 9 1200; effect = from-place-2; names = naming ((4, 769) ∷ []); names-after = naming ((4, 769) ∷ (9, 770) ∷ []) }
+
+-- ---- a free by name that moves three superblocks; the name of a block in one of them stays, and a plain free does the same
+abbrev pub named-three-moves : NamedCallCase
+named-three-moves = record { named-call = NamedFree 1 5; effect = three-moves; names = naming ((5, 256) ∷ (6, 1) ∷ []); names-after = naming ((6, 1) ∷ []) }
+
+abbrev pub plain-three-moves : NamedCallCase
+plain-three-moves = record { named-call = Free 1 4096; effect = three-moves; names = naming ((5, 256) ∷ (6, 1) ∷ []); names-after = naming ((6, 1) ∷ []) }
+
+-- ---- refused calls keep their names
+abbrev pub refused-with : Call → ℕ → List SuperblockAndPlaces → List (ℕ × ℕ) → NamedCallCase
+refused-with call r before l = record { named-call = call; effect = record { before = before; call = call; outcome = Refused r; after = before }; names = naming l; names-after = naming l }
+
+-- 13 for a name at a free block and for two names at one block, for a plain call too and before 2; 14 before 4, and 4; 15
+abbrev pub refused-named-calls : List NamedCallCase
+refused-named-calls =
+    refused-with (NamedFree 0 5) 13 (three-moves .before) ((5, 0) ∷ []) ∷ refused-with (Take 1 2048) 13 (three-moves .before) ((5, 256) ∷ (6, 256) ∷ [])
+    ∷ refused-with (NamedTake 1 5 2048) 14 nothing-offered ((5, 256) ∷ []) ∷ refused-with (NamedTake 1 6 2048) 4 nothing-offered ((5, 256) ∷ []) ∷ refused-with (NamedFree 1 6) 15 nothing-offered ((5, 256) ∷ []) ∷ []
+
+-- ---- the rules leave what is expected
+abbrev pub named-calls : List NamedCallCase
+named-calls = named-from-place-2 ∷ named-three-moves ∷ plain-three-moves ∷ refused-named-calls
+
+pub named-call-cases : map named-result-of named-calls ≡ map named-expected-of named-calls
+unfolding callDefinitions
+named-call-cases = refl
