@@ -1,18 +1,18 @@
--- The pass over the names: what it answers is the two clauses of the check, and what one name more leaves of it. Assumes nothing.
+-- The pass over the names: what it answers is the two clauses of the check, what one name more leaves of it, and that it may end at the last held name. Assumes nothing.
 use mathlib.Core.Path.{_≡_, refl, sym, ap, ap₂, _∙_}
 use mathlib.Core.Bool.{Bool, true, false, not}
 use mathlib.Core.List.{List, [], _∷_}
-use Prim.Native.Nat.{ℕ, suc, _+_, _-_, _*_, _/_, _%_, _^_, _≤_, _<_}
+use Prim.Native.Nat.{ℕ, suc, _+_, _-_, _*_, _/_, _%_, _^_, _≤_, _<_, zero-le}
 use native.Mathlib.Decide.{ℕ-discrete}
 use native.Mathlib.Numerals.{add-one}
 use native.Mathlib.Omega.{arith}
 use borrow.Author.Tests.{eq-eqb, ne-eqb}
-use lib.ListN.{length, getD, set, drop, drop-of-length-le}
+use lib.ListN.{length, getD, set, drop, drop-of-length-le, length-drop}
 use lib.Seq.{drop-cons}
 use lib.Dec.{eqb}
 use lib.Bits.{bitAnd}
-use Rattle.laws.specs.Sums.{pick, both, either}
-use Rattle.laws.proofs.TestLaws.{both-false-right}
+use Rattle.laws.specs.Sums.{pick, both, either, one}
+use Rattle.laws.proofs.TestLaws.{both-false-right, one-le-one}
 use Rattle.marks.specs.Marks.{markBit, isMarked, withoutMark}
 use Rattle.marklaws.proofs.BitLaws.{shl-one}
 use Rattle.marklaws.proofs.MarkLaws.{length-without-mark, without-mark-same, without-mark-other, mark-bit-lt-two, mark-of-mark-bit-one, no-mark-of-mark-bit-zero, mark-bit-past-the-end}
@@ -20,7 +20,7 @@ use Rattle.names.specs.Names.{notHeld, eachHeld, isNamed, noTwoAtOne}
 use Rattle.heap.specs.declared.State.{State}
 use Rattle.heap.specs.Table.{isLiveBlock}
 use Rattle.checkrules.specs.Check.{namesValid}
-use Rattle.namecheck.specs.NameScan.{eachHasAMark}
+use Rattle.namecheck.specs.NameScan.{heldCount, eachHasAMark}
 
 -- ---- the answer
 each-held-cong : (f g : ℕ → Bool) (names : List ℕ) → ((b : ℕ) → f b ≡ g b) → eachHeld f names ≡ eachHeld g names
@@ -78,6 +78,15 @@ each-has-a-mark-is-both marks (x ∷ names) = go (each-has-a-mark-is-both marks 
         rw (ne-eqb x notHeld f, taken, each-held-without-mark marks names x f)
         (spread (isMarked marks x) (eachHeld (isMarked marks) names) (not (isNamed x names)) (noTwoAtOne names))
 
+each-held-of-none-held : (test : ℕ → Bool) (names : List ℕ) → heldCount names ≡ 0 → eachHeld test names ≡ true
+unfolding heldCount eachHeld
+each-held-of-none-held test [] z = refl
+each-held-of-none-held test (x ∷ names) z = go (eqb x notHeld) refl (each-held-of-none-held test names)
+  where
+    go : (t : Bool) → eqb x notHeld ≡ t → (heldCount names ≡ 0 → eachHeld test names ≡ true) → both (either t (test x)) (eachHeld test names) ≡ true
+    go true e ih = ih (omega arith)
+    go false e ih = let more : one (not (eqb x notHeld)) ≡ 1 = rw e in absurd (let z : ⊥ = omega arith in z)
+
 pub names-valid-is-each-has-a-mark : (s : State) (marks : List ℕ) (r : Bool) → ((b : ℕ) → isMarked marks b ≡ isLiveBlock s b) → r ≡ eachHasAMark marks (s .names) → r ≡ namesValid s
 unfolding namesValid
 names-valid-is-each-has-a-mark s marks r live e =
@@ -85,18 +94,76 @@ names-valid-is-each-has-a-mark s marks r live e =
     ∙ each-has-a-mark-is-both marks (s .names)
     ∙ ap (λ (t : Bool). both t (noTwoAtOne (s .names))) (each-held-cong (isMarked marks) (isLiveBlock s) (s .names) live)
 
+-- ---- names that are not held
+-- where none is held, none is asked
+each-has-a-mark-of-none-held : (marks names : List ℕ) → heldCount names ≡ 0 → eachHasAMark marks names ≡ true
+unfolding heldCount eachHasAMark
+each-has-a-mark-of-none-held marks [] z = refl
+each-has-a-mark-of-none-held marks (x ∷ names) z = go (eqb x notHeld) refl (each-has-a-mark-of-none-held marks names)
+  where
+    go : (t : Bool) → eqb x notHeld ≡ t → (heldCount names ≡ 0 → eachHasAMark marks names ≡ true) → pick t (eachHasAMark marks names) (both (isMarked marks x) (eachHasAMark (withoutMark marks x) names)) ≡ true
+    go true e ih = ih (omega arith)
+    go false e ih = let more : one (not (eqb x notHeld)) ≡ 1 = rw e in absurd (let z : ⊥ = omega arith in z)
+
+pub names-valid-of-none-held : (s : State) (n : ℕ) → n ≡ heldCount (s .names) → n ≡ 0 → true ≡ namesValid s
+unfolding namesValid
+names-valid-of-none-held s n e z =
+    go (eachHeld (isLiveBlock s) (s .names)) (noTwoAtOne (s .names))
+    (sym (each-has-a-mark-of-none-held [] (s .names) (sym e ∙ z)) ∙ each-has-a-mark-is-both [] (s .names)) (each-held-of-none-held (isLiveBlock s) (s .names) (sym e ∙ z))
+  where
+    go : (a b : Bool) → true ≡ both (eachHeld (isMarked []) (s .names)) b → a ≡ true → true ≡ both a b
+    go a b h q = rw q (right (eachHeld (isMarked []) (s .names)) b h)
+      where
+        right : (c b : Bool) → true ≡ both c b → true ≡ b
+        right true b h = h
+        right false b h = absurd (let z : _≡_ {A = ℕ} 0 1 = cc in omega arith)
+
+-- ---- the count
+pub count-start : (names : List ℕ) → 0 + heldCount (drop 0 names) ≡ heldCount names
+count-start names = omega arith
+
+-- name i counts where it is held
+held-count-suc : (names : List ℕ) (i : ℕ) → i < length names → heldCount (drop i names) ≡ one (not (eqb (getD names i 0) notHeld)) + heldCount (drop (suc i) names)
+unfolding heldCount
+held-count-suc names i below = ap heldCount (drop-cons names i 0 below)
+
+module _ (names : List ℕ) (held held' i : ℕ) (long : length names ≡ 1024) (below : i < 1024) (t : held + heldCount (drop i names) ≡ heldCount names) where
+  pub count-step-held : (getD names i 0 ≡ notHeld → ⊥) → held' ≡ held + 1 → held' + heldCount (drop (i + 1) names) ≡ heldCount names
+  count-step-held f e = rw (add-one i) (let o : one (not (eqb (getD names i 0) notHeld)) ≡ 1 = rw (ne-eqb (getD names i 0) notHeld f) in omega (arith, held-count-suc names i (omega arith)))
+
+  pub count-step-not-held : getD names i 0 ≡ notHeld → held' ≡ held → held' + heldCount (drop (i + 1) names) ≡ heldCount names
+  count-step-not-held q e = rw (add-one i) (let o : one (not (eqb (getD names i 0) notHeld)) ≡ 0 = rw (eq-eqb (getD names i 0) notHeld q) in omega (arith, held-count-suc names i (omega arith)))
+
+-- no more are held than there are
+held-count-le : (names : List ℕ) → heldCount names ≤ length names
+unfolding heldCount
+held-count-le [] = zero-le
+held-count-le (x ∷ names) = omega (arith, held-count-le names, one-le-one (not (eqb x notHeld)))
+
+held-count-left-le : (names : List ℕ) (i : ℕ) → length names ≡ 1024 → i ≤ 1024 → heldCount (drop i names) + i ≤ 1024
+held-count-left-le names i long l = let h = held-count-le (drop i names) in let d = length-drop i names in omega arith
+
+-- none is left past the last
+pub held-count-past-the-end : (names : List ℕ) (i : ℕ) → length names ≤ i → heldCount (drop i names) ≡ 0
+unfolding heldCount
+held-count-past-the-end names i h = ap heldCount (drop-of-length-le names {i = i} h)
+
+pub count-end : (names : List ℕ) (held i : ℕ) → length names ≡ 1024 → 1024 ≤ i → held + heldCount (drop i names) ≡ heldCount names → held ≡ heldCount names
+count-end names held i long h t = let z = held-count-past-the-end names i (omega arith) in omega arith
+
 -- ---- the loop
--- after i names: what the names left find in the marks left is what all names find in all marks
-pub record Scanned (marks names left : List ℕ) (i : ℕ) : Type 0 where
+-- after i names, with so many held ones to find: what the names left find in the marks left is what all names find in all marks
+pub record Scanned (marks names left : List ℕ) (n i : ℕ) : Type 0 where
   pub long : length left ≡ 256
+  pub to-find : n ≡ heldCount (drop i names)
+  pub bound : n + i ≤ 1024
   pub same : eachHasAMark marks names ≡ eachHasAMark left (drop i names)
 
-pub scan-start : (marks names : List ℕ) → length marks ≡ 256 → Scanned marks names marks 0
-scan-start marks names long = record { long = long; same = refl }
+pub scan-start : (marks names : List ℕ) (n : ℕ) → length marks ≡ 256 → length names ≡ 1024 → n ≡ heldCount names → Scanned marks names marks n 0
+scan-start marks names n long all e = record { long = long; to-find = e; bound = let h = held-count-le names in omega arith; same = refl }
 
-pub scan-end : (marks left names : List ℕ) (i : ℕ) → length names ≡ 1024 → 1024 ≤ i → Scanned marks names left i → true ≡ eachHasAMark marks names
-unfolding eachHasAMark
-scan-end marks left names i long h t = sym (t .same ∙ ap (eachHasAMark left) (drop-of-length-le names {i = i} (omega arith)))
+pub scan-end : (marks left names : List ℕ) (n i : ℕ) → n ≡ 0 → Scanned marks names left n i → true ≡ eachHasAMark marks names
+scan-end marks left names n i z t = sym (t .same ∙ each-has-a-mark-of-none-held left (drop i names) (sym (t .to-find) ∙ z))
 
 -- the code's mask is all ones but a power of two
 code-takes-mark-out : (left : List ℕ) (x : ℕ) → set left (x / 64) (bitAnd (getD left (x / 64) 0) (2 ^ 64 - 1 - 1 * 2 ^ (x % 64) % 2 ^ 64)) ≡ withoutMark left x
@@ -104,7 +171,7 @@ unfolding withoutMark
 code-takes-mark-out left x = rw (shl-one (x % 64) (omega arith))
 
 -- name i points at block x
-module _ (marks left names : List ℕ) (i x : ℕ) (at : x ≡ getD names i 0) (long : length names ≡ 1024) (below : i < 1024) (t : Scanned marks names left i) where
+module _ (marks left names : List ℕ) (n i x : ℕ) (at : x ≡ getD names i 0) (long : length names ≡ 1024) (below : i < 1024) (t : Scanned marks names left n i) where
   scan-suc : eachHasAMark marks names ≡ pick (eqb x notHeld) (eachHasAMark left (drop (suc i) names)) (both (isMarked left x) (eachHasAMark (withoutMark left x) (drop (suc i) names)))
   unfolding eachHasAMark
   scan-suc = t .same ∙ ap (eachHasAMark left) (drop-cons names i 0 (omega arith)) ∙ rw at
@@ -115,14 +182,27 @@ module _ (marks left names : List ℕ) (i x : ℕ) (at : x ≡ getD names i 0) (
   pub scan-false-of-no-block : (x ≡ notHeld → ⊥) → 16384 ≤ x → false ≡ eachHasAMark marks names
   scan-false-of-no-block f h = scan-false-of-no-mark f (mark-bit-past-the-end left x (omega (arith, t .long)))
 
-  pub scan-step-not-held : (left' : List ℕ) → x ≡ notHeld → left' ≡ left → Scanned marks names left' (i + 1)
-  scan-step-not-held left' q e = rw e (record { long = t .long; same = scan-suc ∙ rw (eq-eqb x notHeld q, add-one) })
+  to-find-suc : n ≡ one (not (eqb x notHeld)) + heldCount (drop (suc i) names)
+  to-find-suc = t .to-find ∙ held-count-suc names i (omega arith) ∙ ap (λ (y : ℕ). one (not (eqb y notHeld)) + heldCount (drop (suc i) names)) (sym at)
 
-  pub scan-step-held : (left' : List ℕ) → (x ≡ notHeld → ⊥) → (markBit left x ≡ 0 → ⊥) → left' ≡ set left (x / 64) (bitAnd (getD left (x / 64) 0) (2 ^ 64 - 1 - 1 * 2 ^ (x % 64) % 2 ^ 64)) → Scanned marks names left' (i + 1)
-  scan-step-held left' f z e =
-      rw (e ∙ code-takes-mark-out left x) (record {
+  pub scan-step-not-held : (left' : List ℕ) (n' : ℕ) → x ≡ notHeld → left' ≡ left → n' ≡ n → Scanned marks names left' n' (i + 1)
+  scan-step-not-held left' n' q e m =
+      rw (e, add-one)
+      (record {
+        long = t .long;
+        to-find = let o : one (not (eqb x notHeld)) ≡ 0 = rw (eq-eqb x notHeld q) in omega (arith, to-find-suc);
+        bound = let o : one (not (eqb x notHeld)) ≡ 0 = rw (eq-eqb x notHeld q) in omega (arith, to-find-suc, held-count-left-le names (suc i) long below);
+        same = scan-suc ∙ rw (eq-eqb x notHeld q);
+      })
+
+  pub scan-step-held : (left' : List ℕ) (n' : ℕ) → (x ≡ notHeld → ⊥) → (markBit left x ≡ 0 → ⊥) → left' ≡ set left (x / 64) (bitAnd (getD left (x / 64) 0) (2 ^ 64 - 1 - 1 * 2 ^ (x % 64) % 2 ^ 64)) → n' ≡ n - 1 → Scanned marks names left' n' (i + 1)
+  scan-step-held left' n' f z e m =
+      rw (e ∙ code-takes-mark-out left x, add-one)
+      (record {
         long = length-without-mark left x ∙ t .long;
-        same = scan-suc ∙ rw (ne-eqb x notHeld f, mark-of-mark-bit-one left x (set-mark z), add-one);
+        to-find = let o : one (not (eqb x notHeld)) ≡ 1 = rw (ne-eqb x notHeld f) in omega (arith, to-find-suc);
+        bound = let o : one (not (eqb x notHeld)) ≡ 1 = rw (ne-eqb x notHeld f) in omega (arith, to-find-suc, held-count-left-le names (suc i) long below);
+        same = scan-suc ∙ rw (ne-eqb x notHeld f, mark-of-mark-bit-one left x (set-mark z));
       })
     where
       set-mark : (markBit left x ≡ 0 → ⊥) → markBit left x ≡ 1

@@ -6,7 +6,7 @@ ghost use Prim.Native.Nat.{ℕ};
 ghost use Rattle.marks.specs.Marks.{isMarked};
 ghost use Rattle.heap.specs.Table.{isLiveBlock};
 ghost use Rattle.checkrules.specs.Check.{namesValid};
-ghost use Rattle.namecheck.specs.NameScan.{eachHasAMark};
+ghost use Rattle.namecheck.specs.NameScan.{heldCount, eachHasAMark};
 use heap::State;
 
 // A mark for each live block of the table: the numbers of superblock k are 4 × k to 4 × k + 3.
@@ -28,13 +28,30 @@ fn marks_of_table(s: State) -> [u64; 256]
     marks
 }
 
-// Each held name finds its block's mark, which it takes out.
-fn each_has_a_mark(marks: [u64; 256], names: [u16; 1024]) -> bool
+// How many names are held.
+fn held_count(names: [u16; 1024]) -> u32
+    ensures { λ r. ⌜ r ≡ heldCount names ⌝ }
+{
+    let mut held: u32 = 0;
+    let mut i: usize = 0;
+    while i < 1024 {
+        if names[i] != 65535 {
+            held += 1;
+        }
+        i += 1;
+    }
+    held
+}
+
+// Each held name finds its block's mark, which it takes out. Past the last held name nothing is left to find.
+fn each_has_a_mark(marks: [u64; 256], names: [u16; 1024], held: u32) -> bool
+    requires { ⌜ held ≡ heldCount names ⌝ }
     ensures { λ r. ⌜ r ≡ eachHasAMark marks names ⌝ }
 {
     let mut left = marks;
+    let mut to_find = held;
     let mut i: usize = 0;
-    while i < 1024 {
+    while 0 < to_find {
         let x = names[i] as usize;
         if x != 65535 {
             if 16384 <= x {
@@ -47,17 +64,22 @@ fn each_has_a_mark(marks: [u64; 256], names: [u16; 1024]) -> bool
                 return false;
             }
             left[w] = m & !(1u64 << b);
+            to_find -= 1;
         }
         i += 1;
     }
     true
 }
 
-// Each held name points at a live block, no two at one.
+// Each held name points at a live block, no two at one. Where no name is held no mark is looked at.
 pub fn names_valid(s: State) -> bool
     ensures { λ r. ⌜ r ≡ namesValid s ⌝ }
 {
-    let marks = marks_of_table(s);
     let names = s.names;
-    each_has_a_mark(marks, names)
+    let held = held_count(names);
+    if held == 0 {
+        return true;
+    }
+    let marks = marks_of_table(s);
+    each_has_a_mark(marks, names, held)
 }

@@ -1,5 +1,6 @@
 -- `namecheck::each_has_a_mark` meets its contract. The loop's invariant: what the names left find in the marks left is what all names find in all
 -- marks. The measure is the names left. Assumes nothing.
+use mathlib.Core.Path.{_≡_}
 use mathlib.Core.Logic.{⊎-elim}
 use Prim.Native.Nat.{ℕ, _-_, _≤_, _<_}
 use native.Mathlib.Omega.{arith}
@@ -13,10 +14,10 @@ use Rattle.namecheck.proofs.each_has_a_mark.Statement.{statement}
 use Rattle.namecheck.proofs.each_has_a_mark.Tie as tie
 
 abbrev Inv-loop : tie.InvT-loop
-Inv-loop names left₀ i₀ left i = (i ≤ 1024) × Scanned left₀ names left i
+Inv-loop held names left₀ to-find₀ i₀ left to-find i = (i ≤ 1024) × Scanned left₀ names left to-find i
 
 abbrev μ-loop : tie.MeasureT-loop
-μ-loop names left₀ i₀ left i = 1024 - i
+μ-loop held names left₀ to-find₀ i₀ left to-find i = 1024 - i
 
 name-fits : (c : tie.Start Inv-loop μ-loop) (i : ℕ) → Fits w16 (getD (c .args .t2) i 0)
 name-fits c i = search needs
@@ -64,6 +65,9 @@ mul-left c = omega arith
 array-write-left : tie.Need-array-write-left Inv-loop μ-loop
 array-write-left c = omega arith
 
+sub-to-find : tie.Need-sub-to-find Inv-loop μ-loop
+sub-to-find c = omega arith
+
 add-i : tie.Need-add-i Inv-loop μ-loop
 add-i c = omega arith
 
@@ -77,7 +81,7 @@ loop-again c =
     (omega arith, ⊎-elim (λ w. search (scan-step-held, needs)) (λ w. search (scan-step-not-held, needs)) (c .if1 .came))
 
 returns-3 : tie.Need-returns-3 Inv-loop μ-loop
-returns-3 c = let h : 1024 ≤ c .before .loop .i = omega arith in search (scan-end, needs)
+returns-3 c = let h : c .before .loop .to-find ≡ 0 = omega arith in search (scan-end, needs)
 
 pub each-has-a-mark-spec : {M : Type 1} → statement M
 each-has-a-mark-spec =
@@ -97,6 +101,7 @@ each-has-a-mark-spec =
     shl-left
     mul-left
     array-write-left
+    sub-to-find
     add-i
     loop-less
     loop-again
