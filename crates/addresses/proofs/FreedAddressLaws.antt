@@ -1,21 +1,22 @@
 -- The tests of an address, step by step as the code goes. Assumes nothing.
 use mathlib.Core.Path.{_≡_, refl, sym, ap, _∙_}
 use mathlib.Core.Bool.{Bool, true, false, not}
-use Prim.Native.Nat.{ℕ, _*_, _/_, _%_, _≤_, _<_, zero-le}
-use native.Mathlib.Nat.{div-zero}
+use Prim.Native.Nat.{ℕ, _+_, _*_, _/_, _%_, _≤_, _<_, zero-le}
+use native.Mathlib.Nat.{div-zero, div-lt-iff-lt-mul, mul-le-mul-left}
 use native.Mathlib.Decide.{decLt}
 use native.Mathlib.Omega.{arith}
-use borrow.Author.Tests.{le-leb, lt-leb, eq-eqb, ne-eqb}
+use borrow.Author.Tests.{le-leb, lt-leb, lt-ltb, le-ltb, eq-eqb, ne-eqb}
 use lib.Dec.{eqb, leb}
 use lib.ListN.{length}
 use Rattle.laws.specs.Sums.{either}
 use Rattle.laws.proofs.Inequalities.{le-of-not-below}
 use Rattle.classes.specs.Classes.{sizeOf, blocksOf}
-use Rattle.classes.proofs.ClassTableLaws.{size-of-ge-16, blocks-of-no-class}
+use Rattle.classes.proofs.ClassTableLaws.{size-of-ge-16, size-of-no-class, blocks-of-no-class}
 use Rattle.marks.specs.Marks.{isMarked}
+use Rattle.names.specs.Names.{notHeld}
 use Rattle.heap.specs.declared.State.{State}
 use Rattle.heap.specs.Table.{superblockAt, isUnused}
-use Rattle.calls.specs.Free.{superblockHolding, blockOf, isUnmapped, isMisaligned, isLiveAt}
+use Rattle.calls.specs.Free.{superblockHolding, blockOf, isUnmapped, isMisaligned, isLiveAt, blockNumberAt}
 use Rattle.table.proofs.PastTableLaws.{not-unused-past-table}
 
 -- a class with no block size has no blocks
@@ -68,6 +69,30 @@ module _ (s : State) (a class size : ℕ) (ec : class ≡ superblockAt s (a / 40
   pub is-misaligned-is-past-last-block : (n : ℕ) → a % 4096 % size ≡ 0 → n ≡ blocksOf class → leb n (a % 4096 / size) ≡ isMisaligned s a
   unfolding isMisaligned
   is-misaligned-is-past-last-block n e en = rw (← block-of-is-quotient, ← size-of-superblock-holding, eq-eqb (a % 4096 % size) 0 e, ← ec, ← en)
+
+-- the block's number: a block is one of 256, whatever the class
+block-of-offset-lt-256 : (a class : ℕ) → a % 4096 / sizeOf class < 256
+block-of-offset-lt-256 a class = go (decLt class 27)
+  where
+    go : Dec (class < 27) → a % 4096 / sizeOf class < 256
+    go (yes h) =
+        let g : 16 ≤ sizeOf class = size-of-ge-16 class h in
+        let m : 256 * 16 ≤ 256 * sizeOf class = mul-le-mul-left 256 g in
+        div-lt-iff-lt-mul {k = sizeOf class} {x = a % 4096} {y = 256} (omega arith) .1 (omega arith)
+    go (no f) = let q : a % 4096 / sizeOf class ≡ 0 = ap (λ (n : ℕ). a % 4096 / n) (size-of-no-class class (le-of-not-below f)) ∙ div-zero (a % 4096) in omega arith
+
+module _ (s : State) (a : ℕ) where
+  pub block-of-lt-256 : (j : ℕ) → j ≡ blockOf s a → j < 256
+  unfolding blockOf
+  block-of-lt-256 j e = rw e (block-of-offset-lt-256 a (superblockHolding s a .class))
+
+  pub block-number-past-table : 64 ≤ a / 4096 → notHeld ≡ blockNumberAt s a
+  unfolding blockNumberAt
+  block-number-past-table h = rw (le-ltb (a / 4096) 64 h)
+
+  pub block-number-in-table : (j : ℕ) → a / 4096 < 64 → j ≡ blockOf s a → a / 4096 * 256 + j ≡ blockNumberAt s a
+  unfolding blockNumberAt
+  block-number-in-table j h e = rw (lt-ltb (a / 4096) 64 h, e)
 
 -- the block's mark
 module _ (s : State) (a j : ℕ) (ej : j ≡ blockOf s a) where

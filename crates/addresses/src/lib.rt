@@ -1,7 +1,7 @@
-// The tests of an address: unmapped, misaligned, live. Each function is total, as the definitions are: past the table's 64 superblocks
-// nothing is live, and a class with no block size has no blocks.
+// The block at an address, and the tests of an address: unmapped, misaligned, live. Each function is total, as the definitions are: past the
+// table's 64 superblocks nothing is live and no block has a number, and a class with no block size has no blocks.
 ghost use mathlib.Core.Path.{_≡_};
-ghost use Rattle.calls.specs.Free.{blockOf, isUnmapped, isMisaligned, isLiveAt};
+ghost use Rattle.calls.specs.Free.{blockOf, isUnmapped, isMisaligned, isLiveAt, blockNumberAt};
 use heap::State;
 
 // The address is past superblocks 0 to N - 1, or in an unused one.
@@ -32,6 +32,17 @@ pub fn block_at(s: State, address: u32) -> u16
     }
     let offset = (address % 4096) as u16;
     offset / size
+}
+
+// The number by which a name points at that block, superblock × 256 + block; 65535 past the table.
+pub fn block_number_at(s: State, address: u32) -> u16
+    ensures { λ r. ⌜ r ≡ blockNumberAt s address ⌝ }
+{
+    let k = address / 4096;
+    if k >= 64 {
+        return 65535;
+    }
+    k as u16 * 256 + block_at(s, address)
 }
 
 // No block of its superblock starts at the address.

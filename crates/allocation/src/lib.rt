@@ -8,7 +8,7 @@ use calls::Outcome;
 use heap::State;
 
 // Where block j of superblock k starts.
-fn address_of(k: u8, class: u8, j: u16) -> u32
+pub fn address_of(k: u8, class: u8, j: u16) -> u32
     ensures { λ r. ⌜ r ≡ addressOf k class j ⌝ }
 {
     let size = classes::block_size(class) as u32;

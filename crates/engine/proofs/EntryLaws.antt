@@ -14,13 +14,18 @@ use Rattle.heap.specs.Table.{noState, newState}
 use Rattle.checkrules.specs.Check.{withinLimits, restValid}
 use Rattle.heaplaws.proofs.StateFacts.{Shape}
 use Rattle.calls.specs.declared.Answer.{Answer}
+use Rattle.calls.specs.declared.Call.{Call}
+use Rattle.calls.specs.declared.Call.the-variants.{Take, Free, NamedTake, NamedFree}
 use Rattle.calls.specs.declared.Outcome.the-variants.{Ready, Refused}
 use Rattle.calls.specs.Answers.{After, HasNumberAndValuesOf, PassesIfAccepted, refused, checked}
 use Rattle.calls.specs.Setup.{acceptedSetup, setupOf}
-use Rattle.calls.specs.Take.{takeUnchecked, takeOf}
-use Rattle.calls.specs.Free.{freeUnchecked, freeOf}
+use Rattle.calls.specs.Take.{takeUnchecked}
+use Rattle.calls.specs.Free.{freeUnchecked}
+use Rattle.calls.specs.Named.{namedTakeUnchecked, namedFreeUnchecked}
+use Rattle.calls.specs.Calls.{callOf, callUnchecked}
 use Rattle.calls.proofs.AnswerLaws.{number-and-values-by-rules, passes-if-accepted-by-rules, refused-of-answer}
-use Rattle.calllaws.proofs.AcceptedCallLaws.{take-passes-if-accepted, free-passes-if-accepted, setup-passes-if-accepted}
+use Rattle.calls.proofs.CheckFirst.{call-of-checks-first}
+use Rattle.calllaws.proofs.AcceptedCallLaws.{call-passes-if-accepted, setup-passes-if-accepted}
 use Rattle.limits.specs.SetupRefusal.{setupRefusal}
 use Rattle.statecheck.specs.FirstRefusal.{firstRefusal}
 
@@ -28,12 +33,9 @@ abbrev answerAndOrder : Answer → List ℕ → After
 answerAndOrder r order = record { answer = r; order = order }
 
 -- ---- the three clauses of an entry's contract, from the equation
-module _ (s : State) (order : List ℕ) (i n : ℕ) (shape : Shape s) {r : Answer} {out : List ℕ} where
-  pub take-clauses : answerAndOrder r out ≡ takeOf s order i n → (answerAndOrder r out ≡ takeOf s order i n) × (HasNumberAndValuesOf (r .outcome) (takeOf s order i n .answer .outcome) × PassesIfAccepted (r .outcome) (r .state) out)
-  take-clauses e = (e, (number-and-values-by-rules r out (takeOf s order i n) e, passes-if-accepted-by-rules r out (takeOf s order i n) e (take-passes-if-accepted s order i n shape)))
-
-  pub free-clauses : answerAndOrder r out ≡ freeOf s order i n → (answerAndOrder r out ≡ freeOf s order i n) × (HasNumberAndValuesOf (r .outcome) (freeOf s order i n .answer .outcome) × PassesIfAccepted (r .outcome) (r .state) out)
-  free-clauses e = (e, (number-and-values-by-rules r out (freeOf s order i n) e, passes-if-accepted-by-rules r out (freeOf s order i n) e (free-passes-if-accepted s order i n shape)))
+pub call-clauses : (s : State) (order : List ℕ) (call : Call) → Shape s → {r : Answer} {out : List ℕ} → answerAndOrder r out ≡ callOf s order call
+    → (answerAndOrder r out ≡ callOf s order call) × (HasNumberAndValuesOf (r .outcome) (callOf s order call .answer .outcome) × PassesIfAccepted (r .outcome) (r .state) out)
+call-clauses s order call shape {r = r} {out = out} e = (e, (number-and-values-by-rules r out (callOf s order call) e, passes-if-accepted-by-rules r out (callOf s order call) e (call-passes-if-accepted s order call shape)))
 
 pub setup-clauses : (u : Setup) (order : List ℕ) {r : Answer} {out : List ℕ} → answerAndOrder r out ≡ setupOf u order
     → (answerAndOrder r out ≡ setupOf u order) × (HasNumberAndValuesOf (r .outcome) (setupOf u order .answer .outcome) × PassesIfAccepted (r .outcome) (r .state) out)
@@ -81,27 +83,35 @@ checked-of-no-refusal s order r next e z = go (withinLimits (s .setup)) (leb (s 
     go true false c q = absurd (omega arith)
     go false b c q = absurd (omega arith)
 
--- ---- a take and a free: refused by the check, or what they are behind it
-module _ (s : State) (order : List ℕ) (i n first : ℕ) (e : first ≡ firstRefusal s order) where
-  pub take-refused-by-check : (r : Answer) → (first ≡ 0 → ⊥) → r ≡ record { outcome = Refused first; state = s } → answerAndOrder r order ≡ takeOf s order i n
-  unfolding takeOf
-  take-refused-by-check r f h = refused-of-answer s order first r h ∙ sym (checked-is-first-refusal s order first _ e f)
+-- ---- a call: refused by the check, or what it is behind it
+module _ (s : State) (order : List ℕ) (call : Call) (first : ℕ) (e : first ≡ firstRefusal s order) where
+  pub call-refused-by-check : (r : Answer) → (first ≡ 0 → ⊥) → r ≡ record { outcome = Refused first; state = s } → answerAndOrder r order ≡ callOf s order call
+  call-refused-by-check r f h = refused-of-answer s order first r h ∙ sym (call-of-checks-first s order call ∙ checked-is-first-refusal s order first _ e f)
 
-  pub take-is-take-unchecked : (after : After) → first ≡ 0 → after ≡ takeUnchecked s order i n → after ≡ takeOf s order i n
-  unfolding takeOf
-  take-is-take-unchecked after z h = h ∙ sym (checked-of-no-refusal s order first _ e z)
+  pub call-is-call-unchecked : (after : After) → first ≡ 0 → after ≡ callUnchecked s order call → after ≡ callOf s order call
+  call-is-call-unchecked after z h = h ∙ sym (call-of-checks-first s order call ∙ checked-of-no-refusal s order first _ e z)
 
-  pub free-refused-by-check : (r : Answer) → (first ≡ 0 → ⊥) → r ≡ record { outcome = Refused first; state = s } → answerAndOrder r order ≡ freeOf s order i n
-  unfolding freeOf
-  free-refused-by-check r f h = refused-of-answer s order first r h ∙ sym (checked-is-first-refusal s order first _ e f)
+-- and there, what each call answers
+module _ (s : State) (order : List ℕ) (call : Call) (after : After) (i : ℕ) where
+  pub unchecked-take : (size : ℕ) → call ≡ Take i size → after ≡ takeUnchecked s order i size → after ≡ callUnchecked s order call
+  unfolding callUnchecked
+  unchecked-take size e h = rw e h
 
-  pub free-is-free-unchecked : (after : After) → first ≡ 0 → after ≡ freeUnchecked s order i n → after ≡ freeOf s order i n
-  unfolding freeOf
-  free-is-free-unchecked after z h = h ∙ sym (checked-of-no-refusal s order first _ e z)
+  pub unchecked-free : (a : ℕ) → call ≡ Free i a → after ≡ freeUnchecked s order i a → after ≡ callUnchecked s order call
+  unfolding callUnchecked
+  unchecked-free a e h = rw e h
+
+  pub unchecked-named-take : (m size : ℕ) → call ≡ NamedTake i m size → after ≡ namedTakeUnchecked s order i m size → after ≡ callUnchecked s order call
+  unfolding callUnchecked
+  unchecked-named-take m size e h = rw e h
+
+  pub unchecked-named-free : (m : ℕ) → call ≡ NamedFree i m → after ≡ namedFreeUnchecked s order i m → after ≡ callUnchecked s order call
+  unfolding callUnchecked
+  unchecked-named-free m e h = rw e h
 
 -- ---- how a proof finds which way out it is at
 pub ruleset setup-outcomes = (setup-refused, setup-ready)
 
-pub ruleset take-outcomes = (take-refused-by-check, take-is-take-unchecked)
+pub ruleset call-outcomes = (call-refused-by-check, call-is-call-unchecked)
 
-pub ruleset free-outcomes = (free-refused-by-check, free-is-free-unchecked)
+pub ruleset unchecked-calls = (unchecked-take, unchecked-free, unchecked-named-take, unchecked-named-free)

@@ -1,11 +1,14 @@
-// The entries of the allocator: setup, take and free, on a state by value and lent order storage of any length. Each checks
-// the state handed in; none leaves a check to its caller.
+// The entries of the allocator: setup, take and free, plain and of a block called by name, on a state by value and lent order storage of
+// any length. Each checks the state handed in; none leaves a check to its caller.
 ghost use mathlib.Core.Path.{_≡_};
 ghost use Rattle.calls.specs.Answers.{After, HasNumberAndValuesOf, PassesIfAccepted};
 ghost use Rattle.calls.specs.Setup.{setupOf};
 ghost use Rattle.calls.specs.Take.{takeOf};
 ghost use Rattle.calls.specs.Free.{freeOf};
+ghost use Rattle.calls.specs.Named.{namedTakeOf, namedFreeOf};
+ghost use Rattle.calls.specs.Calls.{callOf, callUnchecked};
 use calls::Answer;
+use calls::Call;
 use calls::Outcome;
 use heap::Setup;
 use heap::State;
@@ -34,11 +37,7 @@ pub fn take(s: State, order: &mut [u16], processor: u8, size: u16) -> Answer
     ensures number_and_values { λ r. ⌜ HasNumberAndValuesOf (r .outcome) (takeOf s (now (order .entry)) processor size .answer .outcome) ⌝ }
     ensures passes { λ r. ⌜ PassesIfAccepted (r .outcome) (r .state) (now (order .exit)) ⌝ }
 {
-    let first = statecheck::first_refusal(s, order);
-    if first != 0 {
-        return states::refuse(s, first);
-    }
-    takeunchecked::take(s, order, processor, size)
+    call_state(s, order, Call::Take { processor, size })
 }
 
 // The block at the address is free again, and the move rule is followed; or the first refusal.
@@ -47,9 +46,60 @@ pub fn free(s: State, order: &mut [u16], processor: u8, address: u32) -> Answer
     ensures number_and_values { λ r. ⌜ HasNumberAndValuesOf (r .outcome) (freeOf s (now (order .entry)) processor address .answer .outcome) ⌝ }
     ensures passes { λ r. ⌜ PassesIfAccepted (r .outcome) (r .state) (now (order .exit)) ⌝ }
 {
+    call_state(s, order, Call::Free { processor, address })
+}
+
+// What take does, with the name bound to the block; or the first refusal.
+pub fn named_take(s: State, order: &mut [u16], processor: u8, name: u16, size: u16) -> Answer
+    ensures { λ r. ⌜ record { answer = r; order = now (order .exit) } ≡ namedTakeOf s (now (order .entry)) processor name size ⌝ }
+    ensures number_and_values { λ r. ⌜ HasNumberAndValuesOf (r .outcome) (namedTakeOf s (now (order .entry)) processor name size .answer .outcome) ⌝ }
+    ensures passes { λ r. ⌜ PassesIfAccepted (r .outcome) (r .state) (now (order .exit)) ⌝ }
+{
+    call_state(
+        s,
+        order,
+        Call::NamedTake {
+            processor,
+            name,
+            size,
+        },
+    )
+}
+
+// What free does with the address of the block that the name points at; or the first refusal.
+pub fn named_free(s: State, order: &mut [u16], processor: u8, name: u16) -> Answer
+    ensures { λ r. ⌜ record { answer = r; order = now (order .exit) } ≡ namedFreeOf s (now (order .entry)) processor name ⌝ }
+    ensures number_and_values { λ r. ⌜ HasNumberAndValuesOf (r .outcome) (namedFreeOf s (now (order .entry)) processor name .answer .outcome) ⌝ }
+    ensures passes { λ r. ⌜ PassesIfAccepted (r .outcome) (r .state) (now (order .exit)) ⌝ }
+{
+    call_state(s, order, Call::NamedFree { processor, name })
+}
+
+// Any of these four: the check, then what the call answers behind it.
+pub fn call_state(s: State, order: &mut [u16], c: Call) -> Answer
+    ensures { λ r. ⌜ record { answer = r; order = now (order .exit) } ≡ callOf s (now (order .entry)) c ⌝ }
+    ensures number_and_values { λ r. ⌜ HasNumberAndValuesOf (r .outcome) (callOf s (now (order .entry)) c .answer .outcome) ⌝ }
+    ensures passes { λ r. ⌜ PassesIfAccepted (r .outcome) (r .state) (now (order .exit)) ⌝ }
+{
     let first = statecheck::first_refusal(s, order);
     if first != 0 {
         return states::refuse(s, first);
     }
-    freeunchecked::free(s, order, processor, address)
+    call_unchecked(s, order, c)
+}
+
+// A call behind the check.
+fn call_unchecked(s: State, order: &mut [u16], c: Call) -> Answer
+    ensures { λ r. ⌜ record { answer = r; order = now (order .exit) } ≡ callUnchecked s (now (order .entry)) c ⌝ }
+{
+    match c {
+        Call::Take { processor, size } => takeunchecked::take(s, order, processor, size),
+        Call::Free { processor, address } => freeunchecked::free(s, order, processor, address),
+        Call::NamedTake {
+            processor,
+            name,
+            size,
+        } => namedcalls::take(s, order, processor, name, size),
+        Call::NamedFree { processor, name } => namedcalls::free(s, order, processor, name),
+    }
 }

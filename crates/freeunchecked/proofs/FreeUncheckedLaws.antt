@@ -11,7 +11,7 @@ use Rattle.moverules.specs.Moves.{invariantRestored}
 use Rattle.calls.specs.declared.Answer.{Answer}
 use Rattle.calls.specs.declared.Outcome.the-variants.{Moves, Refused}
 use Rattle.calls.specs.Answers.{After, HasNumberAndValuesOf, isProcessor}
-use Rattle.calls.specs.Free.{isUnmapped, isMisaligned, isLiveAt, markCleared, orderPushed, freedAt, freeUnchecked}
+use Rattle.calls.specs.Free.{isUnmapped, isMisaligned, isLiveAt, orderPushed, blockFreed, freedAt, freeUnchecked}
 use Rattle.calls.proofs.AnswerLaws.{number-and-values-by-rules, refused-of-answer}
 
 abbrev answerAndOrder : Answer → List ℕ → After
@@ -48,7 +48,7 @@ module _ (s : State) (order : List ℕ) (i a : ℕ) (t : Bool) (p : t ≡ isProc
         free-unchecked-is-freed-at after o h = h ∙ sym (rw (← p, f, ← g, k, ← l, m, ← n, o))
 
 pub freed-at-by-steps : (s : State) (order new : List ℕ) (a owner class : ℕ) (t : State) (m : Moved) (count : ℕ) (next : State) → owner ≡ superblockAt s (a / 4096) .owner → class ≡ superblockAt s (a / 4096) .class
-    → new ≡ orderPushed s order a → t ≡ markCleared s a → m ≡ invariantRestored owner class t → count ≡ m .moves → next ≡ m .state
+    → new ≡ orderPushed s order a → t ≡ blockFreed s a → m ≡ invariantRestored owner class t → count ≡ m .moves → next ≡ m .state
     → record { answer = record { outcome = Moves count; state = next }; order = new } ≡ freedAt s order a
 unfolding freedAt
 freed-at-by-steps s order new a owner class t m count next e f g h i j k = rw (j, k, i, h, g, e, f)

@@ -27,7 +27,8 @@ pub fn free(s: State, order: &mut [u16], processor: u8, address: u32) -> Answer
     free_at(s, order, address)
 }
 
-// The mark is cleared, the number goes in the next place, and the emptiness invariant of the owner's heap and class is restored.
+// The mark is cleared and the name let go, the number goes in the next place, and the emptiness invariant of the owner's heap and class is
+// restored.
 fn free_at(s: State, order: &mut [u16], address: u32) -> Answer
     ensures { λ r. ⌜ record { answer = r; order = now (order .exit) } ≡ freedAt s (now (order .entry)) address ⌝ }
 {
@@ -35,7 +36,7 @@ fn free_at(s: State, order: &mut [u16], address: u32) -> Answer
     let owner = table::owner_at(s, k);
     let class = table::class_at(s, k);
     release::push_block(s, order, address);
-    let t = release::clear_mark(s, address);
+    let t = release::free_block(s, address);
     let m = moves::restore_invariant(t, owner, class);
     let next = m.state;
     Answer {

@@ -25,8 +25,8 @@ use Rattle.boundlaws.proofs.CallListLaws.{stepsBy, steps-linked}
 use Rattle.commands.specs.declared.Command.{Command}
 use Rattle.commands.specs.declared.Command.the-variants as command
 use Rattle.commands.specs.Record.{commandAt, sizeOfCommand, isRefused, commandsFrom, commandsOf}
-use Rattle.commandlaws.proofs.CommandLaws.{remaining, commands-of-is-commands-at-0, commands-setup, commands-refused, setup-first-and-inside, take-later-and-inside, free-later-and-inside}
-use Rattle.linerules.specs.Lines.{setupLine, takeLine, freeLine, stopLine, finalLines}
+use Rattle.commandlaws.proofs.CommandLaws.{remaining, commands-of-is-commands-at-0, commands-setup, commands-refused, setup-first-and-inside, take-later-and-inside, free-later-and-inside, named-take-later-and-inside, named-free-later-and-inside}
+use Rattle.linerules.specs.Lines.{setupLine, takeLine, freeLine, namedTakeLine, namedFreeLine, stopLine, finalLines}
 use Rattle.keyrules.specs.Key.{beforeFirst, setupText, textOf, orderAfter, keyOf, storageOf}
 
 -- ---- the calls of a record
@@ -36,6 +36,8 @@ callsIn [] = []
 callsIn (command.Setup processors superblocks spare p q ∷ commands) = callsIn commands
 callsIn (command.Take processor size ∷ commands) = call.Take processor size ∷ callsIn commands
 callsIn (command.Free processor address ∷ commands) = call.Free processor address ∷ callsIn commands
+callsIn (command.NamedTake processor name size ∷ commands) = call.NamedTake processor name size ∷ callsIn commands
+callsIn (command.NamedFree processor name ∷ commands) = call.NamedFree processor name ∷ callsIn commands
 callsIn (command.Refused number offset ∷ commands) = []
 
 -- those calls with what each left, one after the other
@@ -51,6 +53,8 @@ lastAfter before (step ∷ steps) = lastAfter (step .after) steps
 unfoldable pub callLine : Call → Outcome → List ℕ
 callLine (call.Take processor size) outcome = takeLine processor size outcome
 callLine (call.Free processor address) outcome = freeLine processor address outcome
+callLine (call.NamedTake processor name size) outcome = namedTakeLine processor name size outcome
+callLine (call.NamedFree processor name) outcome = namedFreeLine processor name outcome
 
 unfoldable pub stepLines : List Step → List ℕ
 stepLines [] = []
@@ -62,6 +66,8 @@ endingLines last [] = finalLines (last .answer .state)
 endingLines last (command.Setup processors superblocks spare p q ∷ commands) = endingLines last commands
 endingLines last (command.Take processor size ∷ commands) = endingLines last commands
 endingLines last (command.Free processor address ∷ commands) = endingLines last commands
+endingLines last (command.NamedTake processor name size ∷ commands) = endingLines last commands
+endingLines last (command.NamedFree processor name ∷ commands) = endingLines last commands
 endingLines last (command.Refused number offset ∷ commands) = stopLine number offset
 
 -- ---- a setup comes first, and only there
@@ -70,6 +76,8 @@ NoSetup [] = Unit {0}
 NoSetup (command.Setup processors superblocks spare p q ∷ commands) = ⊥
 NoSetup (command.Take processor size ∷ commands) = NoSetup commands
 NoSetup (command.Free processor address ∷ commands) = NoSetup commands
+NoSetup (command.NamedTake processor name size ∷ commands) = NoSetup commands
+NoSetup (command.NamedFree processor name ∷ commands) = NoSetup commands
 NoSetup (command.Refused number offset ∷ commands) = NoSetup commands
 
 no-setup-of-pick : (t : Bool) (commands : List Command) → NoSetup commands → NoSetup (pick t [] commands)
@@ -91,6 +99,8 @@ no-setup-in-commands-from (suc m) r at later = go (commandAt r at) refl (λ (k :
         let inside-record = setup-first-and-inside r at (command.Setup processors superblocks spare p q) e processors superblocks spare p q refl in omega arith
     go (command.Take processor size) e more = no-setup-of-pick (over (command.Take processor size)) (commandsFrom m r (at + 4)) (more 4)
     go (command.Free processor address) e more = no-setup-of-pick (over (command.Free processor address)) (commandsFrom m r (at + 6)) (more 6)
+    go (command.NamedTake processor name size) e more = no-setup-of-pick (over (command.NamedTake processor name size)) (commandsFrom m r (at + 6)) (more 6)
+    go (command.NamedFree processor name) e more = no-setup-of-pick (over (command.NamedFree processor name)) (commandsFrom m r (at + 4)) (more 4)
     go (command.Refused number offset) e more = no-setup-of-pick (over (command.Refused number offset)) (commandsFrom m r (at + 0)) (more 0)
 
 tailOf : List Command → List Command
@@ -108,22 +118,30 @@ no-setup-after-first r = go (commandAt r 0)
     go (command.Setup processors superblocks spare p q) = after 6 (omega arith)
     go (command.Take processor size) = after 4 (omega arith)
     go (command.Free processor address) = after 6 (omega arith)
+    go (command.NamedTake processor name size) = after 6 (omega arith)
+    go (command.NamedFree processor name) = after 4 (omega arith)
     go (command.Refused number offset) = tt
 
 -- ---- the lines are those of the calls
+module _ (before : After) (c : Call) (commands : List Command) where
+  abbrev after-call : After
+  after-call = callOf (before .answer .state) (before .order) c
+
+  -- a call's line, before those of the calls after it
+  line-before-step-lines : textOf after-call commands ≡ stepLines (stepsIn after-call commands) ++ endingLines (lastAfter after-call (stepsIn after-call commands)) commands
+      → callLine c (after-call .answer .outcome) ++ textOf after-call commands
+      ≡ (callLine c (after-call .answer .outcome) ++ stepLines (stepsIn after-call commands)) ++ endingLines (lastAfter after-call (stepsIn after-call commands)) commands
+  line-before-step-lines e = let line = callLine c (after-call .answer .outcome) in ap (λ (l : List ℕ). line ++ l) e ∙ sym (append-assoc line _ _)
+
 text-of-is-step-lines : (before : After) (commands : List Command) → NoSetup commands
     → textOf before commands ≡ stepLines (stepsIn before commands) ++ endingLines (lastAfter before (stepsIn before commands)) commands
 unfolding NoSetup textOf stepsIn callsIn stepsBy callOf stepLines callLine lastAfter endingLines
 text-of-is-step-lines before [] n = refl
 text-of-is-step-lines before (command.Setup processors superblocks spare p q ∷ commands) n = absurd n
-text-of-is-step-lines before (command.Take processor size ∷ commands) n =
-    let after = callOf (before .answer .state) (before .order) (call.Take processor size) in
-    let line = takeLine processor size (after .answer .outcome) in
-    ap (λ (l : List ℕ). line ++ l) (text-of-is-step-lines after commands n) ∙ sym (append-assoc line (stepLines (stepsIn after commands)) (endingLines (lastAfter after (stepsIn after commands)) commands))
-text-of-is-step-lines before (command.Free processor address ∷ commands) n =
-    let after = callOf (before .answer .state) (before .order) (call.Free processor address) in
-    let line = freeLine processor address (after .answer .outcome) in
-    ap (λ (l : List ℕ). line ++ l) (text-of-is-step-lines after commands n) ∙ sym (append-assoc line (stepLines (stepsIn after commands)) (endingLines (lastAfter after (stepsIn after commands)) commands))
+text-of-is-step-lines before (command.Take processor size ∷ commands) n = let c = call.Take processor size in line-before-step-lines before c commands (text-of-is-step-lines (after-call before c commands) commands n)
+text-of-is-step-lines before (command.Free processor address ∷ commands) n = let c = call.Free processor address in line-before-step-lines before c commands (text-of-is-step-lines (after-call before c commands) commands n)
+text-of-is-step-lines before (command.NamedTake processor name size ∷ commands) n = let c = call.NamedTake processor name size in line-before-step-lines before c commands (text-of-is-step-lines (after-call before c commands) commands n)
+text-of-is-step-lines before (command.NamedFree processor name ∷ commands) n = let c = call.NamedFree processor name in line-before-step-lines before c commands (text-of-is-step-lines (after-call before c commands) commands n)
 text-of-is-step-lines before (command.Refused number offset ∷ commands) n = refl
 
 order-after-is-last-order : (before : After) (commands : List Command) → NoSetup commands → orderAfter before commands ≡ lastAfter before (stepsIn before commands) .order
@@ -132,6 +150,8 @@ order-after-is-last-order before [] n = refl
 order-after-is-last-order before (command.Setup processors superblocks spare p q ∷ commands) n = absurd n
 order-after-is-last-order before (command.Take processor size ∷ commands) n = order-after-is-last-order (callOf (before .answer .state) (before .order) (call.Take processor size)) commands n
 order-after-is-last-order before (command.Free processor address ∷ commands) n = order-after-is-last-order (callOf (before .answer .state) (before .order) (call.Free processor address)) commands n
+order-after-is-last-order before (command.NamedTake processor name size ∷ commands) n = order-after-is-last-order (callOf (before .answer .state) (before .order) (call.NamedTake processor name size)) commands n
+order-after-is-last-order before (command.NamedFree processor name ∷ commands) n = order-after-is-last-order (callOf (before .answer .state) (before .order) (call.NamedFree processor name)) commands n
 order-after-is-last-order before (command.Refused number offset ∷ commands) n = refl
 
 -- ---- the theorem
@@ -202,5 +222,7 @@ key-demand-3 r order = go (commandAt r 0) refl
         (commands-of-is-commands-at-0 r ∙ commands-setup r 0 (command.Setup processors superblocks spare p q) e processors superblocks spare p q refl)
     go (command.Take processor size) e = let inside-record = take-later-and-inside r 0 (command.Take processor size) e processor size refl in absurd (omega arith)
     go (command.Free processor address) e = let inside-record = free-later-and-inside r 0 (command.Free processor address) e processor address refl in absurd (omega arith)
+    go (command.NamedTake processor name size) e = let inside-record = named-take-later-and-inside r 0 (command.NamedTake processor name size) e processor name size refl in absurd (omega arith)
+    go (command.NamedFree processor name) e = let inside-record = named-free-later-and-inside r 0 (command.NamedFree processor name) e processor name refl in absurd (omega arith)
     go (command.Refused number offset) e =
         inr (number, offset, ap (textOf (beforeFirst order)) (commands-of-is-commands-at-0 r ∙ commands-refused r 0 (command.Refused number offset) number offset e refl))

@@ -10,68 +10,109 @@ use lib.Dec.{eqb, leb}
 use Rattle.laws.specs.Sums.{either}
 use Rattle.laws.proofs.TestLaws.{pick-elim}
 use Rattle.classes.specs.Classes.{classOf, isTooLarge}
+use Rattle.names.specs.Names.{isHeld}
 use Rattle.heap.specs.declared.Setup.{Setup}
 use Rattle.heap.specs.declared.State.{State}
 use Rattle.heap.specs.declared.Found.{Found}
 use Rattle.heap.specs.declared.Found.the-variants.{At, Nothing}
-use Rattle.choicerules.specs.Choice.{fullest}
+use Rattle.heap.specs.declared.Moved.{Moved}
+use Rattle.choicerules.specs.Choice.{fullest, emptiest}
+use Rattle.moverules.specs.Moves.{mustMove, foundTransferred, transfersUpTo, excessTransferred, invariantRestored}
 use Rattle.checkrules.specs.Check.{withinLimits, restValid}
 use Rattle.calls.specs.declared.Outcome.{Outcome}
 use Rattle.calls.specs.declared.Outcome.the-variants.{Ready, Address, Moves, Refused}
 use Rattle.calls.specs.Answers.{After, numberOf, refused, checked, isProcessor}
 use Rattle.calls.specs.Setup.{setupOf}
 use Rattle.calls.specs.Take.{otherPlaces, takenFrom, takenFromOther, takenAt, takeUnchecked, takeOf}
-use Rattle.calls.specs.Free.{freeOf}
+use Rattle.calls.specs.Free.{superblockHolding, isUnmapped, isMisaligned, isLiveAt, blockFreed, freedAt, freeUnchecked, freeOf}
+use Rattle.calls.specs.Named.{namedTakeOf, heldAddress, namedFreeUnchecked, namedFreeOf}
 use Rattle.commands.specs.declared.Command.{Command}
 use Rattle.commands.specs.declared.Command.the-variants as command
 use Rattle.littleendian.specs.Bytes.{byteAt}
 use Rattle.commands.specs.Record.{commandAt, sizeOfCommand, isRefused, commandsFrom, commandsOf}
-use Rattle.commandlaws.proofs.CommandLaws.{setup-fits, take-fits}
+use Rattle.commandlaws.proofs.CommandLaws.{setup-fits, take-fits, named-take-fits, named-free-fits}
 use Rattle.commandlaws.proofs.RefusalOffsets.{bytesIn, bytes-in-commands-le-60000}
 use Rattle.textrules.proofs.DigitLaws.{length-of-decimal-le-10, length-of-byte-decimal-le-3, length-of-u16-decimal-le-5}
-use Rattle.linerules.specs.Lines.{result, takeLine, freeLine, stopLine}
-use Rattle.linerules.proofs.LineLengthLaws.{length-of-setup-line-le-26, length-of-final-lines-le}
+use Rattle.linerules.specs.Lines.{result, takeLine, freeLine, namedTakeLine, namedFreeLine, stopLine}
+use Rattle.linerules.proofs.LineLengthLaws.{length-of-setup-line-le-26, length-of-named-take-line-le, length-of-named-free-line-le, length-of-final-lines-le}
 use Rattle.keyrules.specs.Key.{beforeFirst, setupText, textOf, keyOf, room}
-use Rattle.keylaws.proofs.SetupKeptLaws.{setup-kept-by-take, setup-kept-by-free, processors-after-setup-le-8}
+use Rattle.keylaws.proofs.SetupKeptLaws.{setup-kept-by-take, setup-kept-by-free, setup-kept-by-named-take, setup-kept-by-named-free, processors-after-setup-le-8}
 
 -- ---- the result of a take: an address, or a refusal of two digits at most
-ShortResult : After → Type 0
-ShortResult after = length (result (after .answer .outcome)) ≤ 14
+ShortResult : ℕ → After → Type 0
+ShortResult n after = length (result (after .answer .outcome)) ≤ n
 
-short-result-of-refused : (r : ℕ) (s : State) (order : List ℕ) → r < 256 → ShortResult (refused r s order)
+short-result-of-refused : (n r : ℕ) (s : State) (order : List ℕ) → 12 ≤ n → r < 256 → ShortResult n (refused r s order)
 unfolding ShortResult result
-short-result-of-refused r s order h = omega (arith, length-of-byte-decimal-le-3 r h)
+short-result-of-refused n r s order l h = omega (arith, length-of-byte-decimal-le-3 r h)
 
 length-of-address-result-le-14 : (a : ℕ) → length (result (Address a)) ≤ 14
 unfolding result
 length-of-address-result-le-14 a = omega (arith, length-of-decimal-le-10 a)
 
-short-result-of-taken-from : (k : ℕ) (s : State) (order : List ℕ) → ShortResult (takenFrom k s order)
+short-result-of-taken-from : (k : ℕ) (s : State) (order : List ℕ) → ShortResult 14 (takenFrom k s order)
 unfolding ShortResult takenFrom
 short-result-of-taken-from k s order = length-of-address-result-le-14 _
 
-short-result-of-taken-at : (i c : ℕ) (s : State) (order : List ℕ) (own other : Found) → ShortResult (takenAt i c s order own other)
+short-result-of-taken-at : (i c : ℕ) (s : State) (order : List ℕ) (own other : Found) → ShortResult 14 (takenAt i c s order own other)
 unfolding takenAt takenFromOther
 short-result-of-taken-at i c s order (At k) other = short-result-of-taken-from k s order
 short-result-of-taken-at i c s order Nothing (At k) = short-result-of-taken-from k _ _
-short-result-of-taken-at i c s order Nothing Nothing = short-result-of-refused 4 s order (omega arith)
+short-result-of-taken-at i c s order Nothing Nothing = short-result-of-refused 14 4 s order (omega arith) (omega arith)
 
-short-result-of-checked : (s : State) (order : List ℕ) (next : After) → ShortResult next → ShortResult (checked s order next)
+short-result-of-checked : (n : ℕ) (s : State) (order : List ℕ) (next : After) → 12 ≤ n → ShortResult n next → ShortResult n (checked s order next)
 unfolding checked
-short-result-of-checked s order next h =
-    pick-elim ShortResult (withinLimits (s .setup)) _ _
-    (λ e. pick-elim ShortResult (leb (s .setup .superblocks * 256) (length order)) _ _
-    (λ f. pick-elim ShortResult (restValid s order) next (refused 13 s order) (λ g. h) (λ g. short-result-of-refused 13 s order (omega arith)))
-    (λ f. short-result-of-refused 12 s order (omega arith)))
-    (λ e. short-result-of-refused 13 s order (omega arith))
+short-result-of-checked n s order next l h =
+    pick-elim (ShortResult n) (withinLimits (s .setup)) _ _
+    (λ e. pick-elim (ShortResult n) (leb (s .setup .superblocks * 256) (length order)) _ _
+    (λ f. pick-elim (ShortResult n) (restValid s order) next (refused 13 s order) (λ g. h) (λ g. short-result-of-refused n 13 s order l (omega arith)))
+    (λ f. short-result-of-refused n 12 s order l (omega arith)))
+    (λ e. short-result-of-refused n 13 s order l (omega arith))
 
-short-result-of-take : (s : State) (order : List ℕ) (i size : ℕ) → ShortResult (takeOf s order i size)
+short-result-of-take : (s : State) (order : List ℕ) (i size : ℕ) → ShortResult 14 (takeOf s order i size)
 unfolding takeOf takeUnchecked
 short-result-of-take s order i size =
-    short-result-of-checked s order _
-    (pick-elim ShortResult (not (isProcessor s i)) _ _ (λ e. short-result-of-refused 2 s order (omega arith))
-    (λ e. pick-elim ShortResult (isTooLarge size) _ _ (λ f. short-result-of-refused 3 s order (omega arith))
+    short-result-of-checked 14 s order _ (omega arith)
+    (pick-elim (ShortResult 14) (not (isProcessor s i)) _ _ (λ e. short-result-of-refused 14 2 s order (omega arith) (omega arith))
+    (λ e. pick-elim (ShortResult 14) (isTooLarge size) _ _ (λ f. short-result-of-refused 14 3 s order (omega arith) (omega arith))
     (λ f. short-result-of-taken-at i (classOf size) s order (fullest i (classOf size) s) (otherPlaces (classOf size) s))))
+
+-- ---- the result of a named free: at most 64 moves, or such a refusal
+moves-of-transfers-up-to-le : (k h c m : ℕ) (s : State) → transfersUpTo k h c m s .moves ≤ m + k
+unfolding transfersUpTo
+moves-of-transfers-up-to-le zero h c m s = omega arith
+moves-of-transfers-up-to-le (suc k) h c m s =
+    pick-elim (λ (r : Moved). r .moves ≤ m + suc k) (mustMove h c s) _ _
+    (λ e. let l = moves-of-transfers-up-to-le k h c (m + 1) (foundTransferred (emptiest h c s) s) in omega arith)
+    (λ e. omega arith)
+
+moves-of-invariant-restored-le-64 : (h c : ℕ) (s : State) → invariantRestored h c s .moves ≤ 64
+unfolding invariantRestored excessTransferred
+moves-of-invariant-restored-le-64 h c s = pick-elim (λ (r : Moved). r .moves ≤ 64) (eqb h 0) _ _ (λ e. omega arith) (λ e. moves-of-transfers-up-to-le 64 h c 0 s)
+
+short-result-of-freed-at : (s : State) (order : List ℕ) (a : ℕ) → ShortResult 12 (freedAt s order a)
+unfolding ShortResult freedAt result
+short-result-of-freed-at s order a =
+    let moves = invariantRestored (superblockHolding s a .owner) (superblockHolding s a .class) (blockFreed s a) .moves in
+    let few : moves ≤ 64 = moves-of-invariant-restored-le-64 (superblockHolding s a .owner) (superblockHolding s a .class) (blockFreed s a) in
+    omega (arith, length-of-byte-decimal-le-3 moves (omega arith))
+
+short-result-of-free-unchecked : (s : State) (order : List ℕ) (i a : ℕ) → ShortResult 12 (freeUnchecked s order i a)
+unfolding freeUnchecked
+short-result-of-free-unchecked s order i a =
+    pick-elim (ShortResult 12) (not (isProcessor s i)) _ _ (λ e. short-result-of-refused 12 2 s order (omega arith) (omega arith))
+    (λ e. pick-elim (ShortResult 12) (isUnmapped s a) _ _ (λ f. short-result-of-refused 12 5 s order (omega arith) (omega arith))
+    (λ f. pick-elim (ShortResult 12) (isMisaligned s a) _ _ (λ g. short-result-of-refused 12 6 s order (omega arith) (omega arith))
+    (λ g. pick-elim (ShortResult 12) (not (isLiveAt s a)) _ _ (λ h. short-result-of-refused 12 7 s order (omega arith) (omega arith))
+    (λ h. short-result-of-freed-at s order a))))
+
+short-result-of-named-free : (s : State) (order : List ℕ) (i m : ℕ) → ShortResult 12 (namedFreeOf s order i m)
+unfolding namedFreeOf namedFreeUnchecked
+short-result-of-named-free s order i m =
+    short-result-of-checked 12 s order _ (omega arith)
+    (pick-elim (ShortResult 12) (not (isProcessor s i)) _ _ (λ e. short-result-of-refused 12 2 s order (omega arith) (omega arith))
+    (λ e. pick-elim (ShortResult 12) (not (isHeld (s .names) m)) _ _ (λ f. short-result-of-refused 12 15 s order (omega arith) (omega arith))
+    (λ f. short-result-of-free-unchecked s order i (heldAddress s m))))
 
 -- ---- the lines: 8 bytes for each byte of the command
 length-of-take-line-le-32 : (s : State) (order : List ℕ) (i size : ℕ) → i < 256 → size < 65536 → length (takeLine i size (takeOf s order i size .answer .outcome)) ≤ 32
@@ -89,6 +130,13 @@ length-of-free-line-le-48 : (i address : ℕ) (o : Outcome) → length (freeLine
 unfolding freeLine
 length-of-free-line-le-48 i address o = simp length-append (omega (arith, length-of-decimal-le-10 i, length-of-decimal-le-10 address, length-of-any-result-le-19 o))
 
+length-of-named-take-line-le-48 : (i m size : ℕ) (o : Outcome) → i < 256 → m < 65536 → size < 65536 → length (namedTakeLine i m size o) ≤ 48
+length-of-named-take-line-le-48 i m size o a b h = omega (arith, length-of-named-take-line-le i m o a b size h, length-of-any-result-le-19 o)
+
+length-of-named-free-line-le-32 : (s : State) (order : List ℕ) (i m : ℕ) → i < 256 → m < 65536 → length (namedFreeLine i m (namedFreeOf s order i m .answer .outcome)) ≤ 32
+unfolding ShortResult
+length-of-named-free-line-le-32 s order i m a b = omega (arith, length-of-named-free-line-le i m (namedFreeOf s order i m .answer .outcome) a b, short-result-of-named-free s order i m)
+
 length-of-stop-line-le-33 : (number offset : ℕ) → length (stopLine number offset) ≤ 33
 unfolding stopLine
 length-of-stop-line-le-33 number offset = simp length-append (omega (arith, length-of-decimal-le-10 number, length-of-decimal-le-10 offset))
@@ -98,6 +146,8 @@ CommandFits : Command → Type 0
 CommandFits (command.Setup processors superblocks spare p q) = (processors < 256) × (superblocks < 256) × (spare < 256) × (p < 256) × (q < 256)
 CommandFits (command.Take processor size) = (processor < 256) × (size < 65536)
 CommandFits (command.Free processor address) = Unit {0}
+CommandFits (command.NamedTake processor name size) = (processor < 256) × (name < 65536) × (size < 65536)
+CommandFits (command.NamedFree processor name) = (processor < 256) × (name < 65536)
 CommandFits (command.Refused number offset) = Unit {0}
 
 CommandsFit : List Command → Type 0
@@ -110,6 +160,8 @@ module _ (r : List ℕ) (bytes : (i : ℕ) → byteAt r i < 256) where
   command-at-fits at (command.Setup processors superblocks spare p q) e = setup-fits r at (command.Setup processors superblocks spare p q) e bytes processors superblocks spare p q refl
   command-at-fits at (command.Take processor size) e = take-fits r at (command.Take processor size) e bytes processor size refl
   command-at-fits at (command.Free processor address) e = tt
+  command-at-fits at (command.NamedTake processor name size) e = named-take-fits r at (command.NamedTake processor name size) e bytes processor name size refl
+  command-at-fits at (command.NamedFree processor name) e = named-free-fits r at (command.NamedFree processor name) e bytes processor name refl
   command-at-fits at (command.Refused number offset) e = tt
 
   commands-from-fit : (most at : ℕ) → CommandsFit (commandsFrom most r at)
@@ -146,6 +198,16 @@ length-of-text-of-le before (command.Free processor address ∷ commands) h fit 
     let kept = setup-kept-by-free (before .answer .state) (before .order) processor address in
     let heaps : after .answer .state .setup .processors ≤ 8 = subst (λ (u : Setup). u .processors ≤ 8) (sym kept) h in
     simp length-append (omega (arith, length-of-free-line-le-48 processor address (after .answer .outcome), length-of-text-of-le after commands heaps (fit .1)))
+length-of-text-of-le before (command.NamedTake processor name size ∷ commands) h fit =
+    let after = namedTakeOf (before .answer .state) (before .order) processor name size in
+    let kept = setup-kept-by-named-take (before .answer .state) (before .order) processor name size in
+    let heaps : after .answer .state .setup .processors ≤ 8 = subst (λ (u : Setup). u .processors ≤ 8) (sym kept) h in
+    simp length-append (omega (arith, length-of-named-take-line-le-48 processor name size (after .answer .outcome) (fit .0 .0) (fit .0 .1) (fit .0 .2), length-of-text-of-le after commands heaps (fit .1)))
+length-of-text-of-le before (command.NamedFree processor name ∷ commands) h fit =
+    let after = namedFreeOf (before .answer .state) (before .order) processor name in
+    let kept = setup-kept-by-named-free (before .answer .state) (before .order) processor name in
+    let heaps : after .answer .state .setup .processors ≤ 8 = subst (λ (u : Setup). u .processors ≤ 8) (sym kept) h in
+    simp length-append (omega (arith, length-of-named-free-line-le-32 (before .answer .state) (before .order) processor name (fit .0 .0) (fit .0 .1), length-of-text-of-le after commands heaps (fit .1)))
 length-of-text-of-le before (command.Refused number offset ∷ commands) h fit = let z = length-of-stop-line-le-33 number offset in omega arith
 
 -- the key of every record of bytes, with any order storage, fits the room

@@ -3,4 +3,5 @@ pub mod KeyRoomLaws
 pub mod KeyOrNoRoomLaws
 pub mod RefusedSetupKey
 pub mod KeyClaims
+pub mod NamedCallKey
 pub mod WholeCaseKey

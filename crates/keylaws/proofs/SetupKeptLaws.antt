@@ -17,12 +17,16 @@ use Rattle.choicerules.specs.Choice.{emptiest}
 use Rattle.moverules.specs.Moves.{mustMove, transferred, foundTransferred, transfersUpTo, excessTransferred, invariantRestored}
 use Rattle.checkrules.specs.Check.{withinLimits}
 use Rattle.heaplaws.proofs.StateCheckLaws.{facts-of-within-limits}
+use Rattle.calls.specs.declared.Outcome.{Outcome}
+use Rattle.calls.specs.declared.Outcome.the-variants.{Ready, Address, Moves, Refused}
 use Rattle.calls.specs.Answers.{After, refused}
 use Rattle.calls.specs.Setup.{acceptedSetup, setupOf}
 use Rattle.calls.specs.Take.{takenFrom, takenFromOther, takeOf}
-use Rattle.calls.specs.Free.{markCleared, freedAt, freeOf}
+use Rattle.calls.specs.Free.{markCleared, blockFreed, freedAt, freeOf}
+use Rattle.calls.specs.Named.{nameBound, boundBy, withNameBound, namedTakeOf, heldAddress, namedFreeOf}
 use Rattle.calllaws.proofs.TakeLaws.{take-refused-or-accepted}
 use Rattle.calllaws.proofs.FreeLaws.{free-refused-or-accepted}
+use Rattle.calllaws.proofs.NamedCallLaws.{named-take-refused-or-accepted, named-free-refused-or-accepted}
 
 -- ---- the move rule
 setup-of-found-transferred : (f : Found) (s : State) → foundTransferred f s .setup ≡ s .setup
@@ -57,11 +61,31 @@ setup-kept-by-take s order i size =
     (take-refused-or-accepted s order i size)
 
 pub setup-kept-by-free : (s : State) (order : List ℕ) (i a : ℕ) → freeOf s order i a .answer .state .setup ≡ s .setup
-unfolding freedAt markCleared
+unfolding freedAt blockFreed markCleared
 setup-kept-by-free s order i a =
     ⊎-elim (λ d. ap (λ (x : After). x .answer .state .setup) (d .1))
     (λ d. ap (λ (x : After). x .answer .state .setup) (d .result-is) ∙ setup-of-invariant-restored _ _ _)
     (free-refused-or-accepted s order i a)
+
+setup-of-bound-by : (o : Outcome) (m : ℕ) (s : State) → boundBy o m s .setup ≡ s .setup
+unfolding boundBy nameBound
+setup-of-bound-by Ready m s = refl
+setup-of-bound-by (Address a) m s = refl
+setup-of-bound-by (Moves k) m s = refl
+setup-of-bound-by (Refused r) m s = refl
+
+pub setup-kept-by-named-take : (s : State) (order : List ℕ) (i m size : ℕ) → namedTakeOf s order i m size .answer .state .setup ≡ s .setup
+unfolding withNameBound
+setup-kept-by-named-take s order i m size =
+    ⊎-elim (λ d. ap (λ (x : After). x .answer .state .setup) (d .1))
+    (λ d. ap (λ (x : After). x .answer .state .setup) (d .1 .result-is) ∙ setup-of-bound-by _ m _ ∙ setup-kept-by-take s order i size)
+    (named-take-refused-or-accepted s order i m size)
+
+pub setup-kept-by-named-free : (s : State) (order : List ℕ) (i m : ℕ) → namedFreeOf s order i m .answer .state .setup ≡ s .setup
+setup-kept-by-named-free s order i m =
+    ⊎-elim (λ d. ap (λ (x : After). x .answer .state .setup) (d .1))
+    (λ d. ap (λ (x : After). x .answer .state .setup) (d .result-is) ∙ setup-kept-by-free s order i (heldAddress s m))
+    (named-free-refused-or-accepted s order i m)
 
 -- ---- a setup: five zeros, or numbers within their limits
 pub processors-after-setup-le-8 : (u : Setup) (order : List ℕ) → setupOf u order .answer .state .setup .processors ≤ 8

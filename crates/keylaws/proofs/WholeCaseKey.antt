@@ -7,12 +7,12 @@ use Rattle.heap.specs.declared.Setup.{Setup}
 use Rattle.checkrules.specs.Check.{withinLimits}
 use Rattle.calls.specs.declared.Outcome.the-variants.{Ready}
 use Rattle.calls.specs.Setup.{setupOf}
-use Rattle.calls.specs.Calls.{callOf}
+use Rattle.calls.specs.Calls.{callOf, callUnchecked}
 use Rattle.calls.proofs.CallDefinitions.{callDefinitions}
 use Rattle.commands.proofs.CommandDefinitions.{commandDefinitions}
 use Rattle.linerules.proofs.LineDefinitions.{lineDefinitions}
 use Rattle.bound.specs.Claim.{Step}
-use Rattle.boundlaws.proofs.CallListLaws.{callPastCheck, stepsBy, steps-are-past-check}
+use Rattle.boundlaws.proofs.CallListLaws.{stepsBy, steps-are-unchecked}
 use Rattle.commands.specs.declared.Command.{Command}
 use Rattle.commands.specs.declared.Command.the-variants as command
 use Rattle.commands.specs.Record.{commandsOf}
@@ -77,9 +77,9 @@ whole-key-is-text-by-steps : keyOf whole-record storage ≡ textBy (stepsBy call
 unfolding textBy stepsIn
 whole-key-is-text-by-steps = key-claims-of-accepted-setup whole-record storage setup commands whole-record-commands whole-setup-ready .printed
 
-whole-text-by-steps-computed : textBy (stepsBy callPastCheck (setupOf setup storage) (callsIn commands)) ≡ whole-text
-unfolding textBy callsIn stepLines callLine lastAfter endingLines lineDefinitions stepsBy callPastCheck callDefinitions
+whole-text-by-steps-computed : textBy (stepsBy callUnchecked (setupOf setup storage) (callsIn commands)) ≡ whole-text
+unfolding textBy callsIn stepLines callLine lastAfter endingLines lineDefinitions stepsBy callDefinitions
 whole-text-by-steps-computed = refl
 
 pub whole-case : keyOf whole-record storage ≡ whole-text
-whole-case = whole-key-is-text-by-steps ∙ ap textBy (steps-are-past-check setup storage whole-setup-ready (callsIn commands)) ∙ whole-text-by-steps-computed
+whole-case = whole-key-is-text-by-steps ∙ ap textBy (steps-are-unchecked setup storage whole-setup-ready (callsIn commands)) ∙ whole-text-by-steps-computed

@@ -14,10 +14,11 @@ use Rattle.calls.specs.Answers.{After, numberOf}
 use Rattle.calls.specs.Setup.{setupOf}
 use Rattle.calls.specs.Take.{takeOf}
 use Rattle.calls.specs.Free.{freeOf}
+use Rattle.calls.specs.Named.{namedTakeOf, namedFreeOf}
 use Rattle.commands.specs.declared.Command.{Command}
 use Rattle.commands.specs.declared.Command.the-variants as command
 use Rattle.commands.specs.Record.{commandsOf}
-use Rattle.linerules.specs.Lines.{setupLine, takeLine, freeLine, stopLine, finalLines}
+use Rattle.linerules.specs.Lines.{setupLine, takeLine, freeLine, namedTakeLine, namedFreeLine, stopLine, finalLines}
 use Rattle.keyrules.specs.declared.Printed.{Printed}
 use Rattle.keyrules.specs.declared.Printed.the-variants.{Text, NoRoom}
 
@@ -46,6 +47,12 @@ textOf before (command.Take processor size ∷ commands) =
 textOf before (command.Free processor address ∷ commands) =
     let after : After = freeOf (before .answer .state) (before .order) processor address in
     freeLine processor address (after .answer .outcome) ++ textOf after commands
+textOf before (command.NamedTake processor name size ∷ commands) =
+    let after : After = namedTakeOf (before .answer .state) (before .order) processor name size in
+    namedTakeLine processor name size (after .answer .outcome) ++ textOf after commands
+textOf before (command.NamedFree processor name ∷ commands) =
+    let after : After = namedFreeOf (before .answer .state) (before .order) processor name in
+    namedFreeLine processor name (after .answer .outcome) ++ textOf after commands
 textOf before (command.Refused number offset ∷ commands) = stopLine number offset
 
 -- the order storage that these commands leave; after a stop nothing more is done
@@ -57,6 +64,8 @@ orderAfter before (command.Setup processors superblocks spare p q ∷ commands) 
     pick (eqb (numberOf (after .answer .outcome)) 0) (orderAfter after commands) (after .order)
 orderAfter before (command.Take processor size ∷ commands) = orderAfter (takeOf (before .answer .state) (before .order) processor size) commands
 orderAfter before (command.Free processor address ∷ commands) = orderAfter (freeOf (before .answer .state) (before .order) processor address) commands
+orderAfter before (command.NamedTake processor name size ∷ commands) = orderAfter (namedTakeOf (before .answer .state) (before .order) processor name size) commands
+orderAfter before (command.NamedFree processor name ∷ commands) = orderAfter (namedFreeOf (before .answer .state) (before .order) processor name) commands
 orderAfter before (command.Refused number offset ∷ commands) = before .order
 
 -- the key of a record, made with this order storage

@@ -30,7 +30,7 @@ must-move-from-counts h c s n k u r p q e g = rw (← p, ← q, ← e) g
 -- past the table's end nothing passes on
 pub transferred-past-table : (k : ℕ) (s : State) → length (s .table) ≡ 64 → 64 ≤ k → s ≡ transferred k s
 unfolding transferred
-transferred-past-table k s long h = sym (ap (λ (l : List Superblock). record { setup = s .setup; table = l }) (set-out (s .table) k (withOwner 0 (superblockAt s k)) (omega arith)))
+transferred-past-table k s long h = sym (ap (λ (l : List Superblock). record { setup = s .setup; table = l; names = s .names }) (set-out (s .table) k (withOwner 0 (superblockAt s k)) (omega arith)))
 
 -- after m moves from state s, which left t: the moves still to be made are those from t
 pub record TransferInvariant (h c : ℕ) (s t : State) (m : ℕ) : Type 0 where

@@ -4,10 +4,11 @@ use mathlib.Core.List.{List}
 use Prim.Native.Nat.{ℕ, _-_, _/_}
 use Rattle.classes.specs.Classes.{blocksOf}
 use Rattle.marks.specs.Marks.{withoutMark}
+use Rattle.names.specs.Names.{withoutBlock}
 use Rattle.order.specs.Order.{withPlace}
 use Rattle.heap.specs.declared.State.{State}
-use Rattle.heap.specs.Table.{superblockAt, withSuperblock, liveIn}
-use Rattle.calls.specs.Free.{blockOf, markCleared, orderPushed}
+use Rattle.heap.specs.Table.{superblockAt, withSuperblock, withNames, liveIn}
+use Rattle.calls.specs.Free.{blockOf, markCleared, orderPushed, blockNumberAt, blockFreed}
 
 -- the freed block's number put in the next place
 pub order-pushed-by-steps : (s : State) (order left : List ℕ) (a filled j : ℕ) → filled ≡ blocksOf (superblockAt s (a / 4096) .class) - liveIn (superblockAt s (a / 4096)) → j ≡ blockOf s a
@@ -21,3 +22,8 @@ module _ (s : State) (a j : ℕ) (ej : j ≡ blockOf s a) where
       → withSuperblock s (a / 4096) (record { owner = superblockAt s (a / 4096) .owner; class = superblockAt s (a / 4096) .class; live = live }) ≡ markCleared s a
   unfolding markCleared
   mark-cleared-by-steps live e = rw (e, ej)
+
+-- and its name let go
+pub block-freed-by-steps : (s t : State) (a block : ℕ) (names : List ℕ) → block ≡ blockNumberAt s a → names ≡ withoutBlock (s .names) block → t ≡ markCleared s a → withNames t names ≡ blockFreed s a
+unfolding blockFreed
+block-freed-by-steps s t a block names eb en et = rw (et, en, eb)

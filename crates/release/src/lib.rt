@@ -1,12 +1,12 @@
-// What a free does to its superblock and the order places. Each function is total, as the definitions are: past the table's 64
+// What a free does to its superblock, the names and the order places. Each function is total, as the definitions are: past the table's 64
 // superblocks a change changes nothing.
 ghost use mathlib.Core.Path.{_≡_};
-ghost use Rattle.calls.specs.Free.{markCleared, orderPushed};
+ghost use Rattle.calls.specs.Free.{markCleared, orderPushed, blockFreed};
 use heap::State;
 use heap::Superblock;
 
 // The state with the block at the address no longer live.
-pub fn clear_mark(s: State, address: u32) -> State
+fn clear_mark(s: State, address: u32) -> State
     ensures { λ r. ⌜ r ≡ markCleared s address ⌝ }
 {
     let k = (address / 4096) as usize;
@@ -23,6 +23,18 @@ pub fn clear_mark(s: State, address: u32) -> State
         class: b.class,
         live: freed,
     };
+    t
+}
+
+// The state with that, and with no name that points at the block.
+pub fn free_block(s: State, address: u32) -> State
+    ensures { λ r. ⌜ r ≡ blockFreed s address ⌝ }
+{
+    let block = addresses::block_number_at(s, address);
+    let held = s.names;
+    let names = nametable::release_block(held, block);
+    let mut t = clear_mark(s, address);
+    t.names = names;
     t
 }
 

@@ -14,15 +14,17 @@ use Rattle.textrules.specs.Text.{Pasted, pasted}
 use Rattle.textrules.proofs.PasteLaws.{paste-append, put-length, put-end-le}
 use Rattle.heap.specs.declared.Setup.{Setup}
 use Rattle.calls.specs.declared.Answer.{Answer}
+use Rattle.calls.specs.declared.Outcome.{Outcome}
 use Rattle.calls.specs.Answers.{After, numberOf}
 use Rattle.calls.specs.Setup.{setupOf}
 use Rattle.calls.specs.Take.{takeOf}
 use Rattle.calls.specs.Free.{freeOf}
+use Rattle.calls.specs.Named.{namedTakeOf, namedFreeOf}
 use Rattle.commands.specs.declared.Command.{Command}
 use Rattle.commands.specs.declared.Command.the-variants as command
 use Rattle.commands.specs.Record.{commandAt}
-use Rattle.commandlaws.proofs.CommandLaws.{commandsAt, remaining, remaining-inside, remaining-end, commands-refused, commands-setup, commands-take, commands-free, setup-first-and-inside, take-later-and-inside, free-later-and-inside}
-use Rattle.linerules.specs.Lines.{setupLine, takeLine, freeLine, stopLine, closingLines}
+use Rattle.commandlaws.proofs.CommandLaws.{commandsAt, remaining, remaining-inside, remaining-end, commands-refused, commands-setup, commands-take, commands-free, commands-named-take, commands-named-free, setup-first-and-inside, take-later-and-inside, free-later-and-inside, named-take-later-and-inside, named-free-later-and-inside}
+use Rattle.linerules.specs.Lines.{setupLine, takeLine, freeLine, namedTakeLine, namedFreeLine, stopLine, closingLines}
 use Rattle.replay.specs.declared.Replay.{Replay}
 use Rattle.keyrules.specs.Key.{stateAndStorage, setupText, textOf, orderAfter}
 use Rattle.replay.specs.Steps.{TextAndOrder, textAhead, orderAhead, textAndOrderAhead, commandsLeft, InBounds, Stepped, nextOf, stopOf, Stopped}
@@ -34,6 +36,8 @@ text-of-starting-from after [] = refl
 text-of-starting-from after (command.Setup processors superblocks spare p q ∷ cs) = refl
 text-of-starting-from after (command.Take processor size ∷ cs) = refl
 text-of-starting-from after (command.Free processor address ∷ cs) = refl
+text-of-starting-from after (command.NamedTake processor name size ∷ cs) = refl
+text-of-starting-from after (command.NamedFree processor name ∷ cs) = refl
 text-of-starting-from after (command.Refused number offset ∷ cs) = refl
 
 order-after-starting-from : (after : After) (cs : List Command) → orderAfter after cs ≡ orderAfter (stateAndStorage (after .answer .state) (after .order)) cs
@@ -42,6 +46,8 @@ order-after-starting-from after [] = refl
 order-after-starting-from after (command.Setup processors superblocks spare p q ∷ cs) = refl
 order-after-starting-from after (command.Take processor size ∷ cs) = refl
 order-after-starting-from after (command.Free processor address ∷ cs) = refl
+order-after-starting-from after (command.NamedTake processor name size ∷ cs) = refl
+order-after-starting-from after (command.NamedFree processor name ∷ cs) = refl
 order-after-starting-from after (command.Refused number offset ∷ cs) = refl
 
 -- ---- a command in the arms of a match
@@ -142,35 +148,57 @@ module _ (r : List ℕ) (x : Replay) (order out : List ℕ) (bounds : InBounds x
       fewer = subst (λ (n : ℕ). 0 < n) (sym commands-left-of-going) (omega (arith, bounds .position-bound))
 
   -- ---- the commands
+  -- a call, of k bytes, that left this and prints its outcome so
+  module _ (d : Command) (k : ℕ) (line : Outcome → List ℕ) (left : After) (inside-record : (length r ≤ 60000) × (0 < x .at) × (x .at + k ≤ length r)) (some : 4 ≤ k)
+      (commands : commandsAt r (x .at) ≡ d ∷ remaining r (x .at + k))
+      (text-is : textOf (stateAndStorage (x .state) order) (d ∷ remaining r (x .at + k)) ≡ line (left .answer .outcome) ++ textOf left (remaining r (x .at + k)))
+      (order-is : orderAfter (stateAndStorage (x .state) order) (d ∷ remaining r (x .at + k)) ≡ orderAfter left (remaining r (x .at + k))) where
+    stepped-of-call : (a : Answer) (new : List ℕ) → record { answer = a; order = new } ≡ left
+        → (end : ℕ) (text : List ℕ) → record { end = end; buffer = text } ≡ pasted out (x .end) (line (a .outcome))
+        → (y : Replay) → y ≡ nextOf r (a .state) (x .at + k) end → Stepped r x order out y new text
+    stepped-of-call a new e end text put y is =
+        let after : After = record { answer = a; order = new } in
+        let rest = remaining r (x .at + k) in
+        subst (λ (z : Replay). Stepped r x order out z new text) (sym is)
+        (stepped-of-line (line (a .outcome)) after k end text put some (inside-record .2) (inside-record .0)
+        (ap (textOf (stateAndStorage (x .state) order)) commands ∙ text-is ∙ ap (λ (z : After). line (z .answer .outcome) ++ textOf z rest) (sym e))
+        (ap (orderAfter (stateAndStorage (x .state) order)) commands ∙ order-is ∙ ap (λ (z : After). orderAfter z rest) (sym e)))
+
   module _ (i size : ℕ) (c : command.Take i size ≡ commandAt r (x .at)) where
     pub stepped-of-take : (a : Answer) (new : List ℕ) → record { answer = a; order = new } ≡ takeOf (x .state) order i size
         → (end : ℕ) (text : List ℕ) → record { end = end; buffer = text } ≡ pasted out (x .end) (takeLine i size (a .outcome))
         → (y : Replay) → y ≡ nextOf r (a .state) (x .at + 4) end → Stepped r x order out y new text
     unfolding textOf orderAfter
-    stepped-of-take a new e end text put y is =
-        let after : After = record { answer = a; order = new } in
-        let rest = remaining r (x .at + 4) in
-        let inside-record = take-later-and-inside r (x .at) (command.Take i size) c i size refl in
-        let commands = commands-take r (x .at) (command.Take i size) c i size refl in
-        subst (λ (z : Replay). Stepped r x order out z new text) (sym is)
-        (stepped-of-line (takeLine i size (a .outcome)) after 4 end text put (omega arith) (inside-record .2) (inside-record .0)
-        (ap (textOf (stateAndStorage (x .state) order)) commands ∙ ap (λ (z : After). takeLine i size (z .answer .outcome) ++ textOf z rest) (sym e))
-        (ap (orderAfter (stateAndStorage (x .state) order)) commands ∙ ap (λ (z : After). orderAfter z rest) (sym e)))
+    stepped-of-take =
+        let d = command.Take i size in
+        stepped-of-call d 4 (takeLine i size) (takeOf (x .state) order i size) (take-later-and-inside r (x .at) d c i size refl) (omega arith) (commands-take r (x .at) d c i size refl) refl refl
 
   module _ (i address : ℕ) (c : command.Free i address ≡ commandAt r (x .at)) where
     pub stepped-of-free : (a : Answer) (new : List ℕ) → record { answer = a; order = new } ≡ freeOf (x .state) order i address
         → (end : ℕ) (text : List ℕ) → record { end = end; buffer = text } ≡ pasted out (x .end) (freeLine i address (a .outcome))
         → (y : Replay) → y ≡ nextOf r (a .state) (x .at + 6) end → Stepped r x order out y new text
     unfolding textOf orderAfter
-    stepped-of-free a new e end text put y is =
-        let after : After = record { answer = a; order = new } in
-        let rest = remaining r (x .at + 6) in
-        let inside-record = free-later-and-inside r (x .at) (command.Free i address) c i address refl in
-        let commands = commands-free r (x .at) (command.Free i address) c i address refl in
-        subst (λ (z : Replay). Stepped r x order out z new text) (sym is)
-        (stepped-of-line (freeLine i address (a .outcome)) after 6 end text put (omega arith) (inside-record .2) (inside-record .0)
-        (ap (textOf (stateAndStorage (x .state) order)) commands ∙ ap (λ (z : After). freeLine i address (z .answer .outcome) ++ textOf z rest) (sym e))
-        (ap (orderAfter (stateAndStorage (x .state) order)) commands ∙ ap (λ (z : After). orderAfter z rest) (sym e)))
+    stepped-of-free =
+        let d = command.Free i address in
+        stepped-of-call d 6 (freeLine i address) (freeOf (x .state) order i address) (free-later-and-inside r (x .at) d c i address refl) (omega arith) (commands-free r (x .at) d c i address refl) refl refl
+
+  module _ (i m size : ℕ) (c : command.NamedTake i m size ≡ commandAt r (x .at)) where
+    pub stepped-of-named-take : (a : Answer) (new : List ℕ) → record { answer = a; order = new } ≡ namedTakeOf (x .state) order i m size
+        → (end : ℕ) (text : List ℕ) → record { end = end; buffer = text } ≡ pasted out (x .end) (namedTakeLine i m size (a .outcome))
+        → (y : Replay) → y ≡ nextOf r (a .state) (x .at + 6) end → Stepped r x order out y new text
+    unfolding textOf orderAfter
+    stepped-of-named-take =
+        let d = command.NamedTake i m size in
+        stepped-of-call d 6 (namedTakeLine i m size) (namedTakeOf (x .state) order i m size) (named-take-later-and-inside r (x .at) d c i m size refl) (omega arith) (commands-named-take r (x .at) d c i m size refl) refl refl
+
+  module _ (i m : ℕ) (c : command.NamedFree i m ≡ commandAt r (x .at)) where
+    pub stepped-of-named-free : (a : Answer) (new : List ℕ) → record { answer = a; order = new } ≡ namedFreeOf (x .state) order i m
+        → (end : ℕ) (text : List ℕ) → record { end = end; buffer = text } ≡ pasted out (x .end) (namedFreeLine i m (a .outcome))
+        → (y : Replay) → y ≡ nextOf r (a .state) (x .at + 4) end → Stepped r x order out y new text
+    unfolding textOf orderAfter
+    stepped-of-named-free =
+        let d = command.NamedFree i m in
+        stepped-of-call d 4 (namedFreeLine i m) (namedFreeOf (x .state) order i m) (named-free-later-and-inside r (x .at) d c i m refl) (omega arith) (commands-named-free r (x .at) d c i m refl) refl refl
 
   module _ (u : Setup) (c : command.Setup (u .processors) (u .superblocks) (u .spare) (u .p) (u .q) ≡ commandAt r (x .at))
       (a : Answer) (new : List ℕ) (e : record { answer = a; order = new } ≡ setupOf u order) (number : ℕ) (n : number ≡ numberOf (a .outcome)) where

@@ -83,6 +83,14 @@ fn step(bytes: &[u8], order: &mut [u16], out: &mut [u8], x: Replay) -> Replay
         ),
         Command::Take { processor, size } => take_step(bytes, order, out, x, processor, size),
         Command::Free { processor, address } => free_step(bytes, order, out, x, processor, address),
+        Command::NamedTake {
+            processor,
+            name,
+            size,
+        } => named_take_step(bytes, order, out, x, processor, name, size),
+        Command::NamedFree { processor, name } => {
+            named_free_step(bytes, order, out, x, processor, name)
+        }
         Command::Refused { number, offset } => stop_step(out, x, number, offset),
     }
 }
@@ -141,6 +149,47 @@ fn free_step(
     let end = lines::free_line(out, x.end, processor, address, outcome);
     let t = a.state;
     next(bytes, t, x.at + 6, end)
+}
+
+// The same for a take by name.
+fn named_take_step(
+    bytes: &[u8],
+    order: &mut [u16],
+    out: &mut [u8],
+    x: Replay,
+    processor: u8,
+    name: u16,
+    size: u16,
+) -> Replay
+    requires { ⌜ InBounds x (now out) × (x .going ≡ true) × (command.NamedTake processor name size ≡ commandAt (now bytes) (x .at)) ⌝ }
+    ensures { λ y. ⌜ Stepped (now (bytes .entry)) x (now (order .entry)) (now (out .entry)) y (now (order .exit)) (now (out .exit)) ⌝ }
+{
+    let s = x.state;
+    let a = engine::named_take(s, order, processor, name, size);
+    let outcome = a.outcome;
+    let end = lines::named_take_line(out, x.end, processor, name, size, outcome);
+    let after = a.state;
+    next(bytes, after, x.at + 6, end)
+}
+
+// The same for a free by name.
+fn named_free_step(
+    bytes: &[u8],
+    order: &mut [u16],
+    out: &mut [u8],
+    x: Replay,
+    processor: u8,
+    name: u16,
+) -> Replay
+    requires { ⌜ InBounds x (now out) × (x .going ≡ true) × (command.NamedFree processor name ≡ commandAt (now bytes) (x .at)) ⌝ }
+    ensures { λ y. ⌜ Stepped (now (bytes .entry)) x (now (order .entry)) (now (out .entry)) y (now (order .exit)) (now (out .exit)) ⌝ }
+{
+    let s = x.state;
+    let a = engine::named_free(s, order, processor, name);
+    let outcome = a.outcome;
+    let end = lines::named_free_line(out, x.end, processor, name, outcome);
+    let after = a.state;
+    next(bytes, after, x.at + 4, end)
 }
 
 // The stop line, after which nothing is read or printed.

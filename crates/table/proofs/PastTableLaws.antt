@@ -33,4 +33,4 @@ module _ (s : State) (k : ℕ) (long : length (s .table) ≡ 64) (h : 64 ≤ k) 
   mark-past-table j = sym (ap (λ (b : Superblock). isMarked (b .live) j) superblock-past-table-is-blank ∙ no-mark-of-mark-bit-zero [] j (mark-bit-of-empty-list j))
 
   pub with-superblock-past-table : (b : Superblock) → s ≡ withSuperblock s k b
-  with-superblock-past-table b = ap (λ (l : List Superblock). record { setup = s .setup; table = l }) (sym (set-out (s .table) k b (omega arith)))
+  with-superblock-past-table b = ap (λ (l : List Superblock). record { setup = s .setup; table = l; names = s .names }) (sym (set-out (s .table) k b (omega arith)))

@@ -16,8 +16,8 @@ class-at-requires c κs = search needs
 push-block-requires : tie.Need-push-block-requires
 push-block-requires c κs = search needs
 
-clear-mark-requires : tie.Need-clear-mark-requires
-clear-mark-requires c κs = search needs
+free-block-requires : tie.Need-free-block-requires
+free-block-requires c κs = search needs
 
 restore-invariant-requires : tie.Need-restore-invariant-requires
 restore-invariant-requires c κs = search needs
@@ -36,7 +36,7 @@ free-at-spec =
     owner-at-requires
     class-at-requires
     push-block-requires
-    clear-mark-requires
+    free-block-requires
     restore-invariant-requires
     same-length
     returns)

@@ -28,6 +28,18 @@ free-step-requires c κs = search (needs, matched-command-is-command-at)
 enum-known-command-4 : tie.Need-enum-known-command-4
 enum-known-command-4 c = search needs
 
+named-take-step-requires : tie.Need-named-take-step-requires
+named-take-step-requires c κs = search (needs, matched-command-is-command-at)
+
+enum-known-command-5 : tie.Need-enum-known-command-5
+enum-known-command-5 c = search needs
+
+named-free-step-requires : tie.Need-named-free-step-requires
+named-free-step-requires c κs = search (needs, matched-command-is-command-at)
+
+enum-known-command-6 : tie.Need-enum-known-command-6
+enum-known-command-6 c = search needs
+
 stop-step-requires : tie.Need-stop-step-requires
 stop-step-requires c κs = search needs
 
@@ -61,8 +73,26 @@ returns-3 c = search needs
 same-length-7 : tie.Need-same-length-7
 same-length-7 c = search needs
 
+same-length-8 : tie.Need-same-length-8
+same-length-8 c = search needs
+
 returns-4 : tie.Need-returns-4
-returns-4 c = search (stepped-of-refused-command, matched-command-is-command-at)
+returns-4 c = search needs
+
+same-length-9 : tie.Need-same-length-9
+same-length-9 c = search needs
+
+same-length-10 : tie.Need-same-length-10
+same-length-10 c = search needs
+
+returns-5 : tie.Need-returns-5
+returns-5 c = search needs
+
+same-length-11 : tie.Need-same-length-11
+same-length-11 c = search needs
+
+returns-6 : tie.Need-returns-6
+returns-6 c = search (stepped-of-refused-command, matched-command-is-command-at)
 
 pub step-spec : {M : Type 1} → statement M
 step-spec =
@@ -76,6 +106,10 @@ step-spec =
     enum-known-command-3
     free-step-requires
     enum-known-command-4
+    named-take-step-requires
+    enum-known-command-5
+    named-free-step-requires
+    enum-known-command-6
     stop-step-requires
     same-length
     same-length-2
@@ -87,4 +121,10 @@ step-spec =
     same-length-6
     returns-3
     same-length-7
-    returns-4)
+    same-length-8
+    returns-4
+    same-length-9
+    same-length-10
+    returns-5
+    same-length-11
+    returns-6)

@@ -1,0 +1,18 @@
+-- `engine::named_take` meets its contract. Assumes nothing.
+use Rattle.calls.specs.Calls.{callOf}
+use borrow.Author.Needs.{needs}
+use Rattle.engine.proofs.named_take.Statement.{statement}
+use Rattle.engine.proofs.named_take.Tie as tie
+
+call-state-requires : tie.Need-call-state-requires
+call-state-requires c κs = search needs
+
+same-length : tie.Need-same-length
+same-length c = search needs
+
+returns : tie.Need-returns
+unfolding callOf
+returns c = search needs
+
+pub named-take-spec : {M : Type 1} → statement M
+named-take-spec = tie.close (tie.spec call-state-requires same-length returns)
