@@ -16,7 +16,8 @@ use Rattle.checkrules.specs.Check.{withinLimits, passes}
 use Rattle.calls.specs.declared.Call.{Call}
 use Rattle.calls.specs.Answers.{numberOf, PassesIfAccepted}
 use Rattle.calls.specs.Calls.{callOf}
-use Rattle.rowrules.specs.Row.{RowAfter, rowAfter, stateOf, asRowAfter, rowRefused, rowAcceptedSetup, setupOn, callOn, rowSetup, rowCall}
+use Rattle.rowrules.specs.declared.Control.{Control}
+use Rattle.rowrules.specs.Row.{RowAfter, rowAfter, stateOf, controlOf, asRowAfter, rowRefused, rowAcceptedSetup, setupOn, callOn, rowSetup, rowCall}
 use Rattle.tablecall.specs.declared.TableCall.{TableCall}
 use Rattle.tablecall.specs.Tables.{isAccepted, rowAfterCall}
 use Rattle.rowlaws.proofs.RowLaws.{setup-on-other-length-not-accepted, call-on-other-length-not-accepted, row-setup-row-if-accepted, row-call-row-if-accepted}
@@ -24,7 +25,7 @@ use Rattle.rowrules.specs.LoadStore.{loadOf, storeOf}
 
 -- what a call leaves, with another row
 abbrev withRow : RowAfter → List Superblock → RowAfter
-withRow x row = record { outcome = x .outcome; setup = x .setup; row = row; order = x .order }
+withRow x row = record { outcome = x .outcome; control = x .control; row = row; order = x .order }
 
 -- a row of another length is not looked at
 setup-on-other-length-ignores-row : (n : ℕ) (u : Setup) (t row : List Superblock) (order : List ℕ) → (n ≡ 64 → ⊥) → withRow (setupOn n u t order) row ≡ setupOn n u row order
@@ -32,20 +33,20 @@ unfolding setupOn
 setup-on-other-length-ignores-row n u t row order f = go (withinLimits u) (leb (u .superblocks * 256) (length order)) (eqb n 64) (ne-eqb n 64 f)
   where
     go : (a b c : Bool) → c ≡ false
-        → withRow (pick a (pick b (pick c (rowAcceptedSetup u order) (rowRefused 13 (noState .setup) t order)) (rowRefused 12 (noState .setup) t order)) (rowRefused 1 (noState .setup) t order)) row
-        ≡ pick a (pick b (pick c (rowAcceptedSetup u order) (rowRefused 13 (noState .setup) row order)) (rowRefused 12 (noState .setup) row order)) (rowRefused 1 (noState .setup) row order)
+        → withRow (pick a (pick b (pick c (rowAcceptedSetup u order) (rowRefused 13 (controlOf noState) t order)) (rowRefused 12 (controlOf noState) t order)) (rowRefused 1 (controlOf noState) t order)) row
+        ≡ pick a (pick b (pick c (rowAcceptedSetup u order) (rowRefused 13 (controlOf noState) row order)) (rowRefused 12 (controlOf noState) row order)) (rowRefused 1 (controlOf noState) row order)
     go true true true e = absurd (true-not-false true refl e)
     go true true false e = refl
     go true false c e = refl
     go false b c e = refl
 
-call-on-other-length-ignores-row : (n : ℕ) (u : Setup) (t row : List Superblock) (order : List ℕ) (call : Call) → (n ≡ 64 → ⊥) → withRow (callOn n u t order call) row ≡ callOn n u row order call
+call-on-other-length-ignores-row : (n : ℕ) (control : Control) (t row : List Superblock) (order : List ℕ) (call : Call) → (n ≡ 64 → ⊥) → withRow (callOn n control t order call) row ≡ callOn n control row order call
 unfolding callOn
-call-on-other-length-ignores-row n u t row order call f = go (withinLimits u) (leb (u .superblocks * 256) (length order)) (eqb n 64) (ne-eqb n 64 f)
+call-on-other-length-ignores-row n control t row order call f = go (withinLimits (control .setup)) (leb (control .setup .superblocks * 256) (length order)) (eqb n 64) (ne-eqb n 64 f)
   where
     go : (a b c : Bool) → c ≡ false
-        → withRow (pick a (pick b (pick c (asRowAfter (callOf (stateOf u t) order call)) (rowRefused 13 u t order)) (rowRefused 12 u t order)) (rowRefused 13 u t order)) row
-        ≡ pick a (pick b (pick c (asRowAfter (callOf (stateOf u row) order call)) (rowRefused 13 u row order)) (rowRefused 12 u row order)) (rowRefused 13 u row order)
+        → withRow (pick a (pick b (pick c (asRowAfter (callOf (stateOf control t) order call)) (rowRefused 13 control t order)) (rowRefused 12 control t order)) (rowRefused 13 control t order)) row
+        ≡ pick a (pick b (pick c (asRowAfter (callOf (stateOf control row) order call)) (rowRefused 13 control row order)) (rowRefused 12 control row order)) (rowRefused 13 control row order)
     go true true true e = absurd (true-not-false true refl e)
     go true true false e = refl
     go true false c e = refl
@@ -78,12 +79,12 @@ module _ (row t stored : List Superblock) (after : List ℕ) (r : TableCall) (lo
   pub stored-setup-is-row-setup : (u : Setup) (order : List ℕ) → rowAfterCall r after ≡ setupOn (length row) u t order → rowAfter (r .answer) stored after ≡ rowSetup u row order
   stored-setup-is-row-setup u order = stored-result-is-rule (λ z. setupOn (length row) u z order) (setup-on-other-length-ignores-row (length row) u t row order) (row-setup-row-if-accepted u row order)
 
-  pub stored-call-is-row-call : (u : Setup) (order : List ℕ) (call : Call) → rowAfterCall r after ≡ callOn (length row) u t order call → rowAfter (r .answer) stored after ≡ rowCall u row order call
-  stored-call-is-row-call u order call = stored-result-is-rule (λ z. callOn (length row) u z order call) (call-on-other-length-ignores-row (length row) u t row order call) (row-call-row-if-accepted u row order call)
+  pub stored-call-is-row-call : (control : Control) (order : List ℕ) (call : Call) → rowAfterCall r after ≡ callOn (length row) control t order call → rowAfter (r .answer) stored after ≡ rowCall control row order call
+  stored-call-is-row-call control order call = stored-result-is-rule (λ z. callOn (length row) control z order call) (call-on-other-length-ignores-row (length row) control t row order call) (row-call-row-if-accepted control row order call)
 
   -- "An accepted call yields a state that passes": what is stored is the table that does
   abbrev PassesIfAcceptedWith : List Superblock → Type 0
-  PassesIfAcceptedWith zs = PassesIfAccepted (r .answer .outcome) (stateOf (r .answer .setup) zs) after
+  PassesIfAcceptedWith zs = PassesIfAccepted (r .answer .outcome) (stateOf (r .answer .control) zs) after
 
   stored-passes-if-accepted : (f : List Superblock → RowAfter) → ((length row ≡ 64 → ⊥) → numberOf (f t .outcome) ≡ 0 → ⊥) → rowAfterCall r after ≡ f t → PassesIfAcceptedWith (r .table) → PassesIfAcceptedWith stored
   stored-passes-if-accepted f not-accepted works y z = go (ℕ-discrete (length row) 64)
@@ -91,7 +92,7 @@ module _ (row t stored : List Superblock) (after : List ℕ) (r : TableCall) (lo
       taken : r .accepted ≡ true
       taken = accepts ∙ ap (λ (n : ℕ). eqb n 0) z
 
-      go : Dec (length row ≡ 64) → passes (stateOf (r .answer .setup) stored) after ≡ true
+      go : Dec (length row ≡ 64) → passes (stateOf (r .answer .control) stored) after ≡ true
       go (yes e) =
           let stored-is : stored ≡ r .table = stores ∙ pick-true (r .accepted) _ row taken ∙ pick-true (eqb (length row) 64) (r .table) row (eq-eqb (length row) 64 e) in
           subst PassesIfAcceptedWith (sym stored-is) y z
@@ -100,5 +101,5 @@ module _ (row t stored : List Superblock) (after : List ℕ) (r : TableCall) (lo
   pub stored-setup-passes-if-accepted : (u : Setup) (order : List ℕ) → rowAfterCall r after ≡ setupOn (length row) u t order → PassesIfAcceptedWith (r .table) → PassesIfAcceptedWith stored
   stored-setup-passes-if-accepted u order = stored-passes-if-accepted (λ z. setupOn (length row) u z order) (setup-on-other-length-not-accepted (length row) u t order)
 
-  pub stored-call-passes-if-accepted : (u : Setup) (order : List ℕ) (call : Call) → rowAfterCall r after ≡ callOn (length row) u t order call → PassesIfAcceptedWith (r .table) → PassesIfAcceptedWith stored
-  stored-call-passes-if-accepted u order call = stored-passes-if-accepted (λ z. callOn (length row) u z order call) (call-on-other-length-not-accepted (length row) u t order call)
+  pub stored-call-passes-if-accepted : (control : Control) (order : List ℕ) (call : Call) → rowAfterCall r after ≡ callOn (length row) control t order call → PassesIfAcceptedWith (r .table) → PassesIfAcceptedWith stored
+  stored-call-passes-if-accepted control order call = stored-passes-if-accepted (λ z. callOn (length row) control z order call) (call-on-other-length-not-accepted (length row) control t order call)

@@ -6,17 +6,23 @@ ghost use Rattle.rowrules.specs.Row.{stateOf, rowAfter, rowSetup, rowCall};
 use calls::Call;
 use heap::Setup;
 use heap::Superblock;
+use rowrules::Control;
 use rowrules::RowAnswer;
 
 // A take or a free on the row, whatever its length. A refused one writes no record.
-pub fn call_row(row: &mut [Superblock], order: &mut [u16], u: Setup, c: Call) -> RowAnswer
-    ensures { λ r. ⌜ rowAfter r (now (row .exit)) (now (order .exit)) ≡ rowCall u (now (row .entry)) (now (order .entry)) c ⌝ }
-    ensures number_and_values { λ r. ⌜ HasNumberAndValuesOf (r .outcome) (rowCall u (now (row .entry)) (now (order .entry)) c .outcome) ⌝ }
-    ensures passes { λ r. ⌜ PassesIfAccepted (r .outcome) (stateOf (r .setup) (now (row .exit))) (now (order .exit)) ⌝ }
+pub fn call_row(
+    row: &mut [Superblock],
+    order: &mut [u16],
+    control: Control,
+    call: Call,
+) -> RowAnswer
+    ensures { λ r. ⌜ rowAfter r (now (row .exit)) (now (order .exit)) ≡ rowCall control (now (row .entry)) (now (order .entry)) call ⌝ }
+    ensures number_and_values { λ r. ⌜ HasNumberAndValuesOf (r .outcome) (rowCall control (now (row .entry)) (now (order .entry)) call .outcome) ⌝ }
+    ensures passes { λ r. ⌜ PassesIfAccepted (r .outcome) (stateOf (r .control) (now (row .exit))) (now (order .exit)) ⌝ }
 {
     let n = row.len();
     let t = rowaccess::load(row);
-    let w = rowcore::call_table(n, t, order, u, c);
+    let w = rowcore::call_table(n, t, order, control, call);
     rowaccess::store(row, w.table, w.accepted);
     w.answer
 }
@@ -25,7 +31,7 @@ pub fn call_row(row: &mut [Superblock], order: &mut [u16], u: Setup, c: Call) ->
 pub fn setup_row(row: &mut [Superblock], order: &mut [u16], u: Setup) -> RowAnswer
     ensures { λ r. ⌜ rowAfter r (now (row .exit)) (now (order .exit)) ≡ rowSetup u (now (row .entry)) (now (order .entry)) ⌝ }
     ensures number_and_values { λ r. ⌜ HasNumberAndValuesOf (r .outcome) (rowSetup u (now (row .entry)) (now (order .entry)) .outcome) ⌝ }
-    ensures passes { λ r. ⌜ PassesIfAccepted (r .outcome) (stateOf (r .setup) (now (row .exit))) (now (order .exit)) ⌝ }
+    ensures passes { λ r. ⌜ PassesIfAccepted (r .outcome) (stateOf (r .control) (now (row .exit))) (now (order .exit)) ⌝ }
 {
     let n = row.len();
     let t = rowaccess::load(row);

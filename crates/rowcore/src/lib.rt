@@ -1,15 +1,13 @@
 // A call on a lent row, decided on a table by value: the row's length is a number among the arguments, and the table that is to be
 // stored in the row is handed back, with whether the call was accepted: a refused one stores nothing.
 ghost use mathlib.Core.Path.{_≡_};
-ghost use Rattle.calls.specs.Answers.{After, HasNumberAndValuesOf, PassesIfAccepted};
-ghost use Rattle.calls.specs.Calls.{callOf};
+ghost use Rattle.calls.specs.Answers.{HasNumberAndValuesOf, PassesIfAccepted};
 ghost use Rattle.rowrules.specs.Row.{stateOf, setupOn, callOn};
 ghost use Rattle.tablecall.specs.Tables.{isAccepted, rowAfterCall};
-use calls::Answer;
 use calls::Call;
 use heap::Setup;
-use heap::State;
 use heap::Superblock;
+use rowrules::Control;
 use tablecall::TableCall;
 
 // A setup where n records are lent.
@@ -17,46 +15,37 @@ pub fn setup_table(n: usize, table: [Superblock; 64], order: &mut [u16], u: Setu
     ensures { λ r. ⌜ rowAfterCall r (now (order .exit)) ≡ setupOn n u table (now (order .entry)) ⌝ }
     ensures accepts { λ r. ⌜ r .accepted ≡ isAccepted (r .answer .outcome) ⌝ }
     ensures number_and_values { λ r. ⌜ HasNumberAndValuesOf (r .answer .outcome) (setupOn n u table (now (order .entry)) .outcome) ⌝ }
-    ensures passes { λ r. ⌜ PassesIfAccepted (r .answer .outcome) (stateOf (r .answer .setup) (r .table)) (now (order .exit)) ⌝ }
+    ensures passes { λ r. ⌜ PassesIfAccepted (r .answer .outcome) (stateOf (r .answer .control) (r .table)) (now (order .exit)) ⌝ }
 {
     let first = tablecall::first_refusal(1, n, order, u);
     if first != 0 {
         let none = states::no_state();
-        let zeros = none.setup;
+        let zeros = tablecall::control_of(none);
         return tablecall::refuse(first, zeros, table);
     }
     let a = engine::setup(u, order);
     tablecall::answered(a)
 }
 
-// A take or a free on a state.
-fn call_state(s: State, order: &mut [u16], c: Call) -> Answer
-    ensures { λ r. ⌜ record { answer = r; order = now (order .exit) } ≡ callOf s (now (order .entry)) c ⌝ }
-    ensures passes { λ r. ⌜ PassesIfAccepted (r .outcome) (r .state) (now (order .exit)) ⌝ }
-{
-    match c {
-        Call::Take { processor, size } => engine::take(s, order, processor, size),
-        Call::Free { processor, address } => engine::free(s, order, processor, address),
-    }
-}
-
-// A take or a free where n records are lent.
+// A take or a free, plain or named, where n records are lent.
 pub fn call_table(
     n: usize,
     table: [Superblock; 64],
     order: &mut [u16],
-    u: Setup,
-    c: Call,
+    control: Control,
+    call: Call,
 ) -> TableCall
-    ensures { λ r. ⌜ rowAfterCall r (now (order .exit)) ≡ callOn n u table (now (order .entry)) c ⌝ }
+    ensures { λ r. ⌜ rowAfterCall r (now (order .exit)) ≡ callOn n control table (now (order .entry)) call ⌝ }
     ensures accepts { λ r. ⌜ r .accepted ≡ isAccepted (r .answer .outcome) ⌝ }
-    ensures number_and_values { λ r. ⌜ HasNumberAndValuesOf (r .answer .outcome) (callOn n u table (now (order .entry)) c .outcome) ⌝ }
-    ensures passes { λ r. ⌜ PassesIfAccepted (r .answer .outcome) (stateOf (r .answer .setup) (r .table)) (now (order .exit)) ⌝ }
+    ensures number_and_values { λ r. ⌜ HasNumberAndValuesOf (r .answer .outcome) (callOn n control table (now (order .entry)) call .outcome) ⌝ }
+    ensures passes { λ r. ⌜ PassesIfAccepted (r .answer .outcome) (stateOf (r .answer .control) (r .table)) (now (order .exit)) ⌝ }
 {
+    let u = control.setup;
     let first = tablecall::first_refusal(13, n, order, u);
     if first != 0 {
-        return tablecall::refuse(first, u, table);
+        return tablecall::refuse(first, control, table);
     }
-    let a = call_state(State { setup: u, table }, order, c);
+    let s = tablecall::state_of(control, table);
+    let a = engine::call_state(s, order, call);
     tablecall::answered(a)
 }

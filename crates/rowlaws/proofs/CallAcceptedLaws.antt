@@ -1,5 +1,5 @@
--- A take or a free, whichever it is: refused, it changes nothing; accepted, it leaves a state that passes, and as many superblocks. Assumes nothing.
-use mathlib.Core.Path.{_≡_, refl, sym, ap, _∙_}
+-- A take or a free, plain or named, whichever it is: refused, it changes nothing; accepted, it leaves a state that passes, and as many superblocks. Assumes nothing.
+use mathlib.Core.Path.{_≡_, refl, sym, ap, _∙_, subst}
 use mathlib.Core.Bool.{Bool, true, false}
 use mathlib.Core.Logic.{_⊎_, inl, inr, ⊎-elim}
 use mathlib.Core.List.{List}
@@ -16,16 +16,18 @@ use Rattle.moverules.specs.Moves.{mustMove, foundTransferred, transfersUpTo, ex
 use Rattle.heaplaws.proofs.StateFacts.{Shape}
 use Rattle.heaplaws.proofs.MoveLaws.{length-of-found-transferred}
 use Rattle.calls.specs.declared.Call.{Call}
-use Rattle.calls.specs.declared.Call.the-variants.{Take, Free}
+use Rattle.calls.specs.declared.Call.the-variants.{Take, Free, NamedTake, NamedFree}
 use Rattle.calls.specs.declared.Outcome.{Outcome}
 use Rattle.calls.specs.declared.Outcome.the-variants.{Ready, Address, Moves, Refused}
 use Rattle.calls.specs.Answers.{After, refused}
 use Rattle.calls.specs.Take.{acquired, nextBlock, takenFrom, takenFromOther, takeOf}
-use Rattle.calls.specs.Free.{superblockIndex, superblockHolding, blockOf, markCleared, freedAt, freeOf}
+use Rattle.calls.specs.Free.{superblockIndex, superblockHolding, blockOf, markCleared, blockFreed, freedAt, freeOf}
+use Rattle.calls.specs.Named.{nameBound, boundBy, withNameBound, namedTakeOf, heldAddress, namedFreeOf}
 use Rattle.calls.specs.Calls.{callOf}
-use Rattle.calllaws.proofs.CallEffects.{Passed, TakeAccepted, FreeAccepted}
+use Rattle.calllaws.proofs.CallEffects.{Passed, TakeAccepted, FreeAccepted, NamedTakeAccepted, NamedFreeAccepted}
 use Rattle.calllaws.proofs.TakeLaws.{take-refused-or-accepted, take-passed, take-shape}
 use Rattle.calllaws.proofs.FreeLaws.{free-refused-or-accepted, free-passed, free-shape}
+use Rattle.calllaws.proofs.NamedCallLaws.{named-take-refused-or-accepted, named-take-passed, named-take-shape, named-free-refused-or-accepted}
 
 -- ---- the moves
 length-of-transfers-up-to : (k h c m : ℕ) (s : State) → length (transfersUpTo k h c m s .state .table) ≡ length (s .table)
@@ -57,9 +59,17 @@ length-of-taken-from-other i c k s order =
     length-of-taken-from k (withSuperblock s k (acquired i c (superblockAt s k))) _ ∙ length-set (s .table) k (acquired i c (superblockAt s k))
 
 length-of-freed-at : (s : State) (order : List ℕ) (a : ℕ) → length (freedAt s order a .answer .state .table) ≡ length (s .table)
-unfolding freedAt markCleared
+unfolding freedAt blockFreed markCleared
 length-of-freed-at s order a =
-    length-of-invariant-restored (superblockHolding s a .owner) (superblockHolding s a .class) (markCleared s a) ∙ length-set (s .table) (superblockIndex a) (withoutMarkAt (superblockHolding s a) (blockOf s a))
+    length-of-invariant-restored (superblockHolding s a .owner) (superblockHolding s a .class) (blockFreed s a) ∙ length-set (s .table) (superblockIndex a) (withoutMarkAt (superblockHolding s a) (blockOf s a))
+
+-- a name that is bound changes no superblock
+table-of-bound-by : (o : Outcome) (m : ℕ) (s : State) → boundBy o m s .table ≡ s .table
+unfolding boundBy nameBound
+table-of-bound-by Ready m s = refl
+table-of-bound-by (Address a) m s = refl
+table-of-bound-by (Moves k) m s = refl
+table-of-bound-by (Refused r) m s = refl
 
 -- an accepted call's outcome is no refusal
 unfoldable isRefusal : Outcome → ℕ
@@ -102,7 +112,26 @@ call-accepted-of-free s order i a acc =
     call-accepted-of-result s order (freeOf s order i a) (freedAt s order a) (acc .result-is) (acc .passed) (length-of-freed-at s order a) refl
     (λ shape. (free-passed s order i a shape acc, free-shape s order i a shape acc))
 
+-- a named take is the plain one with the name bound, and a named free the free of the held address
+call-accepted-of-named-take : (s : State) (order : List ℕ) (i m size k : ℕ) → NamedTakeAccepted s order i m size k → CallAccepted s order (namedTakeOf s order i m size)
+unfolding withNameBound
+call-accepted-of-named-take s order i m size k acc =
+    let plain = call-accepted-of-take s order i size k (acc .taken) in
+    let result = takeOf s order i size .answer in
+    record {
+      passed = plain .passed;
+      length-is = ap (λ (y : After). length (y .answer .state .table)) (acc .result-is) ∙ ap length (table-of-bound-by (result .outcome) m (result .state)) ∙ plain .length-is;
+      not-refused = λ r f. plain .not-refused r (sym (ap (λ (y : After). y .answer .outcome) (acc .result-is)) ∙ f);
+      passes = λ shape. (named-take-passed s order i m size k shape acc, named-take-shape s order i m size k shape acc);
+    }
+
+call-accepted-of-named-free : (s : State) (order : List ℕ) (i m : ℕ) → NamedFreeAccepted s order i m → CallAccepted s order (namedFreeOf s order i m)
+call-accepted-of-named-free s order i m acc = subst (CallAccepted s order) (sym (acc .result-is)) (call-accepted-of-free s order i (heldAddress s m) (acc .freed))
+
 pub call-refused-or-accepted : (s : State) (order : List ℕ) (call : Call) → ((r : ℕ) × (callOf s order call ≡ refused r s order)) ⊎ CallAccepted s order (callOf s order call)
 unfolding callOf
 call-refused-or-accepted s order (Take i size) = ⊎-elim inl (λ h. inr (call-accepted-of-take s order i size (h .0) (h .1))) (take-refused-or-accepted s order i size)
 call-refused-or-accepted s order (Free i a) = ⊎-elim inl (λ h. inr (call-accepted-of-free s order i a h)) (free-refused-or-accepted s order i a)
+call-refused-or-accepted s order (NamedTake i m size) =
+    ⊎-elim inl (λ h. inr (call-accepted-of-named-take s order i m size (h .0) (h .1))) (named-take-refused-or-accepted s order i m size)
+call-refused-or-accepted s order (NamedFree i m) = ⊎-elim inl (λ h. inr (call-accepted-of-named-free s order i m h)) (named-free-refused-or-accepted s order i m)

@@ -1,4 +1,5 @@
 pub mod CallAcceptedLaws
 pub mod RowLaws
+pub mod RowNameLaws
 pub mod RowDemand3
 pub mod RowCallCases

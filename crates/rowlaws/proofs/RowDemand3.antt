@@ -18,11 +18,11 @@ pub linked-of-row-linked : (before : RowAfter) (steps : List RowStep) → length
 unfolding RowLinked Linked
 linked-of-row-linked before [] long linked = tt
 linked-of-row-linked before (step ∷ steps) long linked = (
-  ap asAfter (linked .0 ∙ call-on-64-is-call-of (length (before .row)) (before .setup) (before .row) (before .order) (step .call) long),
-  linked-of-row-linked (step .after) steps (ap (λ (x : RowAfter). length (x .row)) (linked .0) ∙ length-of-row-call (before .setup) (before .row) (before .order) (step .call) ∙ long) (linked .1),
+  ap asAfter (linked .0 ∙ call-on-64-is-call-of (length (before .row)) (before .control) (before .row) (before .order) (step .call) long),
+  linked-of-row-linked (step .after) steps (ap (λ (x : RowAfter). length (x .row)) (linked .0) ∙ length-of-row-call (before .control) (before .row) (before .order) (step .call) ∙ long) (linked .1),
 )
 
--- For every accepted setup on a lent row, whatever stood in row and storage before, and every list of takes and frees on that row after it.
+-- For every accepted setup on a lent row, whatever stood in row and storage before, and every list of takes and frees on that row after it, plain and named.
 pub row-demand-3 : (u : Setup) (row : List Superblock) (order : List ℕ) (start : RowAfter) → start ≡ rowSetup u row order → start .outcome ≡ Ready
     → (steps : List RowStep) → RowLinked start steps → RowClaims u start [] (λ c. 0) steps
 row-demand-3 u row order start e ready steps linked =
@@ -33,10 +33,10 @@ row-demand-3 u row order start e ready steps linked =
 unfoldable pub rowSteps : RowAfter → List Call → List RowStep
 rowSteps before [] = []
 rowSteps before (call ∷ calls) =
-    let after = rowCall (before .setup) (before .row) (before .order) call in
+    let after = rowCall (before .control) (before .row) (before .order) call in
     record { call = call; after = after } ∷ rowSteps after calls
 
 pub row-steps-linked : (before : RowAfter) (calls : List Call) → RowLinked before (rowSteps before calls)
 unfolding rowSteps RowLinked
 row-steps-linked before [] = tt
-row-steps-linked before (call ∷ calls) = (refl, row-steps-linked (rowCall (before .setup) (before .row) (before .order) call) calls)
+row-steps-linked before (call ∷ calls) = (refl, row-steps-linked (rowCall (before .control) (before .row) (before .order) call) calls)

@@ -1,4 +1,4 @@
--- Laws of a setup, a take and a free on a lent row. Assumes nothing.
+-- Laws of a setup, and of a take or a free, plain or named, on a lent row. Assumes nothing.
 use mathlib.Core.Path.{_≡_, refl, sym, ap, _∙_, subst}
 use mathlib.Core.Bool.{Bool, true, false}
 use mathlib.Core.Logic.{_⊎_, inl, inr, ⊎-elim}
@@ -16,38 +16,31 @@ use Rattle.order.specs.Order.{cleared}
 use Rattle.orderlaws.proofs.OrderLaws.{length-cleared}
 use Rattle.heap.specs.declared.Superblock.{Superblock}
 use Rattle.heap.specs.declared.Setup.{Setup}
-use Rattle.heap.specs.declared.State.{State}
 use Rattle.heap.specs.Table.{unused, noState}
 use Rattle.checkrules.specs.Check.{withinLimits}
 use Rattle.heaplaws.proofs.StateFacts.{Shape}
-use Rattle.heaplaws.proofs.StateCheckLaws.{new-state-sound, new-state-shape}
+use Rattle.heaplaws.proofs.StateCheckLaws.{new-state-sound, new-state-names-valid, new-state-shape}
 use Rattle.calls.specs.declared.Call.{Call}
-use Rattle.calls.specs.declared.Call.the-variants.{Take, Free}
+use Rattle.calls.specs.declared.Call.the-variants.{Take}
 use Rattle.calls.specs.declared.Outcome.{Outcome}
 use Rattle.calls.specs.declared.Outcome.the-variants.{Ready, Address, Moves, Refused}
-use Rattle.calls.specs.Answers.{After, checked, numberOf}
+use Rattle.calls.specs.Answers.{checked, numberOf}
 use Rattle.calls.specs.Setup.{setupOf}
-use Rattle.calls.specs.Take.{takeOf}
-use Rattle.calls.specs.Free.{freeOf}
-use Rattle.calls.specs.Calls.{callOf}
+use Rattle.calls.specs.Calls.{callOf, callUnchecked}
+use Rattle.calls.proofs.CheckFirst.{call-of-checks-first}
 use Rattle.calllaws.proofs.CallEffects.{Passed}
 use Rattle.calllaws.proofs.SizeZeroLaws.{take-of-size-0}
 use Rattle.calllaws.proofs.CheckedLaws.{checked-refuses-13-of-limits, checked-refuses-12-of-storage}
 use Rattle.calllaws.proofs.SetupLaws.{setup-accepted-of-limits-and-storage as state-setup-accepts}
-use Rattle.rowrules.specs.Row.{RowAfter, stateOf, asRowAfter, rowRefused, rowAcceptedSetup, setupOn, callOn, rowSetup, rowCall}
+use Rattle.rowrules.specs.declared.Control.{Control}
+use Rattle.rowrules.specs.Row.{RowAfter, stateOf, controlOf, asRowAfter, rowRefused, rowAcceptedSetup, setupOn, callOn, rowSetup, rowCall}
 use Rattle.rowrules.specs.RowClaim.{asAfter}
 use Rattle.rowlaws.proofs.CallAcceptedLaws.{CallAccepted, call-refused-or-accepted}
 
--- a take and a free begin with the same check
-call-of-is-checked : (s : State) (order : List ℕ) (call : Call) → (next : After) × (callOf s order call ≡ checked s order next)
-unfolding callOf takeOf freeOf
-call-of-is-checked s order (Take i size) = (_, refl)
-call-of-is-checked s order (Free i a) = (_, refl)
-
 -- document 02, item 1: "turns a size of 0 into the smallest block", on a row too
-pub row-take-of-size-0 : (u : Setup) (row : List Superblock) (order : List ℕ) (i : ℕ) → rowCall u row order (Take i 0) ≡ rowCall u row order (Take i (sizeOf 0))
+pub row-take-of-size-0 : (control : Control) (row : List Superblock) (order : List ℕ) (i : ℕ) → rowCall control row order (Take i 0) ≡ rowCall control row order (Take i (sizeOf 0))
 unfolding callOn
-row-take-of-size-0 u row order i = rw (take-of-size-0 (stateOf u row) order i)
+row-take-of-size-0 control row order i = rw (take-of-size-0 (stateOf control row) order i)
 
 -- 1 for a setup's success alone
 unfoldable isReady : Outcome → ℕ
@@ -58,15 +51,15 @@ isReady (Refused r) = 0
 
 -- ---- the order of a setup's refusals: 1, 12, 13
 module _ (n : ℕ) (u : Setup) (row : List Superblock) (order : List ℕ) where
-  pub setup-on-refused-1-of-limits : withinLimits u ≡ false → setupOn n u row order ≡ rowRefused 1 (noState .setup) row order
+  pub setup-on-refused-1-of-limits : withinLimits u ≡ false → setupOn n u row order ≡ rowRefused 1 (controlOf noState) row order
   unfolding setupOn
   setup-on-refused-1-of-limits e = rw e
 
-  pub setup-on-refused-12-of-storage : withinLimits u ≡ true → length order < u .superblocks * 256 → setupOn n u row order ≡ rowRefused 12 (noState .setup) row order
+  pub setup-on-refused-12-of-storage : withinLimits u ≡ true → length order < u .superblocks * 256 → setupOn n u row order ≡ rowRefused 12 (controlOf noState) row order
   unfolding setupOn
   setup-on-refused-12-of-storage e l = rw (e, lt-leb (u .superblocks * 256) (length order) l)
 
-  pub setup-on-refused-13-of-length : withinLimits u ≡ true → u .superblocks * 256 ≤ length order → (n ≡ 64 → ⊥) → setupOn n u row order ≡ rowRefused 13 (noState .setup) row order
+  pub setup-on-refused-13-of-length : withinLimits u ≡ true → u .superblocks * 256 ≤ length order → (n ≡ 64 → ⊥) → setupOn n u row order ≡ rowRefused 13 (controlOf noState) row order
   unfolding setupOn
   setup-on-refused-13-of-length e l f = rw (e, le-leb (u .superblocks * 256) (length order) l, ne-eqb n 64 f)
 
@@ -80,7 +73,7 @@ module _ (n : ℕ) (u : Setup) (row : List Superblock) (order : List ℕ) where
   setup-on-other-length-not-accepted f = go (withinLimits u) (leb (u .superblocks * 256) (length order)) (eqb n 64) (ne-eqb n 64 f)
     where
       go : (a b c : Bool) → c ≡ false
-          → numberOf (pick a (pick b (pick c (rowAcceptedSetup u order) (rowRefused 13 (noState .setup) row order)) (rowRefused 12 (noState .setup) row order)) (rowRefused 1 (noState .setup) row order) .outcome) ≡ 0
+          → numberOf (pick a (pick b (pick c (rowAcceptedSetup u order) (rowRefused 13 (controlOf noState) row order)) (rowRefused 12 (controlOf noState) row order)) (rowRefused 1 (controlOf noState) row order) .outcome) ≡ 0
           → ⊥
       go true true true e z = true-not-false true refl e
       go true true false e z = absurd (omega (arith, z))
@@ -88,66 +81,66 @@ module _ (n : ℕ) (u : Setup) (row : List Superblock) (order : List ℕ) where
       go false b c e z = absurd (omega (arith, z))
 
 -- ---- the order of the first refusals of a take or a free: 13 for setup numbers, 12, 13 for the row's length
-module _ (n : ℕ) (u : Setup) (row : List Superblock) (order : List ℕ) (call : Call) where
-  pub call-on-refused-13-of-limits : withinLimits u ≡ false → callOn n u row order call ≡ rowRefused 13 u row order
+module _ (n : ℕ) (control : Control) (row : List Superblock) (order : List ℕ) (call : Call) where
+  pub call-on-refused-13-of-limits : withinLimits (control .setup) ≡ false → callOn n control row order call ≡ rowRefused 13 control row order
   unfolding callOn
   call-on-refused-13-of-limits e = rw e
 
-  pub call-on-refused-12-of-storage : withinLimits u ≡ true → length order < u .superblocks * 256 → callOn n u row order call ≡ rowRefused 12 u row order
+  pub call-on-refused-12-of-storage : withinLimits (control .setup) ≡ true → length order < control .setup .superblocks * 256 → callOn n control row order call ≡ rowRefused 12 control row order
   unfolding callOn
-  call-on-refused-12-of-storage e l = rw (e, lt-leb (u .superblocks * 256) (length order) l)
+  call-on-refused-12-of-storage e l = rw (e, lt-leb (control .setup .superblocks * 256) (length order) l)
 
-  pub call-on-refused-13-of-length : withinLimits u ≡ true → u .superblocks * 256 ≤ length order → (n ≡ 64 → ⊥) → callOn n u row order call ≡ rowRefused 13 u row order
+  pub call-on-refused-13-of-length : withinLimits (control .setup) ≡ true → control .setup .superblocks * 256 ≤ length order → (n ≡ 64 → ⊥) → callOn n control row order call ≡ rowRefused 13 control row order
   unfolding callOn
-  call-on-refused-13-of-length e l f = rw (e, le-leb (u .superblocks * 256) (length order) l, ne-eqb n 64 f)
+  call-on-refused-13-of-length e l f = rw (e, le-leb (control .setup .superblocks * 256) (length order) l, ne-eqb n 64 f)
 
-  pub call-on-past-first-refusals : withinLimits u ≡ true → u .superblocks * 256 ≤ length order → n ≡ 64 → callOn n u row order call ≡ asRowAfter (callOf (stateOf u row) order call)
+  pub call-on-past-first-refusals : withinLimits (control .setup) ≡ true → control .setup .superblocks * 256 ≤ length order → n ≡ 64 → callOn n control row order call ≡ asRowAfter (callOf (stateOf control row) order call)
   unfolding callOn
-  call-on-past-first-refusals e l f = rw (e, le-leb (u .superblocks * 256) (length order) l, eq-eqb n 64 f)
+  call-on-past-first-refusals e l f = rw (e, le-leb (control .setup .superblocks * 256) (length order) l, eq-eqb n 64 f)
 
   -- a row that is not 64 long is refused in any case
-  pub call-on-other-length-refused : (n ≡ 64 → ⊥) → (r : ℕ) × (callOn n u row order call ≡ rowRefused r u row order)
-  call-on-other-length-refused f = go (withinLimits u) (leb (u .superblocks * 256) (length order)) refl refl
+  pub call-on-other-length-refused : (n ≡ 64 → ⊥) → (r : ℕ) × (callOn n control row order call ≡ rowRefused r control row order)
+  call-on-other-length-refused f = go (withinLimits (control .setup)) (leb (control .setup .superblocks * 256) (length order)) refl refl
     where
-      go : (a b : Bool) → withinLimits u ≡ a → leb (u .superblocks * 256) (length order) ≡ b → (r : ℕ) × (callOn n u row order call ≡ rowRefused r u row order)
-      go true true e g = (13, call-on-refused-13-of-length e (leb-true (u .superblocks * 256) (length order) g) f)
-      go true false e g = (12, call-on-refused-12-of-storage e (leb-false (u .superblocks * 256) (length order) g))
+      go : (a b : Bool) → withinLimits (control .setup) ≡ a → leb (control .setup .superblocks * 256) (length order) ≡ b → (r : ℕ) × (callOn n control row order call ≡ rowRefused r control row order)
+      go true true e g = (13, call-on-refused-13-of-length e (leb-true (control .setup .superblocks * 256) (length order) g) f)
+      go true false e g = (12, call-on-refused-12-of-storage e (leb-false (control .setup .superblocks * 256) (length order) g))
       go false b e g = (13, call-on-refused-13-of-limits e)
 
-  pub call-on-other-length-not-accepted : (n ≡ 64 → ⊥) → numberOf (callOn n u row order call .outcome) ≡ 0 → ⊥
+  pub call-on-other-length-not-accepted : (n ≡ 64 → ⊥) → numberOf (callOn n control row order call .outcome) ≡ 0 → ⊥
   unfolding callOn numberOf
-  call-on-other-length-not-accepted f = go (withinLimits u) (leb (u .superblocks * 256) (length order)) (eqb n 64) (ne-eqb n 64 f)
+  call-on-other-length-not-accepted f = go (withinLimits (control .setup)) (leb (control .setup .superblocks * 256) (length order)) (eqb n 64) (ne-eqb n 64 f)
     where
       go : (a b c : Bool) → c ≡ false
-          → numberOf (pick a (pick b (pick c (asRowAfter (callOf (stateOf u row) order call)) (rowRefused 13 u row order)) (rowRefused 12 u row order)) (rowRefused 13 u row order) .outcome) ≡ 0
+          → numberOf (pick a (pick b (pick c (asRowAfter (callOf (stateOf control row) order call)) (rowRefused 13 control row order)) (rowRefused 12 control row order)) (rowRefused 13 control row order) .outcome) ≡ 0
           → ⊥
       go true true true e z = true-not-false true refl e
       go true true false e z = absurd (omega (arith, z))
       go true false c e z = absurd (omega (arith, z))
       go false b c e z = absurd (omega (arith, z))
 
-  -- 64 records are the table of a state, and the call is one on that state
-  pub call-on-64-is-call-of : n ≡ 64 → callOn n u row order call ≡ asRowAfter (callOf (stateOf u row) order call)
-  call-on-64-is-call-of f = go (withinLimits u) (leb (u .superblocks * 256) (length order)) refl refl
+  -- 64 records are the table of a state, and the call is one on that state: a named call on a row does what it does on a state
+  pub call-on-64-is-call-of : n ≡ 64 → callOn n control row order call ≡ asRowAfter (callOf (stateOf control row) order call)
+  call-on-64-is-call-of f = go (withinLimits (control .setup)) (leb (control .setup .superblocks * 256) (length order)) refl refl
     where
-      next : (after : After) × (callOf (stateOf u row) order call ≡ checked (stateOf u row) order after)
-      next = call-of-is-checked (stateOf u row) order call
+      checks-first : callOf (stateOf control row) order call ≡ checked (stateOf control row) order (callUnchecked (stateOf control row) order call)
+      checks-first = call-of-checks-first (stateOf control row) order call
 
-      go : (a b : Bool) → withinLimits u ≡ a → leb (u .superblocks * 256) (length order) ≡ b → callOn n u row order call ≡ asRowAfter (callOf (stateOf u row) order call)
-      go true true e g = call-on-past-first-refusals e (leb-true (u .superblocks * 256) (length order) g) f
+      go : (a b : Bool) → withinLimits (control .setup) ≡ a → leb (control .setup .superblocks * 256) (length order) ≡ b → callOn n control row order call ≡ asRowAfter (callOf (stateOf control row) order call)
+      go true true e g = call-on-past-first-refusals e (leb-true (control .setup .superblocks * 256) (length order) g) f
       go true false e g =
-          let l = leb-false (u .superblocks * 256) (length order) g in
-          call-on-refused-12-of-storage e l ∙ sym (ap asRowAfter (next .1 ∙ checked-refuses-12-of-storage (stateOf u row) order (next .0) e l))
-      go false b e g = call-on-refused-13-of-limits e ∙ sym (ap asRowAfter (next .1 ∙ checked-refuses-13-of-limits (stateOf u row) order (next .0) e))
+          let l = leb-false (control .setup .superblocks * 256) (length order) g in
+          call-on-refused-12-of-storage e l ∙ sym (ap asRowAfter (checks-first ∙ checked-refuses-12-of-storage (stateOf control row) order _ e l))
+      go false b e g = call-on-refused-13-of-limits e ∙ sym (ap asRowAfter (checks-first ∙ checked-refuses-13-of-limits (stateOf control row) order _ e))
 
 -- ---- a setup on a lent row
 module _ (u : Setup) (row : List Superblock) (order : List ℕ) where
   -- accepted or refused, and nothing between
-  row-setup-refused-or-accepted : ((r : ℕ) × (rowSetup u row order ≡ rowRefused r (noState .setup) row order)) ⊎ (T (withinLimits u) × (u .superblocks * 256 ≤ length order) × (rowSetup u row order ≡ rowAcceptedSetup u order))
+  pub row-setup-refused-or-accepted : ((r : ℕ) × (rowSetup u row order ≡ rowRefused r (controlOf noState) row order)) ⊎ (T (withinLimits u) × (u .superblocks * 256 ≤ length order) × (rowSetup u row order ≡ rowAcceptedSetup u order))
   row-setup-refused-or-accepted = go (withinLimits u) (leb (u .superblocks * 256) (length order)) (ℕ-discrete (length row) 64) refl refl
     where
       go : (a b : Bool) → Dec (length row ≡ 64) → withinLimits u ≡ a → leb (u .superblocks * 256) (length order) ≡ b
-          → ((r : ℕ) × (rowSetup u row order ≡ rowRefused r (noState .setup) row order)) ⊎ (T (withinLimits u) × (u .superblocks * 256 ≤ length order) × (rowSetup u row order ≡ rowAcceptedSetup u order))
+          → ((r : ℕ) × (rowSetup u row order ≡ rowRefused r (controlOf noState) row order)) ⊎ (T (withinLimits u) × (u .superblocks * 256 ≤ length order) × (rowSetup u row order ≡ rowAcceptedSetup u order))
       go true true (yes f) e g =
           let l = leb-true (u .superblocks * 256) (length order) g in
           inr (T-of-true (withinLimits u) e, l, setup-on-accepted (length row) u row order e l f)
@@ -155,16 +148,16 @@ module _ (u : Setup) (row : List Superblock) (order : List ℕ) where
       go true false d e g = inl (12, setup-on-refused-12-of-storage (length row) u row order e (leb-false (u .superblocks * 256) (length order) g))
       go false b d e g = inl (1, setup-on-refused-1-of-limits (length row) u row order e)
 
-  -- a refused setup hands back five zeros and changes neither row nor storage
-  pub row-setup-refused : (r : ℕ) → rowSetup u row order .outcome ≡ Refused r → rowSetup u row order ≡ rowRefused r (noState .setup) row order
+  -- a refused setup hands back five zeros and no names, and changes neither row nor storage
+  pub row-setup-refused : (r : ℕ) → rowSetup u row order .outcome ≡ Refused r → rowSetup u row order ≡ rowRefused r (controlOf noState) row order
   unfolding numberOf isReady
   row-setup-refused r e = go row-setup-refused-or-accepted
     where
-      go : ((n : ℕ) × (rowSetup u row order ≡ rowRefused n (noState .setup) row order)) ⊎ (T (withinLimits u) × (u .superblocks * 256 ≤ length order) × (rowSetup u row order ≡ rowAcceptedSetup u order))
-          → rowSetup u row order ≡ rowRefused r (noState .setup) row order
+      go : ((n : ℕ) × (rowSetup u row order ≡ rowRefused n (controlOf noState) row order)) ⊎ (T (withinLimits u) × (u .superblocks * 256 ≤ length order) × (rowSetup u row order ≡ rowAcceptedSetup u order))
+          → rowSetup u row order ≡ rowRefused r (controlOf noState) row order
       go (inl h) =
           let same : h .0 ≡ r = sym (ap (λ (x : RowAfter). numberOf (x .outcome)) (h .1)) ∙ ap numberOf e in
-          h .1 ∙ ap (λ (n : ℕ). rowRefused n (noState .setup) row order) same
+          h .1 ∙ ap (λ (n : ℕ). rowRefused n (controlOf noState) row order) same
       go (inr h) = absurd (let z : _≡_ {A = ℕ} 1 0 = sym (ap (λ (x : RowAfter). isReady (x .outcome)) (h .2)) ∙ ap isReady e in omega arith)
 
   -- what is stored only where the number is 0 is the row that the rules leave
@@ -173,7 +166,7 @@ module _ (u : Setup) (row : List Superblock) (order : List ℕ) where
   row-setup-row-if-accepted true e = refl
   row-setup-row-if-accepted false e = go row-setup-refused-or-accepted
     where
-      go : ((n : ℕ) × (rowSetup u row order ≡ rowRefused n (noState .setup) row order)) ⊎ (T (withinLimits u) × (u .superblocks * 256 ≤ length order) × (rowSetup u row order ≡ rowAcceptedSetup u order))
+      go : ((n : ℕ) × (rowSetup u row order ≡ rowRefused n (controlOf noState) row order)) ⊎ (T (withinLimits u) × (u .superblocks * 256 ≤ length order) × (rowSetup u row order ≡ rowAcceptedSetup u order))
           → row ≡ rowSetup u row order .row
       go (inl h) = sym (ap (λ (x : RowAfter). x .row) (h .1))
       go (inr h) = absurd (true-not-false (eqb (numberOf (rowSetup u row order .outcome)) 0) (ap (λ (x : RowAfter). eqb (numberOf (x .outcome)) 0) (h .2)) (sym e))
@@ -181,13 +174,13 @@ module _ (u : Setup) (row : List Superblock) (order : List ℕ) where
   -- an accepted one writes 64 unused superblocks, whatever stood in the row, and they pass
   pub row-setup-ready : rowSetup u row order .outcome ≡ Ready
       → (rowSetup u row order ≡ rowAcceptedSetup u order) × (asAfter (rowSetup u row order) ≡ setupOf u order) × (length (rowSetup u row order .row) ≡ 64)
-      × Passed (stateOf (rowSetup u row order .setup) (rowSetup u row order .row)) (rowSetup u row order .order) × Shape (stateOf (rowSetup u row order .setup) (rowSetup u row order .row))
+      × Passed (stateOf (rowSetup u row order .control) (rowSetup u row order .row)) (rowSetup u row order .order) × Shape (stateOf (rowSetup u row order .control) (rowSetup u row order .row))
   unfolding isReady
   row-setup-ready e = go row-setup-refused-or-accepted
     where
-      go : ((n : ℕ) × (rowSetup u row order ≡ rowRefused n (noState .setup) row order)) ⊎ (T (withinLimits u) × (u .superblocks * 256 ≤ length order) × (rowSetup u row order ≡ rowAcceptedSetup u order))
+      go : ((n : ℕ) × (rowSetup u row order ≡ rowRefused n (controlOf noState) row order)) ⊎ (T (withinLimits u) × (u .superblocks * 256 ≤ length order) × (rowSetup u row order ≡ rowAcceptedSetup u order))
           → (rowSetup u row order ≡ rowAcceptedSetup u order) × (asAfter (rowSetup u row order) ≡ setupOf u order) × (length (rowSetup u row order .row) ≡ 64)
-          × Passed (stateOf (rowSetup u row order .setup) (rowSetup u row order .row)) (rowSetup u row order .order) × Shape (stateOf (rowSetup u row order .setup) (rowSetup u row order .row))
+          × Passed (stateOf (rowSetup u row order .control) (rowSetup u row order .row)) (rowSetup u row order .order) × Shape (stateOf (rowSetup u row order .control) (rowSetup u row order .row))
       go (inl h) = absurd (let z : _≡_ {A = ℕ} 0 1 = sym (ap (λ (x : RowAfter). isReady (x .outcome)) (h .1)) ∙ ap isReady e in omega arith)
       go (inr (t, l, s)) =
           let places : List ℕ = cleared order (u .superblocks * 256) in
@@ -195,38 +188,38 @@ module _ (u : Setup) (row : List Superblock) (order : List ℕ) where
             s,
             ap asAfter s ∙ sym (state-setup-accepts u order (true-of-T (withinLimits u) t) l),
             ap (λ (x : RowAfter). length (x .row)) s ∙ length-replicate 64 unused,
-            subst (λ (x : RowAfter). Passed (stateOf (x .setup) (x .row)) (x .order)) (sym s) (record { sound = new-state-sound u places t; room = room }),
-            subst (λ (x : RowAfter). Shape (stateOf (x .setup) (x .row))) (sym s) (new-state-shape u),
+            subst (λ (x : RowAfter). Passed (stateOf (x .control) (x .row)) (x .order)) (sym s) (record { sound = new-state-sound u places t; names = new-state-names-valid u; room = room }),
+            subst (λ (x : RowAfter). Shape (stateOf (x .control) (x .row))) (sym s) (new-state-shape u),
           )
 
 -- ---- a take or a free on a lent row
-module _ (u : Setup) (row : List Superblock) (order : List ℕ) (call : Call) where
+module _ (control : Control) (row : List Superblock) (order : List ℕ) (call : Call) where
   abbrev RowCallAccepted : Type 0
-  RowCallAccepted = (length row ≡ 64) × CallAccepted (stateOf u row) order (callOf (stateOf u row) order call) × (rowCall u row order call ≡ asRowAfter (callOf (stateOf u row) order call))
+  RowCallAccepted = (length row ≡ 64) × CallAccepted (stateOf control row) order (callOf (stateOf control row) order call) × (rowCall control row order call ≡ asRowAfter (callOf (stateOf control row) order call))
 
   -- it is refused and changes nothing, or the row is 64 long and the call is accepted on its state
-  pub row-call-refused-or-accepted : ((r : ℕ) × (rowCall u row order call ≡ rowRefused r u row order)) ⊎ RowCallAccepted
+  pub row-call-refused-or-accepted : ((r : ℕ) × (rowCall control row order call ≡ rowRefused r control row order)) ⊎ RowCallAccepted
   row-call-refused-or-accepted = go (ℕ-discrete (length row) 64)
     where
-      go : Dec (length row ≡ 64) → ((r : ℕ) × (rowCall u row order call ≡ rowRefused r u row order)) ⊎ RowCallAccepted
-      go (no f) = inl (call-on-other-length-refused (length row) u row order call f)
+      go : Dec (length row ≡ 64) → ((r : ℕ) × (rowCall control row order call ≡ rowRefused r control row order)) ⊎ RowCallAccepted
+      go (no f) = inl (call-on-other-length-refused (length row) control row order call f)
       go (yes f) =
-          let e = call-on-64-is-call-of (length row) u row order call f in
-          ⊎-elim (λ h. inl (h .0, e ∙ ap asRowAfter (h .1))) (λ g. inr (f, g, e)) (call-refused-or-accepted (stateOf u row) order call)
+          let e = call-on-64-is-call-of (length row) control row order call f in
+          ⊎-elim (λ h. inl (h .0, e ∙ ap asRowAfter (h .1))) (λ g. inr (f, g, e)) (call-refused-or-accepted (stateOf control row) order call)
 
-  -- a refused call changes neither row nor storage, nor the setup numbers
-  pub row-call-refused : (r : ℕ) → rowCall u row order call .outcome ≡ Refused r → rowCall u row order call ≡ rowRefused r u row order
+  -- a refused call changes neither row nor storage, nor the setup numbers or the names
+  pub row-call-refused : (r : ℕ) → rowCall control row order call .outcome ≡ Refused r → rowCall control row order call ≡ rowRefused r control row order
   unfolding numberOf
   row-call-refused r e = go row-call-refused-or-accepted
     where
-      go : ((n : ℕ) × (rowCall u row order call ≡ rowRefused n u row order)) ⊎ RowCallAccepted → rowCall u row order call ≡ rowRefused r u row order
+      go : ((n : ℕ) × (rowCall control row order call ≡ rowRefused n control row order)) ⊎ RowCallAccepted → rowCall control row order call ≡ rowRefused r control row order
       go (inl h) =
           let same : h .0 ≡ r = sym (ap (λ (x : RowAfter). numberOf (x .outcome)) (h .1)) ∙ ap numberOf e in
-          h .1 ∙ ap (λ (n : ℕ). rowRefused n u row order) same
+          h .1 ∙ ap (λ (n : ℕ). rowRefused n control row order) same
       go (inr (f, g, s)) = absurd (g .not-refused r (ap (λ (x : RowAfter). x .outcome) (sym s) ∙ e))
 
   -- what is stored only where the number is 0 is the row that the rules leave
-  pub row-call-row-if-accepted : (b : Bool) → b ≡ eqb (numberOf (rowCall u row order call .outcome)) 0 → pick b (rowCall u row order call .row) row ≡ rowCall u row order call .row
+  pub row-call-row-if-accepted : (b : Bool) → b ≡ eqb (numberOf (rowCall control row order call .outcome)) 0 → pick b (rowCall control row order call .row) row ≡ rowCall control row order call .row
   unfolding numberOf
   row-call-row-if-accepted true e = refl
   row-call-row-if-accepted false e = go row-call-refused-or-accepted
@@ -237,25 +230,25 @@ module _ (u : Setup) (row : List Superblock) (order : List ℕ) (call : Call) wh
       number-0 (Moves m) f = refl
       number-0 (Refused r) f = absurd (f r refl)
 
-      go : ((n : ℕ) × (rowCall u row order call ≡ rowRefused n u row order)) ⊎ RowCallAccepted → row ≡ rowCall u row order call .row
+      go : ((n : ℕ) × (rowCall control row order call ≡ rowRefused n control row order)) ⊎ RowCallAccepted → row ≡ rowCall control row order call .row
       go (inl h) = sym (ap (λ (x : RowAfter). x .row) (h .1))
       go (inr (f, g, s)) =
-          let zero-is : numberOf (rowCall u row order call .outcome) ≡ 0 = ap (λ (x : RowAfter). numberOf (x .outcome)) s ∙ number-0 (callOf (stateOf u row) order call .answer .outcome) (g .not-refused) in
-          absurd (true-not-false (eqb (numberOf (rowCall u row order call .outcome)) 0) (ap (λ (n : ℕ). eqb n 0) zero-is) (sym e))
+          let zero-is : numberOf (rowCall control row order call .outcome) ≡ 0 = ap (λ (x : RowAfter). numberOf (x .outcome)) s ∙ number-0 (callOf (stateOf control row) order call .answer .outcome) (g .not-refused) in
+          absurd (true-not-false (eqb (numberOf (rowCall control row order call .outcome)) 0) (ap (λ (n : ℕ). eqb n 0) zero-is) (sym e))
 
   -- no call changes the row's length, and an accepted one leaves 64 records
-  pub length-of-row-call : length (rowCall u row order call .row) ≡ length row
+  pub length-of-row-call : length (rowCall control row order call .row) ≡ length row
   length-of-row-call = ⊎-elim (λ h. ap (λ (x : RowAfter). length (x .row)) (h .1)) (λ h. ap (λ (x : RowAfter). length (x .row)) (h .2) ∙ h .1 .length-is) row-call-refused-or-accepted
 
-  module _ (goes : (r : ℕ) → rowCall u row order call .outcome ≡ Refused r → ⊥) where
+  module _ (goes : (r : ℕ) → rowCall control row order call .outcome ≡ Refused r → ⊥) where
     row-call-accepted : RowCallAccepted
     row-call-accepted = ⊎-elim (λ h. absurd (goes (h .0) (ap (λ (x : RowAfter). x .outcome) (h .1)))) (λ h. h) row-call-refused-or-accepted
 
-    pub length-of-accepted-row-call : length (rowCall u row order call .row) ≡ 64
+    pub length-of-accepted-row-call : length (rowCall control row order call .row) ≡ 64
     length-of-accepted-row-call = length-of-row-call ∙ row-call-accepted .0
 
     -- "An accepted call yields a state that passes."
-    pub accepted-row-call-passes : Shape (stateOf u row)
-        → Passed (stateOf (rowCall u row order call .setup) (rowCall u row order call .row)) (rowCall u row order call .order) × Shape (stateOf (rowCall u row order call .setup) (rowCall u row order call .row))
+    pub accepted-row-call-passes : Shape (stateOf control row)
+        → Passed (stateOf (rowCall control row order call .control) (rowCall control row order call .row)) (rowCall control row order call .order) × Shape (stateOf (rowCall control row order call .control) (rowCall control row order call .row))
     accepted-row-call-passes shape =
-        subst (λ (x : RowAfter). Passed (stateOf (x .setup) (x .row)) (x .order) × Shape (stateOf (x .setup) (x .row))) (sym (row-call-accepted .2)) (row-call-accepted .1 .passes shape)
+        subst (λ (x : RowAfter). Passed (stateOf (x .control) (x .row)) (x .order) × Shape (stateOf (x .control) (x .row))) (sym (row-call-accepted .2)) (row-call-accepted .1 .passes shape)

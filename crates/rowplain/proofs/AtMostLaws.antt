@@ -11,6 +11,7 @@ use Rattle.heap.specs.declared.Superblock.{Superblock}
 use Rattle.heap.specs.declared.Setup.{Setup}
 use Rattle.calls.specs.declared.Call.{Call}
 use Rattle.calls.specs.Answers.{HasNumberAndValuesOf, PassesIfAccepted}
+use Rattle.rowrules.specs.declared.Control.{Control}
 use Rattle.rowrules.specs.Row.{RowAfter, stateOf, rowSetup, rowCall}
 use Rattle.calls.proofs.AnswerLaws.{has-number-and-values-of-equal}
 use Rattle.rowrules.specs.declared.RowAnswer.{RowAnswer}
@@ -25,9 +26,9 @@ pub at-most-of-more : (n : ℕ) → 65 ≤ n → (65 ≡ min n 65) × (65 ≤ 65
 at-most-of-more n l = (sym (min-eq-right l), le-refl 65)
 
 -- a state that passes, its records being the lent ones
-pub passes-if-accepted-of-first-records : (n : ℕ) (zs others : List Superblock) (r : RowAnswer) (after : List ℕ) → length zs ≡ n → PassesIfAccepted (r .outcome) (stateOf (r .setup) zs) after
-    → PassesIfAccepted (r .outcome) (stateOf (r .setup) (take n (zs ++ others))) after
-passes-if-accepted-of-first-records n zs others r after l = subst (λ (ys : List Superblock). PassesIfAccepted (r .outcome) (stateOf (r .setup) ys) after) (sym (take-at zs others n l))
+pub passes-if-accepted-of-first-records : (n : ℕ) (zs others : List Superblock) (r : RowAnswer) (after : List ℕ) → length zs ≡ n → PassesIfAccepted (r .outcome) (stateOf (r .control) zs) after
+    → PassesIfAccepted (r .outcome) (stateOf (r .control) (take n (zs ++ others))) after
+passes-if-accepted-of-first-records n zs others r after l = subst (λ (ys : List Superblock). PassesIfAccepted (r .outcome) (stateOf (r .control) ys) after) (sym (take-at zs others n l))
 
 module _ (n m : ℕ) (records : List Superblock) (e : m ≡ min n 65) (long : length records ≡ 65) where
   -- m is n, or both are past the last record
@@ -49,15 +50,16 @@ module _ (n m : ℕ) (records : List Superblock) (e : m ≡ min n 65) (long : le
   records-after-of-min : (f : List Superblock → RowAfter) → recordsAfter m records (f (take m records)) ≡ recordsAfter n records (f (take n records))
   records-after-of-min f = ap (λ (zs : List Superblock). recordsAfter m records (f zs)) take-of-min ∙ ap (recordsWith (f (take n records))) drop-of-min
 
-  module _ (u : Setup) (order after : List ℕ) (r : RecordsAnswer) where
-    pub row-call-of-min : (call : Call) → record { returned = r; order = after } ≡ recordsAfter m records (rowCall u (take m records) order call)
-        → record { returned = r; order = after } ≡ recordsAfter n records (rowCall u (take n records) order call)
-    row-call-of-min call g = g ∙ records-after-of-min (λ zs. rowCall u zs order call)
+  module _ (control : Control) (order after : List ℕ) (r : RecordsAnswer) where
+    pub row-call-of-min : (call : Call) → record { returned = r; order = after } ≡ recordsAfter m records (rowCall control (take m records) order call)
+        → record { returned = r; order = after } ≡ recordsAfter n records (rowCall control (take n records) order call)
+    row-call-of-min call g = g ∙ records-after-of-min (λ zs. rowCall control zs order call)
 
-    pub row-call-number-and-values : (call : Call) → record { returned = r; order = after } ≡ recordsAfter m records (rowCall u (take m records) order call)
-        → HasNumberAndValuesOf (r .answer .outcome) (rowCall u (take n records) order call .outcome)
+    pub row-call-number-and-values : (call : Call) → record { returned = r; order = after } ≡ recordsAfter m records (rowCall control (take m records) order call)
+        → HasNumberAndValuesOf (r .answer .outcome) (rowCall control (take n records) order call .outcome)
     row-call-number-and-values call g = has-number-and-values-of-equal (r .answer .outcome) _ (ap (λ (y : RecordsAfter). y .returned .answer .outcome) (row-call-of-min call g))
 
+  module _ (u : Setup) (order after : List ℕ) (r : RecordsAnswer) where
     pub row-setup-of-min : record { returned = r; order = after } ≡ recordsAfter m records (rowSetup u (take m records) order)
         → record { returned = r; order = after } ≡ recordsAfter n records (rowSetup u (take n records) order)
     row-setup-of-min g = g ∙ records-after-of-min (λ zs. rowSetup u zs order)
@@ -67,6 +69,6 @@ module _ (n m : ℕ) (records : List Superblock) (e : m ≡ min n 65) (long : le
     row-setup-number-and-values g = has-number-and-values-of-equal (r .answer .outcome) _ (ap (λ (y : RecordsAfter). y .returned .answer .outcome) (row-setup-of-min g))
 
 -- a state that passes, of the lent records of the result
-pub passes-if-accepted-of-min : (n m : ℕ) (r : RecordsAnswer) (after : List ℕ) → PassesIfAccepted (r .answer .outcome) (stateOf (r .answer .setup) (take m (r .records))) after → m ≡ min n 65 → length (r .records) ≡ 65
-    → PassesIfAccepted (r .answer .outcome) (stateOf (r .answer .setup) (take n (r .records))) after
-passes-if-accepted-of-min n m r after y e long = subst (λ (ys : List Superblock). PassesIfAccepted (r .answer .outcome) (stateOf (r .answer .setup) ys) after) (take-of-min n m (r .records) e long) y
+pub passes-if-accepted-of-min : (n m : ℕ) (r : RecordsAnswer) (after : List ℕ) → PassesIfAccepted (r .answer .outcome) (stateOf (r .answer .control) (take m (r .records))) after → m ≡ min n 65 → length (r .records) ≡ 65
+    → PassesIfAccepted (r .answer .outcome) (stateOf (r .answer .control) (take n (r .records))) after
+passes-if-accepted-of-min n m r after y e long = subst (λ (ys : List Superblock). PassesIfAccepted (r .answer .outcome) (stateOf (r .answer .control) ys) after) (take-of-min n m (r .records) e long) y

@@ -8,6 +8,7 @@ ghost use Rattle.rowrules.specs.Borrowed.{RecordsAfter, recordsAfter};
 use calls::Call;
 use heap::Setup;
 use heap::Superblock;
+use rowrules::Control;
 use rowrules::RecordsAnswer;
 
 // As many as there are records.
@@ -25,15 +26,15 @@ fn borrow_call(
     n: usize,
     records: [Superblock; 65],
     order: &mut [u16],
-    u: Setup,
-    c: Call,
+    control: Control,
+    call: Call,
 ) -> RecordsAnswer
     requires { ⌜ n ≤ 65 ⌝ }
-    ensures { λ r. ⌜ record { returned = r; order = now (order .exit) } ≡ recordsAfter n records (rowCall u (take n records) (now (order .entry)) c) ⌝ }
-    ensures passes { λ r. ⌜ PassesIfAccepted (r .answer .outcome) (stateOf (r .answer .setup) (take n (r .records))) (now (order .exit)) ⌝ }
+    ensures { λ r. ⌜ record { returned = r; order = now (order .exit) } ≡ recordsAfter n records (rowCall control (take n records) (now (order .entry)) call) ⌝ }
+    ensures passes { λ r. ⌜ PassesIfAccepted (r .answer .outcome) (stateOf (r .answer .control) (take n (r .records))) (now (order .exit)) ⌝ }
 {
     let mut t = records;
-    let answer = row::call_row(&mut t[..n], order, u, c);
+    let answer = row::call_row(&mut t[..n], order, control, call);
     RecordsAnswer { records: t, answer }
 }
 
@@ -42,22 +43,22 @@ pub fn call_by_row(
     n: usize,
     records: [Superblock; 65],
     order: &mut [u16],
-    u: Setup,
-    c: Call,
+    control: Control,
+    call: Call,
 ) -> RecordsAnswer
-    ensures { λ r. ⌜ record { returned = r; order = now (order .exit) } ≡ recordsAfter n records (rowCall u (take n records) (now (order .entry)) c) ⌝ }
-    ensures number_and_values { λ r. ⌜ HasNumberAndValuesOf (r .answer .outcome) (rowCall u (take n records) (now (order .entry)) c .outcome) ⌝ }
-    ensures passes { λ r. ⌜ PassesIfAccepted (r .answer .outcome) (stateOf (r .answer .setup) (take n (r .records))) (now (order .exit)) ⌝ }
+    ensures { λ r. ⌜ record { returned = r; order = now (order .exit) } ≡ recordsAfter n records (rowCall control (take n records) (now (order .entry)) call) ⌝ }
+    ensures number_and_values { λ r. ⌜ HasNumberAndValuesOf (r .answer .outcome) (rowCall control (take n records) (now (order .entry)) call .outcome) ⌝ }
+    ensures passes { λ r. ⌜ PassesIfAccepted (r .answer .outcome) (stateOf (r .answer .control) (take n (r .records))) (now (order .exit)) ⌝ }
 {
     let m = at_most(n);
-    borrow_call(m, records, order, u, c)
+    borrow_call(m, records, order, control, call)
 }
 
 // A setup on a row of the first n records.
 fn borrow_setup(n: usize, records: [Superblock; 65], order: &mut [u16], u: Setup) -> RecordsAnswer
     requires { ⌜ n ≤ 65 ⌝ }
     ensures { λ r. ⌜ record { returned = r; order = now (order .exit) } ≡ recordsAfter n records (rowSetup u (take n records) (now (order .entry))) ⌝ }
-    ensures passes { λ r. ⌜ PassesIfAccepted (r .answer .outcome) (stateOf (r .answer .setup) (take n (r .records))) (now (order .exit)) ⌝ }
+    ensures passes { λ r. ⌜ PassesIfAccepted (r .answer .outcome) (stateOf (r .answer .control) (take n (r .records))) (now (order .exit)) ⌝ }
 {
     let mut t = records;
     let answer = row::setup_row(&mut t[..n], order, u);
@@ -73,7 +74,7 @@ pub fn setup_by_row(
 ) -> RecordsAnswer
     ensures { λ r. ⌜ record { returned = r; order = now (order .exit) } ≡ recordsAfter n records (rowSetup u (take n records) (now (order .entry))) ⌝ }
     ensures number_and_values { λ r. ⌜ HasNumberAndValuesOf (r .answer .outcome) (rowSetup u (take n records) (now (order .entry)) .outcome) ⌝ }
-    ensures passes { λ r. ⌜ PassesIfAccepted (r .answer .outcome) (stateOf (r .answer .setup) (take n (r .records))) (now (order .exit)) ⌝ }
+    ensures passes { λ r. ⌜ PassesIfAccepted (r .answer .outcome) (stateOf (r .answer .control) (take n (r .records))) (now (order .exit)) ⌝ }
 {
     let m = at_most(n);
     borrow_setup(m, records, order, u)

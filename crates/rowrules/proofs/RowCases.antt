@@ -1,4 +1,4 @@
--- Cases of the calls on a lent row, each shown whole: outcome, setup numbers, row and all order places. No two of the numbers in them are the same by chance. Assumes nothing.
+-- Cases of the calls on a lent row, each shown whole: outcome, setup numbers, names, row and all order places. No two of the numbers in them are the same by chance. Assumes nothing.
 use mathlib.Core.Path.{_≡_, refl, ap}
 use mathlib.Core.List.{List, [], _∷_, _++_, map}
 use Prim.Native.Nat.{ℕ}
@@ -11,13 +11,14 @@ use Rattle.heap.specs.declared.Setup.{Setup}
 use Rattle.heap.specs.Table.{isUnused}
 use Rattle.checkrules.specs.Check.{withinLimits, superblockValid, restValid}
 use Rattle.calls.specs.declared.Call.{Call}
-use Rattle.calls.specs.declared.Call.the-variants.{Take, Free}
+use Rattle.calls.specs.declared.Call.the-variants.{Take, Free, NamedTake, NamedFree}
 use Rattle.calls.specs.declared.Outcome.{Outcome}
 use Rattle.calls.specs.declared.Outcome.the-variants.{Ready, Refused}
 use Rattle.calls.specs.Answers.{checked}
 use Rattle.calls.specs.Take.{takeOf}
 use Rattle.calls.specs.Calls.{callOf}
-use Rattle.rowrules.specs.Row.{RowAfter, stateOf, setupOn, callOn, rowSetup, rowCall}
+use Rattle.rowrules.specs.declared.Control.{Control}
+use Rattle.rowrules.specs.Row.{RowAfter, setupOn, callOn, rowSetup, rowCall}
 use Rattle.rowrules.specs.RowClaim.{RowStep, RowLinked}
 
 -- P = 2, N = 1, K = 3, p/q = 4/5; the same with p not below q; and five zeros
@@ -29,6 +30,22 @@ setup-with-p-equal-q = record { processors = 2; superblocks = 1; spare = 3; p = 
 
 abbrev pub zero-setup : Setup
 zero-setup = record { processors = 0; superblocks = 0; spare = 0; p = 0; q = 0 }
+
+-- name 6 held, at block 0 of superblock 0; and no name
+abbrev pub name-6-held : List ℕ
+name-6-held = replicate 6 65535 ++ 0 ∷ replicate 1017 65535
+
+abbrev pub no-name-held : List ℕ
+no-name-held = replicate 1024 65535
+
+abbrev pub control-with : Setup → List ℕ → Control
+control-with u names = record { setup = u; names = names }
+
+abbrev pub example-control : Control
+example-control = control-with example-setup name-6-held
+
+abbrev pub control-with-p-equal-q : Control
+control-with-p-equal-q = control-with setup-with-p-equal-q name-6-held
 
 -- an unused superblock, and a record that no check passes
 abbrev pub unused-superblock : Superblock
@@ -44,8 +61,8 @@ storage-of-258 = replicate 256 7 ++ 8 ∷ 9 ∷ []
 abbrev pub storage-of-255 : List ℕ
 storage-of-255 = replicate 255 7
 
-abbrev pub row-after : Outcome → Setup → List Superblock → List ℕ → RowAfter
-row-after outcome u row order = record { outcome = outcome; setup = u; row = row; order = order }
+abbrev pub row-after : Outcome → Control → List Superblock → List ℕ → RowAfter
+row-after outcome control row order = record { outcome = outcome; control = control; row = row; order = order }
 
 -- ---- setups
 pub record SetupCase : Type 0 where
@@ -54,16 +71,17 @@ pub record SetupCase : Type 0 where
   pub order : List ℕ
   pub after : RowAfter
 
--- a refused setup hands back five zeros, and leaves row and storage
+-- a refused setup hands back five zeros and no names, and leaves row and storage
 abbrev pub setup-refused-case : ℕ → Setup → List Superblock → List ℕ → SetupCase
-setup-refused-case r u row order = record { setup = u; row = row; order = order; after = row-after (Refused r) zero-setup row order }
+setup-refused-case r u row order = record { setup = u; row = row; order = order; after = row-after (Refused r) (control-with zero-setup no-name-held) row order }
 
--- "1, 12, then 13 for a lent row that is not 64 long"; an accepted one writes all 64 records, whatever they were, and the first N × 256 places
+-- "1, 12, then 13 for a lent row that is not 64 long"; an accepted one writes all 64 records, whatever they were, and the first N × 256 places, and
+-- holds no names
 abbrev pub row-setup-cases : List SetupCase
 row-setup-cases =
     setup-refused-case 1 setup-with-p-equal-q (replicate 63 invalid-superblock) storage-of-255 ∷ setup-refused-case 12 example-setup (replicate 63 invalid-superblock) storage-of-255 ∷ setup-refused-case 13 example-setup (replicate 63 invalid-superblock) storage-of-258 ∷ setup-refused-case 13 example-setup (replicate 65 invalid-superblock) storage-of-258
     ∷ setup-refused-case 1 setup-with-p-equal-q (replicate 64 invalid-superblock) storage-of-258 ∷ setup-refused-case 12 example-setup (replicate 64 invalid-superblock) storage-of-255
-    ∷ record { setup = example-setup; row = replicate 64 invalid-superblock; order = storage-of-258; after = row-after Ready example-setup (replicate 64 unused-superblock) (replicate 256 0 ++ 8 ∷ 9 ∷ []) } ∷ []
+    ∷ record { setup = example-setup; row = replicate 64 invalid-superblock; order = storage-of-258; after = row-after Ready (control-with example-setup no-name-held) (replicate 64 unused-superblock) (replicate 256 0 ++ 8 ∷ 9 ∷ []) } ∷ []
 
 pub row-setup-cases-are-computed : map (λ (k : SetupCase). rowSetup (k .setup) (k .row) (k .order)) row-setup-cases ≡ map (λ (k : SetupCase). k .after) row-setup-cases
 unfolding setupOn withinLimits cleared
@@ -71,47 +89,55 @@ row-setup-cases-are-computed = refl
 
 -- ---- takes and frees
 pub record CallCase : Type 0 where
-  pub setup : Setup
+  pub control : Control
   pub row : List Superblock
   pub order : List ℕ
   pub call : Call
   pub after : RowAfter
 
--- a refused one hands back the setup numbers, and leaves row and storage
-abbrev pub call-refused-case : ℕ → Setup → List Superblock → List ℕ → Call → CallCase
-call-refused-case r u row order call = record { setup = u; row = row; order = order; call = call; after = row-after (Refused r) u row order }
+-- a refused one hands back the setup numbers and the names, and leaves row and storage
+abbrev pub call-refused-case : ℕ → Control → List Superblock → List ℕ → Call → CallCase
+call-refused-case r control row order call = record { control = control; row = row; order = order; call = call; after = row-after (Refused r) control row order }
 
 -- "13 for setup numbers, 12, the rest of 13", in which is the row's length
 abbrev pub row-call-cases : List CallCase
 row-call-cases =
-    call-refused-case 13 setup-with-p-equal-q (replicate 63 unused-superblock) storage-of-255 (Take 2 2048) ∷ call-refused-case 12 example-setup (replicate 63 unused-superblock) storage-of-255 (Take 2 2048) ∷ call-refused-case 13 example-setup (replicate 63 unused-superblock) storage-of-258 (Take 2 2048)
-    ∷ call-refused-case 13 example-setup (replicate 65 unused-superblock) storage-of-258 (Free 2 0) ∷ call-refused-case 13 example-setup (replicate 64 invalid-superblock) storage-of-258 (Take 2 2048) ∷ []
+    call-refused-case 13 control-with-p-equal-q (replicate 63 unused-superblock) storage-of-255 (Take 2 2048) ∷ call-refused-case 12 example-control (replicate 63 unused-superblock) storage-of-255 (Take 2 2048) ∷ call-refused-case 13 example-control (replicate 63 unused-superblock) storage-of-258 (Take 2 2048)
+    ∷ call-refused-case 13 example-control (replicate 65 unused-superblock) storage-of-258 (Free 2 0) ∷ call-refused-case 13 example-control (replicate 64 invalid-superblock) storage-of-258 (Take 2 2048)
+    ∷ call-refused-case 12 example-control (replicate 65 unused-superblock) storage-of-255 (NamedTake 2 10 2048) ∷ call-refused-case 13 example-control (replicate 63 unused-superblock) storage-of-258 (NamedFree 2 6) ∷ []
 
-pub row-call-cases-are-computed : map (λ (k : CallCase). rowCall (k .setup) (k .row) (k .order) (k .call)) row-call-cases ≡ map (λ (k : CallCase). k .after) row-call-cases
+pub row-call-cases-are-computed : map (λ (k : CallCase). rowCall (k .control) (k .row) (k .order) (k .call)) row-call-cases ≡ map (λ (k : CallCase). k .after) row-call-cases
 unfolding callOn callOf takeOf checked withinLimits restValid superblockValid isUnused allBelow
 row-call-cases-are-computed = refl
 
--- a call on 64 records leaves what the call on their state leaves: outcome, setup numbers, row and storage, whatever the row and the call
-pub call-on-64-is-computed : (row : List Superblock) (call : Call)
-    → (let a = callOf (stateOf example-setup row) storage-of-258 call in callOn 64 example-setup row storage-of-258 call ≡ row-after (a .answer .outcome) (a .answer .state .setup) (a .answer .state .table) (a .order))
+-- a call on 64 records leaves what the call on their state leaves: outcome, setup numbers, names, row and storage, whatever the names, the row and the call
+pub call-on-64-is-computed : (names : List ℕ) (row : List Superblock) (call : Call)
+    → (let a = callOf (record { setup = example-setup; table = row; names = names }) storage-of-258 call in callOn 64 (control-with example-setup names) row storage-of-258 call ≡ row-after (a .answer .outcome) (control-with (a .answer .state .setup) (a .answer .state .names)) (a .answer .state .table) (a .order))
 unfolding callOn withinLimits
-call-on-64-is-computed row call = refl
+call-on-64-is-computed names row call = refl
 
 -- ---- lists
 abbrev pub refused-before : RowAfter
-refused-before = row-after (Refused 13) example-setup (replicate 63 unused-superblock) storage-of-258
+refused-before = row-after (Refused 13) example-control (replicate 63 unused-superblock) storage-of-258
 
-abbrev pub refused-step : Call → List Superblock → RowStep
-refused-step call row = record { call = call; after = row-after (Refused 13) example-setup row storage-of-258 }
+abbrev pub refused-step : Call → Control → List Superblock → RowStep
+refused-step call control row = record { call = call; after = row-after (Refused 13) control row storage-of-258 }
 
--- each call gets the row that the one before it left
-pub refused-calls-linked : RowLinked refused-before (refused-step (Take 2 2048) (replicate 63 unused-superblock) ∷ refused-step (Free 1 0) (replicate 63 unused-superblock) ∷ [])
+-- each call gets the setup numbers, the names and the row that the one before it left
+pub refused-calls-linked : RowLinked refused-before (refused-step (Take 2 2048) example-control (replicate 63 unused-superblock) ∷ refused-step (Free 1 0) example-control (replicate 63 unused-superblock) ∷ [])
 unfolding RowLinked callOn withinLimits
 refused-calls-linked = (refl, (refl, tt))
 
 -- a call that got another row is of no list
-pub another-row-not-linked : RowLinked refused-before (refused-step (Take 2 2048) (replicate 63 invalid-superblock) ∷ []) → ⊥
+pub another-row-not-linked : RowLinked refused-before (refused-step (Take 2 2048) example-control (replicate 63 invalid-superblock) ∷ []) → ⊥
 unfolding RowLinked callOn withinLimits
 another-row-not-linked linked =
     let z : _≡_ {A = ℕ} 99 255 = ap (λ (x : RowAfter). getD (x .row) 0 unused-superblock .owner) (linked .0) in
+    absurd (omega (arith, z))
+
+-- nor is one that got other names
+pub other-names-not-linked : RowLinked refused-before (refused-step (Take 2 2048) (control-with example-setup no-name-held) (replicate 63 unused-superblock) ∷ []) → ⊥
+unfolding RowLinked callOn withinLimits
+other-names-not-linked linked =
+    let z : _≡_ {A = ℕ} 65535 0 = ap (λ (x : RowAfter). getD (x .control .names) 6 1) (linked .0) in
     absurd (omega (arith, z))

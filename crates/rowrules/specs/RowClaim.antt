@@ -15,15 +15,15 @@ pub record RowStep : Type 0 where
   pub after : RowAfter
 
 -- "Each gets the state that the one before it returned and the storage as that one left it; nothing else writes either meanwhile": the
--- setup numbers that the one before returned, and the row and the storage as it left them
+-- control that the one before returned, and the row and the storage as it left them
 unfoldable pub RowLinked : RowAfter → List RowStep → Type 0
 RowLinked before [] = Unit {0}
 RowLinked before (step ∷ steps) =
-    (step .after ≡ rowCall (before .setup) (before .row) (before .order) (step .call)) × RowLinked (step .after) steps
+    (step .after ≡ rowCall (before .control) (before .row) (before .order) (step .call)) × RowLinked (step .after) steps
 
 -- what a call on a row left, its row read as a state's table
 abbrev pub asAfter : RowAfter → After
-asAfter a = record { answer = record { outcome = a .outcome; state = stateOf (a .setup) (a .row) }; order = a .order }
+asAfter a = record { answer = record { outcome = a .outcome; state = stateOf (a .control) (a .row) }; order = a .order }
 
 abbrev pub stepOf : RowStep → Step
 stepOf step = record { call = step .call; after = asAfter (step .after) }

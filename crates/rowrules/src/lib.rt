@@ -3,10 +3,16 @@ use calls::Outcome;
 use heap::Setup;
 use heap::Superblock;
 
-// What a call on a lent row hands back: its outcome and the setup numbers after it. The superblocks are in the row.
+// What a call on a lent row is given and hands back by value: all of a state but its superblocks.
+pub struct Control {
+    pub setup: Setup,
+    pub names: [u16; 1024],
+}
+
+// What a call on a lent row hands back: its outcome and the control after it. The superblocks are in the row.
 pub struct RowAnswer {
     pub outcome: Outcome,
-    pub setup: Setup,
+    pub control: Control,
 }
 
 // The records that a row was lent from the front of, as the call left them, and its answer.

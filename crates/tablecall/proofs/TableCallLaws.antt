@@ -12,6 +12,8 @@ use Rattle.calls.specs.declared.Outcome.{Outcome}
 use Rattle.calls.specs.declared.Outcome.the-variants.{Refused}
 use Rattle.calls.specs.Answers.{numberOf}
 use Rattle.limits.specs.SetupRefusal.{setupRefusal}
+use Rattle.rowrules.specs.declared.Control.{Control}
+use Rattle.rowrules.specs.Row.{controlOf}
 use Rattle.tablecall.specs.Tables.{isAccepted, rowFirstRefusal, refusedCall, answeredCall}
 
 -- a call was accepted where its outcome's number is 0
@@ -19,13 +21,13 @@ pub accepted-of-number : (o : Outcome) (n : ℕ) → n ≡ numberOf o → eqb n 
 accepted-of-number o n e = rw e
 
 -- ---- the results, made of their parts
-pub refused-call-from-parts : (r : ℕ) (u : Setup) (table : List Superblock) (b : Bool) → b ≡ isAccepted (Refused r)
-    → record { table = table; answer = record { outcome = Refused r; setup = u }; accepted = b } ≡ refusedCall r u table
-refused-call-from-parts r u table b e = rw e
+pub refused-call-from-parts : (r : ℕ) (control : Control) (table : List Superblock) (b : Bool) → b ≡ isAccepted (Refused r)
+    → record { table = table; answer = record { outcome = Refused r; control = control }; accepted = b } ≡ refusedCall r control table
+refused-call-from-parts r control table b e = rw e
 
-pub answered-call-from-parts : (a : Answer) (b : Bool) → b ≡ isAccepted (a .outcome)
-    → record { table = a .state .table; answer = record { outcome = a .outcome; setup = a .state .setup }; accepted = b } ≡ answeredCall a
-answered-call-from-parts a b e = rw e
+pub answered-call-from-parts : (a : Answer) (control : Control) (b : Bool) → control ≡ controlOf (a .state) → b ≡ isAccepted (a .outcome)
+    → record { table = a .state .table; answer = record { outcome = a .outcome; control = control }; accepted = b } ≡ answeredCall a
+answered-call-from-parts a control b g e = rw (g, e)
 
 -- ---- the first refusals
 module _ (numbers n first : ℕ) (order : List ℕ) (u : Setup) (e : first ≡ setupRefusal numbers u order) where

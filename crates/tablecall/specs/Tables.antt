@@ -11,7 +11,8 @@ use Rattle.calls.specs.declared.Outcome.{Outcome}
 use Rattle.calls.specs.declared.Outcome.the-variants.{Refused}
 use Rattle.calls.specs.Answers.{numberOf}
 use Rattle.limits.specs.SetupRefusal.{setupRefusal}
-use Rattle.rowrules.specs.Row.{RowAfter, rowAfter}
+use Rattle.rowrules.specs.declared.Control.{Control}
+use Rattle.rowrules.specs.Row.{RowAfter, rowAfter, controlOf}
 use Rattle.tablecall.specs.declared.TableCall.{TableCall}
 
 -- whether a call was accepted, by its outcome's number
@@ -27,8 +28,8 @@ unfoldable pub rowFirstRefusal : ℕ → ℕ → List ℕ → Setup → ℕ
 rowFirstRefusal numbers n order u = pick (eqb (setupRefusal numbers u order) 0) (pick (eqb n 64) 0 13) (setupRefusal numbers u order)
 
 -- "A refusal carries its number alone"
-abbrev pub refusedCall : ℕ → Setup → List Superblock → TableCall
-refusedCall r u table = record { table = table; answer = record { outcome = Refused r; setup = u }; accepted = isAccepted (Refused r) }
+abbrev pub refusedCall : ℕ → Control → List Superblock → TableCall
+refusedCall r control table = record { table = table; answer = record { outcome = Refused r; control = control }; accepted = isAccepted (Refused r) }
 
 abbrev pub answeredCall : Answer → TableCall
-answeredCall a = record { table = a .state .table; answer = record { outcome = a .outcome; setup = a .state .setup }; accepted = isAccepted (a .outcome) }
+answeredCall a = record { table = a .state .table; answer = record { outcome = a .outcome; control = controlOf (a .state) }; accepted = isAccepted (a .outcome) }

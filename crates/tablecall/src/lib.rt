@@ -3,11 +3,14 @@
 ghost use mathlib.Core.Path.{_≡_};
 ghost use Rattle.calls.specs.declared.Outcome.the-variants.{Refused};
 ghost use Rattle.calls.specs.Answers.{HasNumberAndValuesOf};
+ghost use Rattle.rowrules.specs.Row.{stateOf, controlOf};
 ghost use Rattle.tablecall.specs.Tables.{isAccepted, rowFirstRefusal, refusedCall, answeredCall};
 use calls::Answer;
 use calls::Outcome;
 use heap::Setup;
+use heap::State;
 use heap::Superblock;
+use rowrules::Control;
 use rowrules::RowAnswer;
 
 // What is to be stored in the row where the call was accepted, the answer, and whether it was.
@@ -15,6 +18,28 @@ pub struct TableCall {
     pub table: [Superblock; 64],
     pub answer: RowAnswer,
     pub accepted: bool,
+}
+
+// The state that a control and a table make.
+pub fn state_of(control: Control, table: [Superblock; 64]) -> State
+    ensures { λ r. ⌜ r ≡ stateOf control table ⌝ }
+{
+    let setup = control.setup;
+    let names = control.names;
+    State {
+        setup,
+        table,
+        names,
+    }
+}
+
+// All of a state but its table.
+pub fn control_of(s: State) -> Control
+    ensures { λ r. ⌜ r ≡ controlOf s ⌝ }
+{
+    let setup = s.setup;
+    let names = s.names;
+    Control { setup, names }
 }
 
 // The refusals before any superblock is looked at: setup numbers, 12, 13 for the row's length; 0 where none applies.
@@ -38,14 +63,14 @@ fn accepted(outcome: Outcome) -> bool
     states::number_of(outcome) == 0
 }
 
-// A refusal, with the setup numbers and the table as they are to be.
-pub fn refuse(number: u8, u: Setup, table: [Superblock; 64]) -> TableCall
-    ensures { λ r. ⌜ r ≡ refusedCall number u table ⌝ }
+// A refusal, with the control and the table as they are to be.
+pub fn refuse(number: u8, control: Control, table: [Superblock; 64]) -> TableCall
+    ensures { λ r. ⌜ r ≡ refusedCall number control table ⌝ }
     ensures number_and_values { λ r. ⌜ HasNumberAndValuesOf (r .answer .outcome) (Refused number) ⌝ }
 {
     let outcome = Outcome::Refused(number);
     let accepted = accepted(outcome);
-    let answer = RowAnswer { outcome, setup: u };
+    let answer = RowAnswer { outcome, control };
     TableCall {
         table,
         answer,
@@ -61,9 +86,9 @@ pub fn answered(a: Answer) -> TableCall
     let s = a.state;
     let table = s.table;
     let outcome = a.outcome;
-    let setup = s.setup;
+    let control = control_of(s);
     let accepted = accepted(outcome);
-    let answer = RowAnswer { outcome, setup };
+    let answer = RowAnswer { outcome, control };
     TableCall {
         table,
         answer,

@@ -128,7 +128,7 @@ module _ {M : Type 1} (𝓤 : URA M) (H : Heap 𝓤) (A : Atoms 𝓤) (W : Given
   abbrev ContractEquation : RowAnswer → List Superblock → List ℕ → Type 0
   ContractEquation r zs ws = rowAfter r zs ws ≡ rowSetup su ys os
 
-  exit-meets-post : (r : RowAnswer) (w : Val) (zs : List Superblock) (ws : List ℕ) → Is N.the-row r (w ∷ []) → length zs ≡ length ys → length ws ≡ length os → ContractEquation r zs ws → PassesIfAccepted (r .outcome) (stateOf (r .setup) zs) ws
+  exit-meets-post : (r : RowAnswer) (w : Val) (zs : List Superblock) (ws : List ℕ) → Is N.the-row r (w ∷ []) → length zs ≡ length ys → length ws ≡ length os → ContractEquation r zs ws → PassesIfAccepted (r .outcome) (stateOf (r .control) zs) ws
       → ent 𝓤 (⋆ 𝓤 H A ((‵ (flft κ q) ⊛ ‵ ftrue) ∷ ‵ (finally T.the-row γ zs) ∷ (‵ (flft κ₁ q₁) ⊛ ‵ ftrue) ∷ ‵ (finally u16 γ₁ ws) ∷ [])) (Post w)
   exit-meets-post r w zs ws g l l₁ e p =
       qed W ((‵ (flft κ q) ⊛ ‵ ftrue) ∷ ‵ (finally T.the-row γ zs) ∷ (‵ (flft κ₁ q₁) ⊛ ‵ ftrue) ∷ ‵ (finally u16 γ₁ ws) ∷ []) ∵
@@ -167,8 +167,8 @@ module _ {M : Type 1} (𝓤 : URA M) (H : Heap 𝓤) (A : Atoms 𝓤) (W : Given
         -- [`work`'s pre; the row; κ's token; local i at 3 + 2 (13 - i)]
         calls-at ! fm (Work 𝓤 H A mem run) known-work (work-ghosts t u) (and-then ! (load ! (from ! (stop !)) (look ! 21 refl)) (and-then ! (load ! (from ! (stop !)) (look ! 19 refl)) (and-then ! (load ! (from ! (stop !)) (look ! 9 refl)) (and-then ! (load ! (from ! (stop !)) (look ! 23 refl)) (no-more !))))) (λ w.
         use1 W (later (some (λ (r : TableCall). ((‵ (flft κ₁ q₁) ⊛ ‵ ftrue) ⊛ ‵ (R.the-row .own r (w ∷ []))) ⊛ raw (ensured 𝓤 H A work.ended (work.clauses 𝓤 H A mem run) (κ₁, tt) (length ys, (t, (y, (su, tt)))) tt r)))) (id⊢ 𝓤 _) $ await ! tt $ pick ! (λ r.
-        split ! $ move ! (1 ∷ []) $ use1 W (some (λ (ws : Unit {0} × (Unit {0} × (List ℕ × (Unit {0} × Unit {0})))). ‵ (lasts work.ended (κ₁, tt) (length ys, (t, (y, (su, tt)))) ws) ⊛ (raw (fact 𝓤 (rowAfterCall r (ws .1 .1 .0) ≡ setupOn (length ys) su t os)) ⊛ (raw (fact 𝓤 (r .accepted ≡ isAccepted (r .answer .outcome))) ⊛ (raw (fact 𝓤 (HasNumberAndValuesOf (r .answer .outcome) (setupOn (length ys) su t os .outcome))) ⊛ raw (fact 𝓤 (PassesIfAccepted (r .answer .outcome) (stateOf (r .answer .setup) (r .table)) (ws .1 .1 .0)))))))) (id⊢ 𝓤 _) $ pick ! (λ ws.
-        split ! $ move ! (1 ∷ []) $ split ! $ heard ! (rowAfterCall r (ws .1 .1 .0) ≡ setupOn (length ys) su t os) (λ e₁. split ! $ heard ! (r .accepted ≡ isAccepted (r .answer .outcome)) (λ e₃. split ! $ drop ! $ heard ! (PassesIfAccepted (r .answer .outcome) (stateOf (r .answer .setup) (r .table)) (ws .1 .1 .0)) (λ e₄.
+        split ! $ move ! (1 ∷ []) $ use1 W (some (λ (ws : Unit {0} × (Unit {0} × (List ℕ × (Unit {0} × Unit {0})))). ‵ (lasts work.ended (κ₁, tt) (length ys, (t, (y, (su, tt)))) ws) ⊛ (raw (fact 𝓤 (rowAfterCall r (ws .1 .1 .0) ≡ setupOn (length ys) su t os)) ⊛ (raw (fact 𝓤 (r .accepted ≡ isAccepted (r .answer .outcome))) ⊛ (raw (fact 𝓤 (HasNumberAndValuesOf (r .answer .outcome) (setupOn (length ys) su t os .outcome))) ⊛ raw (fact 𝓤 (PassesIfAccepted (r .answer .outcome) (stateOf (r .answer .control) (r .table)) (ws .1 .1 .0)))))))) (id⊢ 𝓤 _) $ pick ! (λ ws.
+        split ! $ move ! (1 ∷ []) $ split ! $ heard ! (rowAfterCall r (ws .1 .1 .0) ≡ setupOn (length ys) su t os) (λ e₁. split ! $ heard ! (r .accepted ≡ isAccepted (r .answer .outcome)) (λ e₃. split ! $ drop ! $ heard ! (PassesIfAccepted (r .answer .outcome) (stateOf (r .answer .control) (r .table)) (ws .1 .1 .0)) (λ e₄.
         fsplit ! $ drop ! $ fsplit ! $ drop ! $ fsplit ! $ fsplit ! $ move ! (1 ∷ []) $ feqL ! (λ l₁′.
         -- [order's last list; …; κ₁'s token and what the result owns; the row; κ's token; local i at 5 + 2 (13 - i)]
         move ! (2 ∷ []) $ split ! $ move ! (1 ∷ []) $ peeks ! R.the-row (Is R.the-row) (shows 𝓤 H A R.the-row) r (w ∷ []) (λ g₁.

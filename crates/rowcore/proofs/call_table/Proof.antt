@@ -16,6 +16,9 @@ same-length c = search needs
 returns : tie.Need-returns
 returns c = table-call-clauses _ _ _ (search refused-call-is-call-on) (search accepted-flag-of-refused-call) (search refused-call-passes-if-accepted)
 
+state-of-requires : tie.Need-state-of-requires
+state-of-requires c κs = search needs
+
 call-state-requires : tie.Need-call-state-requires
 call-state-requires c κs = search needs
 
@@ -26,7 +29,7 @@ same-length-2 : tie.Need-same-length-2
 same-length-2 c = search needs
 
 returns-2 : tie.Need-returns-2
-returns-2 c = table-call-clauses _ _ _ (search answered-call-is-call-on) (search accepted-flag-of-answered-call) (answered-call-passes-if-accepted _ _ _ (c .before .before .before .call-state .ensures .1) (c .answered .ensures .0))
+returns-2 c = table-call-clauses _ _ _ (search answered-call-is-call-on) (search accepted-flag-of-answered-call) (answered-call-passes-if-accepted _ _ _ (c .before .before .before .call-state .ensures .1 .1) (c .answered .ensures .0))
 
 pub call-table-spec : {M : Type 1} → statement M
 call-table-spec =
@@ -36,6 +39,7 @@ call-table-spec =
     refuse-requires
     same-length
     returns
+    state-of-requires
     call-state-requires
     answered-requires
     same-length-2

@@ -10,6 +10,9 @@ first-refusal-requires c κs = search needs
 no-state-requires : tie.Need-no-state-requires
 no-state-requires c κs = search needs
 
+control-of-requires : tie.Need-control-of-requires
+control-of-requires c κs = search needs
+
 refuse-requires : tie.Need-refuse-requires
 refuse-requires c κs = search needs
 
@@ -37,6 +40,7 @@ setup-table-spec =
     (tie.spec
     first-refusal-requires
     no-state-requires
+    control-of-requires
     refuse-requires
     same-length
     returns

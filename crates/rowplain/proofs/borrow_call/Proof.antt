@@ -45,8 +45,8 @@ use denote.Triple.Table.{entered, cited}
 use denote.Triple.Walked.{needs, Stays, gave-slice, stay-dropped, walkOf, goes-gave-slice, goes-dropped, Walks, ends-at, walked, walk-meets}
 use denote.Exit.{yes}
 use Rattle.heap.specs.declared.Superblock.{Superblock}
-use Rattle.heap.specs.declared.Setup.{Setup}
 use Rattle.calls.specs.declared.Call.{Call}
+use Rattle.rowrules.specs.declared.Control.{Control}
 use Rattle.rowrules.specs.declared.RowAnswer.{RowAnswer}
 use Rattle.calls.specs.Answers.{HasNumberAndValuesOf, PassesIfAccepted}
 use Rattle.rowrules.specs.Row.{stateOf, rowAfter, rowCall}
@@ -54,8 +54,8 @@ use Rattle.rowrules.specs.declared.RecordsAnswer.{RecordsAnswer}
 use Rattle.rowrules.specs.Borrowed.{recordsAfter}
 use Rattle.heap.proofs.Superblock as T
 use Rattle.heap.proofs.Superblock.Laws as T′
-use Rattle.heap.proofs.Setup as S
-use Rattle.heap.proofs.Setup.Laws as S′
+use Rattle.rowrules.proofs.Control as Ctl
+use Rattle.rowrules.proofs.Control.Laws as Ctl′
 use Rattle.calls.proofs.Call as K
 use Rattle.calls.proofs.Call.Laws as K′
 use Rattle.rowrules.proofs.RowAnswer as N
@@ -76,13 +76,13 @@ use Rattle.rowplain.proofs.borrow_call.Statement as stated
 use Rattle.rowplain.proofs.borrow_call.Code as code
 
 abbrev stayed : Stays (f.ended .signature .params) (f.ended .kept)
-stayed = (stay-dropped (plain (λ _. usize)) yes, (stay-dropped (plain (λ _. Array T.the-row 65)) yes, (gave-slice (0 ∷ []) tt (plain (λ _. u16)), (stay-dropped (plain (λ _. S.the-row)) yes, (stay-dropped (plain (λ _. K.the-row)) yes, tt)))))
+stayed = (stay-dropped (plain (λ _. usize)) yes, (stay-dropped (plain (λ _. Array T.the-row 65)) yes, (gave-slice (0 ∷ []) tt (plain (λ _. u16)), (stay-dropped (plain (λ _. Ctl.the-row)) yes, (stay-dropped (plain (λ _. K.the-row)) yes, tt)))))
 
 abbrev CallRow : {M : Type 1} (𝓤 : URA M) (H : Heap 𝓤) (A : Atoms 𝓤) (mem : Memory → SProp 𝓤) (run : Routine → Fun 𝓤) → Contract 𝓤
 CallRow 𝓤 H A mem run = tripleOf 𝓤 H A call-row.signature (call-row.spec 𝓤 H A mem run)
 
-module _ {M : Type 1} (𝓤 : URA M) (H : Heap 𝓤) (A : Atoms 𝓤) (W : Given 𝓤 H A) (at-mem : Memory → SProp 𝓤) (run : Routine → Fun 𝓤) (κ : Lft) (q : Share) (n : ℕ) (t : List Superblock) (b o : ℕ) (γ : GName) (os : List ℕ) (su : Setup) (ca : Call)
-    (small : n ≤ 65) (is : Is (Array T.the-row 65) t (array-vals (LL.vals T.the-type T′.the-laws) t)) (room : Room u16 (length os)) (s-is : Is S.the-row su (LL.vals S.the-type S′.the-laws su)) (c-is : Is K.the-row ca (EL.vals K.the-type K′.the-laws ca)) where
+module _ {M : Type 1} (𝓤 : URA M) (H : Heap 𝓤) (A : Atoms 𝓤) (W : Given 𝓤 H A) (at-mem : Memory → SProp 𝓤) (run : Routine → Fun 𝓤) (κ : Lft) (q : Share) (n : ℕ) (t : List Superblock) (b o : ℕ) (γ : GName) (os : List ℕ) (ctl : Control) (ca : Call)
+    (small : n ≤ 65) (is : Is (Array T.the-row 65) t (array-vals (LL.vals T.the-type T′.the-laws) t)) (room : Room u16 (length os)) (ctl-is : Is Ctl.the-row ctl (LL.vals Ctl.the-type Ctl′.the-laws ctl)) (c-is : Is K.the-row ca (EL.vals K.the-type K′.the-laws ca)) where
   abbrev y : RefT (List ℕ)
   y = record { ptr = (b, o); name = γ; now = os }
 
@@ -92,20 +92,20 @@ module _ {M : Type 1} (𝓤 : URA M) (H : Heap 𝓤) (A : Atoms 𝓤) (W : Given
   abbrev s : Val
   s = sliceVal (b, o) (length os)
 
-  abbrev uv : Val
-  uv = LL.val S.the-type S′.the-laws su
+  abbrev ctl-val : Val
+  ctl-val = LL.val Ctl.the-type Ctl′.the-laws ctl
 
   abbrev cv : Val
   cv = EL.val K.the-type K′.the-laws ca
 
   abbrev Arg : Type 0
-  Arg = ℕ × (List Superblock × (RefT (List ℕ) × (Setup × (Call × Unit {0}))))
+  Arg = ℕ × (List Superblock × (RefT (List ℕ) × (Control × (Call × Unit {0}))))
 
   abbrev a : Arg
-  a = (n, (t, (y, (su, (ca, tt)))))
+  a = (n, (t, (y, (ctl, (ca, tt)))))
 
   abbrev vals : List Val × (List Val × (List Val × (List Val × (List Val × Unit {0}))))
-  vals = (vint w64 n ∷ [], (tv ∷ [], (s ∷ [], (uv ∷ [], (cv ∷ [], tt)))))
+  vals = (vint w64 n ∷ [], (tv ∷ [], (s ∷ [], (ctl-val ∷ [], (cv ∷ [], tt)))))
 
   abbrev Post : Val → SProp 𝓤
   Post = walkOf 𝓤 H A f.ended stayed (f.clauses 𝓤 H A at-mem run) .post (((κ, tt), (q, tt), tt, a, vals), tt)
@@ -117,7 +117,7 @@ module _ {M : Type 1} (𝓤 : URA M) (H : Heap 𝓤) (A : Atoms 𝓤) (W : Given
   abbrev others : List Superblock
   others = after n t
 
-  exit-meets-post : (r : RecordsAnswer) (ws : List ℕ) → Is R.the-row r (machine-value r ∷ []) → length ws ≡ length os → record { returned = r; order = ws } ≡ recordsAfter n t (rowCall su first-records os ca) → PassesIfAccepted (r .answer .outcome) (stateOf (r .answer .setup) (take n (r .records))) ws
+  exit-meets-post : (r : RecordsAnswer) (ws : List ℕ) → Is R.the-row r (machine-value r ∷ []) → length ws ≡ length os → record { returned = r; order = ws } ≡ recordsAfter n t (rowCall ctl first-records os ca) → PassesIfAccepted (r .answer .outcome) (stateOf (r .answer .control) (take n (r .records))) ws
       → ent 𝓤 (⋆ 𝓤 H A ((‵ (flft κ q) ⊛ ‵ ftrue) ∷ ‵ (finally u16 γ ws) ∷ [])) (Post (machine-value r))
   exit-meets-post r ws g l e p =
       qed W ((‵ (flft κ q) ⊛ ‵ ftrue) ∷ ‵ (finally u16 γ ws) ∷ []) ∵
@@ -132,23 +132,23 @@ module _ {M : Type 1} (𝓤 : URA M) (H : Heap 𝓤) (A : Atoms 𝓤) (W : Given
   sv p = sliceVal (p, 0) (length first-records)
 
   abbrev row-ghosts : ℕ → ℕ → GName → CallRow 𝓤 H A at-mem run .Ghost
-  row-ghosts p ν δ = (((ν ∷ [], (κ, tt)), (fullShare, (q, tt)), tt, (x p δ, (y, (su, (ca, tt)))), (sv p ∷ [], (s ∷ [], (uv ∷ [], (cv ∷ [], tt))))), tt)
+  row-ghosts p ν δ = (((ν ∷ [], (κ, tt)), (fullShare, (q, tt)), tt, (x p δ, (y, (ctl, (ca, tt)))), (sv p ∷ [], (s ∷ [], (ctl-val ∷ [], (cv ∷ [], tt))))), tt)
 
   row-precondition : (p ν : ℕ) (δ : GName) → ent 𝓤 (sep 𝓤 (sep 𝓤 (A .lft (ν ∷ []) fullShare) (sem 𝓤 H A (MutSlice (named 0) (ν ∷ []) T.the-row .own (x p δ) (sv p ∷ [])))) (sep 𝓤 (A .lft κ q) (sem 𝓤 H A (MutSlice (named 0) κ u16 .own y (s ∷ []))))) (CallRow 𝓤 H A at-mem run .pre (row-ghosts p ν δ))
   row-precondition p ν δ =
       qed W ((‵ (flft (ν ∷ []) fullShare) ⊛ ‵ (MutSlice (named 0) (ν ∷ []) T.the-row .own (x p δ) (sv p ∷ []))) ∷ ‵ (flft κ q) ∷ ‵ (MutSlice (named 0) κ u16 .own y (s ∷ [])) ∷ []) ∵ split ! $
       -- [ν's token; the row; κ's token; the order]
-      nothing ! $ owned ! K.the-row (Is K.the-row) (EL.makes K.the-type K′.the-plain 𝓤 H A) ca (cv ∷ []) c-is $ fjoin ! $ owned ! S.the-row (Is S.the-row) (LL.makes S.the-type S′.the-plain 𝓤 H A) su (uv ∷ []) s-is $ fjoin ! $ move ! (4 ∷ 0 ∷ []) $ fjoin ! $ move ! (2 ∷ 0 ∷ []) $ fjoin ! $
+      nothing ! $ owned ! K.the-row (Is K.the-row) (EL.makes K.the-type K′.the-plain 𝓤 H A) ca (cv ∷ []) c-is $ fjoin ! $ owned ! Ctl.the-row (Is Ctl.the-row) (LL.makes Ctl.the-type Ctl′.the-plain 𝓤 H A) ctl (ctl-val ∷ []) ctl-is $ fjoin ! $ move ! (4 ∷ 0 ∷ []) $ fjoin ! $ move ! (2 ∷ 0 ∷ []) $ fjoin ! $
       -- [what the four own; ν's token; κ's token]
       nothing ! $ move ! (3 ∷ 0 ∷ []) $ join ! $ move ! (2 ∷ 0 ∷ []) $ join ! $ join ! $ frame ! $ done !
 
   module _ (C : Calls 𝓤 H) (Λ : Loops 𝓤 H) (fm : FmC 𝓤 H (W .laws) C) (known : Triple 𝓤 (C #call-row) (CallRow 𝓤 H A at-mem run)) where
-    walk : ent 𝓤 (onEntry 𝓤 H A f.signature (κ, tt) (q, tt) a vals) (WpFn 𝓤 H C Λ code.function (vint w64 n ∷ tv ∷ s ∷ uv ∷ cv ∷ []) Post)
+    walk : ent 𝓤 (onEntry 𝓤 H A f.signature (κ, tt) (q, tt) a vals) (WpFn 𝓤 H C Λ code.function (vint w64 n ∷ tv ∷ s ∷ ctl-val ∷ cv ∷ []) Post)
     walk =
-        qed W ((‵ (flft κ q) ⊛ ‵ ftrue) ∷ ‵ (owns (usize ∷ Array T.the-row 65 ∷ MutSlice (named 0) κ u16 ∷ S.the-row ∷ K.the-row ∷ []) a vals) ∷ []) ∵ enter ! C Λ code.function (vint w64 n ∷ tv ∷ s ∷ uv ∷ cv ∷ []) _ $
+        qed W ((‵ (flft κ q) ⊛ ‵ ftrue) ∷ ‵ (owns (usize ∷ Array T.the-row 65 ∷ MutSlice (named 0) κ u16 ∷ Ctl.the-row ∷ K.the-row ∷ []) a vals) ∷ []) ∵ enter ! C Λ code.function (vint w64 n ∷ tv ∷ s ∷ ctl-val ∷ cv ∷ []) _ $
         alloc1 ! (λ l₀. alloc1 ! (λ l₁. alloc1 ! (λ l₂. alloc1 ! (λ l₃. alloc1 ! (λ l₄. alloc1 ! (λ l₅. alloc1 ! (λ l₆. alloc1 ! (λ l₇. alloc1 ! (λ l₈. alloc1 ! (λ l₉. alloc1 ! (λ l₁₀. alloc1 ! (λ l₁₁. alloc1 ! (λ l₁₂. alloc0 ! $ params1 ! $
         pass1 ! (init ! 22 refl (tt, record { fits = count-fits-w64 n small })) $ pass1 ! (init ! 20 refl (array65-typed 𝓤 H A W t tv is)) $ pass1 ! (init ! 18 refl (tt, (tt, (record { fits = room .0 }, tt)))) $
-        pass1 ! (init ! 16 refl (LL.lawful S.the-type S′.the-laws 𝓤 H A W .typed su _ s-is .0)) $ pass1 ! (init ! 14 refl (EL.lawful K.the-type K′.the-laws 𝓤 H A W tt .typed ca _ c-is .0)) $ pass0 ! $
+        pass1 ! (init ! 16 refl (LL.lawful Ctl.the-type Ctl′.the-laws 𝓤 H A W .typed ctl _ ctl-is .0)) $ pass1 ! (init ! 14 refl (EL.lawful K.the-type K′.the-laws 𝓤 H A W tt .typed ca _ c-is .0)) $ pass0 ! $
         move ! (27 ∷ []) $ fsplit ! $ drop ! $ fsplit ! $ drop ! $ fsplit ! $ move ! (28 ∷ []) $ split ! $ move ! (1 ∷ []) $ drop ! $ move ! (2 ∷ []) $ drop ! $
         -- [κ's token; the order; local i at 2 + 2 (12 - i)]
         assigns ! (of-opd ! (load ! (from ! (stop !)) (look ! 22 refl))) (from ! (stop !)) (init ! 14 refl (array65-typed 𝓤 H A W t tv is)) $
@@ -168,9 +168,9 @@ module _ {M : Type 1} (𝓤 : URA M) (H : Heap 𝓤) (A : Atoms 𝓤) (W : Given
         move ! (2 ∷ 0 ∷ []) $ join ! $ move ! (0 ∷ 3 ∷ 4 ∷ []) $ use3 W (raw (CallRow 𝓤 H A at-mem run .pre (row-ghosts l₆ ν δ))) (row-precondition l₆ ν δ) $
         -- [`call_row`'s pre; the lender's part; the others; local i at 3 + 2 (12 - i), and from _5 down one less]
         calls-at ! fm (CallRow 𝓤 H A at-mem run) known (row-ghosts l₆ ν δ) (and-then ! (load ! (from ! (stop !)) (look ! 9 refl)) (and-then ! (load ! (from ! (stop !)) (look ! 5 refl)) (and-then ! (load ! (from ! (stop !)) (look ! 18 refl)) (and-then ! (load ! (from ! (stop !)) (look ! 16 refl)) (no-more !))))) (λ w.
-        use1 W (later (some (λ (r : RowAnswer). ((‵ (flft (ν ∷ []) fullShare) ⊛ (‵ (flft κ q) ⊛ ‵ ftrue)) ⊛ ‵ (N.the-row .own r (w ∷ []))) ⊛ raw (ensured 𝓤 H A call-row.ended (call-row.clauses 𝓤 H A at-mem run) (ν ∷ [], (κ, tt)) (x l₆ δ, (y, (su, (ca, tt)))) tt r)))) (id⊢ 𝓤 _) $ await ! tt $ pick ! (λ r.
-        split ! $ move ! (1 ∷ []) $ use1 W (some (λ (zs : List Superblock × (List ℕ × (Unit {0} × (Unit {0} × Unit {0})))). ‵ (lasts call-row.ended (ν ∷ [], (κ, tt)) (x l₆ δ, (y, (su, (ca, tt)))) zs) ⊛ (raw (fact 𝓤 (rowAfter r (zs .0) (zs .1 .0) ≡ rowCall su first-records os ca)) ⊛ (raw (fact 𝓤 (HasNumberAndValuesOf (r .outcome) (rowCall su first-records os ca .outcome))) ⊛ raw (fact 𝓤 (PassesIfAccepted (r .outcome) (stateOf (r .setup) (zs .0)) (zs .1 .0))))))) (id⊢ 𝓤 _) $ pick ! (λ zs.
-        split ! $ move ! (1 ∷ []) $ split ! $ heard ! (rowAfter r (zs .0) (zs .1 .0) ≡ rowCall su first-records os ca) (λ e. split ! $ drop ! $ heard ! (PassesIfAccepted (r .outcome) (stateOf (r .setup) (zs .0)) (zs .1 .0)) (λ e₁.
+        use1 W (later (some (λ (r : RowAnswer). ((‵ (flft (ν ∷ []) fullShare) ⊛ (‵ (flft κ q) ⊛ ‵ ftrue)) ⊛ ‵ (N.the-row .own r (w ∷ []))) ⊛ raw (ensured 𝓤 H A call-row.ended (call-row.clauses 𝓤 H A at-mem run) (ν ∷ [], (κ, tt)) (x l₆ δ, (y, (ctl, (ca, tt)))) tt r)))) (id⊢ 𝓤 _) $ await ! tt $ pick ! (λ r.
+        split ! $ move ! (1 ∷ []) $ use1 W (some (λ (zs : List Superblock × (List ℕ × (Unit {0} × (Unit {0} × Unit {0})))). ‵ (lasts call-row.ended (ν ∷ [], (κ, tt)) (x l₆ δ, (y, (ctl, (ca, tt)))) zs) ⊛ (raw (fact 𝓤 (rowAfter r (zs .0) (zs .1 .0) ≡ rowCall ctl first-records os ca)) ⊛ (raw (fact 𝓤 (HasNumberAndValuesOf (r .outcome) (rowCall ctl first-records os ca .outcome))) ⊛ raw (fact 𝓤 (PassesIfAccepted (r .outcome) (stateOf (r .control) (zs .0)) (zs .1 .0))))))) (id⊢ 𝓤 _) $ pick ! (λ zs.
+        split ! $ move ! (1 ∷ []) $ split ! $ heard ! (rowAfter r (zs .0) (zs .1 .0) ≡ rowCall ctl first-records os ca) (λ e. split ! $ drop ! $ heard ! (PassesIfAccepted (r .outcome) (stateOf (r .control) (zs .0)) (zs .1 .0)) (λ e₁.
         fsplit ! $ fsplit ! $ move ! (1 ∷ []) $ feqL ! (λ l. move ! (1 ∷ []) $ fsplit ! $ fsplit ! $ move ! (1 ∷ []) $ feqL ! (λ l₁′. move ! (1 ∷ []) $ drop ! $
         -- [order's last list; row's last list; the tokens and what the result owns; the lender's part; the others; local i at 5 + 2 (12 - i)]
         move ! (2 ∷ []) $ split ! $ move ! (1 ∷ []) $ peeks ! N.the-row (Is N.the-row) (shows 𝓤 H A N.the-row) r (w ∷ []) (λ g. land ! (from ! (stop !)) (init ! 16 refl (LL.lawful N.the-type N′.the-laws 𝓤 H A W .typed r _ g .0)) $ rewrite ! 16 (λ (u : Val). ‵ (fat fullShare N′.mir l₇ 0 u)) (ap only (machine-value-of-answer (zs .0 ++ others) r w g)) refl $
@@ -194,8 +194,8 @@ module _ {M : Type 1} (𝓤 : URA M) (H : Heap 𝓤) (A : Atoms 𝓤) (W : Given
 module _ {M : Type 1} (𝓤 : URA M) (H : Heap 𝓤) (A : Atoms 𝓤) (W : Given 𝓤 H A) (mem : Memory → SProp 𝓤) (run : Routine → Fun 𝓤) where
   borrow-call-walks : (C : Calls 𝓤 H) (Λ : Loops 𝓤 H) → FmC 𝓤 H (W .laws) C → Triple 𝓤 (C #call-row) (CallRow 𝓤 H A mem run) → Walks 𝓤 H A f.ended stayed (WpFn 𝓤 H C Λ code.function) (f.clauses 𝓤 H A mem run)
   borrow-call-walks C Λ fm known = walked 𝓤 H A f.ended stayed (f.clauses 𝓤 H A mem run) (WpFn 𝓤 H C Λ code.function)
-      (λ κs. (uint-vals w64, (array-vals (LL.vals T.the-type T′.the-laws), (slice-vals, (LL.vals S.the-type S′.the-laws, (EL.vals K.the-type K′.the-laws, tt))))))
-      (λ κs. (uint-tells w64, (array-tells T.the-row (LL.vals T.the-type T′.the-laws) (LL.tells T.the-type T′.the-laws) 65, (mut-slice-tells (named 0) (κs .0) u16, (LL.tells S.the-type S′.the-laws, (EL.tells K.the-type K′.the-laws, tt))))))
+      (λ κs. (uint-vals w64, (array-vals (LL.vals T.the-type T′.the-laws), (slice-vals, (LL.vals Ctl.the-type Ctl′.the-laws, (EL.vals K.the-type K′.the-laws, tt))))))
+      (λ κs. (uint-tells w64, (array-tells T.the-row (LL.vals T.the-type T′.the-laws) (LL.tells T.the-type T′.the-laws) 65, (mut-slice-tells (named 0) (κs .0) u16, (LL.tells Ctl.the-type Ctl′.the-laws, (EL.tells K.the-type K′.the-laws, tt))))))
       (λ κs qs bounds a g are. needs 𝓤 (a .0 ≤ 65) _ (λ small.
       walk 𝓤 H A W mem run (κs .0) (qs .0) (a .0) (a .1 .0) (a .1 .1 .0 .ptr .0) (a .1 .1 .0 .ptr .1) (a .1 .1 .0 .name) (a .1 .1 .0 .now) (a .1 .1 .1 .0) (a .1 .1 .1 .1 .0) small (are .1 .0) (are .1 .1 .0 .0 .1) (are .1 .1 .1 .0) (are .1 .1 .1 .1 .0) C Λ fm known))
 
@@ -203,7 +203,7 @@ borrow-call-meets : {M : Type 1} (𝓤 : URA M) (H : Heap 𝓤) (A : Atoms 𝓤)
     → Meets 𝓤 H A f.signature (WpFn 𝓤 H (𝓣 .C) (𝓣 .Λ) code.function) (f.spec 𝓤 H A mem run)
 borrow-call-meets 𝓤 H A W mem run 𝓣 known =
     walk-meets 𝓤 H A f.ended stayed W
-    (goes-dropped 𝓤 H A W 1 (plain (λ _. usize)) yes (λ κs x f. refl), (goes-dropped 𝓤 H A W 1 (plain (λ _. Array T.the-row 65)) yes (λ κs x f. refl), (goes-gave-slice 𝓤 H A W 1 0 tt (plain (λ _. u16)), (goes-dropped 𝓤 H A W 1 (plain (λ _. S.the-row)) yes (λ κs x f. refl), (goes-dropped 𝓤 H A W 1 (plain (λ _. K.the-row)) yes (λ κs x f. refl), tt)))))
+    (goes-dropped 𝓤 H A W 1 (plain (λ _. usize)) yes (λ κs x f. refl), (goes-dropped 𝓤 H A W 1 (plain (λ _. Array T.the-row 65)) yes (λ κs x f. refl), (goes-gave-slice 𝓤 H A W 1 0 tt (plain (λ _. u16)), (goes-dropped 𝓤 H A W 1 (plain (λ _. Ctl.the-row)) yes (λ κs x f. refl), (goes-dropped 𝓤 H A W 1 (plain (λ _. K.the-row)) yes (λ κs x f. refl), tt)))))
     (f.clauses 𝓤 H A mem run) (WpFn 𝓤 H (𝓣 .C) (𝓣 .Λ) code.function) (WpFn-mono 𝓤 H (W .laws) 𝓣 code.function) (borrow-call-walks 𝓤 H A W mem run (𝓣 .C) (𝓣 .Λ) (fmOf 𝓤 H (W .laws) 𝓣) known)
 
 pub borrow-call-spec : {M : Type 1} → stated.statement M

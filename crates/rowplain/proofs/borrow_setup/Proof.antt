@@ -110,7 +110,7 @@ module _ {M : Type 1} (𝓤 : URA M) (H : Heap 𝓤) (A : Atoms 𝓤) (W : Given
   abbrev others : List Superblock
   others = after n t
 
-  exit-meets-post : (r : RecordsAnswer) (ws : List ℕ) → Is R.the-row r (machine-value r ∷ []) → length ws ≡ length os → record { returned = r; order = ws } ≡ recordsAfter n t (rowSetup su first-records os) → PassesIfAccepted (r .answer .outcome) (stateOf (r .answer .setup) (take n (r .records))) ws
+  exit-meets-post : (r : RecordsAnswer) (ws : List ℕ) → Is R.the-row r (machine-value r ∷ []) → length ws ≡ length os → record { returned = r; order = ws } ≡ recordsAfter n t (rowSetup su first-records os) → PassesIfAccepted (r .answer .outcome) (stateOf (r .answer .control) (take n (r .records))) ws
       → ent 𝓤 (⋆ 𝓤 H A ((‵ (flft κ q) ⊛ ‵ ftrue) ∷ ‵ (finally u16 γ ws) ∷ [])) (Post (machine-value r))
   exit-meets-post r ws g l e p =
       qed W ((‵ (flft κ q) ⊛ ‵ ftrue) ∷ ‵ (finally u16 γ ws) ∷ []) ∵
@@ -162,8 +162,8 @@ module _ {M : Type 1} (𝓤 : URA M) (H : Heap 𝓤) (A : Atoms 𝓤) (W : Given
         -- [`setup_row`'s pre; the lender's part; the others; local i at 3 + 2 (11 - i), and from _4 down one less]
         calls-at ! fm (SetupRow 𝓤 H A at-mem run) known (row-ghosts l₅ ν δ) (and-then ! (load ! (from ! (stop !)) (look ! 9 refl)) (and-then ! (load ! (from ! (stop !)) (look ! 5 refl)) (and-then ! (load ! (from ! (stop !)) (look ! 16 refl)) (no-more !)))) (λ w.
         use1 W (later (some (λ (r : RowAnswer). ((‵ (flft (ν ∷ []) fullShare) ⊛ (‵ (flft κ q) ⊛ ‵ ftrue)) ⊛ ‵ (N.the-row .own r (w ∷ []))) ⊛ raw (ensured 𝓤 H A setup-row.ended (setup-row.clauses 𝓤 H A at-mem run) (ν ∷ [], (κ, tt)) (x l₅ δ, (y, (su, tt))) tt r)))) (id⊢ 𝓤 _) $ await ! tt $ pick ! (λ r.
-        split ! $ move ! (1 ∷ []) $ use1 W (some (λ (zs : List Superblock × (List ℕ × (Unit {0} × Unit {0}))). ‵ (lasts setup-row.ended (ν ∷ [], (κ, tt)) (x l₅ δ, (y, (su, tt))) zs) ⊛ (raw (fact 𝓤 (rowAfter r (zs .0) (zs .1 .0) ≡ rowSetup su first-records os)) ⊛ (raw (fact 𝓤 (HasNumberAndValuesOf (r .outcome) (rowSetup su first-records os .outcome))) ⊛ raw (fact 𝓤 (PassesIfAccepted (r .outcome) (stateOf (r .setup) (zs .0)) (zs .1 .0))))))) (id⊢ 𝓤 _) $ pick ! (λ zs.
-        split ! $ move ! (1 ∷ []) $ split ! $ heard ! (rowAfter r (zs .0) (zs .1 .0) ≡ rowSetup su first-records os) (λ e. split ! $ drop ! $ heard ! (PassesIfAccepted (r .outcome) (stateOf (r .setup) (zs .0)) (zs .1 .0)) (λ e₁.
+        split ! $ move ! (1 ∷ []) $ use1 W (some (λ (zs : List Superblock × (List ℕ × (Unit {0} × Unit {0}))). ‵ (lasts setup-row.ended (ν ∷ [], (κ, tt)) (x l₅ δ, (y, (su, tt))) zs) ⊛ (raw (fact 𝓤 (rowAfter r (zs .0) (zs .1 .0) ≡ rowSetup su first-records os)) ⊛ (raw (fact 𝓤 (HasNumberAndValuesOf (r .outcome) (rowSetup su first-records os .outcome))) ⊛ raw (fact 𝓤 (PassesIfAccepted (r .outcome) (stateOf (r .control) (zs .0)) (zs .1 .0))))))) (id⊢ 𝓤 _) $ pick ! (λ zs.
+        split ! $ move ! (1 ∷ []) $ split ! $ heard ! (rowAfter r (zs .0) (zs .1 .0) ≡ rowSetup su first-records os) (λ e. split ! $ drop ! $ heard ! (PassesIfAccepted (r .outcome) (stateOf (r .control) (zs .0)) (zs .1 .0)) (λ e₁.
         fsplit ! $ fsplit ! $ move ! (1 ∷ []) $ feqL ! (λ l. move ! (1 ∷ []) $ fsplit ! $ fsplit ! $ move ! (1 ∷ []) $ feqL ! (λ l₁′. move ! (1 ∷ []) $ drop ! $
         -- [order's last list; row's last list; the tokens and what the result owns; the lender's part; the others; local i at 5 + 2 (11 - i)]
         move ! (2 ∷ []) $ split ! $ move ! (1 ∷ []) $ peeks ! N.the-row (Is N.the-row) (shows 𝓤 H A N.the-row) r (w ∷ []) (λ g. land ! (from ! (stop !)) (init ! 16 refl (LL.lawful N.the-type N′.the-laws 𝓤 H A W .typed r _ g .0)) $ rewrite ! 16 (λ (u : Val). ‵ (fat fullShare N′.mir l₆ 0 u)) (ap only (machine-value-of-answer (zs .0 ++ others) r w g)) refl $

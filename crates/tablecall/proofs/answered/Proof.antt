@@ -4,6 +4,9 @@ use borrow.Author.Needs.{needs}
 use Rattle.tablecall.proofs.answered.Statement.{statement}
 use Rattle.tablecall.proofs.answered.Tie as tie
 
+control-of-requires : tie.Need-control-of-requires
+control-of-requires c κs = search needs
+
 accepted-requires : tie.Need-accepted-requires
 accepted-requires c κs = search needs
 
@@ -11,4 +14,4 @@ returns : tie.Need-returns
 returns c = (search answered-call-from-parts, search needs)
 
 pub answered-spec : {M : Type 1} → statement M
-answered-spec = tie.close (tie.spec accepted-requires returns)
+answered-spec = tie.close (tie.spec control-of-requires accepted-requires returns)
