@@ -21,6 +21,7 @@ use Rattle.calls.specs.Setup.{acceptedSetup, setupOf}
 use Rattle.calls.specs.Calls.{callOf}
 use Rattle.bound.specs.Claim.{Step, Linked, Claims}
 use Rattle.boundlaws.proofs.Demand3.{demand-3}
+use Rattle.boundlaws.proofs.NamesAgree.{lastAfter}
 use Rattle.boundlaws.proofs.CallListLaws.{stepsBy, steps-linked}
 use Rattle.commands.specs.declared.Command.{Command}
 use Rattle.commands.specs.declared.Command.the-variants as command
@@ -43,11 +44,6 @@ callsIn (command.Refused number offset ∷ commands) = []
 -- those calls with what each left, one after the other
 unfoldable pub stepsIn : After → List Command → List Step
 stepsIn before commands = stepsBy callOf before (callsIn commands)
-
--- what the last of them left
-unfoldable pub lastAfter : After → List Step → After
-lastAfter before [] = before
-lastAfter before (step ∷ steps) = lastAfter (step .after) steps
 
 -- ---- what is printed of them
 unfoldable pub callLine : Call → Outcome → List ℕ

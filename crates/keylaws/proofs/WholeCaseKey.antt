@@ -12,6 +12,7 @@ use Rattle.calls.proofs.CallDefinitions.{callDefinitions}
 use Rattle.commands.proofs.CommandDefinitions.{commandDefinitions}
 use Rattle.linerules.proofs.LineDefinitions.{lineDefinitions}
 use Rattle.bound.specs.Claim.{Step}
+use Rattle.boundlaws.proofs.NamesAgree.{lastAfter}
 use Rattle.boundlaws.proofs.CallListLaws.{stepsBy, steps-are-unchecked}
 use Rattle.commands.specs.declared.Command.{Command}
 use Rattle.commands.specs.declared.Command.the-variants as command
@@ -19,7 +20,7 @@ use Rattle.commands.specs.Record.{commandsOf}
 use Rattle.textrules.specs.Text.{letters}
 use Rattle.linerules.specs.Lines.{setupLine}
 use Rattle.keyrules.specs.Key.{keyOf}
-use Rattle.keylaws.proofs.KeyClaims.{callsIn, stepsIn, lastAfter, callLine, stepLines, endingLines, key-claims-of-accepted-setup}
+use Rattle.keylaws.proofs.KeyClaims.{callsIn, stepsIn, callLine, stepLines, endingLines, key-claims-of-accepted-setup}
 
 abbrev pub whole-record : List ℕ
 whole-record =
