@@ -148,7 +148,7 @@ module _ (i c k j : ℕ) (s t : State) (order places : List ℕ) (shape : Shape 
       let before = held-block-is-live s order shape passed m held in
       let known = live-class-lt-27 t places (blockNamed (t .names) m / 256) (blockNamed (t .names) m % 256) live in
       let same = same-block-of-same-address t k j (blockNamed (t .names) m / 256) (blockNamed (t .names) m % 256) (subst (λ (d : ℕ). d < 27) (sym (effect .class)) (effect .class-lt-27)) known (subst (λ (d : ℕ). j < blocksOf d) (sym (effect .class)) (effect .block)) (live .block)
-          (ap (λ (d : ℕ). addressOf k d j) (effect .class) ∙ q) in
+      (ap (λ (d : ℕ). addressOf k d j) (effect .class) ∙ q) in
       let marked : markBit (superblockAt s k .live) j ≡ 1 = ap₂ (λ (x y : ℕ). markBit (superblockAt s x .live) y) (same .0 ∙ ap (λ (b : ℕ). b / 256) e) (same .1 ∙ ap (λ (b : ℕ). b % 256) e) ∙ before .marked in
       omega (arith, effect .not-marked)
 

@@ -71,7 +71,7 @@ names-agree-of-list-invariant u s order ledger peak g =
         let c : ℕ = superblockAt s k .class in
         let known = live-class-lt-27 s order k j live in
         let one-live : liveAt s (heldAddress s m) c ≡ 1 =
-            live-at-of-address s c k j known (omega (arith, live .below, g .passed .sound .numbers .superblocks-high)) (live .block) ∙ live-for-owned c (superblockAt s k) j (live .owned) refl ∙ live .marked in
+        live-at-of-address s c k j known (omega (arith, live .below, g .passed .sound .numbers .superblocks-high)) (live .block) ∙ live-for-owned c (superblockAt s k) j (live .owned) refl ∙ live .marked in
         entry-of-count s m held c ledger (g .names) (omega (arith, g .listed .blocks (heldAddress s m) c known))
 
 -- ---- along a list of calls

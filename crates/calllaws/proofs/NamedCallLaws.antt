@@ -325,9 +325,10 @@ held-address-block : (s : State) (order : List ℕ) (m : ℕ) → Shape s → Pa
 unfolding heldAddress
 held-address-block s order m shape passed held =
     let live = held-block-is-live s order shape passed m held in
-    let known = live-class-lt-27 s order (blockNamed (s .names) m / 256) (blockNamed (s .names) m % 256) live in
-    (address-superblock (superblockAt s (blockNamed (s .names) m / 256) .class) (blockNamed (s .names) m / 256) (blockNamed (s .names) m % 256) known (live .block),
-    address-block (superblockAt s (blockNamed (s .names) m / 256) .class) (blockNamed (s .names) m / 256) (blockNamed (s .names) m % 256) known (live .block) s refl)
+    let known = live-class-lt-27 s order (blockNamed (s .names) m / 256) (blockNamed (s .names) m % 256) live in (
+      address-superblock (superblockAt s (blockNamed (s .names) m / 256) .class) (blockNamed (s .names) m / 256) (blockNamed (s .names) m % 256) known (live .block),
+      address-block (superblockAt s (blockNamed (s .names) m / 256) .class) (blockNamed (s .names) m / 256) (blockNamed (s .names) m % 256) known (live .block) s refl,
+    )
 
 -- by a plain free of the held address or of any other: the name that points at the freed block is let go, and any other keeps its block
 module _ (s : State) (order : List ℕ) (i a : ℕ) (shape : Shape s) (acc : FreeAccepted s order i a) (m : ℕ) where

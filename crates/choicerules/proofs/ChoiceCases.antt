@@ -20,7 +20,7 @@ use Rattle.heap.proofs.CaseStates.{unnamedState}
 abbrev pub choice-state : ℕ → State
 choice-state n =
     unnamedState (record { processors = 2; superblocks = n; spare = 1; p = 3; q = 7 }) (of 2 16 1023 ∷ of 1 16 15 ∷ of 1 16 1023 ∷ of 0 18 4 ∷ of 1 16 63 ∷ of 1 16 126 ∷ of 1 17 0 ∷ of 0 17 0 ∷ of 0 16 0 ∷ of 0 16 0 ∷ unused
-          ∷ of 1 16 3 ∷ of 1 16 6 ∷ unused ∷ replicate 49 unused ++ of 2 17 7 ∷ [])
+    ∷ of 1 16 3 ∷ of 1 16 6 ∷ unused ∷ replicate 49 unused ++ of 2 17 7 ∷ [])
 
 -- "class c with a free block, most live first, the lower number among equals"; in heap 0 "one with nothing live counts as well"; the last superblock is seen
 pub fullest-cases :

@@ -99,7 +99,7 @@ superblock owner class marks = record { owner = owner; class = class; live = mar
 abbrev several-superblocks : State
 several-superblocks =
     unnamedState (record { processors = 2; superblocks = 63; spare = 15; p = 3; q = 8 }) (superblock 2 26 3 ∷ superblock 1 11 0 ∷ superblock 1 0 15 ∷ superblock 3 8 1 ∷ superblock 2 26 3 ∷ unused ∷ superblock 1 11 0 ∷ superblock 0 9 31
-          ∷ superblock 2 26 1 ∷ superblock 1 0 3 ∷ superblock 2 26 3 ∷ superblock 1 11 0 ∷ replicate 52 unused)
+    ∷ superblock 2 26 1 ∷ superblock 1 0 3 ∷ superblock 2 26 3 ∷ superblock 1 11 0 ∷ replicate 52 unused)
 
 -- superblocks with nothing live have a line, and a class without a superblock has none
 heap-line-if-of-nothing-live-case : heapLineIf 1 11 several-superblocks ≡ letters "heap 1 class 11 superblocks 3 live 0\n"

@@ -49,14 +49,6 @@ module _ (processor name : ℕ) (o : Outcome) (a : processor < 256) (b : name < 
   unfolding namedFreeLine
   length-of-named-free-line-le = simp length-append (omega (arith, length-of-byte-decimal-le-3 processor a, length-of-u16-decimal-le-5 name b))
 
--- the result of a free, which is no address
-pub length-of-free-result-le-12 : (o : Outcome) → ((a : ℕ) → o ≡ Address a → ⊥) → ((m : ℕ) → o ≡ Moves m → m < 256) → ((r : ℕ) → o ≡ Refused r → r < 256) → length (result o) ≤ 12
-unfolding result
-length-of-free-result-le-12 Ready n f g = zero-le
-length-of-free-result-le-12 (Address a) n f g = absurd (n a refl)
-length-of-free-result-le-12 (Moves m) n f g = omega (arith, length-of-byte-decimal-le-3 m (f m refl))
-length-of-free-result-le-12 (Refused r) n f g = omega (arith, length-of-byte-decimal-le-3 r (g r refl))
-
 pub length-of-stop-line-le-26 : (number offset : ℕ) → number < 256 → length (stopLine number offset) ≤ 26
 unfolding stopLine
 length-of-stop-line-le-26 number offset a = simp length-append (omega (arith, length-of-byte-decimal-le-3 number a, length-of-decimal-le-10 offset))
