@@ -12,14 +12,15 @@ use calls::Outcome;
 use heap::Setup;
 use heap::State;
 use heap::Superblock;
+use rowrules::Control;
 use rowrules::RecordsAnswer;
 use rowrules::RowAnswer;
 use stream::Input;
 
-// The longest input that the program takes has 36193 bytes: a free on a lent row, with 17000 places (2 + 11 + 64 × 34 + 4 + 2 × 17000).
-// The buffer has one byte more, so that an input that it truncates is bad in any case.
+// The longest input that the program takes has 38241 bytes: a free or a named take on a lent row, with 17000 places
+// (2 + 11 + 64 × 34 + 1024 × 2 + 4 + 2 × 17000). The buffer has one byte more, so that an input that it truncates is bad in any case.
 fn main() {
-    let mut input = [0u8; 36194];
+    let mut input = [0u8; 38242];
     let read = stream::read_input(b"call", &mut input);
     let Input::Bytes(n) = read else {
         return;
@@ -32,12 +33,12 @@ fn write(bytes: &[u8]) -> bool {
     stream::write_output(b"call", bytes)
 }
 
-// Byte 3 and a length come before a call on a lent row.
+// Byte 255 and a length come before a call on a lent row.
 fn reply_any(bytes: &[u8]) {
     if bytes.len() < 2 {
         return reply(bytes);
     }
-    if bytes[0] != 3 {
+    if bytes[0] != 255 {
         return reply(bytes);
     }
     reply_row(bytes[1], &bytes[2..]);
@@ -79,22 +80,50 @@ fn call_on(bytes: &[u8], order: &mut [u16], before: &mut [u16])
     }
 }
 
+// A setup, or a take or a free on the state that the input holds.
+enum Asked {
+    Setup,
+    OnState(Call),
+}
+
 fn answer_to(bytes: &[u8], order: &mut [u16]) -> Answer {
-    let asked = callform::call_in(bytes);
+    let asked = asked_in(bytes);
     match asked {
-        Request::Setup => {
+        Asked::Setup => {
             let u = callform::setup_in(bytes);
             engine::setup(u, order)
         }
-        Request::Take { processor, size } => {
-            let s = callload::state_at(bytes, callform::table_offset(bytes));
-            engine::take(s, order, processor, size)
-        }
-        Request::Free { processor, address } => {
-            let s = callload::state_at(bytes, callform::table_offset(bytes));
-            engine::free(s, order, processor, address)
+        Asked::OnState(c) => {
+            let s = state_in(bytes);
+            engine::call_state(s, order, c)
         }
     }
+}
+
+fn asked_in(bytes: &[u8]) -> Asked {
+    let request = callform::call_in(bytes);
+    match request {
+        Request::Setup => Asked::Setup,
+        Request::Take { processor, size } => Asked::OnState(Call::Take { processor, size }),
+        Request::Free { processor, address } => Asked::OnState(Call::Free { processor, address }),
+        Request::NamedTake {
+            processor,
+            name,
+            size,
+        } => Asked::OnState(Call::NamedTake {
+            processor,
+            name,
+            size,
+        }),
+        Request::NamedFree { processor, name } => Asked::OnState(Call::NamedFree {
+            processor,
+            name,
+        }),
+    }
+}
+
+fn state_in(bytes: &[u8]) -> State {
+    callload::state_at(bytes, callform::table_offset(bytes))
 }
 
 // ---- a call on a lent row
@@ -131,23 +160,25 @@ fn row_call_on(length: usize, bytes: &[u8], order: &mut [u16], before: &mut [u16
     callload::load_places(bytes, from, order);
     callload::load_places(bytes, from, before);
     let l = row_answer_to(length, bytes, order);
-    if print_records(length, l) {
+    if print_row(length, l) {
         print_rest(before, order);
     }
 }
 
+// The superblocks go in as records, the setup numbers and the names by value.
 fn row_answer_to(length: usize, bytes: &[u8], order: &mut [u16]) -> RecordsAnswer {
-    let asked = callform::call_in(bytes);
-    let u = callform::setup_in(bytes);
+    let asked = asked_in(bytes);
     match asked {
-        Request::Setup => rowplain::setup_by_row(length, other_records(), order, u),
-        Request::Take { processor, size } => {
-            let records = records_of(callload::state_at(bytes, callform::table_offset(bytes)));
-            rowplain::call_by_row(length, records, order, u, Call::Take { processor, size })
+        Asked::Setup => {
+            let u = callform::setup_in(bytes);
+            rowplain::setup_by_row(length, other_records(), order, u)
         }
-        Request::Free { processor, address } => {
-            let records = records_of(callload::state_at(bytes, callform::table_offset(bytes)));
-            rowplain::call_by_row(length, records, order, u, Call::Free { processor, address })
+        Asked::OnState(c) => {
+            let s = state_in(bytes);
+            let setup = s.setup;
+            let names = s.names;
+            let control = Control { setup, names };
+            rowplain::call_by_row(length, records_of(s), order, control, c)
         }
     }
 }
@@ -176,38 +207,78 @@ fn records_of(s: State) -> [Superblock; 65] {
 
 // ---- printed lines; each function answers whether they were all written
 
-// A state handed back is printed as a row of its 64 superblocks.
+// A state handed back is printed as a row of its 64 superblocks, with its setup numbers and names.
 fn print_answer(a: Answer) -> bool {
     let outcome = a.outcome;
     let s = a.state;
     let setup = s.setup;
+    let names = s.names;
+    let control = Control { setup, names };
     let records = records_of(s);
-    let answer = RowAnswer { outcome, setup };
-    print_records(64, RecordsAnswer { records, answer })
+    let answer = RowAnswer { outcome, control };
+    print_row(64, RecordsAnswer { records, answer })
 }
 
-// The outcome, the setup, and each of the first records that differs from an unused one.
-fn print_records(length: usize, l: RecordsAnswer) -> bool
+// The outcome, the setup, the row's records and the names.
+fn print_row(length: usize, l: RecordsAnswer) -> bool
     requires { ⌜ length ≤ 65 ⌝ }
 {
+    let records = l.records;
     let a = l.answer;
     let outcome = a.outcome;
+    let control = a.control;
+    let u = control.setup;
+    let names = control.names;
     if !print_outcome(outcome) {
         return false;
     }
-    let u = a.setup;
     if !print_setup(u) {
         return false;
     }
+    if !print_records(length, records) {
+        return false;
+    }
+    print_names(names)
+}
+
+// Each of the first records that differs from an unused one.
+fn print_records(length: usize, records: [Superblock; 65]) -> bool
+    requires { ⌜ length ≤ 65 ⌝ }
+{
     let mut k = 0;
     while k < length {
-        let b = l.records[k];
+        let b = records[k];
         if !print_superblock(k, b) {
             return false;
         }
         k += 1;
     }
     true
+}
+
+// Each name that is held.
+fn print_names(names: [u16; 1024]) -> bool {
+    let mut m = 0;
+    while m < 1024 {
+        let number = names[m];
+        if !print_name(m, number) {
+            return false;
+        }
+        m += 1;
+    }
+    true
+}
+
+fn print_name(m: usize, number: u16) -> bool {
+    if number == 65535 {
+        return true;
+    }
+    let mut line = [0u8; 96];
+    let name = put_field(&mut line, 0, b"name ", m as u64);
+    let superblock = put_field(&mut line, name, b" superblock ", (number / 256) as u64);
+    let block = put_field(&mut line, superblock, b" block ", (number % 256) as u64);
+    let end = put_end(&mut line, block);
+    write(&line[..end])
 }
 
 fn print_outcome(outcome: Outcome) -> bool {
@@ -253,8 +324,8 @@ fn print_superblock(k: usize, b: Superblock) -> bool {
     }
     let live = b.live;
     let mut line = [0u8; 192];
-    let name = put_field(&mut line, 0, b"superblock ", k as u64);
-    let owner = put_field(&mut line, name, b" owner ", b.owner as u64);
+    let number = put_field(&mut line, 0, b"superblock ", k as u64);
+    let owner = put_field(&mut line, number, b" owner ", b.owner as u64);
     let class = put_field(&mut line, owner, b" class ", b.class as u64);
     let marks = put_marks(&mut line, class, live);
     let end = put_end(&mut line, marks);

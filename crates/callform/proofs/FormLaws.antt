@@ -2,13 +2,17 @@
 use mathlib.Core.Path.{_≡_}
 use mathlib.Core.Bool.{false}
 use mathlib.Core.List.{List}
+use mathlib.Core.Logic.{_⊎_, inl, inr, ⊎-elim}
 use Prim.Native.Nat.{ℕ, _+_, _*_, _≤_, _<_}
+use native.Mathlib.Omega.{arith}
 use lib.ListN.{length}
 use lib.Dec.{eqb}
 use borrow.Author.Tests.{eq-eqb, ne-eqb, le-leb, lt-leb}
 use Rattle.littleendian.specs.Bytes.{byteAt, twoAt, fourAt}
 use Rattle.callform.specs.declared.Request.the-variants as request
 use Rattle.callform.specs.Form.{callIn, tableOffset, placesOffset, placeCount, wellFormed}
+-- the computed cases come first: a wrong definition fails there
+use Rattle.callform.proofs.FormCases as cases
 
 -- ---- by the first byte
 module _ (b : List ℕ) (first : ℕ) (is : first ≡ byteAt b 0) where
@@ -21,41 +25,51 @@ module _ (b : List ℕ) (first : ℕ) (is : first ≡ byteAt b 0) where
   unfolding callIn
   call-in-of-take processor size n e p s = rw (← is, ne-eqb _ _ n, eq-eqb _ _ e, ← p, ← s)
 
-  pub call-in-of-free : (processor address : ℕ) → (first ≡ 0 → ⊥) → (first ≡ 1 → ⊥) → processor ≡ byteAt b 6 → address ≡ fourAt b 7 → request.Free processor address ≡ callIn b
+  pub call-in-of-free : (processor address : ℕ) → (first ≡ 0 → ⊥) → (first ≡ 1 → ⊥) → first ≡ 2 → processor ≡ byteAt b 6 → address ≡ fourAt b 7 → request.Free processor address ≡ callIn b
   unfolding callIn
-  call-in-of-free processor address n m p s = rw (← is, ne-eqb _ _ n, ne-eqb _ _ m, ← p, ← s)
+  call-in-of-free processor address n m e p a = rw (← is, ne-eqb _ _ n, ne-eqb _ _ m, eq-eqb _ _ e, ← p, ← a)
+
+  pub call-in-of-named-take : (processor name size : ℕ) → (first ≡ 0 → ⊥) → (first ≡ 1 → ⊥) → (first ≡ 2 → ⊥) → first ≡ 3 → processor ≡ byteAt b 6 → name ≡ twoAt b 7 → size ≡ twoAt b 9 → request.NamedTake processor name size ≡ callIn b
+  unfolding callIn
+  call-in-of-named-take processor name size n m l e p a s = rw (← is, ne-eqb _ _ n, ne-eqb _ _ m, ne-eqb _ _ l, eq-eqb _ _ e, ← p, ← a, ← s)
+
+  pub call-in-of-named-free : (processor name : ℕ) → (first ≡ 0 → ⊥) → (first ≡ 1 → ⊥) → (first ≡ 2 → ⊥) → (first ≡ 3 → ⊥) → processor ≡ byteAt b 6 → name ≡ twoAt b 7 → request.NamedFree processor name ≡ callIn b
+  unfolding callIn
+  call-in-of-named-free processor name n m l k p a = rw (← is, ne-eqb _ _ n, ne-eqb _ _ m, ne-eqb _ _ l, ne-eqb _ _ k, ← p, ← a)
 
   -- ---- where the superblocks begin
-  pub table-offset-of-take : first ≡ 1 → 9 ≡ tableOffset b
+  pub table-offset-of-take-or-named-free : (first ≡ 1) ⊎ (first ≡ 4) → 9 ≡ tableOffset b
   unfolding tableOffset
-  table-offset-of-take e = rw (← is, eq-eqb _ _ e)
+  table-offset-of-take-or-named-free = ⊎-elim (λ e. rw (← is, e)) (λ e. rw (← is, e))
 
-  pub table-offset-of-free : (first ≡ 1 → ⊥) → 11 ≡ tableOffset b
+  pub table-offset-of-free-or-named-take : ((first ≡ 1) ⊎ (first ≡ 4) → ⊥) → 11 ≡ tableOffset b
   unfolding tableOffset
-  table-offset-of-free n = rw (← is, ne-eqb _ _ n)
+  table-offset-of-free-or-named-take n = rw (← is, ne-eqb first 1 (λ e. n (inl e)), ne-eqb first 4 (λ e. n (inr e)))
 
   -- ---- where the order places begin, and how many are lent
   pub places-offset-of-setup : first ≡ 0 → 10 ≡ placesOffset b
   unfolding placesOffset
   places-offset-of-setup e = rw (← is, eq-eqb _ _ e)
 
-  pub places-offset-of-state : (table : ℕ) → (first ≡ 0 → ⊥) → table ≡ tableOffset b → table + 2180 ≡ placesOffset b
+  pub places-offset-of-state : (table : ℕ) → (first ≡ 0 → ⊥) → table ≡ tableOffset b → table + 4228 ≡ placesOffset b
   unfolding placesOffset
-  places-offset-of-state table n t = rw (← is, ne-eqb _ _ n, ← t)
+  places-offset-of-state table n t = rw (← is, ne-eqb _ _ n, ← t) (omega arith)
 
   pub place-count-of-setup : (lent : ℕ) → first ≡ 0 → lent ≡ fourAt b 6 → lent ≡ placeCount b
   unfolding placeCount
   place-count-of-setup lent e l = rw (← is, eq-eqb _ _ e, ← l)
 
-  pub place-count-of-state : (table lent : ℕ) → (first ≡ 0 → ⊥) → table ≡ tableOffset b → lent ≡ fourAt b (table + 2176) → lent ≡ placeCount b
+  pub place-count-of-state : (table lent : ℕ) → (first ≡ 0 → ⊥) → table ≡ tableOffset b → lent ≡ fourAt b (table + 4224) → lent ≡ placeCount b
   unfolding placeCount
-  place-count-of-state table lent n t l = rw (← is, ne-eqb _ _ n, ← t, ← l)
+  place-count-of-state table lent n t l =
+      let e : table + 64 * 34 + 1024 * 2 ≡ table + 4224 = omega arith in
+      rw (← is, ne-eqb _ _ n, ← t, e, ← l)
 
   -- ---- the whole form
-  pub well-formed-false-of-unknown : 2 < first → false ≡ wellFormed b
+  pub well-formed-false-of-unknown : 4 < first → false ≡ wellFormed b
   unfolding wellFormed
   well-formed-false-of-unknown h = rw (← is, lt-leb _ _ h)
 
-  pub well-formed-is-length-test : (from lent : ℕ) → first ≤ 2 → from ≡ placesOffset b → lent ≡ placeCount b → eqb (length b) (from + 2 * lent) ≡ wellFormed b
+  pub well-formed-is-length-test : (from lent : ℕ) → first ≤ 4 → from ≡ placesOffset b → lent ≡ placeCount b → eqb (length b) (from + 2 * lent) ≡ wellFormed b
   unfolding wellFormed
   well-formed-is-length-test from lent h f l = rw (← is, le-leb _ _ h, ← f, ← l)

@@ -4,7 +4,7 @@ use mathlib.Core.Bool.{Bool}
 use mathlib.Core.List.{List, [], _∷_, _++_}
 use lib.ListN.{length}
 use lib.Dec.{eqb, leb}
-use Rattle.laws.specs.Sums.{pick, both}
+use Rattle.laws.specs.Sums.{pick, both, either}
 use Rattle.littleendian.specs.Bytes.{byteAt, twoAt, fourAt, eightAt}
 use Rattle.heap.specs.declared.Superblock.{Superblock}
 use Rattle.heap.specs.declared.Setup.{Setup}
@@ -18,11 +18,13 @@ listed f zero = []
 listed f (suc n) = listed f n ++ (f n ∷ [])
 
 -- ---- the call
--- byte 0: 0 setup, 1 take, else a free, which has its numbers from byte 6 on as a take has
+-- byte 0: 0 setup, 1 take, 2 free, 3 named take, else a named free; all but a setup have their numbers from byte 6 on
 unfoldable pub callIn : List ℕ → Request
 callIn b =
     pick (eqb (byteAt b 0) 0) request.Setup
-    (pick (eqb (byteAt b 0) 1) (request.Take (byteAt b 6) (twoAt b 7)) (request.Free (byteAt b 6) (fourAt b 7)))
+    (pick (eqb (byteAt b 0) 1) (request.Take (byteAt b 6) (twoAt b 7))
+    (pick (eqb (byteAt b 0) 2) (request.Free (byteAt b 6) (fourAt b 7))
+    (pick (eqb (byteAt b 0) 3) (request.NamedTake (byteAt b 6) (twoAt b 7) (twoAt b 9)) (request.NamedFree (byteAt b 6) (twoAt b 7)))))
 
 -- ---- the state
 -- P, N, K, p, q in bytes 1 to 5
@@ -38,22 +40,30 @@ superblockIn b at =
       live = eightAt b (at + 2) ∷ eightAt b (at + 10) ∷ eightAt b (at + 18) ∷ eightAt b (at + 26) ∷ [];
     }
 
--- the setup numbers with superblocks 0 to 63, which begin at a position
-unfoldable pub stateIn : List ℕ → ℕ → State
-stateIn b at = record { setup = setupIn b; table = listed (λ k. superblockIn b (at + 34 * k)) 64 }
+-- names 0 to 1023, of two bytes each, from a position on
+unfoldable pub namesIn : List ℕ → ℕ → List ℕ
+namesIn b at = listed (λ m. twoAt b (at + 2 * m)) 1024
 
--- where the superblocks of a take or a free begin
+-- where the names begin: after the 64 superblocks, which begin at a position
+abbrev pub namesOffset : ℕ → ℕ
+namesOffset at = at + 64 * 34
+
+-- the setup numbers with superblocks 0 to 63, which begin at a position, and the names
+unfoldable pub stateIn : List ℕ → ℕ → State
+stateIn b at = record { setup = setupIn b; table = listed (λ k. superblockIn b (at + 34 * k)) 64; names = namesIn b (namesOffset at) }
+
+-- where the superblocks begin: after the numbers of a take or a named free, or of a free or a named take
 unfoldable pub tableOffset : List ℕ → ℕ
-tableOffset b = pick (eqb (byteAt b 0) 1) 9 11
+tableOffset b = pick (either (eqb (byteAt b 0) 1) (eqb (byteAt b 0) 4)) 9 11
 
 -- ---- the order places
--- where they begin: after the setup numbers, or the superblocks, and the four bytes of L
+-- where they begin: after the setup numbers, or the names, and the four bytes of L
 unfoldable pub placesOffset : List ℕ → ℕ
-placesOffset b = pick (eqb (byteAt b 0) 0) 10 (tableOffset b + (64 * 34 + 4))
+placesOffset b = pick (eqb (byteAt b 0) 0) 10 (namesOffset (tableOffset b) + (1024 * 2 + 4))
 
 -- L, the number of order places lent
 unfoldable pub placeCount : List ℕ → ℕ
-placeCount b = pick (eqb (byteAt b 0) 0) (fourAt b 6) (fourAt b (tableOffset b + 64 * 34))
+placeCount b = pick (eqb (byteAt b 0) 0) (fourAt b 6) (fourAt b (namesOffset (tableOffset b) + 1024 * 2))
 
 -- the first n places, of two bytes each, from a position on
 unfoldable pub placesIn : List ℕ → ℕ → ℕ → List ℕ
@@ -61,4 +71,4 @@ placesIn b at n = listed (λ i. twoAt b (at + 2 * i)) n
 
 -- a known call, and just the bytes that it has
 unfoldable pub wellFormed : List ℕ → Bool
-wellFormed b = both (leb (byteAt b 0) 2) (eqb (length b) (placesOffset b + 2 * placeCount b))
+wellFormed b = both (leb (byteAt b 0) 4) (eqb (length b) (placesOffset b + 2 * placeCount b))

@@ -15,16 +15,18 @@ use littleendian::byte_at;
 use littleendian::four_at;
 use littleendian::two_at;
 
-// The call, with the numbers of a take or a free.
+// The call, with the numbers of a take or a free, plain or named.
 pub enum Request {
     Setup,
     Take { processor: u8, size: u16 },
     Free { processor: u8, address: u32 },
+    NamedTake { processor: u8, name: u16, size: u16 },
+    NamedFree { processor: u8, name: u16 },
 }
 
 // ---- the call
 
-// The call that byte 0 names. An unknown byte reads as a free; `well_formed` is false then.
+// The call that byte 0 names. An unknown byte reads as a named free; `well_formed` is false then.
 pub fn call_in(bytes: &[u8]) -> Request
     ensures { λ r. ⌜ r ≡ callIn (now (bytes .entry)) ⌝ }
 {
@@ -37,8 +39,20 @@ pub fn call_in(bytes: &[u8]) -> Request
         let size = two_at(bytes, 7);
         return Request::Take { processor, size };
     }
-    let address = four_at(bytes, 7);
-    Request::Free { processor, address }
+    if first == 2 {
+        let address = four_at(bytes, 7);
+        return Request::Free { processor, address };
+    }
+    let name = two_at(bytes, 7);
+    if first == 3 {
+        let size = two_at(bytes, 9);
+        return Request::NamedTake {
+            processor,
+            name,
+            size,
+        };
+    }
+    Request::NamedFree { processor, name }
 }
 
 // ---- the state
@@ -56,26 +70,26 @@ pub fn setup_in(bytes: &[u8]) -> Setup
     }
 }
 
-// Where the superblocks of a take or a free begin.
+// Where the superblocks begin: a take and a named free have two bytes fewer before them than a free and a named take.
 pub fn table_offset(bytes: &[u8]) -> usize
     ensures { λ r. ⌜ (r ≡ tableOffset (now (bytes .entry))) × (r ≤ 11) ⌝ }
 {
-    if byte_at(bytes, 0) == 1 {
-        return 9;
+    match byte_at(bytes, 0) {
+        1 | 4 => 9,
+        _ => 11,
     }
-    11
 }
 
 // ---- the order places
 
-// Where they begin: in a take or a free, 64 superblocks of 34 bytes and the four bytes of their number come before.
+// Where they begin: in all but a setup 64 superblocks of 34 bytes, 1024 names of two bytes and the four bytes of L come before.
 pub fn places_offset(bytes: &[u8]) -> usize
-    ensures { λ r. ⌜ (r ≡ placesOffset (now (bytes .entry))) × (r ≤ 2191) ⌝ }
+    ensures { λ r. ⌜ (r ≡ placesOffset (now (bytes .entry))) × (r ≤ 4239) ⌝ }
 {
     if byte_at(bytes, 0) == 0 {
         return 10;
     }
-    table_offset(bytes) + 2180
+    table_offset(bytes) + 4228
 }
 
 // How many are lent: the four bytes before them.
@@ -87,7 +101,7 @@ pub fn place_count(bytes: &[u8]) -> usize
         return lent as usize;
     }
     let at = table_offset(bytes);
-    let lent = four_at(bytes, at + 2176);
+    let lent = four_at(bytes, at + 4224);
     lent as usize
 }
 
@@ -95,7 +109,7 @@ pub fn place_count(bytes: &[u8]) -> usize
 pub fn well_formed(bytes: &[u8]) -> bool
     ensures { λ r. ⌜ r ≡ wellFormed (now (bytes .entry)) ⌝ }
 {
-    if byte_at(bytes, 0) > 2 {
+    if byte_at(bytes, 0) > 4 {
         return false;
     }
     let from = places_offset(bytes);

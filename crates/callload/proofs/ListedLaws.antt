@@ -1,7 +1,7 @@
 -- Laws of a list that a loop fills element by element. Assumes nothing.
 use mathlib.Core.Path.{_≡_, refl, sym, ap, _∙_}
 use mathlib.Core.List.{List, []}
-use Prim.Native.Nat.{ℕ, _+_, _≤_, _<_}
+use Prim.Native.Nat.{ℕ, zero, suc, _+_, _≤_, _<_}
 use native.Mathlib.Numerals.{add-one}
 use native.Mathlib.Omega.{arith}
 use lib.ListN.{length, take, set}
@@ -25,3 +25,9 @@ pub listed-end : {A : Type 0} (f : ℕ → A) (l : List A) (k n : ℕ) → lengt
 listed-end f l k n long e h g =
     let s : k ≡ n = omega arith in
     sym (take-all k l (omega arith)) ∙ e ∙ ap (listed f) s
+
+-- equal elements make equal lists
+pub listed-of-equal-elements : {A : Type 0} (f g : ℕ → A) (n : ℕ) → ((k : ℕ) → f k ≡ g k) → listed f n ≡ listed g n
+unfolding listed
+listed-of-equal-elements f g zero e = refl
+listed-of-equal-elements f g (suc n) e = rw (listed-of-equal-elements f g n e, e n)

@@ -3,7 +3,7 @@
 ghost use mathlib.Core.Path.{_≡_};
 ghost use Prim.Native.Nat.{_^_, _<_};
 ghost use lib.ListN.{length};
-ghost use Rattle.callform.specs.Form.{superblockIn, stateIn, placesIn};
+ghost use Rattle.callform.specs.Form.{superblockIn, namesIn, stateIn, placesIn};
 use heap::State;
 use heap::Superblock;
 use littleendian::byte_at;
@@ -29,7 +29,21 @@ fn superblock_in(bytes: &[u8], at: usize) -> Superblock
     }
 }
 
-// The setup numbers with the 64 superblocks that begin at a position.
+// The 1024 names that begin at a position.
+fn names_at(bytes: &[u8], at: usize) -> [u16; 1024]
+    ensures { λ r. ⌜ r ≡ namesIn (now (bytes .entry)) at ⌝ }
+{
+    let mut names = [0u16; 1024];
+    let mut m = 0;
+    while m < 1024 {
+        let name = two_at(bytes, position_after(bytes, at, 2 * m));
+        names[m] = name;
+        m += 1;
+    }
+    names
+}
+
+// The setup numbers with the 64 superblocks that begin at a position, and the names behind them.
 pub fn state_at(bytes: &[u8], at: usize) -> State
     ensures { λ r. ⌜ r ≡ stateIn (now (bytes .entry)) at ⌝ }
 {
@@ -45,8 +59,13 @@ pub fn state_at(bytes: &[u8], at: usize) -> State
         table[k] = b;
         k += 1;
     }
+    let names = names_at(bytes, position_after(bytes, at, 2176));
     let setup = callform::setup_in(bytes);
-    State { setup, table }
+    State {
+        setup,
+        table,
+        names,
+    }
 }
 
 // Fills the storage with the places from a position on.

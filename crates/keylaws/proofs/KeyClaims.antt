@@ -27,7 +27,7 @@ use Rattle.commands.specs.declared.Command.{Command}
 use Rattle.commands.specs.declared.Command.the-variants as command
 use Rattle.commands.specs.Record.{commandAt, sizeOfCommand, isRefused, commandsFrom, commandsOf}
 use Rattle.commandlaws.proofs.CommandLaws.{remaining, commands-of-is-commands-at-0, commands-setup, commands-refused, setup-first-and-inside, take-later-and-inside, free-later-and-inside, named-take-later-and-inside, named-free-later-and-inside}
-use Rattle.linerules.specs.Lines.{setupLine, takeLine, freeLine, namedTakeLine, namedFreeLine, stopLine, finalLines}
+use Rattle.linerules.specs.Lines.{setupLine, callLine, stopLine, finalLines}
 use Rattle.keyrules.specs.Key.{beforeFirst, setupText, textOf, orderAfter, keyOf, storageOf}
 
 -- ---- the calls of a record
@@ -46,12 +46,6 @@ unfoldable pub stepsIn : After → List Command → List Step
 stepsIn before commands = stepsBy callOf before (callsIn commands)
 
 -- ---- what is printed of them
-unfoldable pub callLine : Call → Outcome → List ℕ
-callLine (call.Take processor size) outcome = takeLine processor size outcome
-callLine (call.Free processor address) outcome = freeLine processor address outcome
-callLine (call.NamedTake processor name size) outcome = namedTakeLine processor name size outcome
-callLine (call.NamedFree processor name) outcome = namedFreeLine processor name outcome
-
 unfoldable pub stepLines : List Step → List ℕ
 stepLines [] = []
 stepLines (step ∷ steps) = callLine (step .call) (step .after .answer .outcome) ++ stepLines steps

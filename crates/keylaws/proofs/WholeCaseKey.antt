@@ -20,7 +20,7 @@ use Rattle.commands.specs.Record.{commandsOf}
 use Rattle.textrules.specs.Text.{letters}
 use Rattle.linerules.specs.Lines.{setupLine}
 use Rattle.keyrules.specs.Key.{keyOf}
-use Rattle.keylaws.proofs.KeyClaims.{callsIn, stepsIn, callLine, stepLines, endingLines, key-claims-of-accepted-setup}
+use Rattle.keylaws.proofs.KeyClaims.{callsIn, stepsIn, stepLines, endingLines, key-claims-of-accepted-setup}
 
 abbrev pub whole-record : List ℕ
 whole-record =
@@ -79,7 +79,7 @@ unfolding textBy stepsIn
 whole-key-is-text-by-steps = key-claims-of-accepted-setup whole-record storage setup commands whole-record-commands whole-setup-ready .printed
 
 whole-text-by-steps-computed : textBy (stepsBy callUnchecked (setupOf setup storage) (callsIn commands)) ≡ whole-text
-unfolding textBy callsIn stepLines callLine lastAfter endingLines lineDefinitions stepsBy callDefinitions
+unfolding textBy callsIn stepLines lastAfter endingLines lineDefinitions stepsBy callDefinitions
 whole-text-by-steps-computed = refl
 
 pub whole-case : keyOf whole-record storage ≡ whole-text

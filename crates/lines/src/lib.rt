@@ -1,4 +1,5 @@
 // The lines of a record's commands, written into a lent buffer, as far as they reach.
+use calls::Call;
 use calls::Outcome;
 use fields::put_byte;
 use fields::put_last_field;
@@ -17,6 +18,7 @@ ghost use Rattle.linerules.specs.Lines.{
   processorAndName,
   namedTakeLine,
   namedFreeLine,
+  callLine,
   stopLine,
 };
 
@@ -32,8 +34,24 @@ pub fn setup_line(out: &mut [u8], at: usize, u: Setup) -> usize
     put_text(out, e, b"\n")
 }
 
+// The line of a call.
+pub fn call_line(out: &mut [u8], at: usize, call: Call, outcome: Outcome) -> usize
+    ensures { λ r. ⌜ record { end = r; buffer = now (out .exit) } ≡ pasted (now (out .entry)) at (callLine call outcome) ⌝ }
+{
+    match call {
+        Call::Take { processor, size } => take_line(out, at, processor, size, outcome),
+        Call::Free { processor, address } => free_line(out, at, processor, address, outcome),
+        Call::NamedTake {
+            processor,
+            name,
+            size,
+        } => named_take_line(out, at, processor, name, size, outcome),
+        Call::NamedFree { processor, name } => named_free_line(out, at, processor, name, outcome),
+    }
+}
+
 // The line of a take.
-pub fn take_line(out: &mut [u8], at: usize, processor: u8, size: u16, outcome: Outcome) -> usize
+fn take_line(out: &mut [u8], at: usize, processor: u8, size: u16, outcome: Outcome) -> usize
     ensures { λ r. ⌜ record { end = r; buffer = now (out .exit) } ≡ pasted (now (out .entry)) at (takeLine processor size outcome) ⌝ }
 {
     let a = put_byte(out, at, b"take ", processor);
@@ -42,7 +60,7 @@ pub fn take_line(out: &mut [u8], at: usize, processor: u8, size: u16, outcome: O
 }
 
 // The line of a free.
-pub fn free_line(out: &mut [u8], at: usize, processor: u8, address: u32, outcome: Outcome) -> usize
+fn free_line(out: &mut [u8], at: usize, processor: u8, address: u32, outcome: Outcome) -> usize
     ensures { λ r. ⌜ record { end = r; buffer = now (out .exit) } ≡ pasted (now (out .entry)) at (freeLine processor address outcome) ⌝ }
 {
     let a = put_byte(out, at, b"free ", processor);
@@ -65,7 +83,7 @@ fn put_processor_and_name(
 }
 
 // The line of a take by name.
-pub fn named_take_line(
+fn named_take_line(
     out: &mut [u8],
     at: usize,
     processor: u8,
@@ -81,7 +99,7 @@ pub fn named_take_line(
 }
 
 // The line of a free by name.
-pub fn named_free_line(
+fn named_free_line(
     out: &mut [u8],
     at: usize,
     processor: u8,

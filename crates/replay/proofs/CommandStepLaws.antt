@@ -14,20 +14,23 @@ use Rattle.textrules.specs.Text.{Pasted, pasted}
 use Rattle.textrules.proofs.PasteLaws.{paste-append, put-length, put-end-le}
 use Rattle.heap.specs.declared.Setup.{Setup}
 use Rattle.calls.specs.declared.Answer.{Answer}
+use Rattle.calls.specs.declared.Call.{Call}
+use Rattle.calls.specs.declared.Call.the-variants as call
 use Rattle.calls.specs.declared.Outcome.{Outcome}
 use Rattle.calls.specs.Answers.{After, numberOf}
 use Rattle.calls.specs.Setup.{setupOf}
 use Rattle.calls.specs.Take.{takeOf}
 use Rattle.calls.specs.Free.{freeOf}
 use Rattle.calls.specs.Named.{namedTakeOf, namedFreeOf}
+use Rattle.calls.specs.Calls.{callOf}
 use Rattle.commands.specs.declared.Command.{Command}
 use Rattle.commands.specs.declared.Command.the-variants as command
-use Rattle.commands.specs.Record.{commandAt}
+use Rattle.commands.specs.Record.{commandAt, sizeOfCommand}
 use Rattle.commandlaws.proofs.CommandLaws.{commandsAt, remaining, remaining-inside, remaining-end, commands-refused, commands-setup, commands-take, commands-free, commands-named-take, commands-named-free, setup-first-and-inside, take-later-and-inside, free-later-and-inside, named-take-later-and-inside, named-free-later-and-inside}
-use Rattle.linerules.specs.Lines.{setupLine, takeLine, freeLine, namedTakeLine, namedFreeLine, stopLine, closingLines}
+use Rattle.linerules.specs.Lines.{setupLine, takeLine, freeLine, namedTakeLine, namedFreeLine, callLine, stopLine, closingLines}
 use Rattle.replay.specs.declared.Replay.{Replay}
 use Rattle.keyrules.specs.Key.{stateAndStorage, setupText, textOf, orderAfter}
-use Rattle.replay.specs.Steps.{TextAndOrder, textAhead, orderAhead, textAndOrderAhead, commandsLeft, InBounds, Stepped, nextOf, stopOf, Stopped}
+use Rattle.replay.specs.Steps.{TextAndOrder, textAhead, orderAhead, textAndOrderAhead, commandsLeft, InBounds, Stepped, nextOf, stopOf, Stopped, commandOf}
 
 -- ---- of what a call left, the state and the storage count
 text-of-starting-from : (after : After) (cs : List Command) → textOf after cs ≡ textOf (stateAndStorage (after .answer .state) (after .order)) cs
@@ -53,6 +56,24 @@ order-after-starting-from after (command.Refused number offset ∷ cs) = refl
 -- ---- a command in the arms of a match
 pub matched-command-is-command-at : (r : List ℕ) (at : ℕ) (c d : Command) → c ≡ commandAt r at → c ≡ d → d ≡ commandAt r at
 matched-command-is-command-at r at c d e f = sym f ∙ e
+
+-- the bytes of a call's command, in the arms of a match on the call
+module _ (c : Call) where
+  pub size-of-take : (i size : ℕ) → c ≡ call.Take i size → 4 ≡ sizeOfCommand (commandOf c)
+  unfolding commandOf sizeOfCommand
+  size-of-take i size e = ap (λ (x : Call). sizeOfCommand (commandOf x)) (sym e)
+
+  pub size-of-free : (i a : ℕ) → c ≡ call.Free i a → 6 ≡ sizeOfCommand (commandOf c)
+  unfolding commandOf sizeOfCommand
+  size-of-free i a e = ap (λ (x : Call). sizeOfCommand (commandOf x)) (sym e)
+
+  pub size-of-named-take : (i m size : ℕ) → c ≡ call.NamedTake i m size → 6 ≡ sizeOfCommand (commandOf c)
+  unfolding commandOf sizeOfCommand
+  size-of-named-take i m size e = ap (λ (x : Call). sizeOfCommand (commandOf x)) (sym e)
+
+  pub size-of-named-free : (i m : ℕ) → c ≡ call.NamedFree i m → 4 ≡ sizeOfCommand (commandOf c)
+  unfolding commandOf sizeOfCommand
+  size-of-named-free i m e = ap (λ (x : Call). sizeOfCommand (commandOf x)) (sym e)
 
 -- ---- a text in the buffer with the storage
 abbrev text-and-order : Pasted → List ℕ → TextAndOrder
@@ -153,10 +174,10 @@ module _ (r : List ℕ) (x : Replay) (order out : List ℕ) (bounds : InBounds x
       (commands : commandsAt r (x .at) ≡ d ∷ remaining r (x .at + k))
       (text-is : textOf (stateAndStorage (x .state) order) (d ∷ remaining r (x .at + k)) ≡ line (left .answer .outcome) ++ textOf left (remaining r (x .at + k)))
       (order-is : orderAfter (stateAndStorage (x .state) order) (d ∷ remaining r (x .at + k)) ≡ orderAfter left (remaining r (x .at + k))) where
-    stepped-of-call : (a : Answer) (new : List ℕ) → record { answer = a; order = new } ≡ left
+    stepped-of-line-and-answer : (a : Answer) (new : List ℕ) → record { answer = a; order = new } ≡ left
         → (end : ℕ) (text : List ℕ) → record { end = end; buffer = text } ≡ pasted out (x .end) (line (a .outcome))
         → (y : Replay) → y ≡ nextOf r (a .state) (x .at + k) end → Stepped r x order out y new text
-    stepped-of-call a new e end text put y is =
+    stepped-of-line-and-answer a new e end text put y is =
         let after : After = record { answer = a; order = new } in
         let rest = remaining r (x .at + k) in
         subst (λ (z : Replay). Stepped r x order out z new text) (sym is)
@@ -164,41 +185,27 @@ module _ (r : List ℕ) (x : Replay) (order out : List ℕ) (bounds : InBounds x
         (ap (textOf (stateAndStorage (x .state) order)) commands ∙ text-is ∙ ap (λ (z : After). line (z .answer .outcome) ++ textOf z rest) (sym e))
         (ap (orderAfter (stateAndStorage (x .state) order)) commands ∙ order-is ∙ ap (λ (z : After). orderAfter z rest) (sym e)))
 
-  module _ (i size : ℕ) (c : command.Take i size ≡ commandAt r (x .at)) where
-    pub stepped-of-take : (a : Answer) (new : List ℕ) → record { answer = a; order = new } ≡ takeOf (x .state) order i size
-        → (end : ℕ) (text : List ℕ) → record { end = end; buffer = text } ≡ pasted out (x .end) (takeLine i size (a .outcome))
-        → (y : Replay) → y ≡ nextOf r (a .state) (x .at + 4) end → Stepped r x order out y new text
-    unfolding textOf orderAfter
-    stepped-of-take =
-        let d = command.Take i size in
-        stepped-of-call d 4 (takeLine i size) (takeOf (x .state) order i size) (take-later-and-inside r (x .at) d c i size refl) (omega arith) (commands-take r (x .at) d c i size refl) refl refl
-
-  module _ (i address : ℕ) (c : command.Free i address ≡ commandAt r (x .at)) where
-    pub stepped-of-free : (a : Answer) (new : List ℕ) → record { answer = a; order = new } ≡ freeOf (x .state) order i address
-        → (end : ℕ) (text : List ℕ) → record { end = end; buffer = text } ≡ pasted out (x .end) (freeLine i address (a .outcome))
-        → (y : Replay) → y ≡ nextOf r (a .state) (x .at + 6) end → Stepped r x order out y new text
-    unfolding textOf orderAfter
-    stepped-of-free =
-        let d = command.Free i address in
-        stepped-of-call d 6 (freeLine i address) (freeOf (x .state) order i address) (free-later-and-inside r (x .at) d c i address refl) (omega arith) (commands-free r (x .at) d c i address refl) refl refl
-
-  module _ (i m size : ℕ) (c : command.NamedTake i m size ≡ commandAt r (x .at)) where
-    pub stepped-of-named-take : (a : Answer) (new : List ℕ) → record { answer = a; order = new } ≡ namedTakeOf (x .state) order i m size
-        → (end : ℕ) (text : List ℕ) → record { end = end; buffer = text } ≡ pasted out (x .end) (namedTakeLine i m size (a .outcome))
-        → (y : Replay) → y ≡ nextOf r (a .state) (x .at + 6) end → Stepped r x order out y new text
-    unfolding textOf orderAfter
-    stepped-of-named-take =
-        let d = command.NamedTake i m size in
-        stepped-of-call d 6 (namedTakeLine i m size) (namedTakeOf (x .state) order i m size) (named-take-later-and-inside r (x .at) d c i m size refl) (omega arith) (commands-named-take r (x .at) d c i m size refl) refl refl
-
-  module _ (i m : ℕ) (c : command.NamedFree i m ≡ commandAt r (x .at)) where
-    pub stepped-of-named-free : (a : Answer) (new : List ℕ) → record { answer = a; order = new } ≡ namedFreeOf (x .state) order i m
-        → (end : ℕ) (text : List ℕ) → record { end = end; buffer = text } ≡ pasted out (x .end) (namedFreeLine i m (a .outcome))
-        → (y : Replay) → y ≡ nextOf r (a .state) (x .at + 4) end → Stepped r x order out y new text
-    unfolding textOf orderAfter
-    stepped-of-named-free =
-        let d = command.NamedFree i m in
-        stepped-of-call d 4 (namedFreeLine i m) (namedFreeOf (x .state) order i m) (named-free-later-and-inside r (x .at) d c i m refl) (omega arith) (commands-named-free r (x .at) d c i m refl) refl refl
+  -- what a call's command is in the record: where it ends, the commands after it, and what is printed and left
+  pub stepped-of-call : (call : Call) → commandOf call ≡ commandAt r (x .at) → (a : Answer) (new : List ℕ) → record { answer = a; order = new } ≡ callOf (x .state) order call
+      → (end : ℕ) (text : List ℕ) → record { end = end; buffer = text } ≡ pasted out (x .end) (callLine call (a .outcome))
+      → (n : ℕ) → n ≡ sizeOfCommand (commandOf call) → (y : Replay) → y ≡ nextOf r (a .state) (x .at + n) end → Stepped r x order out y new text
+  unfolding callOf callLine commandOf sizeOfCommand textOf orderAfter
+  stepped-of-call (call.Take i size) c a new e end text put n size-is y is =
+      let d = command.Take i size in
+      stepped-of-line-and-answer d 4 (takeLine i size) (takeOf (x .state) order i size) (take-later-and-inside r (x .at) d c i size refl) (omega arith) (commands-take r (x .at) d c i size refl) refl refl a new e end text put y
+      (is ∙ ap (λ (k : ℕ). nextOf r (a .state) (x .at + k) end) size-is)
+  stepped-of-call (call.Free i address) c a new e end text put n size-is y is =
+      let d = command.Free i address in
+      stepped-of-line-and-answer d 6 (freeLine i address) (freeOf (x .state) order i address) (free-later-and-inside r (x .at) d c i address refl) (omega arith) (commands-free r (x .at) d c i address refl) refl refl a new e end text put y
+      (is ∙ ap (λ (k : ℕ). nextOf r (a .state) (x .at + k) end) size-is)
+  stepped-of-call (call.NamedTake i m size) c a new e end text put n size-is y is =
+      let d = command.NamedTake i m size in
+      stepped-of-line-and-answer d 6 (namedTakeLine i m size) (namedTakeOf (x .state) order i m size) (named-take-later-and-inside r (x .at) d c i m size refl) (omega arith) (commands-named-take r (x .at) d c i m size refl) refl refl a new e end text put y
+      (is ∙ ap (λ (k : ℕ). nextOf r (a .state) (x .at + k) end) size-is)
+  stepped-of-call (call.NamedFree i m) c a new e end text put n size-is y is =
+      let d = command.NamedFree i m in
+      stepped-of-line-and-answer d 4 (namedFreeLine i m) (namedFreeOf (x .state) order i m) (named-free-later-and-inside r (x .at) d c i m refl) (omega arith) (commands-named-free r (x .at) d c i m refl) refl refl a new e end text put y
+      (is ∙ ap (λ (k : ℕ). nextOf r (a .state) (x .at + k) end) size-is)
 
   module _ (u : Setup) (c : command.Setup (u .processors) (u .superblocks) (u .spare) (u .p) (u .q) ≡ commandAt r (x .at))
       (a : Answer) (new : List ℕ) (e : record { answer = a; order = new } ≡ setupOf u order) (number : ℕ) (n : number ≡ numberOf (a .outcome)) where

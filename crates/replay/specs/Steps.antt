@@ -8,6 +8,10 @@ use lib.Dec.{ltb}
 use Rattle.laws.specs.Sums.{pick}
 use Rattle.textrules.specs.Text.{Pasted, pasted}
 use Rattle.heap.specs.declared.State.{State}
+use Rattle.calls.specs.declared.Call.{Call}
+use Rattle.calls.specs.declared.Call.the-variants as call
+use Rattle.commands.specs.declared.Command.{Command}
+use Rattle.commands.specs.declared.Command.the-variants as command
 use Rattle.commands.specs.Record.{commandsFrom}
 use Rattle.linerules.specs.Lines.{stopLine, closingLines}
 use Rattle.replay.specs.declared.Replay.{Replay}
@@ -66,3 +70,10 @@ stopOf x end = record { state = x .state; at = x .at; end = end; going = false; 
 pub record Stopped (x : Replay) (out : List ℕ) (number offset : ℕ) (y : Replay) (text : List ℕ) : Type 0 where
   pub line-written : record { end = y .end; buffer = text } ≡ pasted out (x .end) (stopLine number offset)
   pub replay-is : y ≡ stopOf x (y .end)
+
+-- the command of a call
+unfoldable pub commandOf : Call → Command
+commandOf (call.Take processor size) = command.Take processor size
+commandOf (call.Free processor address) = command.Free processor address
+commandOf (call.NamedTake processor name size) = command.NamedTake processor name size
+commandOf (call.NamedFree processor name) = command.NamedFree processor name

@@ -1,10 +1,12 @@
 // The printed key of a record.
 ghost use mathlib.Core.Path.{_≡_};
 ghost use mathlib.Core.Bool.{true};
-ghost use Rattle.commands.specs.Record.{commandAt};
+ghost use Prim.Native.Nat.{_≤_};
+ghost use Rattle.commands.specs.Record.{commandAt, sizeOfCommand};
 ghost use Rattle.commands.specs.declared.Command.the-variants as command;
 ghost use Rattle.keyrules.specs.Key.{KeyOrNoRoom};
-ghost use Rattle.replay.specs.Steps.{InBounds, Stepped, Finished, Stopped, nextOf};
+ghost use Rattle.replay.specs.Steps.{InBounds, Stepped, Finished, Stopped, commandOf, nextOf};
+use calls::Call;
 use commands::Command;
 use heap::Setup;
 use heap::State;
@@ -81,15 +83,29 @@ fn step(bytes: &[u8], order: &mut [u16], out: &mut [u8], x: Replay) -> Replay
                 q,
             },
         ),
-        Command::Take { processor, size } => take_step(bytes, order, out, x, processor, size),
-        Command::Free { processor, address } => free_step(bytes, order, out, x, processor, address),
+        Command::Take { processor, size } => {
+            call_step(bytes, order, out, x, Call::Take { processor, size })
+        }
+        Command::Free { processor, address } => {
+            call_step(bytes, order, out, x, Call::Free { processor, address })
+        }
         Command::NamedTake {
             processor,
             name,
             size,
-        } => named_take_step(bytes, order, out, x, processor, name, size),
+        } => call_step(
+            bytes,
+            order,
+            out,
+            x,
+            Call::NamedTake {
+                processor,
+                name,
+                size,
+            },
+        ),
         Command::NamedFree { processor, name } => {
-            named_free_step(bytes, order, out, x, processor, name)
+            call_step(bytes, order, out, x, Call::NamedFree { processor, name })
         }
         Command::Refused { number, offset } => stop_step(out, x, number, offset),
     }
@@ -111,85 +127,33 @@ fn setup_step(bytes: &[u8], order: &mut [u16], out: &mut [u8], x: Replay, u: Set
     next(bytes, s, x.at + 6, end)
 }
 
-// A take prints its outcome, a refusal too, and the record goes on.
-fn take_step(
-    bytes: &[u8],
-    order: &mut [u16],
-    out: &mut [u8],
-    x: Replay,
-    processor: u8,
-    size: u16,
-) -> Replay
-    requires { ⌜ InBounds x (now out) × (x .going ≡ true) × (command.Take processor size ≡ commandAt (now bytes) (x .at)) ⌝ }
+// A call prints its outcome, a refusal too, and the record goes on.
+fn call_step(bytes: &[u8], order: &mut [u16], out: &mut [u8], x: Replay, call: Call) -> Replay
+    requires { ⌜ InBounds x (now out) × (x .going ≡ true) × (commandOf call ≡ commandAt (now bytes) (x .at)) ⌝ }
     ensures { λ y. ⌜ Stepped (now (bytes .entry)) x (now (order .entry)) (now (out .entry)) y (now (order .exit)) (now (out .exit)) ⌝ }
 {
     let s = x.state;
-    let a = engine::take(s, order, processor, size);
+    let a = engine::call_state(s, order, call);
     let outcome = a.outcome;
-    let end = lines::take_line(out, x.end, processor, size, outcome);
+    let end = lines::call_line(out, x.end, call, outcome);
     let t = a.state;
-    next(bytes, t, x.at + 4, end)
+    next(bytes, t, x.at + call_size(call), end)
 }
 
-// The same for a free.
-fn free_step(
-    bytes: &[u8],
-    order: &mut [u16],
-    out: &mut [u8],
-    x: Replay,
-    processor: u8,
-    address: u32,
-) -> Replay
-    requires { ⌜ InBounds x (now out) × (x .going ≡ true) × (command.Free processor address ≡ commandAt (now bytes) (x .at)) ⌝ }
-    ensures { λ y. ⌜ Stepped (now (bytes .entry)) x (now (order .entry)) (now (out .entry)) y (now (order .exit)) (now (out .exit)) ⌝ }
+// The bytes of a call's command.
+fn call_size(call: Call) -> usize
+    ensures { λ r. ⌜ (r ≡ sizeOfCommand (commandOf call)) × (r ≤ 6) ⌝ }
 {
-    let s = x.state;
-    let a = engine::free(s, order, processor, address);
-    let outcome = a.outcome;
-    let end = lines::free_line(out, x.end, processor, address, outcome);
-    let t = a.state;
-    next(bytes, t, x.at + 6, end)
-}
-
-// The same for a take by name.
-fn named_take_step(
-    bytes: &[u8],
-    order: &mut [u16],
-    out: &mut [u8],
-    x: Replay,
-    processor: u8,
-    name: u16,
-    size: u16,
-) -> Replay
-    requires { ⌜ InBounds x (now out) × (x .going ≡ true) × (command.NamedTake processor name size ≡ commandAt (now bytes) (x .at)) ⌝ }
-    ensures { λ y. ⌜ Stepped (now (bytes .entry)) x (now (order .entry)) (now (out .entry)) y (now (order .exit)) (now (out .exit)) ⌝ }
-{
-    let s = x.state;
-    let a = engine::named_take(s, order, processor, name, size);
-    let outcome = a.outcome;
-    let end = lines::named_take_line(out, x.end, processor, name, size, outcome);
-    let after = a.state;
-    next(bytes, after, x.at + 6, end)
-}
-
-// The same for a free by name.
-fn named_free_step(
-    bytes: &[u8],
-    order: &mut [u16],
-    out: &mut [u8],
-    x: Replay,
-    processor: u8,
-    name: u16,
-) -> Replay
-    requires { ⌜ InBounds x (now out) × (x .going ≡ true) × (command.NamedFree processor name ≡ commandAt (now bytes) (x .at)) ⌝ }
-    ensures { λ y. ⌜ Stepped (now (bytes .entry)) x (now (order .entry)) (now (out .entry)) y (now (order .exit)) (now (out .exit)) ⌝ }
-{
-    let s = x.state;
-    let a = engine::named_free(s, order, processor, name);
-    let outcome = a.outcome;
-    let end = lines::named_free_line(out, x.end, processor, name, outcome);
-    let after = a.state;
-    next(bytes, after, x.at + 4, end)
+    match call {
+        Call::Take { processor, size } => 4,
+        Call::Free { processor, address } => 6,
+        Call::NamedTake {
+            processor,
+            name,
+            size,
+        } => 6,
+        Call::NamedFree { processor, name } => 4,
+    }
 }
 
 // The stop line, after which nothing is read or printed.

@@ -5,22 +5,10 @@ use Rattle.call.proofs.print_records.Statement.{statement}
 use Rattle.call.proofs.print_records.Tie as tie
 
 abbrev Inv-loop : tie.InvT-loop
-Inv-loop length l k₀ k = k ≤ length
+Inv-loop length records k₀ k = k ≤ length
 
 abbrev μ-loop : tie.MeasureT-loop
-μ-loop length l k₀ k = length - k
-
-print-outcome-requires : tie.Need-print-outcome-requires Inv-loop μ-loop
-print-outcome-requires c κs = search needs
-
-returns : tie.Need-returns Inv-loop μ-loop
-returns c = search needs
-
-print-setup-requires : tie.Need-print-setup-requires Inv-loop μ-loop
-print-setup-requires c κs = search needs
-
-returns-2 : tie.Need-returns-2 Inv-loop μ-loop
-returns-2 c = search needs
+μ-loop length records k₀ k = length - k
 
 loop-holds : tie.Need-loop-holds Inv-loop μ-loop
 loop-holds c = search needs
@@ -28,14 +16,14 @@ loop-holds c = search needs
 mul-b : tie.Need-mul-b Inv-loop μ-loop
 mul-b c = search needs
 
-element-copy-out-b : tie.Need-element-copy-out-b Inv-loop μ-loop
-element-copy-out-b c = search needs
+array-copy-out-b : tie.Need-array-copy-out-b Inv-loop μ-loop
+array-copy-out-b c = search needs
 
 print-superblock-requires : tie.Need-print-superblock-requires Inv-loop μ-loop
 print-superblock-requires c κs = search needs
 
-returns-3 : tie.Need-returns-3 Inv-loop μ-loop
-returns-3 c = search needs
+returns : tie.Need-returns Inv-loop μ-loop
+returns c = search needs
 
 add-k : tie.Need-add-k Inv-loop μ-loop
 add-k c = search needs
@@ -46,8 +34,8 @@ loop-less c = search needs
 loop-again : tie.Need-loop-again Inv-loop μ-loop
 loop-again c = search needs
 
-returns-4 : tie.Need-returns-4 Inv-loop μ-loop
-returns-4 c = search needs
+returns-2 : tie.Need-returns-2 Inv-loop μ-loop
+returns-2 c = search needs
 
 pub print-records-spec : {M : Type 1} → statement M
 print-records-spec =
@@ -55,16 +43,12 @@ print-records-spec =
     (tie.spec
     Inv-loop
     μ-loop
-    print-outcome-requires
-    returns
-    print-setup-requires
-    returns-2
     loop-holds
     mul-b
-    element-copy-out-b
+    array-copy-out-b
     print-superblock-requires
-    returns-3
+    returns
     add-k
     loop-less
     loop-again
-    returns-4)
+    returns-2)

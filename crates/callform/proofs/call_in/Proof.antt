@@ -1,5 +1,5 @@
 -- `callform::call_in` meets its contract. Assumes nothing.
-use Rattle.callform.proofs.FormLaws.{call-in-of-setup, call-in-of-take, call-in-of-free}
+use Rattle.callform.proofs.FormLaws.{call-in-of-setup, call-in-of-take, call-in-of-free, call-in-of-named-take, call-in-of-named-free}
 use borrow.Author.Needs.{needs}
 use Rattle.callform.proofs.call_in.Statement.{statement}
 use Rattle.callform.proofs.call_in.Tie as tie
@@ -25,6 +25,18 @@ four-at-requires c κs = search needs
 returns-3 : tie.Need-returns-3
 returns-3 c = search call-in-of-free
 
+two-at-requires-2 : tie.Need-two-at-requires-2
+two-at-requires-2 c κs = search needs
+
+two-at-requires-3 : tie.Need-two-at-requires-3
+two-at-requires-3 c κs = search needs
+
+returns-4 : tie.Need-returns-4
+returns-4 c = search call-in-of-named-take
+
+returns-5 : tie.Need-returns-5
+returns-5 c = search call-in-of-named-free
+
 pub call-in-spec : {M : Type 1} → statement M
 call-in-spec =
     tie.close
@@ -35,4 +47,8 @@ call-in-spec =
     two-at-requires
     returns-2
     four-at-requires
-    returns-3)
+    returns-3
+    two-at-requires-2
+    two-at-requires-3
+    returns-4
+    returns-5)

@@ -1,6 +1,6 @@
 -- `callform::table_offset` meets its contract. Assumes nothing.
 use native.Mathlib.Omega.{arith}
-use Rattle.callform.proofs.FormLaws.{table-offset-of-take, table-offset-of-free}
+use Rattle.callform.proofs.FormLaws.{table-offset-of-take-or-named-free, table-offset-of-free-or-named-take}
 use borrow.Author.Needs.{needs}
 use Rattle.callform.proofs.table_offset.Statement.{statement}
 use Rattle.callform.proofs.table_offset.Tie as tie
@@ -9,10 +9,10 @@ byte-at-requires : tie.Need-byte-at-requires
 byte-at-requires c κs = search needs
 
 returns : tie.Need-returns
-returns c = (search table-offset-of-take, omega arith)
+returns c = (search table-offset-of-take-or-named-free, omega arith)
 
 returns-2 : tie.Need-returns-2
-returns-2 c = (search table-offset-of-free, omega arith)
+returns-2 c = (search table-offset-of-free-or-named-take, omega arith)
 
 pub table-offset-spec : {M : Type 1} → statement M
 table-offset-spec = tie.close (tie.spec byte-at-requires returns returns-2)

@@ -1,4 +1,6 @@
 -- `callform::well_formed` meets its contract. Assumes nothing.
+use Prim.Native.Nat.{_≤_, _<_}
+use native.Mathlib.Omega.{arith}
 use Rattle.callform.proofs.FormLaws.{well-formed-false-of-unknown, well-formed-is-length-test}
 use borrow.Author.Needs.{needs}
 use Rattle.callform.proofs.well_formed.Statement.{statement}
@@ -8,7 +10,9 @@ byte-at-requires : tie.Need-byte-at-requires
 byte-at-requires c κs = search needs
 
 returns : tie.Need-returns
-returns c = search well-formed-false-of-unknown
+returns c =
+    let h : 4 < c .before .byte-at .result = omega arith in
+    search well-formed-false-of-unknown
 
 places-offset-requires : tie.Need-places-offset-requires
 places-offset-requires c κs = search needs
@@ -23,7 +27,9 @@ add-result : tie.Need-add-result
 add-result c = search needs
 
 returns-2 : tie.Need-returns-2
-returns-2 c = search well-formed-is-length-test
+returns-2 c =
+    let h : c .before .before .before .byte-at .result ≤ 4 = omega arith in
+    search well-formed-is-length-test
 
 pub well-formed-spec : {M : Type 1} → statement M
 well-formed-spec =

@@ -7,7 +7,7 @@ use borrow.Author.Needs.{needs}
 use lib.ListN.{length, take, length-set}
 use Rattle.callform.specs.Form.{listed, superblockIn}
 use Rattle.callload.proofs.ListedLaws.{listed-none, listed-step}
-use Rattle.callload.proofs.StateInLaws.{superblock-in-position-after, state-in-of-all-superblocks}
+use Rattle.callload.proofs.StateInLaws.{superblock-in-position-after, names-in-position-after, state-in-of-all-superblocks}
 use Rattle.callload.proofs.state_at.Statement.{statement}
 use Rattle.callload.proofs.state_at.Tie as tie
 
@@ -44,11 +44,17 @@ loop-less c = omega arith
 loop-again : tie.Need-loop-again Inv-loop μ-loop
 loop-again c = (omega arith, search (needs, length-set), search (listed-step, superblock-in-position-after))
 
+position-after-requires-2 : tie.Need-position-after-requires-2 Inv-loop μ-loop
+position-after-requires-2 c κs = search needs
+
+names-at-requires : tie.Need-names-at-requires Inv-loop μ-loop
+names-at-requires c κs = search needs
+
 setup-in-requires : tie.Need-setup-in-requires Inv-loop μ-loop
 setup-in-requires c κs = search needs
 
 returns : tie.Need-returns Inv-loop μ-loop
-returns c = search state-in-of-all-superblocks
+returns c = search (state-in-of-all-superblocks, names-in-position-after)
 
 pub state-at-spec : {M : Type 1} → statement M
 state-at-spec =
@@ -65,5 +71,7 @@ state-at-spec =
     add-k
     loop-less
     loop-again
+    position-after-requires-2
+    names-at-requires
     setup-in-requires
     returns)

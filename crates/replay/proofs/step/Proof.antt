@@ -1,6 +1,7 @@
 -- `replay::step` meets its contract. Assumes nothing.
 use Rattle.replay.proofs.CommandStepLaws.{matched-command-is-command-at, stepped-of-refused-command}
 use borrow.Author.Needs.{needs}
+use Rattle.replay.specs.Steps.{commandOf}
 use Rattle.replay.proofs.step.Statement.{statement}
 use Rattle.replay.proofs.step.Tie as tie
 
@@ -16,26 +17,30 @@ setup-step-requires c κs = search (needs, matched-command-is-command-at)
 enum-known-command-2 : tie.Need-enum-known-command-2
 enum-known-command-2 c = search needs
 
-take-step-requires : tie.Need-take-step-requires
-take-step-requires c κs = search (needs, matched-command-is-command-at)
+call-step-requires : tie.Need-call-step-requires
+unfolding commandOf
+call-step-requires c κs = search (needs, matched-command-is-command-at)
 
 enum-known-command-3 : tie.Need-enum-known-command-3
 enum-known-command-3 c = search needs
 
-free-step-requires : tie.Need-free-step-requires
-free-step-requires c κs = search (needs, matched-command-is-command-at)
+call-step-requires-2 : tie.Need-call-step-requires-2
+unfolding commandOf
+call-step-requires-2 c κs = search (needs, matched-command-is-command-at)
 
 enum-known-command-4 : tie.Need-enum-known-command-4
 enum-known-command-4 c = search needs
 
-named-take-step-requires : tie.Need-named-take-step-requires
-named-take-step-requires c κs = search (needs, matched-command-is-command-at)
+call-step-requires-3 : tie.Need-call-step-requires-3
+unfolding commandOf
+call-step-requires-3 c κs = search (needs, matched-command-is-command-at)
 
 enum-known-command-5 : tie.Need-enum-known-command-5
 enum-known-command-5 c = search needs
 
-named-free-step-requires : tie.Need-named-free-step-requires
-named-free-step-requires c κs = search (needs, matched-command-is-command-at)
+call-step-requires-4 : tie.Need-call-step-requires-4
+unfolding commandOf
+call-step-requires-4 c κs = search (needs, matched-command-is-command-at)
 
 enum-known-command-6 : tie.Need-enum-known-command-6
 enum-known-command-6 c = search needs
@@ -102,13 +107,13 @@ step-spec =
     enum-known-command
     setup-step-requires
     enum-known-command-2
-    take-step-requires
+    call-step-requires
     enum-known-command-3
-    free-step-requires
+    call-step-requires-2
     enum-known-command-4
-    named-take-step-requires
+    call-step-requires-3
     enum-known-command-5
-    named-free-step-requires
+    call-step-requires-4
     enum-known-command-6
     stop-step-requires
     same-length

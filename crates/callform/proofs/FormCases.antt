@@ -1,0 +1,71 @@
+-- The form on inputs that tell near misses apart. Assumes nothing.
+use mathlib.Core.Path.{_≡_, refl}
+use mathlib.Core.Bool.{true, false}
+use mathlib.Core.List.{List, [], _∷_, _++_}
+use Prim.Native.Nat.{ℕ}
+use lib.ListN.{getD, length, replicate, take}
+use Rattle.heap.specs.Table.{blank}
+use Rattle.callform.specs.declared.Request.the-variants.{Setup, Take, Free, NamedTake, NamedFree}
+use Rattle.callform.specs.Form.{listed, callIn, superblockIn, namesIn, stateIn, tableOffset, placesOffset, placeCount, wellFormed}
+
+-- ---- the call, by its first byte; behind it every byte another
+abbrev distinct-bytes : List ℕ
+distinct-bytes = 1 ∷ 2 ∷ 3 ∷ 4 ∷ 5 ∷ 6 ∷ 7 ∷ 8 ∷ 9 ∷ 10 ∷ []
+
+call-in-cases : (callIn (0 ∷ distinct-bytes) ≡ Setup) × (callIn (1 ∷ distinct-bytes) ≡ Take 6 2055) × (callIn (2 ∷ distinct-bytes) ≡ Free 6 168364039) × (callIn (3 ∷ distinct-bytes) ≡ NamedTake 6 2055 2569) × (callIn (4 ∷ distinct-bytes) ≡ NamedFree 6 2055)
+unfolding callIn
+call-in-cases = (refl, refl, refl, refl, refl)
+
+-- ---- the names: 1024, past the end 0
+names-in-cases : (take 4 (namesIn distinct-bytes 5) ≡ 1798 ∷ 2312 ∷ 10 ∷ 0 ∷ []) × (length (namesIn [] 0) ≡ 1024)
+unfolding namesIn listed
+names-in-cases = (refl, refl)
+
+-- ---- the state: superblocks from byte 3 on, 7 the last byte of the last of them, then name 0
+abbrev state-bytes : List ℕ
+state-bytes = replicate 2178 255 ++ (7 ∷ 1 ∷ 2 ∷ [])
+
+names-after-superblocks : getD (stateIn state-bytes 3 .names) 0 0 ≡ 513
+unfolding stateIn namesIn listed
+names-after-superblocks = refl
+
+superblocks-before-names : getD (stateIn state-bytes 3 .table) 63 blank ≡ record { owner = 255; class = 255; live = 18446744073709551615 ∷ 18446744073709551615 ∷ 18446744073709551615 ∷ 576460752303423487 ∷ [] }
+unfolding stateIn superblockIn listed
+superblocks-before-names = refl
+
+-- ---- where superblocks and order places begin, by the first byte
+table-offset-cases : (tableOffset (1 ∷ []) ≡ 9) × (tableOffset (2 ∷ []) ≡ 11) × (tableOffset (3 ∷ []) ≡ 11) × (tableOffset (4 ∷ []) ≡ 9)
+unfolding tableOffset
+table-offset-cases = (refl, refl, refl, refl)
+
+places-offset-cases : (placesOffset (0 ∷ []) ≡ 10) × (placesOffset (1 ∷ []) ≡ 4237) × (placesOffset (2 ∷ []) ≡ 4239) × (placesOffset (3 ∷ []) ≡ 4239) × (placesOffset (4 ∷ []) ≡ 4237)
+unfolding placesOffset tableOffset
+places-offset-cases = (refl, refl, refl, refl, refl)
+
+-- ---- L: of a setup behind its numbers, of a call on a state behind the names
+abbrev names-then-length : List ℕ
+names-then-length = replicate 4232 255 ++ (1 ∷ 2 ∷ 3 ∷ 4 ∷ 5 ∷ 6 ∷ [])
+
+place-count-cases : (placeCount (0 ∷ distinct-bytes) ≡ 151521030) × (placeCount (3 ∷ names-then-length) ≡ 100992003) × (placeCount (4 ∷ names-then-length) ≡ 67305985)
+unfolding placeCount tableOffset
+place-count-cases = (refl, refl, refl)
+
+-- ---- the whole form: named calls without a place; a byte missing or left over; the length of the other; one place; 5 is no call
+well-formed-named-take : (wellFormed (3 ∷ replicate 4238 0) ≡ true) × (wellFormed (3 ∷ replicate 4237 0) ≡ false) × (wellFormed (3 ∷ replicate 4239 0) ≡ false) × (wellFormed (3 ∷ replicate 4236 0) ≡ false)
+unfolding wellFormed placesOffset placeCount tableOffset
+well-formed-named-take = (refl, refl, refl, refl)
+
+well-formed-named-free : (wellFormed (4 ∷ replicate 4236 0) ≡ true) × (wellFormed (4 ∷ replicate 4235 0) ≡ false) × (wellFormed (4 ∷ replicate 4237 0) ≡ false) × (wellFormed (4 ∷ replicate 4238 0) ≡ false)
+unfolding wellFormed placesOffset placeCount tableOffset
+well-formed-named-free = (refl, refl, refl, refl)
+
+abbrev one-place-lent : List ℕ
+one-place-lent = 4 ∷ (replicate 4232 0 ++ (1 ∷ 0 ∷ 0 ∷ 0 ∷ []))
+
+well-formed-with-place : (wellFormed (one-place-lent ++ (8 ∷ 9 ∷ [])) ≡ true) × (wellFormed (one-place-lent ++ (8 ∷ [])) ≡ false) × (wellFormed one-place-lent ≡ false)
+unfolding wellFormed placesOffset placeCount tableOffset
+well-formed-with-place = (refl, refl, refl)
+
+unknown-call-not-well-formed : (wellFormed (5 ∷ replicate 4238 0) ≡ false) × (wellFormed (5 ∷ replicate 4236 0) ≡ false)
+unfolding wellFormed placesOffset placeCount tableOffset
+unknown-call-not-well-formed = (refl, refl)

@@ -1,0 +1,26 @@
+-- The line of a call in the arms of a match on it. Assumes nothing.
+use mathlib.Core.Path.{_≡_, sym, ap, _∙_}
+use mathlib.Core.List.{List}
+use Prim.Native.Nat.{ℕ}
+use Rattle.textrules.specs.Text.{Pasted, pasted}
+use Rattle.calls.specs.declared.Call.{Call}
+use Rattle.calls.specs.declared.Call.the-variants.{Take, Free, NamedTake, NamedFree}
+use Rattle.calls.specs.declared.Outcome.{Outcome}
+use Rattle.linerules.specs.Lines.{takeLine, freeLine, namedTakeLine, namedFreeLine, callLine}
+
+module _ (put : Pasted) (out : List ℕ) (at : ℕ) (call : Call) (outcome : Outcome) where
+  pub call-line-of-take : (i size : ℕ) → call ≡ Take i size → put ≡ pasted out at (takeLine i size outcome) → put ≡ pasted out at (callLine call outcome)
+  unfolding callLine
+  call-line-of-take i size e g = g ∙ ap (λ (c : Call). pasted out at (callLine c outcome)) (sym e)
+
+  pub call-line-of-free : (i a : ℕ) → call ≡ Free i a → put ≡ pasted out at (freeLine i a outcome) → put ≡ pasted out at (callLine call outcome)
+  unfolding callLine
+  call-line-of-free i a e g = g ∙ ap (λ (c : Call). pasted out at (callLine c outcome)) (sym e)
+
+  pub call-line-of-named-take : (i m size : ℕ) → call ≡ NamedTake i m size → put ≡ pasted out at (namedTakeLine i m size outcome) → put ≡ pasted out at (callLine call outcome)
+  unfolding callLine
+  call-line-of-named-take i m size e g = g ∙ ap (λ (c : Call). pasted out at (callLine c outcome)) (sym e)
+
+  pub call-line-of-named-free : (i m : ℕ) → call ≡ NamedFree i m → put ≡ pasted out at (namedFreeLine i m outcome) → put ≡ pasted out at (callLine call outcome)
+  unfolding callLine
+  call-line-of-named-free i m e g = g ∙ ap (λ (c : Call). pasted out at (callLine c outcome)) (sym e)
