@@ -99,13 +99,7 @@ fn named_take_line(
 }
 
 // The line of a free by name.
-fn named_free_line(
-    out: &mut [u8],
-    at: usize,
-    processor: u8,
-    name: u16,
-    outcome: Outcome,
-) -> usize
+fn named_free_line(out: &mut [u8], at: usize, processor: u8, name: u16, outcome: Outcome) -> usize
     ensures { λ r. ⌜ record { end = r; buffer = now (out .exit) } ≡ pasted (now (out .entry)) at (namedFreeLine processor name outcome) ⌝ }
 {
     let a = put_processor_and_name(out, at, b"free ", processor, name);
