@@ -112,6 +112,4 @@ module _ (s : State) (order : List ℕ) (call : Call) (after : After) (i : ℕ) 
 -- ---- how a proof finds which way out it is at
 pub ruleset setup-outcomes = (setup-refused, setup-ready)
 
-pub ruleset call-outcomes = (call-refused-by-check, call-is-call-unchecked)
-
-pub ruleset unchecked-calls = (unchecked-take, unchecked-free, unchecked-named-take, unchecked-named-free)
+pub ruleset call-outcomes = (call-refused-by-check, call-is-call-unchecked, unchecked-take, unchecked-free, unchecked-named-take, unchecked-named-free)

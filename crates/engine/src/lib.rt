@@ -6,7 +6,7 @@ ghost use Rattle.calls.specs.Setup.{setupOf};
 ghost use Rattle.calls.specs.Take.{takeOf};
 ghost use Rattle.calls.specs.Free.{freeOf};
 ghost use Rattle.calls.specs.Named.{namedTakeOf, namedFreeOf};
-ghost use Rattle.calls.specs.Calls.{callOf, callUnchecked};
+ghost use Rattle.calls.specs.Calls.{callOf};
 use calls::Answer;
 use calls::Call;
 use calls::Outcome;
@@ -85,13 +85,6 @@ pub fn call_state(s: State, order: &mut [u16], c: Call) -> Answer
     if first != 0 {
         return states::refuse(s, first);
     }
-    call_unchecked(s, order, c)
-}
-
-// A call behind the check.
-fn call_unchecked(s: State, order: &mut [u16], c: Call) -> Answer
-    ensures { λ r. ⌜ record { answer = r; order = now (order .exit) } ≡ callUnchecked s (now (order .entry)) c ⌝ }
-{
     match c {
         Call::Take { processor, size } => takeunchecked::take(s, order, processor, size),
         Call::Free { processor, address } => freeunchecked::free(s, order, processor, address),

@@ -28,23 +28,8 @@ fn marks_of_table(s: State) -> [u64; 256]
     marks
 }
 
-// How many names are held.
-fn held_count(names: [u16; 1024]) -> u32
-    ensures { λ r. ⌜ r ≡ heldCount names ⌝ }
-{
-    let mut held: u32 = 0;
-    let mut i: usize = 0;
-    while i < 1024 {
-        if names[i] != 65535 {
-            held += 1;
-        }
-        i += 1;
-    }
-    held
-}
-
 // Each held name finds its block's mark, which it takes out. Past the last held name nothing is left to find.
-fn each_has_a_mark(marks: [u64; 256], names: [u16; 1024], held: u32) -> bool
+fn each_has_a_mark(marks: [u64; 256], names: [u16; 1024], held: u16) -> bool
     requires { ⌜ held ≡ heldCount names ⌝ }
     ensures { λ r. ⌜ r ≡ eachHasAMark marks names ⌝ }
 {
@@ -71,15 +56,22 @@ fn each_has_a_mark(marks: [u64; 256], names: [u16; 1024], held: u32) -> bool
     true
 }
 
-// Each held name points at a live block, no two at one. Where no name is held no mark is looked at.
+// Each held name points at a live block, no two at one. The held names are counted first: where there is none no mark is looked at.
 pub fn names_valid(s: State) -> bool
     ensures { λ r. ⌜ r ≡ namesValid s ⌝ }
 {
-    let names = s.names;
-    let held = held_count(names);
+    let mut held: u16 = 0;
+    let mut i: usize = 0;
+    while i < 1024 {
+        if s.names[i] != 65535 {
+            held += 1;
+        }
+        i += 1;
+    }
     if held == 0 {
         return true;
     }
+    let names = s.names;
     let marks = marks_of_table(s);
     each_has_a_mark(marks, names, held)
 }

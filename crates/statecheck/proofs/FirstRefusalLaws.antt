@@ -6,7 +6,6 @@ use Prim.Native.Nat.{ℕ, _*_}
 use native.Mathlib.Omega.{arith}
 use lib.ListN.{length}
 use lib.Dec.{leb}
-use borrow.Author.Tests.{not-true, not-false}
 use Rattle.laws.specs.Sums.{pick}
 use Rattle.heap.specs.declared.State.{State}
 use Rattle.checkrules.specs.Check.{withinLimits, restValid}
@@ -32,11 +31,11 @@ module _ (s : State) (order : List ℕ) (r : ℕ) (e : r ≡ setupRefusal 13 (s 
       go true false q = absurd (omega arith)
       go false b q = absurd (omega arith)
 
-  pub first-refusal-13-of-rest : r ≡ 0 → (t : Bool) → t ≡ restValid s order → t ≡ false → 13 ≡ firstRefusal s order
-  first-refusal-13-of-rest z t g h = rw (first-refusal-is-rest-check z, ← g, h)
+  pub first-refusal-13-of-rest : r ≡ 0 → false ≡ restValid s order → 13 ≡ firstRefusal s order
+  first-refusal-13-of-rest z g = rw (first-refusal-is-rest-check z, ← g)
 
-  pub first-refusal-none : r ≡ 0 → (t : Bool) → t ≡ restValid s order → t ≡ true → 0 ≡ firstRefusal s order
-  first-refusal-none z t g h = rw (first-refusal-is-rest-check z, ← g, h)
+  pub first-refusal-none : r ≡ 0 → true ≡ restValid s order → 0 ≡ firstRefusal s order
+  first-refusal-none z g = rw (first-refusal-is-rest-check z, ← g)
 
 -- how a proof finds which of them it asks
-pub ruleset first-refusal-rules = (first-refusal-is-setup-refusal, first-refusal-13-of-rest, first-refusal-none, not-true, not-false)
+pub ruleset first-refusal-rules = (first-refusal-is-setup-refusal, first-refusal-13-of-rest, first-refusal-none)

@@ -40,8 +40,18 @@ module _ (s : State) (order : List ℕ) (t : Bool) (e : t ≡ eachValid s order)
   pub rest-valid-false-of-each : not t ≡ true → false ≡ restValid s order
   rest-valid-false-of-each f = sym (rw (rest-valid-is-both s order, ← e, not-true t f))
 
-  pub rest-valid-false-of-emptiness-invariant : (u : Bool) → not t ≡ false → u ≡ emptinessInvariant s → not u ≡ true → false ≡ restValid s order
-  rest-valid-false-of-emptiness-invariant u f g h = sym (rw (rest-valid-is-both s order, ← e, not-false t f, ← g, not-true u h))
+  module _ (u : Bool) (f : not t ≡ false) (g : u ≡ emptinessInvariant s) where
+    pub rest-valid-false-of-emptiness-invariant : not u ≡ true → false ≡ restValid s order
+    rest-valid-false-of-emptiness-invariant h = sym (rw (rest-valid-is-both s order, ← e, not-false t f, ← g, not-true u h))
 
-  pub rest-valid-is-names-valid : (u r : Bool) → not t ≡ false → u ≡ emptinessInvariant s → not u ≡ false → r ≡ namesValid s → r ≡ restValid s order
-  rest-valid-is-names-valid u r f g h n = rw (rest-valid-is-both s order, ← e, not-false t f, ← g, not-false u h) n
+    rest-valid-is-names-valid : (v : Bool) → not u ≡ false → v ≡ namesValid s → restValid s order ≡ v
+    rest-valid-is-names-valid v h n = rw (rest-valid-is-both s order, ← e, not-false t f, ← g, not-false u h) (sym n)
+
+    pub rest-valid-false-of-names : (v : Bool) → not u ≡ false → v ≡ namesValid s → not v ≡ true → false ≡ restValid s order
+    rest-valid-false-of-names v h n w = sym (rest-valid-is-names-valid v h n ∙ not-true v w)
+
+    pub rest-valid-of-parts : (v : Bool) → not u ≡ false → v ≡ namesValid s → not v ≡ false → true ≡ restValid s order
+    rest-valid-of-parts v h n w = sym (rest-valid-is-names-valid v h n ∙ not-false v w)
+
+-- how a proof finds which of them it asks
+pub ruleset rest-valid-rules = (rest-valid-false-of-each, rest-valid-false-of-emptiness-invariant, rest-valid-false-of-names, rest-valid-of-parts)

@@ -17,14 +17,53 @@ same-length c = search needs
 returns : tie.Need-returns
 returns c = call-clauses _ _ _ (search shape-of-state) (search call-outcomes)
 
-call-unchecked-requires : tie.Need-call-unchecked-requires
-call-unchecked-requires c κs = search needs
+enum-known-c : tie.Need-enum-known-c
+enum-known-c c = search needs
+
+take-requires : tie.Need-take-requires
+take-requires c κs = search needs
+
+enum-known-c-2 : tie.Need-enum-known-c-2
+enum-known-c-2 c = search needs
+
+free-requires : tie.Need-free-requires
+free-requires c κs = search needs
+
+enum-known-c-3 : tie.Need-enum-known-c-3
+enum-known-c-3 c = search needs
+
+take-requires-2 : tie.Need-take-requires-2
+take-requires-2 c κs = search needs
+
+enum-known-c-4 : tie.Need-enum-known-c-4
+enum-known-c-4 c = search needs
+
+free-requires-2 : tie.Need-free-requires-2
+free-requires-2 c κs = search needs
 
 same-length-2 : tie.Need-same-length-2
 same-length-2 c = search needs
 
 returns-2 : tie.Need-returns-2
 returns-2 c = call-clauses _ _ _ (search shape-of-state) (search call-outcomes)
+
+same-length-3 : tie.Need-same-length-3
+same-length-3 c = search needs
+
+returns-3 : tie.Need-returns-3
+returns-3 c = call-clauses _ _ _ (search shape-of-state) (search call-outcomes)
+
+same-length-4 : tie.Need-same-length-4
+same-length-4 c = search needs
+
+returns-4 : tie.Need-returns-4
+returns-4 c = call-clauses _ _ _ (search shape-of-state) (search call-outcomes)
+
+same-length-5 : tie.Need-same-length-5
+same-length-5 c = search needs
+
+returns-5 : tie.Need-returns-5
+returns-5 c = call-clauses _ _ _ (search shape-of-state) (search call-outcomes)
 
 pub call-state-spec : {M : Type 1} → statement M
 call-state-spec =
@@ -34,6 +73,19 @@ call-state-spec =
     refuse-requires
     same-length
     returns
-    call-unchecked-requires
+    enum-known-c
+    take-requires
+    enum-known-c-2
+    free-requires
+    enum-known-c-3
+    take-requires-2
+    enum-known-c-4
+    free-requires-2
     same-length-2
-    returns-2)
+    returns-2
+    same-length-3
+    returns-3
+    same-length-4
+    returns-4
+    same-length-5
+    returns-5)

@@ -1,5 +1,6 @@
 -- `statecheck::first_refusal` meets its contract. Assumes nothing.
 use Rattle.statecheck.proofs.FirstRefusalLaws.{first-refusal-rules}
+use Rattle.statecheck.proofs.RestValidLaws.{rest-valid-rules}
 use borrow.Author.Needs.{needs}
 use Rattle.statecheck.proofs.first_refusal.Statement.{statement}
 use Rattle.statecheck.proofs.first_refusal.Tie as tie
@@ -10,15 +11,37 @@ setup-refusal-requires c κs = search needs
 returns : tie.Need-returns
 returns c = search first-refusal-rules
 
-rest-valid-requires : tie.Need-rest-valid-requires
-rest-valid-requires c κs = search needs
+each-valid-requires : tie.Need-each-valid-requires
+each-valid-requires c κs = search needs
 
 returns-2 : tie.Need-returns-2
-returns-2 c = search first-refusal-rules
+returns-2 c = search (first-refusal-rules, rest-valid-rules)
+
+emptiness-invariant-requires : tie.Need-emptiness-invariant-requires
+emptiness-invariant-requires c κs = search needs
 
 returns-3 : tie.Need-returns-3
-returns-3 c = search first-refusal-rules
+returns-3 c = search (first-refusal-rules, rest-valid-rules)
+
+names-valid-requires : tie.Need-names-valid-requires
+names-valid-requires c κs = search needs
+
+returns-4 : tie.Need-returns-4
+returns-4 c = search (first-refusal-rules, rest-valid-rules)
+
+returns-5 : tie.Need-returns-5
+returns-5 c = search (first-refusal-rules, rest-valid-rules)
 
 pub first-refusal-spec : {M : Type 1} → statement M
 first-refusal-spec =
-    tie.close (tie.spec setup-refusal-requires returns rest-valid-requires returns-2 returns-3)
+    tie.close
+    (tie.spec
+    setup-refusal-requires
+    returns
+    each-valid-requires
+    returns-2
+    emptiness-invariant-requires
+    returns-3
+    names-valid-requires
+    returns-4
+    returns-5)
