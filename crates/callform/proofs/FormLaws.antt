@@ -9,10 +9,8 @@ use lib.ListN.{length}
 use lib.Dec.{eqb}
 use borrow.Author.Tests.{eq-eqb, ne-eqb, le-leb, lt-leb}
 use Rattle.littleendian.specs.Bytes.{byteAt, twoAt, fourAt}
-use Rattle.callform.specs.declared.Request.the-variants as request
-use Rattle.callform.specs.Form.{callIn, tableOffset, placesOffset, placeCount, wellFormed}
--- the computed cases come first: a wrong definition fails there
-use Rattle.callform.proofs.FormCases as cases
+use Rattle.formrules.specs.declared.Request.the-variants as request
+use Rattle.formrules.specs.Form.{callIn, tableOffset, placesOffset, placeCount, wellFormed}
 
 -- ---- by the first byte
 module _ (b : List ℕ) (first : ℕ) (is : first ≡ byteAt b 0) where

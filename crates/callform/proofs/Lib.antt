@@ -1,2 +1,1 @@
-pub mod FormCases
 pub mod FormLaws

@@ -2,7 +2,7 @@
 // byte reads as 0.
 ghost use mathlib.Core.Path.{_≡_};
 ghost use Prim.Native.Nat.{_^_, _≤_, _<_};
-ghost use Rattle.callform.specs.Form.{
+ghost use Rattle.formrules.specs.Form.{
   callIn,
   setupIn,
   tableOffset,
@@ -10,19 +10,11 @@ ghost use Rattle.callform.specs.Form.{
   placeCount,
   wellFormed,
 };
+use formrules::Request;
 use heap::Setup;
 use littleendian::byte_at;
 use littleendian::four_at;
 use littleendian::two_at;
-
-// The call, with the numbers of a take or a free, plain or named.
-pub enum Request {
-    Setup,
-    Take { processor: u8, size: u16 },
-    Free { processor: u8, address: u32 },
-    NamedTake { processor: u8, name: u16, size: u16 },
-    NamedFree { processor: u8, name: u16 },
-}
 
 // ---- the call
 

@@ -6,7 +6,7 @@ use native.Mathlib.Numerals.{add-one}
 use native.Mathlib.Omega.{arith}
 use lib.ListN.{length, take, set}
 use lib.Seq.{take-suc-set, take-all}
-use Rattle.callform.specs.Form.{listed}
+use Rattle.formrules.specs.Form.{listed}
 
 -- none yet
 pub listed-none : {A : Type 0} (f : ℕ → A) → [] ≡ listed f 0

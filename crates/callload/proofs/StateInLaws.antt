@@ -8,7 +8,7 @@ use Rattle.heap.specs.declared.Superblock.{Superblock}
 use Rattle.heap.specs.declared.Setup.{Setup}
 use Rattle.littleendian.specs.Bytes.{twoAt, positionAfter}
 use Rattle.littleendian.proofs.PastEndLaws.{byte-at-past-end, two-at-past-end, eight-at-past-end, read-at-position-after}
-use Rattle.callform.specs.Form.{listed, setupIn, superblockIn, namesIn, stateIn}
+use Rattle.formrules.specs.Form.{listed, setupIn, superblockIn, namesIn, stateIn}
 use Rattle.callload.proofs.ListedLaws.{listed-end, listed-of-equal-elements}
 
 -- past the end a superblock reads as zeros, so that a position clamped to the end has the same one

@@ -3,7 +3,7 @@
 ghost use mathlib.Core.Path.{_≡_};
 ghost use Prim.Native.Nat.{_^_, _<_};
 ghost use lib.ListN.{length};
-ghost use Rattle.callform.specs.Form.{superblockIn, namesIn, stateIn, placesIn};
+ghost use Rattle.formrules.specs.Form.{superblockIn, namesIn, stateIn, placesIn};
 use heap::State;
 use heap::Superblock;
 use littleendian::byte_at;

@@ -1,5 +1,5 @@
 -- `callform::setup_in` meets its contract. Assumes nothing.
-use Rattle.callform.specs.Form.{setupIn}
+use Rattle.formrules.specs.Form.{setupIn}
 use borrow.Author.Needs.{needs}
 use Rattle.callform.proofs.setup_in.Statement.{statement}
 use Rattle.callform.proofs.setup_in.Tie as tie

@@ -1,5 +1,5 @@
 -- `callload::superblock_in` meets its contract. Assumes nothing.
-use Rattle.callform.specs.Form.{superblockIn}
+use Rattle.formrules.specs.Form.{superblockIn}
 use borrow.Author.Needs.{needs}
 use Rattle.callload.proofs.superblock_in.Statement.{statement}
 use Rattle.callload.proofs.superblock_in.Tie as tie

@@ -9,8 +9,8 @@ use Rattle.littleendian.specs.Bytes.{byteAt, twoAt, fourAt, eightAt}
 use Rattle.heap.specs.declared.Superblock.{Superblock}
 use Rattle.heap.specs.declared.Setup.{Setup}
 use Rattle.heap.specs.declared.State.{State}
-use Rattle.callform.specs.declared.Request.{Request}
-use Rattle.callform.specs.declared.Request.the-variants as request
+use Rattle.formrules.specs.declared.Request.{Request}
+use Rattle.formrules.specs.declared.Request.the-variants as request
 
 -- f 0, f 1, .., f (n - 1)
 unfoldable pub listed : {A : Type 0} → (ℕ → A) → ℕ → List A
