@@ -13,12 +13,12 @@ pub mod FreeLaws
 pub mod RefusalOrder
 pub mod AddressLaws
 pub mod NamedCallLaws
-pub mod NameLifetime
 pub mod OutcomeValues
 pub mod AcceptedCallLaws
 pub mod NothingOfferedLaws
 pub mod RefusalConditions
 pub mod NamedRefusalConditions
+pub mod NameLifetime
 pub mod OrderWriteLaws
 pub mod OrderReadLaws
 pub mod FreeStackLaws

@@ -146,7 +146,7 @@ refused-iff-condition x s order listed f = implied-map F listed (λ g r. (f r, �
 pub condition-at-number : (listed : List (ℕ × Type 0)) (n r : ℕ) → Refused n ≡ Refused r → ConditionOf listed n → ConditionOf listed r
 condition-at-number listed n r e = let q : n ≡ r = cc in subst (ConditionOf listed) q
 
-address-not-refused : (a r : ℕ) → Address a ≡ Refused r → ⊥
+pub address-not-refused : (a r : ℕ) → Address a ≡ Refused r → ⊥
 address-not-refused a r e = let z : _≡_ {A = ℕ} 0 1 = cc in omega arith
 
 pub moves-not-refused : (m r : ℕ) → Moves m ≡ Refused r → ⊥
