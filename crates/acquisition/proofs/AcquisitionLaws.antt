@@ -7,7 +7,8 @@ use Rattle.classes.specs.Classes.{blocksOf}
 use Rattle.order.specs.Order.{renewed}
 use Rattle.heap.specs.declared.Superblock.{Superblock}
 use Rattle.heap.specs.declared.State.{State}
-use Rattle.heap.specs.Table.{superblockAt, withSuperblock, liveIn}
+use Rattle.heap.specs.Table.{superblockAt, liveIn}
+use Rattle.heap.specs.States.{withSuperblock}
 use Rattle.calls.specs.declared.Answer.{Answer}
 use Rattle.calls.specs.Answers.{After, HasNumberAndValuesOf}
 use Rattle.calls.specs.Take.{acquired, acquiredOrder, takenFrom, takenFromOther}

@@ -1,7 +1,8 @@
 // A heap acquires a superblock from place 2, 3 or 4 of a take, and a block is taken from it. Each function is total, as the
 // definitions are: past the table's 64 superblocks a change changes nothing.
 ghost use mathlib.Core.Path.{_≡_};
-ghost use Rattle.heap.specs.Table.{superblockAt, withSuperblock};
+ghost use Rattle.heap.specs.Table.{superblockAt};
+ghost use Rattle.heap.specs.States.{withSuperblock};
 ghost use Rattle.calls.specs.Answers.{HasNumberAndValuesOf};
 ghost use Rattle.calls.specs.Take.{acquired, acquiredOrder, takenFromOther};
 use calls::Answer;

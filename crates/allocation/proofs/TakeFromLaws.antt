@@ -8,7 +8,8 @@ use Rattle.classes.specs.Classes.{sizeOf, blocksOf}
 use Rattle.classes.proofs.ClassTableLaws.{size-of-le-2048}
 use Rattle.order.specs.Order.{lastFilled}
 use Rattle.heap.specs.declared.State.{State}
-use Rattle.heap.specs.Table.{superblockAt, withSuperblock, liveIn, withMarkAt}
+use Rattle.heap.specs.Table.{superblockAt, liveIn, withMarkAt}
+use Rattle.heap.specs.States.{withSuperblock}
 use Rattle.calls.specs.declared.Outcome.the-variants.{Address}
 use Rattle.calls.specs.Answers.{After, HasNumberAndValuesOf}
 use Rattle.calls.specs.Take.{nextBlock, addressOf, takenFrom}

@@ -12,7 +12,7 @@ use Rattle.classes.specs.Classes.{blocksOf}
 use Rattle.order.specs.Order.{cleared}
 use Rattle.orderlaws.proofs.OrderLaws.{length-cleared}
 use Rattle.heap.specs.declared.Setup.{Setup}
-use Rattle.heap.specs.Table.{newState}
+use Rattle.heap.specs.States.{newState}
 use Rattle.checkrules.specs.Check.{withinLimits}
 use Rattle.heap.specs.Counts.{superblocksOfClass}
 use Rattle.calls.specs.declared.Outcome.the-variants.{Ready, Refused}

@@ -19,7 +19,8 @@ use Rattle.marklaws.proofs.MarkLaws.{marks-clear-of-live-count-zero}
 use Rattle.heap.specs.declared.Superblock.{Superblock}
 use Rattle.heap.specs.declared.State.{State}
 use Rattle.heap.specs.declared.Setup.{Setup}
-use Rattle.heap.specs.Table.{blank, unused, superblockAt, liveIn, newState}
+use Rattle.heap.specs.Table.{blank, unused, superblockAt, liveIn}
+use Rattle.heap.specs.States.{newState}
 use Rattle.heap.specs.Counts.{isOwnedOfClass, liveOfClass}
 use Rattle.calls.specs.Take.{addressOf}
 use Rattle.calllaws.proofs.CallEffects.{TakeEffect, FreeEffect}

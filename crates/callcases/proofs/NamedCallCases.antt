@@ -4,15 +4,14 @@ use mathlib.Core.List.{List, [], _∷_, map}
 use Prim.Native.Nat.{ℕ}
 use Rattle.names.specs.Names.{noNames, withName}
 use Rattle.heap.specs.declared.State.{State}
-use Rattle.heap.specs.Table.{withNames}
+use Rattle.heap.specs.States.{withNames}
 use Rattle.calls.specs.declared.Call.{Call}
 use Rattle.calls.specs.declared.Call.the-variants.{Take, Free, NamedTake, NamedFree}
 use Rattle.calls.specs.declared.Outcome.{Outcome}
 use Rattle.calls.specs.declared.Outcome.the-variants.{Refused}
-use Rattle.calls.specs.Answers.{After}
 use Rattle.calls.specs.Calls.{callOf}
 use Rattle.calls.proofs.CallDefinitions.{callDefinitions}
-use Rattle.callcases.proofs.WholeCallCases.{SuperblockAndPlaces, CallCase, state-of, order-of, from-place-2, three-moves, nothing-offered}
+use Rattle.callcases.proofs.WholeCallCases.{SuperblockAndPlaces, CallCase, Seen, seen, expected-of, state-of, order-of, from-place-2, three-moves, nothing-offered}
 
 -- what a call does to superblocks and places, and the names before and after it
 pub record NamedCallCase : Type 0 where
@@ -21,15 +20,12 @@ pub record NamedCallCase : Type 0 where
   pub names : List ℕ
   pub names-after : List ℕ
 
-abbrev pub named-result-of : NamedCallCase → After
-named-result-of r = callOf (withNames (state-of (r .effect .before)) (r .names)) (order-of (r .effect .before)) (r .named-call)
+abbrev pub named-result-of : NamedCallCase → Seen
+named-result-of r = seen (callOf (withNames (state-of (r .effect .before)) (r .names)) (order-of (r .effect .before)) (r .named-call))
 
-abbrev pub named-expected-of : NamedCallCase → After
-named-expected-of r =
-    record {
-      answer = record { outcome = r .effect .outcome; state = withNames (state-of (r .effect .after)) (r .names-after) };
-      order = order-of (r .effect .after);
-    }
+abbrev pub named-expected-of : NamedCallCase → Seen
+named-expected-of r = let e = expected-of (r .effect) in
+    record { outcome = e .outcome; setup = e .setup; table = e .table; names = r .names-after; order = e .order; totals-recounted = e .totals-recounted }
 
 -- the first names point at these blocks
 abbrev pub naming : List (ℕ × ℕ) → List ℕ

@@ -1,13 +1,17 @@
 -- Whole calls, with all that they leave, in cases that tell the rules from near misses. P = 2, N = 5, K = 1, p/q = 3/7; every order place that is not
 -- filled holds something, and three places more than N × 256 are lent. By computation. Assumes nothing.
 use mathlib.Core.Path.{_≡_, refl}
+use mathlib.Core.Bool.{Bool, true}
 use mathlib.Core.List.{List, [], _∷_, _++_, map}
 use Prim.Native.Nat.{ℕ, _+_, _-_}
 use lib.ListN.{length, replicate}
+use Rattle.names.specs.Names.{noNames}
 use Rattle.heap.specs.declared.Superblock.{Superblock}
+use Rattle.heap.specs.declared.Setup.{Setup}
 use Rattle.heap.specs.declared.State.{State}
 use Rattle.heap.specs.Table.{unused}
 use Rattle.heap.proofs.CaseStates.{unnamedState}
+use Rattle.checkrules.specs.Check.{totalsValid}
 use Rattle.calls.specs.declared.Call.{Call}
 use Rattle.calls.specs.declared.Call.the-variants.{Take, Free}
 use Rattle.calls.specs.declared.Outcome.{Outcome}
@@ -45,12 +49,40 @@ pub record CallCase : Type 0 where
 abbrev pub state-of : List SuperblockAndPlaces → State
 state-of l = unnamedState (setup-with 2 (length l) 1 3 7) (table-of l)
 
--- what the rules leave, and what is expected: outcome, setup, all 64 superblocks and all order places
-abbrev pub result-of : CallCase → After
-result-of r = callOf (state-of (r .before)) (order-of (r .before)) (r .call)
+-- what a call leaves: outcome, setup, all 64 superblocks, names and all order places, and whether the totals are the recount
+pub record Seen : Type 0 where
+  pub outcome : Outcome
+  pub setup : Setup
+  pub table : List Superblock
+  pub names : List ℕ
+  pub order : List ℕ
+  pub totals-recounted : Bool
 
-abbrev pub expected-of : CallCase → After
-expected-of r = record { answer = record { outcome = r .outcome; state = state-of (r .after) }; order = order-of (r .after) }
+abbrev pub seen : After → Seen
+seen a =
+    record {
+      outcome = a .answer .outcome;
+      setup = a .answer .state .setup;
+      table = a .answer .state .table;
+      names = a .answer .state .names;
+      order = a .order;
+      totals-recounted = totalsValid (a .answer .state);
+    }
+
+-- what the rules leave, and what is expected
+abbrev pub result-of : CallCase → Seen
+result-of r = seen (callOf (state-of (r .before)) (order-of (r .before)) (r .call))
+
+abbrev pub expected-of : CallCase → Seen
+expected-of r =
+    record {
+      outcome = r .outcome;
+      setup = setup-with 2 (length (r .before)) 1 3 7;
+      table = table-of (r .after);
+      names = noNames;
+      order = order-of (r .after);
+      totals-recounted = true;
+    }
 
 -- ---- takes. Class 20 has 5 blocks of 768 bytes. Heap 1 has 3, 4 and 4 live, heap 2 has 4 and heap 0 has 2.
 abbrev pub five-of-20 : List SuperblockAndPlaces

@@ -19,7 +19,8 @@ use Rattle.orderlaws.proofs.OrderLaws.{length-with-place}
 use Rattle.heap.specs.declared.Setup.{Setup}
 use Rattle.heap.specs.declared.State.{State}
 use Rattle.heap.specs.declared.Moved.{Moved}
-use Rattle.heap.specs.Table.{withNames, liveIn, isUnused}
+use Rattle.heap.specs.Table.{liveIn, isUnused}
+use Rattle.heap.specs.States.{withNames}
 use Rattle.heap.specs.Counts.{superblocksOfClass, liveOfClass, ownersChanged}
 use Rattle.heaplaws.proofs.StateFacts.{Sound, Shape, Unused, Owned}
 use Rattle.calls.specs.declared.Outcome.the-variants.{Moves}

@@ -24,7 +24,8 @@ use Rattle.heap.specs.declared.Superblock.{Superblock}
 use Rattle.heap.specs.declared.State.{State}
 use Rattle.heap.specs.declared.Found.{Found}
 use Rattle.heap.specs.declared.Found.the-variants.{At, Nothing}
-use Rattle.heap.specs.Table.{blank, superblockAt, withSuperblock, liveIn, withOwner, withoutMarkAt}
+use Rattle.heap.specs.Table.{blank, superblockAt, liveIn, withOwner, withoutMarkAt}
+use Rattle.heap.specs.States.{withSuperblock}
 use Rattle.choicerules.specs.Choice.{fullest, emptiest}
 use Rattle.moverules.specs.Moves.{mustMove, transferred, foundTransferred, transfersUpTo, excessTransferred, invariantRestored}
 use Rattle.heaplaws.proofs.StateFacts.{Shape}

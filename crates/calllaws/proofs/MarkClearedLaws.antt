@@ -22,7 +22,8 @@ use Rattle.filledplaces.proofs.PlacesValidLaws.{places-valid-after-free}
 use Rattle.filledplaces.proofs.OwnPlacesOnly.{places-valid-other-with-place}
 use Rattle.heap.specs.declared.Superblock.{Superblock}
 use Rattle.heap.specs.declared.State.{State}
-use Rattle.heap.specs.Table.{blank, superblockAt, withSuperblock, liveIn, withoutMarkAt}
+use Rattle.heap.specs.Table.{blank, superblockAt, liveIn, withoutMarkAt}
+use Rattle.heap.specs.States.{withSuperblock}
 use Rattle.heap.specs.Counts.{total, belongs, isOwnedOfClass, oneIfBelongs, liveIfBelongs, superblocksOf, blocksIn, liveOf, superblocksOfClass, liveOfClass, ownersChanged}
 use Rattle.moverules.specs.Moves.{mustMove}
 use Rattle.heaplaws.proofs.StateFacts.{Shape, Unused, Owned, Sparse}

@@ -22,7 +22,8 @@ use Rattle.names.specs.Names.{blockNumber, isName, blockNamed, isHeld, withName
 use Rattle.namelaws.proofs.NameLaws.{held-facts, block-named-with-name, block-named-with-other-name, length-with-name, not-held-without-block, block-named-without-other-block, held-cong}
 use Rattle.filledplaces.proofs.PlacesValidLaws.{no-mark-from-of-places-valid}
 use Rattle.heap.specs.declared.State.{State}
-use Rattle.heap.specs.Table.{superblockAt, withNames, isUnused}
+use Rattle.heap.specs.Table.{superblockAt, isUnused}
+use Rattle.heap.specs.States.{withNames}
 use Rattle.heap.specs.Counts.{superblocksOf, superblocksOfClass, liveOfClass, ownersChanged}
 use Rattle.heaplaws.proofs.StateFacts.{Shape, Unused, Owned}
 use Rattle.heaplaws.proofs.StateCheckLaws.{shape-with-names, sound-with-names, names-sound-of-valid, owned-below-superblocks, owned-of-owner, not-unused-of-owner}

@@ -14,7 +14,8 @@ use Rattle.names.specs.Names.{notHeld, blockNumber, withName, withoutBlock, eac
 use Rattle.namelaws.proofs.NameLaws.{test-of-named, each-held-of-tests, each-held-with-name, each-held-without-block, no-two-with-name, no-two-without-block}
 use Rattle.heap.specs.declared.Superblock.{Superblock}
 use Rattle.heap.specs.declared.State.{State}
-use Rattle.heap.specs.Table.{blank, superblockAt, withNames, isLiveBlock}
+use Rattle.heap.specs.Table.{blank, superblockAt, isLiveBlock}
+use Rattle.heap.specs.States.{withNames}
 use Rattle.checkrules.specs.Check.{namesValid}
 use Rattle.heaplaws.proofs.StateFacts.{Shape}
 use Rattle.calllaws.proofs.CallEffects.{TakeEffect, FreeEffect}

@@ -20,7 +20,8 @@ use Rattle.heap.specs.declared.Superblock.{Superblock}
 use Rattle.heap.specs.declared.State.{State}
 use Rattle.heap.specs.declared.Found.{Found}
 use Rattle.heap.specs.declared.Found.the-variants.{At, Nothing}
-use Rattle.heap.specs.Table.{superblockAt, withSuperblock, liveIn, withMarkAt}
+use Rattle.heap.specs.Table.{superblockAt, liveIn, withMarkAt}
+use Rattle.heap.specs.States.{withSuperblock}
 use Rattle.choicerules.specs.Choice.{fullest}
 use Rattle.checkrules.specs.Check.{withinLimits, restValid}
 use Rattle.heaplaws.proofs.StateCheckLaws.{sound-of-limits-and-rest, names-valid-of-rest}

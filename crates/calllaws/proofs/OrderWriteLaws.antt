@@ -20,7 +20,8 @@ use Rattle.heap.specs.declared.Setup.{Setup}
 use Rattle.heap.specs.declared.State.{State}
 use Rattle.heap.specs.declared.Found.{Found}
 use Rattle.heap.specs.declared.Found.the-variants.{At, Nothing}
-use Rattle.heap.specs.Table.{superblockAt, liveIn, isUnused, noState}
+use Rattle.heap.specs.Table.{superblockAt, liveIn, isUnused}
+use Rattle.heap.specs.States.{noState}
 use Rattle.choicerules.specs.Choice.{fullest, lowestEmpty, lowestUnused, orElse}
 use Rattle.checkrules.specs.Check.{withinLimits}
 use Rattle.heaplaws.proofs.StateCheckLaws.{owned-below-superblocks}

@@ -19,7 +19,8 @@ use Rattle.heap.specs.declared.Setup.{Setup}
 use Rattle.heap.specs.declared.State.{State}
 use Rattle.heap.specs.declared.Found.{Found}
 use Rattle.heap.specs.declared.Found.the-variants.{At, Nothing}
-use Rattle.heap.specs.Table.{isUnused, noState}
+use Rattle.heap.specs.Table.{isUnused}
+use Rattle.heap.specs.States.{noState}
 use Rattle.choicerules.specs.Choice.{fullest}
 use Rattle.checkrules.specs.Check.{withinLimits, restValid}
 use Rattle.heaplaws.proofs.StateFacts.{WithinLimits, Unused, Sound, NamesSound}

@@ -11,7 +11,7 @@ use Rattle.laws.specs.Sums.{pick}
 use Rattle.laws.proofs.TestLaws.{T-of-true}
 use Rattle.order.specs.Order.{cleared}
 use Rattle.heap.specs.declared.Setup.{Setup}
-use Rattle.heap.specs.Table.{noState, newState}
+use Rattle.heap.specs.States.{noState, newState}
 use Rattle.checkrules.specs.Check.{withinLimits}
 use Rattle.heaplaws.proofs.StateFacts.{Sound, Shape}
 use Rattle.heaplaws.proofs.StateCheckLaws.{new-state-sound, new-state-shape}

@@ -12,7 +12,8 @@ use Rattle.laws.proofs.SumLaws.{sum-of-zeros}
 use Rattle.laws.proofs.ReplacedElement.{sum-set-indexed}
 use Rattle.heap.specs.declared.Superblock.{Superblock}
 use Rattle.heap.specs.declared.State.{State}
-use Rattle.heap.specs.Table.{blank, superblockAt, withSuperblock, liveIn}
+use Rattle.heap.specs.Table.{blank, superblockAt, liveIn}
+use Rattle.heap.specs.States.{withSuperblock}
 use Rattle.heap.specs.Counts.{isOwnedOfClass, ownersChanged}
 
 -- what a superblock adds to a class's counts over all heaps

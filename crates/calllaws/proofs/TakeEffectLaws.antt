@@ -20,7 +20,8 @@ use Rattle.filledplaces.proofs.PlacesValidLaws.{last-filled-below-n, last-fille
 use Rattle.filledplaces.proofs.OwnPlacesOnly.{places-valid-cong}
 use Rattle.heap.specs.declared.Superblock.{Superblock}
 use Rattle.heap.specs.declared.State.{State}
-use Rattle.heap.specs.Table.{blank, superblockAt, withSuperblock, liveIn, withMarkAt}
+use Rattle.heap.specs.Table.{blank, superblockAt, liveIn, withMarkAt}
+use Rattle.heap.specs.States.{withSuperblock}
 use Rattle.heap.specs.Counts.{total, oneIfBelongs, liveIfBelongs, isOwnedOfClass, superblocksOf, blocksIn, liveOf, superblocksOfClass, liveOfClass}
 use Rattle.moverules.specs.Moves.{bothConditions, mustMove}
 use Rattle.heaplaws.proofs.StateFacts.{Shape, Unused, Owned, Sparse, Sound}

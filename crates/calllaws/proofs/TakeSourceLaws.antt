@@ -23,7 +23,8 @@ use Rattle.heap.specs.declared.Superblock.{Superblock}
 use Rattle.heap.specs.declared.State.{State}
 use Rattle.heap.specs.declared.Found.{Found}
 use Rattle.heap.specs.declared.Found.the-variants.{At, Nothing}
-use Rattle.heap.specs.Table.{blank, superblockAt, withSuperblock, liveIn, withOwner, withMarkAt}
+use Rattle.heap.specs.Table.{blank, superblockAt, liveIn, withOwner, withMarkAt}
+use Rattle.heap.specs.States.{withSuperblock}
 use Rattle.heap.specs.Counts.{superblocksOf, liveOf}
 use Rattle.choicerules.specs.Choice.{fullest, lowestEmpty, lowestUnused, orElse}
 use Rattle.heaplaws.proofs.StateFacts.{Shape}

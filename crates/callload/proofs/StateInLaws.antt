@@ -8,8 +8,9 @@ use Rattle.heap.specs.declared.Superblock.{Superblock}
 use Rattle.heap.specs.declared.Setup.{Setup}
 use Rattle.littleendian.specs.Bytes.{twoAt, positionAfter}
 use Rattle.littleendian.proofs.PastEndLaws.{byte-at-past-end, two-at-past-end, eight-at-past-end, read-at-position-after}
-use Rattle.formrules.specs.Form.{listed, setupIn, superblockIn, namesIn, stateIn}
-use Rattle.callload.proofs.ListedLaws.{listed-end, listed-of-equal-elements}
+use Rattle.laws.specs.Lists.{listed}
+use Rattle.formrules.specs.Form.{setupIn, superblockIn, namesIn, stateIn}
+use Rattle.laws.proofs.ListedLaws.{listed-end, listed-of-equal-elements}
 
 -- past the end a superblock reads as zeros, so that a position clamped to the end has the same one
 superblock-in-past-end : (b : List ℕ) (j : ℕ) → length b ≤ j → record { owner = 0; class = 0; live = 0 ∷ 0 ∷ 0 ∷ 0 ∷ [] } ≡ superblockIn b j

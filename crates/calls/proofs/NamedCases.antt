@@ -6,7 +6,7 @@ use Prim.Native.Nat.{ℕ}
 use lib.ListN.{replicate}
 use Rattle.names.specs.Names.{noNames, withName}
 use Rattle.heap.specs.declared.State.{State}
-use Rattle.heap.specs.Table.{withNames}
+use Rattle.heap.specs.States.{withNames}
 use Rattle.calls.specs.declared.Call.{Call}
 use Rattle.calls.specs.declared.Call.the-variants.{Take, Free, NamedTake, NamedFree}
 use Rattle.calls.specs.declared.Outcome.the-variants.{Ready, Address, Moves, Refused}

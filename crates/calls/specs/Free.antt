@@ -10,7 +10,8 @@ use Rattle.names.specs.Names.{notHeld, blockNumber, withoutBlock}
 use Rattle.order.specs.Order.{withPlace}
 use Rattle.heap.specs.declared.Superblock.{Superblock}
 use Rattle.heap.specs.declared.State.{State}
-use Rattle.heap.specs.Table.{superblockAt, withSuperblock, withNames, liveIn, isUnused, withoutMarkAt}
+use Rattle.heap.specs.Table.{superblockAt, liveIn, isUnused, withoutMarkAt}
+use Rattle.heap.specs.States.{withSuperblock, withNames}
 use Rattle.moverules.specs.Moves.{invariantRestored}
 use Rattle.calls.specs.Answers.{After, refused, checked, isProcessor}
 use Rattle.calls.specs.declared.Outcome.the-variants.{Moves}

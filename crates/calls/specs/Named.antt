@@ -6,7 +6,8 @@ use mathlib.Core.List.{List}
 use Rattle.laws.specs.Sums.{pick, either}
 use Rattle.names.specs.Names.{isName, blockNamed, isHeld, withName}
 use Rattle.heap.specs.declared.State.{State}
-use Rattle.heap.specs.Table.{superblockAt, withNames}
+use Rattle.heap.specs.Table.{superblockAt}
+use Rattle.heap.specs.States.{withNames}
 use Rattle.calls.specs.declared.Outcome.{Outcome}
 use Rattle.calls.specs.declared.Outcome.the-variants.{Ready, Address, Moves, Refused}
 use Rattle.calls.specs.Answers.{After, refused, checked, isProcessor}

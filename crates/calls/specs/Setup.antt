@@ -6,7 +6,7 @@ use lib.Dec.{leb}
 use Rattle.laws.specs.Sums.{pick}
 use Rattle.order.specs.Order.{cleared}
 use Rattle.heap.specs.declared.Setup.{Setup}
-use Rattle.heap.specs.Table.{noState, newState}
+use Rattle.heap.specs.States.{noState, newState}
 use Rattle.checkrules.specs.Check.{withinLimits}
 use Rattle.calls.specs.Answers.{After, refused}
 use Rattle.calls.specs.declared.Outcome.the-variants.{Ready}

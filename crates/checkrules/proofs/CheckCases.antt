@@ -8,7 +8,8 @@ use Rattle.names.specs.Names.{noNames, withName}
 use Rattle.heap.specs.declared.Superblock.{Superblock}
 use Rattle.heap.specs.declared.Setup.{Setup}
 use Rattle.heap.specs.declared.State.{State}
-use Rattle.heap.specs.Table.{unused, withNames}
+use Rattle.heap.specs.Table.{unused}
+use Rattle.heap.specs.States.{withNames}
 use Rattle.checkrules.specs.Check.{withinLimits, superblockValid, unusedFrom, emptinessInvariant, sparseIfGlobal, namesValid}
 use Rattle.heap.proofs.TableCases.{of, small-setup}
 use Rattle.heap.proofs.CaseStates.{unnamedState}

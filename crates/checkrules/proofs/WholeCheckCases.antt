@@ -6,7 +6,8 @@ use Prim.Native.Nat.{ℕ}
 use lib.ListN.{replicate}
 use Rattle.names.specs.Names.{withName}
 use Rattle.heap.specs.declared.State.{State}
-use Rattle.heap.specs.Table.{unused, withSuperblock, withNames}
+use Rattle.heap.specs.Table.{unused}
+use Rattle.heap.specs.States.{withSuperblock, withNames}
 use Rattle.checkrules.specs.Check.{passes}
 use Rattle.heap.proofs.TableCases.{of}
 use Rattle.heap.proofs.CaseStates.{unnamedState}

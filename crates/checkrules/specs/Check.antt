@@ -4,13 +4,16 @@ use mathlib.Core.Bool.{Bool, not}
 use mathlib.Core.List.{List}
 use lib.Dec.{eqb, leb, ltb}
 use Rattle.laws.specs.Sums.{both, either, allBelow}
+use Rattle.laws.specs.Lists.{sameNumbers}
 use Rattle.classes.specs.Classes.{blocksOf}
 use Rattle.filledplaces.specs.FilledPlaces.{placesValid}
 use Rattle.heap.specs.declared.Superblock.{Superblock}
 use Rattle.heap.specs.declared.Setup.{Setup}
+use Rattle.heap.specs.declared.Totals.{Totals}
 use Rattle.heap.specs.declared.State.{State}
 use Rattle.names.specs.Names.{eachHeld, noTwoAtOne}
 use Rattle.heap.specs.Table.{superblockAt, liveIn, isUnused, isLiveBlock}
+use Rattle.heap.specs.Totals.{recounted}
 use Rattle.moverules.specs.Moves.{mustMove}
 
 -- a ≤ x ≤ b
@@ -48,6 +51,14 @@ sparseIfGlobal u b = either (not (eqb (b .owner) 0)) (ltb (u .q * liveIn b) ((u 
 unfoldable pub namesValid : State → Bool
 namesValid s = both (eachHeld (isLiveBlock s) (s .names)) (noTwoAtOne (s .names))
 
+-- the totals are equal
+unfoldable pub sameTotals : Totals → Totals → Bool
+sameTotals t r = both (sameNumbers (t .superblocks) (r .superblocks)) (sameNumbers (t .live) (r .live))
+
+-- "the state check adds this equality to 13's conditions" (document 02, item 3): the totals kept are the recount
+unfoldable pub totalsValid : State → Bool
+totalsValid s = sameTotals (s .totals) (recounted (s .table))
+
 -- all but the setup numbers
 unfoldable pub restValid : State → List ℕ → Bool
 restValid s order =
@@ -55,7 +66,8 @@ restValid s order =
     (both (allBelow (λ k. unusedFrom (s .setup .superblocks) k (superblockAt s k)) 64)
     (both (emptinessInvariant s)
     (both (allBelow (λ k. sparseIfGlobal (s .setup) (superblockAt s k)) 64)
-    (namesValid s))))
+    (both (namesValid s)
+    (totalsValid s)))))
 
 -- the whole check
 unfoldable pub passes : State → List ℕ → Bool

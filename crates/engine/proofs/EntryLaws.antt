@@ -10,7 +10,7 @@ use Rattle.laws.specs.Sums.{pick}
 use Rattle.order.specs.Order.{cleared}
 use Rattle.heap.specs.declared.Setup.{Setup}
 use Rattle.heap.specs.declared.State.{State}
-use Rattle.heap.specs.Table.{noState, newState}
+use Rattle.heap.specs.States.{noState, newState}
 use Rattle.checkrules.specs.Check.{withinLimits, restValid}
 use Rattle.heaplaws.proofs.StateFacts.{Shape}
 use Rattle.calls.specs.declared.Answer.{Answer}

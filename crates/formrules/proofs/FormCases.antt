@@ -6,7 +6,8 @@ use Prim.Native.Nat.{ℕ}
 use lib.ListN.{getD, length, replicate, take}
 use Rattle.heap.specs.Table.{blank}
 use Rattle.formrules.specs.declared.Request.the-variants.{Setup, Take, Free, NamedTake, NamedFree}
-use Rattle.formrules.specs.Form.{listed, callIn, superblockIn, namesIn, stateIn, tableOffset, placesOffset, placeCount, wellFormed}
+use Rattle.laws.specs.Lists.{listed}
+use Rattle.formrules.specs.Form.{callIn, superblockIn, namesIn, stateIn, tableOffset, placesOffset, placeCount, wellFormed}
 
 -- ---- the call, by its first byte; behind it every byte another
 abbrev distinct-bytes : List ℕ

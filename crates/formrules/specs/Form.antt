@@ -1,21 +1,17 @@
 -- The form "One call" of docs/FORMATS.md: what the bytes of an input hold. Past their end a byte reads as 0. Assumes nothing.
-use Prim.Native.Nat.{ℕ, zero, suc, _+_, _*_}
+use Prim.Native.Nat.{ℕ, _+_, _*_}
 use mathlib.Core.Bool.{Bool}
-use mathlib.Core.List.{List, [], _∷_, _++_}
+use mathlib.Core.List.{List, [], _∷_}
 use lib.ListN.{length}
 use lib.Dec.{eqb, leb}
 use Rattle.laws.specs.Sums.{pick, both, either}
+use Rattle.laws.specs.Lists.{listed}
 use Rattle.littleendian.specs.Bytes.{byteAt, twoAt, fourAt, eightAt}
 use Rattle.heap.specs.declared.Superblock.{Superblock}
 use Rattle.heap.specs.declared.Setup.{Setup}
 use Rattle.heap.specs.declared.State.{State}
 use Rattle.formrules.specs.declared.Request.{Request}
 use Rattle.formrules.specs.declared.Request.the-variants as request
-
--- f 0, f 1, .., f (n - 1)
-unfoldable pub listed : {A : Type 0} → (ℕ → A) → ℕ → List A
-listed f zero = []
-listed f (suc n) = listed f n ++ (f n ∷ [])
 
 -- ---- the call
 -- byte 0: 0 setup, 1 take, 2 free, 3 named take, else a named free; all but a setup have their numbers from byte 6 on

@@ -4,7 +4,8 @@ use Rattle.names.specs.Names.{noNames}
 use Rattle.heap.specs.declared.Superblock.{Superblock}
 use Rattle.heap.specs.declared.Setup.{Setup}
 use Rattle.heap.specs.declared.State.{State}
+use Rattle.heap.specs.Totals.{recounted}
 
--- the state of a setup with these superblocks, in which no name is held
+-- the state of a setup with these superblocks, in which no name is held; its totals are right
 abbrev pub unnamedState : Setup → List Superblock → State
-unnamedState u table = record { setup = u; table = table; names = noNames }
+unnamedState u table = record { setup = u; table = table; names = noNames; totals = recounted table }

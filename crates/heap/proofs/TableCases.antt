@@ -10,7 +10,8 @@ use Rattle.marks.specs.Marks.{bit, markBit, isMarked, withMark, withoutMark, li
 use Rattle.heap.specs.declared.Superblock.{Superblock}
 use Rattle.heap.specs.declared.Setup.{Setup}
 use Rattle.heap.specs.declared.State.{State}
-use Rattle.heap.specs.Table.{unused, withSuperblock, isUnused, withOwner, withMarkAt, withoutMarkAt, isLiveBlock, noState, newState}
+use Rattle.heap.specs.Table.{unused, isUnused, withOwner, withMarkAt, withoutMarkAt, isLiveBlock}
+use Rattle.heap.specs.States.{withSuperblock, noState, newState}
 use Rattle.heap.specs.Counts.{total, belongs, isOwnedOfClass, oneIfBelongs, liveIfBelongs, superblocksOf, blocksIn, liveOf, superblocksOfClass, liveOfClass, ownersChanged}
 use Rattle.heap.proofs.CaseStates.{unnamedState}
 
@@ -36,6 +37,7 @@ pub no-state-case :
       setup = record { processors = 0; superblocks = 0; spare = 0; p = 0; q = 0 };
       table = replicate 64 (record { owner = 255; class = 0; live = 0 ∷ 0 ∷ 0 ∷ 0 ∷ [] });
       names = replicate 1024 65535;
+      totals = record { superblocks = replicate 243 0; live = replicate 243 0 };
     }
 no-state-case = refl
 
@@ -45,6 +47,7 @@ pub new-state-case :
       setup = record { processors = 2; superblocks = 5; spare = 1; p = 3; q = 7 };
       table = replicate 64 (record { owner = 255; class = 0; live = 0 ∷ 0 ∷ 0 ∷ 0 ∷ [] });
       names = replicate 1024 65535;
+      totals = record { superblocks = replicate 243 0; live = replicate 243 0 };
     }
 new-state-case = refl
 

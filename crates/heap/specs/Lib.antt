@@ -1,2 +1,4 @@
 pub mod Table
 pub mod Counts
+pub mod Totals
+pub mod States

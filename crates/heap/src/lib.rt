@@ -1,5 +1,5 @@
-// The state of the allocator: five setup numbers, a table of 64 superblocks, and the names of blocks. Its table and the counts over it are
-// defined in specs/; the rules on it have crates of their own (choicerules, moverules, checkrules).
+// The state of the allocator: five setup numbers, a table of 64 superblocks, the names of blocks, and the totals of each heap and class. Its
+// table, the counts over it and the totals are defined in specs/; the rules on it have crates of their own (choicerules, moverules, checkrules).
 
 // Owner (0 the global heap, 1 to 8 a processor's heap, 255 none), size class, and live marks: block j is bit j mod 64 of
 // number j / 64.
@@ -18,12 +18,19 @@ pub struct Setup {
     pub q: u8,
 }
 
-// The setup numbers, the superblocks, and for each of the names 0 to 1023 the block that it points at, as superblock × 256 + block, or 65535
-// where it is not held.
+// The totals of the nine heaps and 27 classes: the superblocks of heap h and class c, and the live blocks in them, stand at h × 27 + c.
+pub struct Totals {
+    pub superblocks: [u8; 243],
+    pub live: [u16; 243],
+}
+
+// The setup numbers, the superblocks, for each of the names 0 to 1023 the block that it points at, as superblock × 256 + block, or 65535
+// where it is not held, and the totals.
 pub struct State {
     pub setup: Setup,
     pub table: [Superblock; 64],
     pub names: [u16; 1024],
+    pub totals: Totals,
 }
 
 // The number of a chosen superblock, or none.

@@ -18,7 +18,8 @@ use Rattle.marklaws.proofs.MarkLaws.{live-count-le-256}
 use Rattle.heap.specs.declared.Superblock.{Superblock}
 use Rattle.heap.specs.declared.State.{State}
 use Rattle.heap.specs.declared.Setup.{Setup}
-use Rattle.heap.specs.Table.{blank, unused, superblockAt, withSuperblock, liveIn, newState}
+use Rattle.heap.specs.Table.{blank, unused, superblockAt, liveIn}
+use Rattle.heap.specs.States.{withSuperblock, newState}
 use Rattle.heap.specs.Counts.{total, belongs, isOwnedOfClass, oneIfBelongs, liveIfBelongs, superblocksOf, liveOf, superblocksOfClass, liveOfClass}
 
 -- ---- one superblock replaced

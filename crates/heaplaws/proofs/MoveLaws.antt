@@ -27,7 +27,8 @@ use Rattle.choicerules.specs.Choice.{emptiest}
 use Rattle.moverules.specs.Moves.{bothConditions, mustMove, transferred, foundTransferred, transfersUpTo, excessTransferred}
 use Rattle.heaplaws.proofs.ChoiceLaws.{best-of-emptiest, emptiest-has-fewest-live, none-belongs-of-emptiest-nothing}
 use Rattle.heaplaws.proofs.CountLaws.{total-with-superblock, owner-and-class-of-belongs, belongs-of-owner-and-class, one-if-belongs-is-1, one-if-belongs-other-owner, one-if-belongs-other-class, live-if-belongs-is-live-in, live-if-belongs-other-owner, live-if-belongs-other-class, belongs-of-superblocks-pos, superblocks-of-le-64, live-of-at-least-each}
-use Rattle.heaplaws.proofs.StateFacts.{WithinLimits, Sparse, TransferredFrom}
+use Rattle.heaplaws.proofs.StateFacts.{WithinLimits, Sparse, TransferredFrom, TotalsKept}
+use Rattle.heaplaws.proofs.TotalsLaws.{totals-kept-with-superblock}
 
 -- the conditions as orders
 pub conditions-of-must-move : (h c : ℕ) (s : State) → T (mustMove h c s) → (liveOf h c s + s .setup .spare * blocksOf c < blocksIn h c s) × (s .setup .q * liveOf h c s < (s .setup .q - s .setup .p) * blocksIn h c s)
@@ -174,6 +175,7 @@ transferred-from-self h c s long =
     record {
       setup = refl;
       names = refl;
+      totals = λ k. k;
       length-is = long;
       each = λ k l. inl refl;
       others = λ i d p f. (refl, refl);
@@ -229,11 +231,16 @@ module _ (h c : ℕ) (s t : State) (k : ℕ) (r : TransferredFrom h c s t) (pos 
   unfolding transferred
   next-names = r .names
 
+  next-totals : TotalsKept (transferred k t)
+  unfolding transferred
+  next-totals = totals-kept-with-superblock t k (withOwner 0 (superblockAt t k))
+
   transferred-from-next : TransferredFrom h c s (transferred k t)
   transferred-from-next =
       record {
         setup = next-setup;
         names = next-names;
+        totals = λ k. next-totals;
         length-is = transfer-length h c t k (r .length-is) pos e;
         each = next-each;
         others = next-others;

@@ -1,4 +1,4 @@
--- What the type of a state says of its lists: 64 superblocks, each with four numbers of marks, and 1024 names. Assumes nothing.
+-- What the type of a state says of its lists: 64 superblocks, each with four numbers of marks, 1024 names, and twice 243 totals. Assumes nothing.
 use mathlib.Core.Path.{_≡_}
 use mathlib.Core.List.{List, [], _∷_}
 use Prim.Native.Nat.{ℕ, zero, suc, _<_}
@@ -36,4 +36,6 @@ shape-of-state s vals g =
       length-is = t .1 .0 .1;
       marks-length = λ k l. marks-length-of-each (s .table) (t .0) (t .1 .1) k (rw (t .1 .0 .1) l);
       names-length = length-of-length-map (λ (x : ℕ). x) (s .names) 1024 (g .1 .1 .1 .1 .0 .1 .0 .1);
+      superblock-totals-length = length-of-length-map (λ (x : ℕ). x) (s .totals .superblocks) 243 (g .1 .1 .1 .1 .1 .0 .1 .1 .0 .1 .0 .1);
+      live-totals-length = length-of-length-map (λ (x : ℕ). x) (s .totals .live) 243 (g .1 .1 .1 .1 .1 .0 .1 .1 .1 .0 .1 .0 .1);
     }

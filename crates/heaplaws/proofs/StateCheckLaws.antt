@@ -22,11 +22,13 @@ use Rattle.filledplaces.proofs.PlacesValidLaws.{live-count-le-of-places-valid}
 use Rattle.heap.specs.declared.Superblock.{Superblock}
 use Rattle.heap.specs.declared.Setup.{Setup}
 use Rattle.heap.specs.declared.State.{State}
-use Rattle.heap.specs.Table.{blank, unused, superblockAt, withSuperblock, withNames, liveIn, isUnused, isLiveBlock, newState}
+use Rattle.heap.specs.Table.{blank, unused, superblockAt, liveIn, isUnused, isLiveBlock}
+use Rattle.heap.specs.States.{withSuperblock, withNames, newState}
 use Rattle.heap.specs.Counts.{superblocksOf, liveOf, blocksIn, belongs}
 use Rattle.moverules.specs.Moves.{bothConditions, mustMove}
-use Rattle.checkrules.specs.Check.{within, withinLimits, superblockValid, unusedFrom, emptinessInvariant, sparseIfGlobal, namesValid, restValid, passes}
-use Rattle.heaplaws.proofs.StateFacts.{Shape, WithinLimits, Unused, Owned, Sparse, Sound, NamesSound}
+use Rattle.checkrules.specs.Check.{within, withinLimits, superblockValid, unusedFrom, emptinessInvariant, sparseIfGlobal, namesValid, totalsValid, restValid, passes}
+use Rattle.heaplaws.proofs.StateFacts.{Shape, WithinLimits, Unused, Owned, Sparse, Sound, NamesSound, TotalsKept}
+use Rattle.heaplaws.proofs.TotalsLaws.{totals-kept-of-valid, totals-valid-of-kept, length-recounted-superblocks, length-recounted-live}
 use Rattle.heaplaws.proofs.CountLaws.{superblock-at-replaced, superblock-at-others, owner-and-class-of-belongs, superblocks-of-new-state}
 
 -- ---- the setup numbers
@@ -178,13 +180,19 @@ sound-of-limits-and-rest s order a b =
       sparse = λ k l. sparse-of-sparse-if-global (s .setup) (superblockAt s k) (all-at (λ k. sparseIfGlobal (s .setup) (superblockAt s k)) 64 (both-left (allBelow (λ k. sparseIfGlobal (s .setup) (superblockAt s k)) 64) _ (both-right (emptinessInvariant s) _ b2)) k l);
     }
 
-pub names-valid-of-rest : (s : State) (order : List ℕ) → T (restValid s order) → T (namesValid s)
+names-and-totals-valid-of-rest : (s : State) (order : List ℕ) → T (restValid s order) → T (both (namesValid s) (totalsValid s))
 unfolding restValid
-names-valid-of-rest s order b =
+names-and-totals-valid-of-rest s order b =
     both-right (allBelow (λ k. sparseIfGlobal (s .setup) (superblockAt s k)) 64) _
     (both-right (emptinessInvariant s) _
     (both-right (allBelow (λ k. unusedFrom (s .setup .superblocks) k (superblockAt s k)) 64) _
     (both-right (allBelow (λ k. superblockValid (s .setup) order k (superblockAt s k)) 64) _ b)))
+
+pub names-valid-of-rest : (s : State) (order : List ℕ) → T (restValid s order) → T (namesValid s)
+names-valid-of-rest s order b = both-left (namesValid s) (totalsValid s) (names-and-totals-valid-of-rest s order b)
+
+pub totals-kept-of-rest : (s : State) (order : List ℕ) → T (restValid s order) → TotalsKept s
+totals-kept-of-rest s order b = totals-kept-of-valid s (both-right (namesValid s) (totalsValid s) (names-and-totals-valid-of-rest s order b))
 
 -- the names
 pub names-sound-of-valid : (s : State) → T (namesValid s) → NamesSound s
@@ -199,15 +207,16 @@ pub names-valid-of-sound : (s : State) → NamesSound s → T (namesValid s)
 unfolding namesValid
 names-valid-of-sound s h = both-make (eachHeld (isLiveBlock s) (s .names)) _ (each-held-of-blocks-named (isLiveBlock s) (s .names) (h .live)) (no-two-of-same-name (s .names) (h .distinct))
 
-pub rest-valid-of-sound : (s : State) (order : List ℕ) → Sound s order → T (namesValid s) → T (restValid s order)
+pub rest-valid-of-sound : (s : State) (order : List ℕ) → Sound s order → T (namesValid s) → TotalsKept s → T (restValid s order)
 unfolding restValid
-rest-valid-of-sound s order h names =
+rest-valid-of-sound s order h names totals =
     both-make (allBelow (λ k. superblockValid (s .setup) order k (superblockAt s k)) 64) _ (all-of-each (λ k. superblockValid (s .setup) order k (superblockAt s k)) 64 (λ k l. good k (h .each k l)))
     (both-make (allBelow (λ k. unusedFrom (s .setup .superblocks) k (superblockAt s k)) 64) _
     (all-of-each (λ k. unusedFrom (s .setup .superblocks) k (superblockAt s k)) 64 (λ k l. unused-from-of-unused (s .setup .superblocks) k (superblockAt s k) (h .past-unused k l)))
     (both-make (emptinessInvariant s) _ (emptiness-invariant-of-not-must-move s (h .invariant))
     (both-make (allBelow (λ k. sparseIfGlobal (s .setup) (superblockAt s k)) 64) _
-    (all-of-each (λ k. sparseIfGlobal (s .setup) (superblockAt s k)) 64 (λ k l. sparse-if-global-of-sparse (s .setup) (superblockAt s k) (h .sparse k l))) names)))
+    (all-of-each (λ k. sparseIfGlobal (s .setup) (superblockAt s k)) 64 (λ k l. sparse-if-global-of-sparse (s .setup) (superblockAt s k) (h .sparse k l)))
+    (both-make (namesValid s) (totalsValid s) names (totals-valid-of-kept s totals)))))
   where
     good : (k : ℕ) → Unused (superblockAt s k) ⊎ Owned (s .setup) order k (superblockAt s k) → T (superblockValid (s .setup) order k (superblockAt s k))
     good k (inl a) = superblock-valid-of-unused (s .setup) order k (superblockAt s k) a
@@ -217,9 +226,9 @@ pub sound-of-passes : (s : State) (order : List ℕ) → T (passes s order) → 
 unfolding passes
 sound-of-passes s order t = sound-of-limits-and-rest s order (both-left (withinLimits (s .setup)) _ t) (both-right (withinLimits (s .setup)) _ t)
 
-pub passes-of-sound : (s : State) (order : List ℕ) → Sound s order → T (namesValid s) → T (passes s order)
+pub passes-of-sound : (s : State) (order : List ℕ) → Sound s order → T (namesValid s) → TotalsKept s → T (passes s order)
 unfolding passes
-passes-of-sound s order h names = both-make (withinLimits (s .setup)) _ (within-limits-of-facts (s .setup) (h .numbers)) (rest-valid-of-sound s order h names)
+passes-of-sound s order h names totals = both-make (withinLimits (s .setup)) _ (within-limits-of-facts (s .setup) (h .numbers)) (rest-valid-of-sound s order h names totals)
 
 -- ---- a new state
 pub superblock-at-new-state-unused : (u : Setup) (k : ℕ) → k < 64 → superblockAt (newState u) k ≡ unused
@@ -265,11 +274,13 @@ new-state-shape u =
       length-is = length-replicate 64 unused;
       marks-length = λ k l. ap (λ (b : Superblock). length (b .live)) (superblock-at-new-state-unused u k l);
       names-length = length-replicate 1024 notHeld;
+      superblock-totals-length = length-replicate {A = ℕ} 243 0;
+      live-totals-length = length-replicate {A = ℕ} 243 0;
     }
 
 -- a superblock replaced by one with four numbers of marks keeps the shape
 pub shape-with-superblock : (s : State) (k : ℕ) (b : Superblock) → Shape s → k < 64 → length (b .live) ≡ 4 → Shape (withSuperblock s k b)
-shape-with-superblock s k b h l e = record { length-is = length-set (s .table) k b ∙ h .length-is; marks-length = λ j lj. at j lj (ℕ-discrete j k); names-length = h .names-length }
+shape-with-superblock s k b h l e = record { length-is = length-set (s .table) k b ∙ h .length-is; marks-length = λ j lj. at j lj (ℕ-discrete j k); names-length = h .names-length; superblock-totals-length = length-recounted-superblocks _; live-totals-length = length-recounted-live _ }
   where
     at : (j : ℕ) → j < 64 → Dec (j ≡ k) → length (superblockAt (withSuperblock s k b) j .live) ≡ 4
     at j lj (yes q) = ap (λ (i : ℕ). length (superblockAt (withSuperblock s k b) i .live)) q ∙ ap (λ (d : Superblock). length (d .live)) (superblock-at-replaced s k b (h .length-is) l) ∙ e
@@ -277,7 +288,7 @@ shape-with-superblock s k b h l e = record { length-is = length-set (s .table) k
 
 -- other names change nothing of the rest
 pub shape-with-names : (s : State) (names : List ℕ) → Shape s → length names ≡ 1024 → Shape (withNames s names)
-shape-with-names s names h e = record { length-is = h .length-is; marks-length = h .marks-length; names-length = e }
+shape-with-names s names h e = record { length-is = h .length-is; marks-length = h .marks-length; names-length = e; superblock-totals-length = h .superblock-totals-length; live-totals-length = h .live-totals-length }
 
 pub sound-with-names : (s : State) (names order : List ℕ) → Sound s order → Sound (withNames s names) order
 unfolding mustMove blocksIn superblocksOf liveOf

@@ -14,6 +14,7 @@ use Rattle.heap.specs.declared.Setup.{Setup}
 use Rattle.heap.specs.declared.State.{State}
 use Rattle.heap.specs.Table.{blank, superblockAt, liveIn, withOwner, isLiveBlock}
 use Rattle.heap.specs.Counts.{belongs, superblocksOf, liveOf, superblocksOfClass, liveOfClass}
+use Rattle.heap.specs.Totals.{recounted}
 use Rattle.moverules.specs.Moves.{mustMove}
 
 -- a way to compare superblocks, by which some are preferred and the others equal
@@ -34,6 +35,8 @@ pub record Shape (s : State) : Type 0 where
   pub length-is : length (s .table) ≡ 64
   pub marks-length : (k : ℕ) → k < 64 → length (superblockAt s k .live) ≡ 4
   pub names-length : length (s .names) ≡ 1024
+  pub superblock-totals-length : length (s .totals .superblocks) ≡ 243
+  pub live-totals-length : length (s .totals .live) ≡ 243
 
 -- setup numbers within their limits
 pub record WithinLimits (u : Setup) : Type 0 where
@@ -64,7 +67,7 @@ pub record Owned (u : Setup) (order : List ℕ) (k : ℕ) (b : Superblock) : Typ
 abbrev pub Sparse : Setup → Superblock → Type 0
 Sparse u b = u .q * liveIn b < (u .q - u .p) * blocksOf (b .class)
 
--- the whole check, but for the names
+-- the whole check, but for names and totals
 pub record Sound (s : State) (order : List ℕ) : Type 0 where
   pub numbers : WithinLimits (s .setup)
   pub each : (k : ℕ) → k < 64 → Unused (superblockAt s k) ⊎ Owned (s .setup) order k (superblockAt s k)
@@ -77,10 +80,15 @@ pub record NamesSound (s : State) : Type 0 where
   pub live : (m : ℕ) → (blockNamed (s .names) m ≡ notHeld → ⊥) → T (isLiveBlock s (blockNamed (s .names) m))
   pub distinct : (l m : ℕ) → (blockNamed (s .names) l ≡ notHeld → ⊥) → blockNamed (s .names) l ≡ blockNamed (s .names) m → l ≡ m
 
+-- the totals' part of the check: "equal to the recount"
+abbrev pub TotalsKept : State → Type 0
+TotalsKept s = s .totals ≡ recounted (s .table)
+
 -- what the moves of heap h and class c, from state s, have come to: t is s with some superblocks of (h, c) passed to heap 0
 pub record TransferredFrom (h c : ℕ) (s t : State) : Type 0 where
   pub setup : t .setup ≡ s .setup
   pub names : t .names ≡ s .names
+  pub totals : TotalsKept s → TotalsKept t
   pub length-is : length (t .table) ≡ 64
   -- a superblock is as it was, or it was heap h's of class c, is sparse, and only its owner has become 0: "a moved superblock's owner was i and is 0, the others keep theirs"
   pub each : (k : ℕ) → k < 64 → (superblockAt t k ≡ superblockAt s k) ⊎ (T (belongs h c (superblockAt s k)) × Sparse (s .setup) (superblockAt s k) × (superblockAt t k ≡ withOwner 0 (superblockAt s k)))

@@ -10,7 +10,7 @@ use lib.ListN.{length}
 use lib.Dec.{eqb, leb}
 use Rattle.laws.specs.Sums.{pick, either}
 use Rattle.heap.specs.declared.Setup.{Setup}
-use Rattle.heap.specs.Table.{noState}
+use Rattle.heap.specs.States.{noState}
 use Rattle.checkrules.specs.Check.{withinLimits}
 use Rattle.calls.specs.declared.Call.{Call}
 use Rattle.calls.specs.declared.Call.the-variants as call

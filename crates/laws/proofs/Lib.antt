@@ -6,3 +6,5 @@ pub mod Counting
 pub mod ReplacedElement
 pub mod Decides
 pub mod FieldArrays
+pub mod ListedLaws
+pub mod NumberLists

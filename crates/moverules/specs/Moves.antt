@@ -8,7 +8,8 @@ use Rattle.heap.specs.declared.State.{State}
 use Rattle.heap.specs.declared.Found.{Found}
 use Rattle.heap.specs.declared.Found.the-variants.{At, Nothing}
 use Rattle.heap.specs.declared.Moved.{Moved}
-use Rattle.heap.specs.Table.{superblockAt, withSuperblock, withOwner}
+use Rattle.heap.specs.Table.{superblockAt, withOwner}
+use Rattle.heap.specs.States.{withSuperblock}
 use Rattle.heap.specs.Counts.{blocksIn, liveOf}
 use Rattle.choicerules.specs.Choice.{emptiest}
 

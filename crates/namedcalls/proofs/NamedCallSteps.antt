@@ -7,7 +7,8 @@ use borrow.Author.Tests.{not-true, not-false}
 use Rattle.laws.specs.Sums.{either}
 use Rattle.names.specs.Names.{isName, blockNamed, isHeld, withName}
 use Rattle.heap.specs.declared.State.{State}
-use Rattle.heap.specs.Table.{superblockAt, withNames}
+use Rattle.heap.specs.Table.{superblockAt}
+use Rattle.heap.specs.States.{withNames}
 use Rattle.calls.specs.declared.Answer.{Answer}
 use Rattle.calls.specs.declared.Outcome.{Outcome}
 use Rattle.calls.specs.declared.Outcome.the-variants.{Ready, Address, Moves, Refused}

@@ -7,7 +7,8 @@ use Rattle.marks.specs.Marks.{withoutMark}
 use Rattle.names.specs.Names.{withoutBlock}
 use Rattle.order.specs.Order.{withPlace}
 use Rattle.heap.specs.declared.State.{State}
-use Rattle.heap.specs.Table.{superblockAt, withSuperblock, withNames, liveIn}
+use Rattle.heap.specs.Table.{superblockAt, liveIn}
+use Rattle.heap.specs.States.{withSuperblock, withNames}
 use Rattle.calls.specs.Free.{blockOf, markCleared, orderPushed, blockNumberAt, blockFreed}
 
 -- the freed block's number put in the next place

@@ -8,7 +8,7 @@ use lib.ListN.{length}
 use Rattle.textrules.specs.Text.{pasted}
 use Rattle.textrules.proofs.PasteLaws.{put-end, put-upto, put-behind}
 use Rattle.heap.specs.declared.State.{State}
-use Rattle.heap.specs.Table.{noState}
+use Rattle.heap.specs.States.{noState}
 use Rattle.littleendian.specs.Bytes.{byteAt}
 use Rattle.commands.specs.Record.{commandsOf}
 use Rattle.linerules.specs.Lines.{closingLines}

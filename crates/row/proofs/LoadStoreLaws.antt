@@ -11,7 +11,7 @@ use Rattle.laws.specs.Sums.{pick}
 use Rattle.laws.proofs.TestLaws.{pick-true, pick-false, true-not-false}
 use Rattle.heap.specs.declared.Superblock.{Superblock}
 use Rattle.heap.specs.declared.Setup.{Setup}
-use Rattle.heap.specs.Table.{noState}
+use Rattle.heap.specs.States.{noState}
 use Rattle.checkrules.specs.Check.{withinLimits, passes}
 use Rattle.calls.specs.declared.Call.{Call}
 use Rattle.calls.specs.Answers.{numberOf, PassesIfAccepted}

@@ -10,7 +10,8 @@ use lib.Dec.{eqb}
 use Rattle.laws.specs.Sums.{pick}
 use Rattle.classes.specs.Classes.{classOf}
 use Rattle.heap.specs.declared.State.{State}
-use Rattle.heap.specs.Table.{superblockAt, withSuperblock, withMarkAt, withoutMarkAt}
+use Rattle.heap.specs.Table.{superblockAt, withMarkAt, withoutMarkAt}
+use Rattle.heap.specs.States.{withSuperblock}
 use Rattle.choicerules.specs.Choice.{emptiest}
 use Rattle.moverules.specs.Moves.{mustMove, foundTransferred, transfersUpTo, excessTransferred, invariantRestored}
 use Rattle.heaplaws.proofs.StateFacts.{Shape}

@@ -16,7 +16,8 @@ use Rattle.order.specs.Order.{cleared}
 use Rattle.orderlaws.proofs.OrderLaws.{length-cleared}
 use Rattle.heap.specs.declared.Superblock.{Superblock}
 use Rattle.heap.specs.declared.Setup.{Setup}
-use Rattle.heap.specs.Table.{unused, noState}
+use Rattle.heap.specs.Table.{unused}
+use Rattle.heap.specs.States.{noState}
 use Rattle.checkrules.specs.Check.{withinLimits}
 use Rattle.heaplaws.proofs.StateFacts.{Shape}
 use Rattle.heaplaws.proofs.StateCheckLaws.{new-state-sound, new-state-names-valid, new-state-shape}

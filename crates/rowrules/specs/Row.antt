@@ -9,7 +9,8 @@ use Rattle.order.specs.Order.{cleared}
 use Rattle.heap.specs.declared.Superblock.{Superblock}
 use Rattle.heap.specs.declared.Setup.{Setup}
 use Rattle.heap.specs.declared.State.{State}
-use Rattle.heap.specs.Table.{unused, noState, newState}
+use Rattle.heap.specs.Table.{unused}
+use Rattle.heap.specs.States.{noState, newState}
 use Rattle.checkrules.specs.Check.{withinLimits}
 use Rattle.calls.specs.declared.Call.{Call}
 use Rattle.calls.specs.declared.Outcome.{Outcome}

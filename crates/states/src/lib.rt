@@ -1,7 +1,8 @@
 // Whole states, the number of an outcome, and the answer that is a refusal.
 ghost use mathlib.Core.Path.{_≡_};
 ghost use lib.ListN.{replicate};
-ghost use Rattle.heap.specs.Table.{unused, noState, newState};
+ghost use Rattle.heap.specs.Table.{unused};
+ghost use Rattle.heap.specs.States.{noState, newState};
 ghost use Rattle.calls.specs.declared.Outcome.the-variants.{Refused};
 ghost use Rattle.calls.specs.Answers.{isProcessor, numberOf, HasNumberAndValuesOf};
 use calls::Answer;

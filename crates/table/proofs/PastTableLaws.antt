@@ -10,7 +10,8 @@ use Rattle.marks.specs.Marks.{isMarked}
 use Rattle.marklaws.proofs.MarkLaws.{mark-bit-of-empty-list, no-mark-of-mark-bit-zero, live-count-zero-of-marks-clear}
 use Rattle.heap.specs.declared.Superblock.{Superblock}
 use Rattle.heap.specs.declared.State.{State}
-use Rattle.heap.specs.Table.{blank, superblockAt, withSuperblock, liveIn, isUnused}
+use Rattle.heap.specs.Table.{blank, superblockAt, liveIn, isUnused}
+use Rattle.heap.specs.States.{withSuperblock}
 
 module _ (s : State) (k : ℕ) (long : length (s .table) ≡ 64) (h : 64 ≤ k) where
   superblock-past-table-is-blank : superblockAt s k ≡ blank

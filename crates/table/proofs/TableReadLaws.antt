@@ -6,7 +6,8 @@ use native.Mathlib.Omega.{arith}
 use Rattle.classes.specs.Classes.{blocksOf}
 use Rattle.marks.specs.Marks.{withMark}
 use Rattle.heap.specs.declared.State.{State}
-use Rattle.heap.specs.Table.{superblockAt, withSuperblock, liveIn, withMarkAt}
+use Rattle.heap.specs.Table.{superblockAt, liveIn, withMarkAt}
+use Rattle.heap.specs.States.{withSuperblock}
 
 -- the filled places are n - live, none where more are live
 module _ (s : State) (k class n live : ℕ) (ec : class ≡ superblockAt s k .class) (en : n ≡ blocksOf class) (el : live ≡ liveIn (superblockAt s k)) where

@@ -4,7 +4,8 @@
 ghost use mathlib.Core.Path.{_≡_};
 ghost use Prim.Native.Nat.{_-_, _≤_};
 ghost use Rattle.classes.specs.Classes.{blocksOf};
-ghost use Rattle.heap.specs.Table.{superblockAt, withSuperblock, liveIn, withMarkAt};
+ghost use Rattle.heap.specs.Table.{superblockAt, liveIn, withMarkAt};
+ghost use Rattle.heap.specs.States.{withSuperblock};
 use heap::State;
 use heap::Superblock;
 

@@ -7,8 +7,9 @@ use borrow.Author.Needs.{needs}
 use lib.ListN.{length, take, length-set}
 use Rattle.littleendian.specs.Bytes.{twoAt}
 use Rattle.littleendian.proofs.PastEndLaws.{two-at-position-after}
-use Rattle.formrules.specs.Form.{listed, placesIn}
-use Rattle.callload.proofs.ListedLaws.{listed-none, listed-step, listed-end}
+use Rattle.laws.specs.Lists.{listed}
+use Rattle.formrules.specs.Form.{placesIn}
+use Rattle.laws.proofs.ListedLaws.{listed-none, listed-step, listed-end}
 use Rattle.callload.proofs.load_places.Statement.{statement}
 use Rattle.callload.proofs.load_places.Tie as tie
 

@@ -7,8 +7,8 @@ use borrow.Author.Needs.{needs}
 use lib.ListN.{length, take, length-set}
 use Rattle.littleendian.specs.Bytes.{twoAt}
 use Rattle.littleendian.proofs.PastEndLaws.{two-at-position-after}
-use Rattle.formrules.specs.Form.{listed}
-use Rattle.callload.proofs.ListedLaws.{listed-none, listed-step}
+use Rattle.laws.specs.Lists.{listed}
+use Rattle.laws.proofs.ListedLaws.{listed-none, listed-step}
 use Rattle.callload.proofs.StateInLaws.{names-in-of-all-names}
 use Rattle.callload.proofs.names_at.Statement.{statement}
 use Rattle.callload.proofs.names_at.Tie as tie

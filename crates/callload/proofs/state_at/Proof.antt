@@ -5,8 +5,9 @@ use Prim.Native.Nat.{_+_, _-_, _*_, _≤_, zero-le}
 use native.Mathlib.Omega.{arith}
 use borrow.Author.Needs.{needs}
 use lib.ListN.{length, take, length-set}
-use Rattle.formrules.specs.Form.{listed, superblockIn}
-use Rattle.callload.proofs.ListedLaws.{listed-none, listed-step}
+use Rattle.laws.specs.Lists.{listed}
+use Rattle.formrules.specs.Form.{superblockIn}
+use Rattle.laws.proofs.ListedLaws.{listed-none, listed-step}
 use Rattle.callload.proofs.StateInLaws.{superblock-in-position-after, names-in-position-after, state-in-of-all-superblocks}
 use Rattle.callload.proofs.state_at.Statement.{statement}
 use Rattle.callload.proofs.state_at.Tie as tie
