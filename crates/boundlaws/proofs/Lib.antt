@@ -5,5 +5,6 @@ pub mod BoundLaws
 pub mod CallInvariantLaws
 pub mod Demand3
 pub mod NamesAgree
+pub mod TotalsOverLists
 pub mod CallListLaws
 pub mod CallListCases

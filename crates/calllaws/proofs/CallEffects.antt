@@ -15,7 +15,7 @@ use Rattle.heap.specs.Counts.{superblocksOf, superblocksOfClass, liveOfClass, o
 use Rattle.heap.specs.declared.Found.the-variants.{At, Nothing}
 use Rattle.choicerules.specs.Choice.{fullest}
 use Rattle.checkrules.specs.Check.{namesValid}
-use Rattle.heaplaws.proofs.StateFacts.{Sound}
+use Rattle.heaplaws.proofs.StateFacts.{Sound, TotalsKept}
 use Rattle.calls.specs.Take.{otherPlaces, takenFrom, takenFromOther, takeOf}
 use Rattle.calls.specs.Free.{isUnmapped, isMisaligned, isLiveAt, freedAt, freeOf}
 use Rattle.calls.specs.Named.{isUnavailable, withNameBound, namedTakeOf, heldAddress, namedFreeOf}
@@ -24,6 +24,8 @@ use Rattle.calls.specs.Named.{isUnavailable, withNameBound, namedTakeOf, heldAd
 pub record Passed (s : State) (order : List ℕ) : Type 0 where
   pub sound : Sound s order
   pub names : T (namesValid s)
+  -- "equal to the recount" (document 02, item 3)
+  pub totals : TotalsKept s
   pub room : s .setup .superblocks * 256 ≤ length order
 
 -- an accepted take: the state passes, the processor is in range, the size is at most 2048, and

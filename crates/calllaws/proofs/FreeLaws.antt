@@ -22,7 +22,7 @@ use Rattle.heap.specs.declared.Moved.{Moved}
 use Rattle.heap.specs.Table.{liveIn, isUnused}
 use Rattle.heap.specs.States.{withNames}
 use Rattle.heap.specs.Counts.{superblocksOfClass, liveOfClass, ownersChanged}
-use Rattle.heaplaws.proofs.StateFacts.{Sound, Shape, Unused, Owned}
+use Rattle.heaplaws.proofs.StateFacts.{Sound, Shape, Unused, Owned, TotalsKept}
 use Rattle.calls.specs.declared.Outcome.the-variants.{Moves}
 use Rattle.calls.specs.Answers.{After, refused, isProcessor}
 use Rattle.calls.specs.Take.{addressOf}
@@ -33,7 +33,7 @@ use Rattle.calllaws.proofs.CallEffects.{Passed, FreeAccepted, FreeEffec
 use Rattle.heaplaws.proofs.StateCheckLaws.{is-unused-of-facts, shape-with-names, sound-with-names}
 use Rattle.calllaws.proofs.NamesKeptLaws.{names-valid-without-block, names-valid-after-free}
 use Rattle.calllaws.proofs.MarkClearedLaws.{LiveBlock}
-use Rattle.calllaws.proofs.InvariantRestoredLaws.{InvariantRestored, invariant-restored-after-free, invariant-restored-effect, invariant-restored-shape, invariant-restored-sound}
+use Rattle.calllaws.proofs.InvariantRestoredLaws.{InvariantRestored, invariant-restored-after-free, invariant-restored-effect, invariant-restored-shape, invariant-restored-sound, invariant-restored-totals-kept}
 
 -- a free is refused and changes nothing, or is accepted
 pub free-refused-or-accepted : (s : State) (order : List ℕ) (i a : ℕ) → ((r : ℕ) × (freeOf s order i a ≡ refused r s order)) ⊎ FreeAccepted s order i a
@@ -144,6 +144,7 @@ module _ (s : State) (order : List ℕ) (i a : ℕ) (shape : Shape s) (acc : Fre
         passed = record {
           sound = sound-with-names s (withoutBlock (s .names) (blockNumberAt s a)) order (acc .passed .sound);
           names = names-valid-without-block s (blockNumberAt s a) (acc .passed .names);
+          totals = acc .passed .totals;
           room = acc .passed .room;
         };
         below = below;
@@ -187,6 +188,10 @@ module _ (s : State) (order : List ℕ) (i a : ℕ) (shape : Shape s) (acc : Fre
   unfolding blockFreed markCleared orderPushed
   sound = invariant-restored-sound nameLetGo order (superblockIndex a) (blockOf s a) live-without-name restored free-restores-invariant
 
+  totals-kept : TotalsKept (restored .state)
+  unfolding blockFreed markCleared
+  totals-kept = invariant-restored-totals-kept nameLetGo order (superblockIndex a) (blockOf s a) live-without-name restored free-restores-invariant
+
   room : s .setup .superblocks * 256 ≤ length (orderPushed s order a)
   unfolding orderPushed
   room = subst (λ (n : ℕ). s .setup .superblocks * 256 ≤ n) (sym (length-with-place order (superblockIndex a) (blocksOf (superblockHolding s a .class) - liveIn (superblockHolding s a)) (blockOf s a))) (acc .passed .room)
@@ -197,5 +202,6 @@ module _ (s : State) (order : List ℕ) (i a : ℕ) (shape : Shape s) (acc : Fre
       record {
         sound = subst (λ (t : State). Sound t (freeOf s order i a .order)) (sym free-state-is) (subst (λ (l : List ℕ). Sound (restored .state) l) (sym free-order-is) sound);
         names = names-valid-after-free (superblockHolding s a .class) (superblockIndex a) (blockOf s a) moves s (freeOf s order i a .answer .state) (shape .length-is) free-effect free-names (acc .passed .names);
+        totals = subst TotalsKept (sym free-state-is) totals-kept;
         room = subst (λ (u : Setup). u .superblocks * 256 ≤ length (freeOf s order i a .order)) (sym (free-effect .setup)) (subst (λ (l : List ℕ). s .setup .superblocks * 256 ≤ length l) (sym free-order-is) room);
       }

@@ -14,10 +14,11 @@ use Rattle.classes.specs.Classes.{blocksOf}
 use Rattle.marks.specs.Marks.{markBit}
 use Rattle.heap.specs.declared.State.{State}
 use Rattle.heap.specs.declared.Moved.{Moved}
-use Rattle.heap.specs.Table.{superblockAt}
+use Rattle.heap.specs.Table.{superblockAt, withoutMarkAt}
 use Rattle.heap.specs.Counts.{blocksIn, liveOf, ownersChanged}
 use Rattle.moverules.specs.Moves.{mustMove, excessTransferred}
-use Rattle.heaplaws.proofs.StateFacts.{Shape, WithinLimits, Sound, TransferredFrom}
+use Rattle.heaplaws.proofs.StateFacts.{Shape, WithinLimits, Sound, TotalsKept, TransferredFrom}
+use Rattle.heaplaws.proofs.TotalsLaws.{totals-kept-with-superblock}
 use Rattle.heaplaws.proofs.MoveLaws.{transferred-from-self, owners-changed-self, excess-transferred-from, moves-le-q-times-freed, owners-changed-is-moves, not-must-move-after-excess-transferred}
 use Rattle.calllaws.proofs.CallEffects.{FreeEffect}
 use Rattle.calllaws.proofs.TransferredLaws.{transferred-live, transferred-class, transferred-owner, transferred-shape, sound-after-transfers}
@@ -66,12 +67,18 @@ module _ (s : State) (order : List ℕ) (k j : ℕ) (live : LiveBlock s order k 
           let pos : 0 < ownerAt s k = pos-of-ne-zero (eqb-false (ownerAt s k) 0 e) in
           invariant-restored-of-moves (ownerAt s k) (classAt s k) (withMarkCleared s k j) long (live .passed .sound .numbers) pos low (mark-cleared-condition-fails s order k j live pos)
 
+  cleared-totals-kept : TotalsKept (withMarkCleared s k j)
+  cleared-totals-kept = totals-kept-with-superblock s k (withoutMarkAt (superblockAt s k) j)
+
   module _ (m : Moved) (done : InvariantRestored (ownerAt s k) (classAt s k) (withMarkCleared s k j) m) where
     pub invariant-restored-shape : Shape (m .state)
-    invariant-restored-shape = transferred-shape (ownerAt s k) (classAt s k) (withMarkCleared s k j) (m .state) (done .from) (mark-cleared-shape s order k j live)
+    invariant-restored-shape = transferred-shape (ownerAt s k) (classAt s k) (withMarkCleared s k j) (m .state) (done .from) cleared-totals-kept (mark-cleared-shape s order k j live)
 
     pub invariant-restored-sound : Sound (m .state) (withBlockPushed s order k j)
     invariant-restored-sound = sound-after-transfers (ownerAt s k) (classAt s k) (withMarkCleared s k j) (m .state) (done .from) (withBlockPushed s order k j) low (mark-cleared-sound-except s order k j live) (done .invariant)
+
+    pub invariant-restored-totals-kept : TotalsKept (m .state)
+    invariant-restored-totals-kept = done .from .totals cleared-totals-kept
 
     restored-mark-bits-same : (i : ℕ) → i < 64 → (b : ℕ) → markBit (superblockAt (m .state) i .live) b ≡ markBit (superblockAt (withMarkCleared s k j) i .live) b
     restored-mark-bits-same i l b = ap (λ (x : List ℕ). markBit x b) (transferred-live (ownerAt s k) (classAt s k) (withMarkCleared s k j) (m .state) (done .from) i l)

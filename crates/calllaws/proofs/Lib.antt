@@ -19,6 +19,7 @@ pub mod NothingOfferedLaws
 pub mod RefusalConditions
 pub mod NamedRefusalConditions
 pub mod NameLifetime
+pub mod TotalsKeptLaws
 pub mod OrderWriteLaws
 pub mod OrderReadLaws
 pub mod FreeStackLaws

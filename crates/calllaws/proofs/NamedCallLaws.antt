@@ -176,6 +176,7 @@ module _ (s : State) (order : List ℕ) (i m size k : ℕ) (shape : Shape s) (ac
       record {
         sound = sound-with-names (plain .answer .state) (withName (s .names) m (blockNumber k named-taken-block)) (plain .order) (passed .sound);
         names = names-valid-after-named-take i (classOf size) k named-taken-block s (plain .answer .state) block effect m below (take-names s order i size k shape (acc .taken)) (acc .taken .passed .names);
+        totals = passed .totals;
         room = passed .room;
       }))
 

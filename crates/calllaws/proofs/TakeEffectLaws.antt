@@ -27,6 +27,7 @@ use Rattle.moverules.specs.Moves.{bothConditions, mustMove}
 use Rattle.heaplaws.proofs.StateFacts.{Shape, Unused, Owned, Sparse, Sound}
 use Rattle.heaplaws.proofs.CountLaws.{total-with-superblock, one-if-belongs-is-1, one-if-belongs-other-owner, one-if-belongs-other-class, live-if-belongs-is-live-in, live-if-belongs-other-owner, live-if-belongs-other-class}
 use Rattle.heaplaws.proofs.StateCheckLaws.{shape-with-superblock}
+use Rattle.heaplaws.proofs.TotalsLaws.{totals-kept-with-superblock}
 use Rattle.heaplaws.proofs.MoveLaws.{conditions-of-must-move, must-move-of-conditions}
 use Rattle.calllaws.proofs.CallEffects.{Passed, TakeEffect}
 use Rattle.calllaws.proofs.NamesKeptLaws.{names-valid-after-take}
@@ -263,7 +264,7 @@ module _ (s : State) (order : List ℕ) (i c k : ℕ) (b : Superblock) (places :
   }
 
   passed-after : Passed after places
-  passed-after = record { sound = sound-after; names = names-valid-after-take i c k j s after in-marks effect refl (passed .names); room = omega (arith, passed .room, gives .length-is) }
+  passed-after = record { sound = sound-after; names = names-valid-after-take i c k j s after in-marks effect refl (passed .names); totals = totals-kept-with-superblock s k new; room = omega (arith, passed .room, gives .length-is) }
 
   pub take-result-of-source : TakeResult i c k j s after places
   take-result-of-source = record { effect = effect; shape = shape-after; passed = passed-after }

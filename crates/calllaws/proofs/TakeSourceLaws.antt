@@ -26,6 +26,7 @@ use Rattle.heap.specs.declared.Found.the-variants.{At, Nothing}
 use Rattle.heap.specs.Table.{blank, superblockAt, liveIn, withOwner, withMarkAt}
 use Rattle.heap.specs.States.{withSuperblock}
 use Rattle.heap.specs.Counts.{superblocksOf, liveOf}
+use Rattle.heap.specs.Totals.{recounted}
 use Rattle.choicerules.specs.Choice.{fullest, lowestEmpty, lowestUnused, orElse}
 use Rattle.heaplaws.proofs.StateFacts.{Shape}
 use Rattle.calls.specs.Answers.{After}
@@ -58,7 +59,7 @@ unfolding takenFromOther
 taken-from-other-is-taken-with i c k s order l =
     taken-from-is-taken-with k (withSuperblock s k b) places
     ∙ ap (λ (x : Superblock). takenWith k (withSuperblock s k b) x places) (getD-set-same (s .table) k b blank l)
-    ∙ ap (λ (x : List Superblock). record { answer = record { outcome = Address (addressOf k (b .class) (lastBlockOf places k b)); state = record { setup = s .setup; table = x; names = s .names } }; order = places })
+    ∙ ap (λ (x : List Superblock). record { answer = record { outcome = Address (addressOf k (b .class) (lastBlockOf places k b)); state = record { setup = s .setup; table = x; names = s .names; totals = recounted x } }; order = places })
     (set-set (s .table) k b (withMarkAt b (lastBlockOf places k b)))
   where
     b : Superblock

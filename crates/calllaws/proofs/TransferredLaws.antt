@@ -12,12 +12,14 @@ use Rattle.laws.specs.Sums.{one}
 use Rattle.classes.specs.Classes.{blocksOf}
 use Rattle.heap.specs.declared.Superblock.{Superblock}
 use Rattle.heap.specs.declared.Setup.{Setup}
+use Rattle.heap.specs.declared.Totals.{Totals}
 use Rattle.heap.specs.declared.State.{State}
 use Rattle.heap.specs.Table.{superblockAt, withOwner}
 use Rattle.heap.specs.Counts.{belongs, superblocksOf, blocksIn, liveOf}
 use Rattle.moverules.specs.Moves.{bothConditions, mustMove}
-use Rattle.heaplaws.proofs.StateFacts.{Shape, WithinLimits, Unused, Owned, Sparse, Sound, TransferredFrom}
+use Rattle.heaplaws.proofs.StateFacts.{Shape, WithinLimits, Unused, Owned, Sparse, Sound, TotalsKept, TransferredFrom}
 use Rattle.heaplaws.proofs.CountLaws.{owner-and-class-of-belongs}
+use Rattle.heaplaws.proofs.TotalsLaws.{length-recounted-superblocks, length-recounted-live}
 
 -- equal counts meet the conditions of the move rule alike
 pub must-move-cong : (h c : ℕ) (s t : State) → t .setup ≡ s .setup → superblocksOf h c t ≡ superblocksOf h c s → liveOf h c t ≡ liveOf h c s → mustMove h c t ≡ mustMove h c s
@@ -59,8 +61,17 @@ module _ (h c : ℕ) (s t : State) (m : TransferredFrom h c s t) (k : ℕ) (l : 
       go (inl same) = inl (ap (λ (b : Superblock). b .owner) same)
       go (inr (mine, sparse, now)) = inr (owner-and-class-of-belongs h c (superblockAt s k) mine .0, ap (λ (b : Superblock). b .owner) now)
 
-pub transferred-shape : (h c : ℕ) (s t : State) → TransferredFrom h c s t → Shape s → Shape t
-transferred-shape h c s t m shape = record { length-is = m .length-is; marks-length = λ k l. ap length (transferred-live h c s t m k l) ∙ shape .marks-length k l; names-length = ap length (m .names) ∙ shape .names-length }
+-- where the totals were kept, they still are, and so have their length
+pub transferred-shape : (h c : ℕ) (s t : State) → TransferredFrom h c s t → TotalsKept s → Shape s → Shape t
+transferred-shape h c s t m kept shape =
+    let now = m .totals kept in
+    record {
+      length-is = m .length-is;
+      marks-length = λ k l. ap length (transferred-live h c s t m k l) ∙ shape .marks-length k l;
+      names-length = ap length (m .names) ∙ shape .names-length;
+      superblock-totals-length = ap (λ (x : Totals). length (x .superblocks)) now ∙ length-recounted-superblocks (t .table);
+      live-totals-length = ap (λ (x : Totals). length (x .live)) now ∙ length-recounted-live (t .table);
+    }
 
 -- ---- the check
 -- What holds of each superblock still does, if it holds of a sparse one that passes to heap 0.

@@ -22,6 +22,7 @@ use Rattle.calls.specs.Calls.{callOf}
 use Rattle.bound.specs.Claim.{Step, Linked, Claims}
 use Rattle.boundlaws.proofs.Demand3.{demand-3}
 use Rattle.boundlaws.proofs.NamesAgree.{lastAfter}
+use Rattle.boundlaws.proofs.TotalsOverLists.{TotalsCountedOver, totals-kept-over-list}
 use Rattle.boundlaws.proofs.CallListLaws.{stepsBy, steps-linked}
 use Rattle.commands.specs.declared.Command.{Command}
 use Rattle.commands.specs.declared.Command.the-variants as command
@@ -216,3 +217,7 @@ key-demand-3 r order = go (commandAt r 0) refl
     go (command.NamedFree processor name) e = let inside-record = named-free-later-and-inside r 0 (command.NamedFree processor name) e processor name refl in absurd (omega arith)
     go (command.Refused number offset) e =
         inr (number, offset, ap (textOf (beforeFirst order)) (commands-of-is-commands-at-0 r ∙ commands-refused r 0 (command.Refused number offset) number offset e refl))
+
+-- Document 02, item 3: the totals are the recount after such a record's setup and after each of its calls
+pub key-totals-kept : (r order : List ℕ) (u : Setup) (commands : List Command) → KeyClaims r order u commands → TotalsCountedOver (setupOf u order) (stepsIn (setupOf u order) commands)
+key-totals-kept r order u commands h = totals-kept-over-list u order (setupOf u order) refl (stepsIn (setupOf u order) commands) (h .linked)

@@ -1,0 +1,221 @@
+-- Document 02, item 3: "Every operation keeps them equal to the recount, a new or refused setup has them at 0, and the state check adds this equality to
+-- 13's conditions." Assumes nothing.
+use mathlib.Core.Path.{_≡_, refl, sym, ap, ap₂, _∙_, subst}
+use mathlib.Core.Bool.{Bool, true, false, not}
+use mathlib.Core.Logic.{_↔_, _⊎_, inl, inr, ⊎-elim}
+use mathlib.Core.List.{List}
+use Prim.Native.Nat.{ℕ, zero, suc, _+_, _*_, _≤_, _<_}
+use native.Mathlib.Omega.{arith}
+use lib.ListN.{length, getD-replicate}
+use lib.Dec.{eqb, leb}
+use Rattle.laws.specs.Sums.{pick}
+use Rattle.laws.proofs.TestLaws.{T-of-true}
+use Rattle.classes.specs.Classes.{classOf, isTooLarge}
+use Rattle.names.specs.Names.{isHeld}
+use Rattle.heap.specs.declared.Setup.{Setup}
+use Rattle.heap.specs.declared.State.{State}
+use Rattle.heap.specs.declared.Found.{Found}
+use Rattle.heap.specs.declared.Found.the-variants.{At, Nothing}
+use Rattle.heap.specs.Counts.{superblocksOf, liveOf}
+use Rattle.heap.specs.Totals.{heapCount, totalCount, totalIndex, superblocksKept, liveKept}
+use Rattle.heap.specs.States.{noState, newState}
+use Rattle.choicerules.specs.Choice.{fullest, emptiest}
+use Rattle.checkrules.specs.Check.{withinLimits, restValid}
+use Rattle.moverules.specs.Moves.{mustMove, transferred, foundTransferred, transfersUpTo, excessTransferred, invariantRestored}
+use Rattle.heaplaws.proofs.StateFacts.{Shape, WithinLimits, TotalsKept}
+use Rattle.heaplaws.proofs.StateCheckLaws.{sound-of-passes}
+use Rattle.heaplaws.proofs.TotalsLaws.{new-state-totals-kept, recounted-superblocks, recounted-live, superblocks-kept-are-counted, live-kept-is-counted, totals-equal-of-each, length-recounted-superblocks, length-recounted-live, superblocks-kept-above-processors, live-kept-above-processors}
+use Rattle.calls.specs.declared.Outcome.{Outcome}
+use Rattle.calls.specs.declared.Outcome.the-variants.{Ready, Address, Moves, Refused}
+use Rattle.calls.specs.declared.Call.{Call}
+use Rattle.calls.specs.declared.Call.the-variants.{Take, Free, NamedTake, NamedFree}
+use Rattle.calls.specs.Answers.{After, numberOf, refused, checked, isProcessor}
+use Rattle.calls.specs.Setup.{acceptedSetup, setupOf}
+use Rattle.calls.specs.Take.{otherPlaces, takenFrom, takenFromOther, takenAt, takeUnchecked}
+use Rattle.calls.specs.Free.{superblockHolding, isUnmapped, isMisaligned, isLiveAt, markCleared, blockFreed, freedAt, freeUnchecked}
+use Rattle.calls.specs.Named.{isUnavailable, nameBound, boundBy, withNameBound, namedTakeUnchecked, heldAddress, namedFreeUnchecked}
+use Rattle.calls.specs.Calls.{callOf, callUnchecked}
+use Rattle.calls.proofs.CheckFirst.{call-of-checks-first}
+use Rattle.calllaws.proofs.CallEffects.{Passed}
+use Rattle.calllaws.proofs.NamedCallLaws.{name-bound-of-refused}
+use Rattle.calllaws.proofs.AcceptedCallLaws.{call-passes-if-accepted}
+use Rattle.calllaws.proofs.RefusalConditions.{address-not-refused, moves-not-refused, rest-fails, check-fails-refused-13}
+
+-- "equal to the recount": the totals kept of each heap and class are its superblocks and its live blocks
+abbrev pub TotalsCounted : State → Type 0
+TotalsCounted s = (h c : ℕ) → h < heapCount → c < 27 → (superblocksKept h c s ≡ superblocksOf h c s) × (liveKept h c s ≡ liveOf h c s)
+
+pub totals-counted-of-kept : (s : State) → TotalsKept s → TotalsCounted s
+totals-counted-of-kept s kept h c lh lc = (superblocks-kept-are-counted s h c lh lc kept, live-kept-is-counted s h c lh lc kept)
+
+-- and that is all that the check asks of them: no other number stands in the arrays
+pub totals-kept-iff-counted : (s : State) → Shape s → TotalsKept s ↔ TotalsCounted s
+unfolding superblocksKept liveKept
+totals-kept-iff-counted s shape = (totals-counted-of-kept s, kept)
+  where
+    kept : TotalsCounted s → TotalsKept s
+    kept each =
+        ap₂ (λ (a b : List ℕ). record { superblocks = a; live = b })
+        (totals-equal-of-each (s .totals .superblocks) _ (shape .superblock-totals-length) (length-recounted-superblocks (s .table)) (λ h c lh lc. each h c lh lc .0 ∙ sym (recounted-superblocks s h c lh lc)))
+        (totals-equal-of-each (s .totals .live) _ (shape .live-totals-length) (length-recounted-live (s .table)) (λ h c lh lc. each h c lh lc .1 ∙ sym (recounted-live s h c lh lc)))
+
+-- ---- calls, by their definitions alone
+-- each move replaces a superblock, and the totals with it
+moved-recounted : (found : Found) (s : State) → TotalsKept s → TotalsKept (foundTransferred found s)
+unfolding foundTransferred transferred
+moved-recounted (At k) s kept = refl
+moved-recounted Nothing s kept = kept
+
+moves-recounted : (k h c m : ℕ) (s : State) → TotalsKept s → TotalsKept (transfersUpTo k h c m s .state)
+unfolding transfersUpTo
+moves-recounted zero h c m s kept = kept
+moves-recounted (suc k) h c m s kept = go (mustMove h c s) (moves-recounted k h c (m + 1) (foundTransferred (emptiest h c s) s) (moved-recounted (emptiest h c s) s kept))
+  where
+    go : (b : Bool) → TotalsKept (transfersUpTo k h c (m + 1) (foundTransferred (emptiest h c s) s) .state)
+        → TotalsKept (pick b (transfersUpTo k h c (m + 1) (foundTransferred (emptiest h c s) s)) (record { moves = m; state = s }) .state)
+    go true next = next
+    go false next = kept
+
+invariant-restored-recounted : (h c : ℕ) (s : State) → TotalsKept s → TotalsKept (invariantRestored h c s .state)
+unfolding invariantRestored excessTransferred
+invariant-restored-recounted h c s kept = go (eqb h 0)
+  where
+    go : (b : Bool) → TotalsKept (pick b (record { moves = 0; state = s }) (transfersUpTo 64 h c 0 s) .state)
+    go true = kept
+    go false = moves-recounted 64 h c 0 s kept
+
+-- a name bound leaves them as they are
+bound-recounted : (o : Outcome) (m : ℕ) (s : State) → TotalsKept s → TotalsKept (boundBy o m s)
+unfolding boundBy nameBound
+bound-recounted Ready m s kept = kept
+bound-recounted (Address a) m s kept = kept
+bound-recounted (Moves k) m s kept = kept
+bound-recounted (Refused r) m s kept = kept
+
+-- a call is refused, with its number, and changes nothing; or it is accepted, and the totals after it are the recount
+abbrev RefusedOrRecounted : State → List ℕ → After → Type 0
+RefusedOrRecounted s order x =
+    ((r : ℕ) × (0 < r) × (x ≡ refused r s order)) ⊎ (((r : ℕ) → x .answer .outcome ≡ Refused r → ⊥) × TotalsKept (x .answer .state))
+
+module _ (s : State) (order : List ℕ) where
+  by-test : (b : Bool) (x y : After) → RefusedOrRecounted s order x → RefusedOrRecounted s order y → RefusedOrRecounted s order (pick b x y)
+  by-test true x y f g = f
+  by-test false x y f g = g
+
+  with-refusal : (r : ℕ) → 0 < r → RefusedOrRecounted s order (refused r s order)
+  with-refusal r pos = inl (r, pos, refl)
+
+  check-refuses-or : (next : After) → RefusedOrRecounted s order next → RefusedOrRecounted s order (checked s order next)
+  unfolding checked
+  check-refuses-or next f =
+      by-test (withinLimits (s .setup)) _ _
+      (by-test (leb (s .setup .superblocks * 256) (length order)) _ _
+      (by-test (restValid s order) next _ f (with-refusal 13 (omega arith)))
+      (with-refusal 12 (omega arith)))
+      (with-refusal 13 (omega arith))
+
+  -- a take replaces a superblock too
+  take-recounts-at : (i c : ℕ) (own other : Found) → RefusedOrRecounted s order (takenAt i c s order own other)
+  unfolding takenAt takenFrom takenFromOther
+  take-recounts-at i c (At k) other = inr (address-not-refused _, refl)
+  take-recounts-at i c Nothing (At k) = inr (address-not-refused _, refl)
+  take-recounts-at i c Nothing Nothing = with-refusal 4 (omega arith)
+
+  take-recounts : (i size : ℕ) → RefusedOrRecounted s order (takeUnchecked s order i size)
+  unfolding takeUnchecked
+  take-recounts i size =
+      by-test (not (isProcessor s i)) _ _ (with-refusal 2 (omega arith))
+      (by-test (isTooLarge size) _ _ (with-refusal 3 (omega arith)) (take-recounts-at i (classOf size) (fullest i (classOf size) s) (otherPlaces (classOf size) s)))
+
+  -- a free clears a mark, and then moves
+  free-recounts : (i a : ℕ) → RefusedOrRecounted s order (freeUnchecked s order i a)
+  unfolding freeUnchecked freedAt blockFreed markCleared
+  free-recounts i a =
+      by-test (not (isProcessor s i)) _ _ (with-refusal 2 (omega arith))
+      (by-test (isUnmapped s a) _ _ (with-refusal 5 (omega arith))
+      (by-test (isMisaligned s a) _ _ (with-refusal 6 (omega arith))
+      (by-test (not (isLiveAt s a)) _ _ (with-refusal 7 (omega arith))
+      (inr (moves-not-refused _, invariant-restored-recounted (superblockHolding s a .owner) (superblockHolding s a .class) (blockFreed s a) refl)))))
+
+  name-bound-recounts : (m : ℕ) (x : After) → RefusedOrRecounted s order x → RefusedOrRecounted s order (withNameBound m x)
+  unfolding withNameBound
+  name-bound-recounts m x (inl (r, pos, e)) = inl (r, pos, ap (withNameBound m) e ∙ name-bound-of-refused r m s order)
+  name-bound-recounts m x (inr (accepted, kept)) = inr (accepted, bound-recounted (x .answer .outcome) m (x .answer .state) kept)
+
+  unchecked-call-recounts : (call : Call) → RefusedOrRecounted s order (callUnchecked s order call)
+  unfolding callUnchecked namedTakeUnchecked namedFreeUnchecked
+  unchecked-call-recounts (Take i size) = take-recounts i size
+  unchecked-call-recounts (Free i a) = free-recounts i a
+  unchecked-call-recounts (NamedTake i m size) =
+      by-test (not (isProcessor s i)) _ _ (with-refusal 2 (omega arith))
+      (by-test (isUnavailable s m) _ _ (with-refusal 14 (omega arith)) (name-bound-recounts m _ (take-recounts i size)))
+  unchecked-call-recounts (NamedFree i m) =
+      by-test (not (isProcessor s i)) _ _ (with-refusal 2 (omega arith))
+      (by-test (not (isHeld (s .names) m)) _ _ (with-refusal 15 (omega arith)) (free-recounts i (heldAddress s m)))
+
+  module _ (call : Call) where
+    refused-or-recounted : RefusedOrRecounted s order (callOf s order call)
+    refused-or-recounted = rw (call-of-checks-first s order call) (check-refuses-or (callUnchecked s order call) (unchecked-call-recounts call))
+
+    accepted-call-recounts : numberOf (callOf s order call .answer .outcome) ≡ 0 → TotalsKept (callOf s order call .answer .state)
+    unfolding numberOf
+    accepted-call-recounts accepted = ⊎-elim
+        (λ h. let r : numberOf (callOf s order call .answer .outcome) ≡ h .0 = ap (λ (x : After). numberOf (x .answer .outcome)) (h .2) in absurd (let z : ⊥ = omega (arith, h .1) in z))
+        (λ h. h .1) refused-or-recounted
+
+    -- "Every operation keeps them equal to the recount": after every accepted call they are it, whatever the state before ..
+    pub accepted-call-keeps-totals : numberOf (callOf s order call .answer .outcome) ≡ 0 → TotalsCounted (callOf s order call .answer .state)
+    accepted-call-keeps-totals accepted = totals-counted-of-kept _ (accepted-call-recounts accepted)
+
+    -- .. a refused call has those handed in ..
+    pub refused-call-keeps-totals : (r : ℕ) → callOf s order call .answer .outcome ≡ Refused r → callOf s order call .answer .state .totals ≡ s .totals
+    refused-call-keeps-totals r e = ⊎-elim (λ h. ap (λ (x : After). x .answer .state .totals) (h .2)) (λ h. absurd (h .0 r e)) refused-or-recounted
+
+    -- .. so that after any call they are the recount if they were it before
+    pub call-keeps-totals : TotalsKept s → TotalsKept (callOf s order call .answer .state)
+    call-keeps-totals kept = ⊎-elim (λ h. subst (λ (x : After). TotalsKept (x .answer .state)) (sym (h .2)) kept) (λ h. h .1) refused-or-recounted
+
+    -- "the state check adds this equality to 13's conditions": one total that is not the recount is enough
+    pub call-refused-13-of-wrong-total : WithinLimits (s .setup) → s .setup .superblocks * 256 ≤ length order → (TotalsCounted s → ⊥) → callOf s order call ≡ refused 13 s order
+    call-refused-13-of-wrong-total numbers lent wrong =
+        call-of-checks-first s order call ∙ check-fails-refused-13 s order 0 (callUnchecked s order call) (rest-fails numbers lent (λ h. wrong (totals-counted-of-kept s (h .2))))
+
+-- ---- a setup
+-- accepted or refused, it hands back a new state
+setup-state-is-new : (u : Setup) (order : List ℕ) → (v : Setup) × (setupOf u order .answer .state ≡ newState v)
+unfolding setupOf
+setup-state-is-new u order = go (withinLimits u) (leb (u .superblocks * 256) (length order))
+  where
+    go : (a b : Bool) → (v : Setup) × (pick a (pick b (acceptedSetup u order) (refused 12 noState order)) (refused 1 noState order) .answer .state ≡ newState v)
+    go true true = (u, refl)
+    go true false = (noState .setup, refl)
+    go false b = (noState .setup, refl)
+
+-- "a new or refused setup has them at 0" ..
+pub new-or-refused-setup-totals-are-0 : (u : Setup) (order : List ℕ) (h c : ℕ) → h < heapCount → c < 27
+    → (superblocksKept h c (setupOf u order .answer .state) ≡ 0) × (liveKept h c (setupOf u order .answer .state) ≡ 0)
+unfolding superblocksKept liveKept
+new-or-refused-setup-totals-are-0 u order h c lh lc =
+    let zeros = getD-replicate {A = ℕ} totalCount (totalIndex h c) 0 0 (omega arith) in
+    rw (setup-state-is-new u order .1) (zeros, zeros)
+
+-- .. which is the recount
+pub new-or-refused-setup-totals-kept : (u : Setup) (order : List ℕ) → TotalsKept (setupOf u order .answer .state)
+new-or-refused-setup-totals-kept u order = let new = setup-state-is-new u order in subst TotalsKept (sym (new .1)) (new-state-totals-kept (new .0))
+
+-- ---- heaps above P
+-- none has a superblock: in a state that passes their totals are 0 ..
+pub heaps-above-processors-have-0 : (s : State) (order : List ℕ) → Passed s order → (h c : ℕ) → s .setup .processors < h → h < heapCount → c < 27
+    → (superblocksKept h c s ≡ 0) × (liveKept h c s ≡ 0)
+heaps-above-processors-have-0 s order passed h c above lh lc =
+    (superblocks-kept-above-processors s order (passed .sound) (passed .totals) h c above lh lc, live-kept-above-processors s order (passed .sound) (passed .totals) h c above lh lc)
+
+-- .. so also in that after an accepted call
+pub heaps-above-processors-have-0-after-call : (s : State) (order : List ℕ) (call : Call) → Shape s → numberOf (callOf s order call .answer .outcome) ≡ 0
+    → (h c : ℕ) → callOf s order call .answer .state .setup .processors < h → h < heapCount → c < 27
+    → (superblocksKept h c (callOf s order call .answer .state) ≡ 0) × (liveKept h c (callOf s order call .answer .state) ≡ 0)
+heaps-above-processors-have-0-after-call s order call shape accepted h c above lh lc =
+    let after = callOf s order call in
+    let sound = sound-of-passes (after .answer .state) (after .order) (T-of-true _ (call-passes-if-accepted s order call shape accepted)) in
+    let kept = accepted-call-recounts s order call accepted in
+    (superblocks-kept-above-processors (after .answer .state) (after .order) sound kept h c above lh lc, live-kept-above-processors (after .answer .state) (after .order) sound kept h c above lh lc)
