@@ -1,6 +1,7 @@
-// A heap acquires a superblock from place 2, 3 or 4 of a take, and a block is taken from it. Each function is total, as the
-// definitions are: past the table's 64 superblocks a change changes nothing.
+// A heap acquires a superblock from place 2, 3 or 4 of a take, and a block is taken from it.
 ghost use mathlib.Core.Path.{_≡_};
+ghost use Prim.Native.Nat.{_<_};
+ghost use Rattle.heap.specs.Totals.{TotalsKept};
 ghost use Rattle.heap.specs.Table.{superblockAt};
 ghost use Rattle.heap.specs.States.{withSuperblock};
 ghost use Rattle.calls.specs.Answers.{HasNumberAndValuesOf};
@@ -30,22 +31,19 @@ fn acquire(b: Superblock, heap: u8, class: u8) -> Superblock
 
 // The state once the heap has acquired superblock k.
 fn acquire_at(s: State, heap: u8, class: u8, k: usize) -> State
+    requires { ⌜ (k < 64) × TotalsKept s ⌝ }
     ensures { λ r. ⌜ r ≡ withSuperblock s k (acquired heap class (superblockAt s k)) ⌝ }
 {
-    if k >= 64 {
-        return s;
-    }
     let b = s.table[k];
-    let mut t = s;
-    t.table[k] = acquire(b, heap, class);
-    t
+    let acquired = acquire(b, heap, class);
+    table::replace(s, k, acquired)
 }
 
-// The order places of superblock k once a heap has acquired it: renewed for the class where nothing is live.
-fn acquire_order(s: State, order: &mut [u16], class: u8, k: u8)
-    ensures { λ _. ⌜ now (order .exit) ≡ acquiredOrder class k (superblockAt s k) (now (order .entry)) ⌝ }
+// The order places of superblock k, which was b, once a heap has acquired it: renewed for the class where nothing is live.
+fn acquire_order(b: Superblock, order: &mut [u16], class: u8, k: u8)
+    ensures { λ _. ⌜ now (order .exit) ≡ acquiredOrder class k b (now (order .entry)) ⌝ }
 {
-    if table::live_at(s, k as usize) == 0 {
+    if predicates::live_in(b) == 0 {
         let n = classes::block_count(class);
         freelistinit::renew_order(order, k, n);
     }
@@ -53,10 +51,13 @@ fn acquire_order(s: State, order: &mut [u16], class: u8, k: u8)
 
 // The heap acquires superblock k from place 2, 3 or 4, and a block is taken from it.
 pub fn take_from_other(s: State, order: &mut [u16], heap: u8, class: u8, k: u8) -> Answer
+    requires { ⌜ (k < 64) × TotalsKept s ⌝ }
     ensures { λ r. ⌜ record { answer = r; order = now (order .exit) } ≡ takenFromOther heap class k s (now (order .entry)) ⌝ }
     ensures number_and_values { λ r. ⌜ HasNumberAndValuesOf (r .outcome) (takenFromOther heap class k s (now (order .entry)) .answer .outcome) ⌝ }
 {
-    acquire_order(s, order, class, k);
-    let t = acquire_at(s, heap, class, k as usize);
+    let i = k as usize;
+    let b = s.table[i];
+    acquire_order(b, order, class, k);
+    let t = acquire_at(s, heap, class, i);
     allocation::take_from(t, order, k)
 }

@@ -1,11 +1,13 @@
-// A block taken from one superblock. Each function is total, as the definitions are: past the table's 64 superblocks a change
-// changes nothing.
+// A block taken from one superblock.
 ghost use mathlib.Core.Path.{_≡_};
+ghost use Prim.Native.Nat.{_<_};
+ghost use Rattle.heap.specs.Totals.{TotalsKept};
 ghost use Rattle.calls.specs.Answers.{HasNumberAndValuesOf};
 ghost use Rattle.calls.specs.Take.{addressOf, takenFrom};
 use calls::Answer;
 use calls::Outcome;
 use heap::State;
+use heap::Superblock;
 
 // Where block j of superblock k starts.
 pub fn address_of(k: u8, class: u8, j: u16) -> u32
@@ -17,15 +19,23 @@ pub fn address_of(k: u8, class: u8, j: u16) -> u32
 
 // Takes the block in the last filled place of superblock k's order.
 pub fn take_from(s: State, order: &[u16], k: u8) -> Answer
+    requires { ⌜ (k < 64) × TotalsKept s ⌝ }
     ensures { λ r. ⌜ record { answer = r; order = now (order .entry) } ≡ takenFrom k s (now (order .entry)) ⌝ }
     ensures number_and_values { λ r. ⌜ HasNumberAndValuesOf (r .outcome) (takenFrom k s (now (order .entry)) .answer .outcome) ⌝ }
 {
     let i = k as usize;
-    let filled = table::filled_at(s, i);
+    let b = s.table[i];
+    let filled = table::filled_in(b);
     let j = freelists::last_filled(order, k, filled);
-    let class = table::class_at(s, i);
-    let address = address_of(k, class, j);
-    let t = table::mark_at(s, i, j as usize);
+    let address = address_of(k, b.class, j);
+    let old = b.live;
+    let taken = bitmap::set_live(old, j as usize);
+    let marked = Superblock {
+        owner: b.owner,
+        class: b.class,
+        live: taken,
+    };
+    let t = table::replace(s, i, marked);
     Answer {
         outcome: Outcome::Address(address),
         state: t,

@@ -3,7 +3,7 @@ use mathlib.Core.Path.{_≡_, sym, subst}
 use mathlib.Core.List.{List, [], _∷_}
 use Prim.Native.Nat.{ℕ}
 use Rattle.heap.specs.declared.Setup.{Setup}
-use Rattle.heaplaws.proofs.StateFacts.{TotalsKept}
+use Rattle.heap.specs.Totals.{TotalsKept}
 use Rattle.calls.specs.Answers.{After}
 use Rattle.calls.specs.Setup.{setupOf}
 use Rattle.calllaws.proofs.TotalsKeptLaws.{TotalsCounted, totals-counted-of-kept, call-keeps-totals, new-or-refused-setup-totals-kept}

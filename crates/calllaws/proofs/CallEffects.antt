@@ -15,7 +15,8 @@ use Rattle.heap.specs.Counts.{superblocksOf, superblocksOfClass, liveOfClass, o
 use Rattle.heap.specs.declared.Found.the-variants.{At, Nothing}
 use Rattle.choicerules.specs.Choice.{fullest}
 use Rattle.checkrules.specs.Check.{namesValid}
-use Rattle.heaplaws.proofs.StateFacts.{Sound, TotalsKept}
+use Rattle.heaplaws.proofs.StateFacts.{Sound}
+use Rattle.heap.specs.Totals.{TotalsKept}
 use Rattle.calls.specs.Take.{otherPlaces, takenFrom, takenFromOther, takeOf}
 use Rattle.calls.specs.Free.{isUnmapped, isMisaligned, isLiveAt, freedAt, freeOf}
 use Rattle.calls.specs.Named.{isUnavailable, withNameBound, namedTakeOf, heldAddress, namedFreeOf}

@@ -22,7 +22,8 @@ use Rattle.heap.specs.declared.Moved.{Moved}
 use Rattle.heap.specs.Table.{liveIn, isUnused}
 use Rattle.heap.specs.States.{withNames}
 use Rattle.heap.specs.Counts.{superblocksOfClass, liveOfClass, ownersChanged}
-use Rattle.heaplaws.proofs.StateFacts.{Sound, Shape, Unused, Owned, TotalsKept}
+use Rattle.heaplaws.proofs.StateFacts.{Sound, Shape, Unused, Owned}
+use Rattle.heap.specs.Totals.{TotalsKept}
 use Rattle.calls.specs.declared.Outcome.the-variants.{Moves}
 use Rattle.calls.specs.Answers.{After, refused, isProcessor}
 use Rattle.calls.specs.Take.{addressOf}

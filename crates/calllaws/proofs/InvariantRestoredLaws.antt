@@ -17,7 +17,8 @@ use Rattle.heap.specs.declared.Moved.{Moved}
 use Rattle.heap.specs.Table.{superblockAt, withoutMarkAt}
 use Rattle.heap.specs.Counts.{blocksIn, liveOf, ownersChanged}
 use Rattle.moverules.specs.Moves.{mustMove, excessTransferred}
-use Rattle.heaplaws.proofs.StateFacts.{Shape, WithinLimits, Sound, TotalsKept, TransferredFrom}
+use Rattle.heaplaws.proofs.StateFacts.{Shape, WithinLimits, Sound, TransferredFrom}
+use Rattle.heap.specs.Totals.{TotalsKept}
 use Rattle.heaplaws.proofs.TotalsLaws.{totals-kept-with-superblock}
 use Rattle.heaplaws.proofs.MoveLaws.{transferred-from-self, owners-changed-self, excess-transferred-from, moves-le-q-times-freed, owners-changed-is-moves, not-must-move-after-excess-transferred}
 use Rattle.calllaws.proofs.CallEffects.{FreeEffect}

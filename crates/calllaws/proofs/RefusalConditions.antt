@@ -23,7 +23,8 @@ use Rattle.heap.specs.Table.{isUnused}
 use Rattle.heap.specs.States.{noState}
 use Rattle.choicerules.specs.Choice.{fullest}
 use Rattle.checkrules.specs.Check.{withinLimits, restValid}
-use Rattle.heaplaws.proofs.StateFacts.{WithinLimits, Unused, Sound, NamesSound, TotalsKept}
+use Rattle.heaplaws.proofs.StateFacts.{WithinLimits, Unused, Sound, NamesSound}
+use Rattle.heap.specs.Totals.{TotalsKept}
 use Rattle.heaplaws.proofs.StateCheckLaws.{facts-of-within-limits, within-limits-of-facts, sound-of-limits-and-rest, names-valid-of-rest, totals-kept-of-rest, names-sound-of-valid, names-valid-of-sound, rest-valid-of-sound, facts-of-is-unused, is-unused-of-facts}
 use Rattle.calls.specs.declared.Outcome.the-variants.{Ready, Address, Moves, Refused}
 use Rattle.calls.specs.Answers.{After, refused, checked, isProcessor}

@@ -17,12 +17,12 @@ use Rattle.heap.specs.declared.State.{State}
 use Rattle.heap.specs.declared.Found.{Found}
 use Rattle.heap.specs.declared.Found.the-variants.{At, Nothing}
 use Rattle.heap.specs.Counts.{superblocksOf, liveOf}
-use Rattle.heap.specs.Totals.{heapCount, totalCount, totalIndex, superblocksKept, liveKept}
+use Rattle.heap.specs.Totals.{heapCount, totalCount, totalIndex, superblocksKept, liveKept, TotalsKept}
 use Rattle.heap.specs.States.{noState, newState}
 use Rattle.choicerules.specs.Choice.{fullest, emptiest}
 use Rattle.checkrules.specs.Check.{withinLimits, restValid}
 use Rattle.moverules.specs.Moves.{mustMove, transferred, foundTransferred, transfersUpTo, excessTransferred, invariantRestored}
-use Rattle.heaplaws.proofs.StateFacts.{Shape, WithinLimits, TotalsKept}
+use Rattle.heaplaws.proofs.StateFacts.{Shape, WithinLimits}
 use Rattle.heaplaws.proofs.StateCheckLaws.{sound-of-passes}
 use Rattle.heaplaws.proofs.TotalsLaws.{new-state-totals-kept, recounted-superblocks, recounted-live, superblocks-kept-are-counted, live-kept-is-counted, totals-equal-of-each, length-recounted-superblocks, length-recounted-live, superblocks-kept-above-processors, live-kept-above-processors}
 use Rattle.calls.specs.declared.Outcome.{Outcome}

@@ -17,7 +17,8 @@ use Rattle.heap.specs.declared.State.{State}
 use Rattle.heap.specs.Table.{superblockAt, withOwner}
 use Rattle.heap.specs.Counts.{belongs, superblocksOf, blocksIn, liveOf}
 use Rattle.moverules.specs.Moves.{bothConditions, mustMove}
-use Rattle.heaplaws.proofs.StateFacts.{Shape, WithinLimits, Unused, Owned, Sparse, Sound, TotalsKept, TransferredFrom}
+use Rattle.heaplaws.proofs.StateFacts.{Shape, WithinLimits, Unused, Owned, Sparse, Sound, TransferredFrom}
+use Rattle.heap.specs.Totals.{TotalsKept}
 use Rattle.heaplaws.proofs.CountLaws.{owner-and-class-of-belongs}
 use Rattle.heaplaws.proofs.TotalsLaws.{length-recounted-superblocks, length-recounted-live}
 

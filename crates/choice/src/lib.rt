@@ -77,9 +77,9 @@ fn best_after(w: Criterion, best: Best, k: usize, b: Superblock) -> Best
 }
 
 // The best of the superblocks below n that meet the criterion, the lower number among equals.
-fn scan(s: State, w: Criterion, n: usize) -> Found
+fn scan(table: [Superblock; 64], w: Criterion, n: usize) -> Found
     requires { ⌜ n ≤ 64 ⌝ }
-    ensures { λ r. ⌜ r ≡ chosenBelow (meetsCriterion w) (preferredBy w) (s .table) n ⌝ }
+    ensures { λ r. ⌜ r ≡ chosenBelow (meetsCriterion w) (preferredBy w) table n ⌝ }
 {
     let none = Superblock {
         owner: 0,
@@ -92,7 +92,7 @@ fn scan(s: State, w: Criterion, n: usize) -> Found
     };
     let mut k: usize = 0;
     while k < n {
-        let b = s.table[k];
+        let b = table[k];
         best = best_after(w, best, k, b);
         k += 1;
     }
@@ -103,14 +103,16 @@ fn scan(s: State, w: Criterion, n: usize) -> Found
 pub fn fullest(s: State, heap: u8, class: u8) -> Found
     ensures { λ r. ⌜ r ≡ fullestOf heap class s ⌝ }
 {
-    scan(s, Criterion::HasFree(heap, class), 64)
+    let table = s.table;
+    scan(table, Criterion::HasFree(heap, class), 64)
 }
 
 // Heap 0's lowest-numbered superblock with nothing live.
 pub fn lowest_empty(s: State) -> Found
     ensures { λ r. ⌜ r ≡ lowestEmpty s ⌝ }
 {
-    scan(s, Criterion::Empty, 64)
+    let table = s.table;
+    scan(table, Criterion::Empty, 64)
 }
 
 // The lowest-numbered unused superblock below N.
@@ -118,15 +120,17 @@ pub fn lowest_unused(s: State) -> Found
     ensures { λ r. ⌜ r ≡ lowestUnused s ⌝ }
 {
     let n = s.setup.superblocks as usize;
+    let table = s.table;
     if 64 < n {
-        return scan(s, Criterion::Unused, 64);
+        return scan(table, Criterion::Unused, 64);
     }
-    scan(s, Criterion::Unused, n)
+    scan(table, Criterion::Unused, n)
 }
 
 // The heap's superblock of the class with the fewest live.
 pub fn emptiest(s: State, heap: u8, class: u8) -> Found
     ensures { λ r. ⌜ r ≡ emptiestOf heap class s ⌝ }
 {
-    scan(s, Criterion::Belongs(heap, class), 64)
+    let table = s.table;
+    scan(table, Criterion::Belongs(heap, class), 64)
 }

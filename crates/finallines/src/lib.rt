@@ -24,11 +24,13 @@ fn heap_line(out: &mut [u8], at: usize, heap: u8, class: u8, superblocks: u32, l
 fn heap_line_if(out: &mut [u8], at: usize, heap: u8, class: u8, s: State) -> usize
     ensures { λ r. ⌜ record { end = r; buffer = now (out .exit) } ≡ pasted (now (out .entry)) at (heapLineIf heap class s) ⌝ }
 {
-    let n = counts::count_of(s, heap, class);
-    if n.superblocks == 0 {
+    let x = heap as usize * 27 + class as usize;
+    let superblocks = s.totals.superblocks[x] as u32;
+    if superblocks == 0 {
         return put_nothing(out, at);
     }
-    heap_line(out, at, heap, class, n.superblocks, n.live)
+    let live = s.totals.live[x] as u32;
+    heap_line(out, at, heap, class, superblocks, live)
 }
 
 // The lines of a heap, classes rising.

@@ -1,14 +1,18 @@
-// Free behind the check, on a state by value and lent order storage of any length. What it answers is the page's answer where
-// the state passes the check, which is the caller's to make; it is total, and defined on every other state too.
+// Free behind the check, on a state by value and lent order storage that pass it: the check is the caller's to make.
 ghost use mathlib.Core.Path.{_≡_};
+ghost use mathlib.Core.Bool.{true};
+ghost use Prim.Native.Nat.{_<_};
+ghost use Rattle.checkrules.specs.Check.{passes};
+ghost use Rattle.heap.specs.Totals.{TotalsKept};
 ghost use Rattle.calls.specs.Answers.{After, HasNumberAndValuesOf};
-ghost use Rattle.calls.specs.Free.{freedAt, freeUnchecked};
+ghost use Rattle.calls.specs.Free.{superblockIndex, superblockHolding, freedAt, freeUnchecked};
 use calls::Answer;
 use calls::Outcome;
 use heap::State;
 
 // The block at the address is free again, and the move rule is followed; or refusal 2, 5, 6 or 7.
 pub fn free(s: State, order: &mut [u16], processor: u8, address: u32) -> Answer
+    requires { ⌜ passes s (now order) ≡ true ⌝ }
     ensures { λ r. ⌜ record { answer = r; order = now (order .exit) } ≡ freeUnchecked s (now (order .entry)) processor address ⌝ }
     ensures number_and_values { λ r. ⌜ HasNumberAndValuesOf (r .outcome) (freeUnchecked s (now (order .entry)) processor address .answer .outcome) ⌝ }
 {
@@ -30,6 +34,7 @@ pub fn free(s: State, order: &mut [u16], processor: u8, address: u32) -> Answer
 // The mark is cleared and the name let go, the number goes in the next place, and the emptiness invariant of the owner's heap and class is
 // restored.
 fn free_at(s: State, order: &mut [u16], address: u32) -> Answer
+    requires { ⌜ (superblockIndex address < 64) × (superblockHolding s address .owner < 9) × (superblockHolding s address .class < 27) × TotalsKept s ⌝ }
     ensures { λ r. ⌜ record { answer = r; order = now (order .exit) } ≡ freedAt s (now (order .entry)) address ⌝ }
 {
     let k = (address / 4096) as usize;

@@ -27,7 +27,8 @@ use Rattle.choicerules.specs.Choice.{emptiest}
 use Rattle.moverules.specs.Moves.{bothConditions, mustMove, transferred, foundTransferred, transfersUpTo, excessTransferred}
 use Rattle.heaplaws.proofs.ChoiceLaws.{best-of-emptiest, emptiest-has-fewest-live, none-belongs-of-emptiest-nothing}
 use Rattle.heaplaws.proofs.CountLaws.{total-with-superblock, owner-and-class-of-belongs, belongs-of-owner-and-class, one-if-belongs-is-1, one-if-belongs-other-owner, one-if-belongs-other-class, live-if-belongs-is-live-in, live-if-belongs-other-owner, live-if-belongs-other-class, belongs-of-superblocks-pos, superblocks-of-le-64, live-of-at-least-each}
-use Rattle.heaplaws.proofs.StateFacts.{WithinLimits, Sparse, TransferredFrom, TotalsKept}
+use Rattle.heaplaws.proofs.StateFacts.{WithinLimits, Sparse, TransferredFrom}
+use Rattle.heap.specs.Totals.{TotalsKept}
 use Rattle.heaplaws.proofs.TotalsLaws.{totals-kept-with-superblock}
 
 -- the conditions as orders

@@ -27,7 +27,8 @@ use Rattle.heap.specs.States.{withSuperblock, withNames, newState}
 use Rattle.heap.specs.Counts.{superblocksOf, liveOf, blocksIn, belongs}
 use Rattle.moverules.specs.Moves.{bothConditions, mustMove}
 use Rattle.checkrules.specs.Check.{within, withinLimits, superblockValid, unusedFrom, emptinessInvariant, sparseIfGlobal, namesValid, totalsValid, restValid, passes}
-use Rattle.heaplaws.proofs.StateFacts.{Shape, WithinLimits, Unused, Owned, Sparse, Sound, NamesSound, TotalsKept}
+use Rattle.heaplaws.proofs.StateFacts.{Shape, WithinLimits, Unused, Owned, Sparse, Sound, NamesSound}
+use Rattle.heap.specs.Totals.{TotalsKept}
 use Rattle.heaplaws.proofs.TotalsLaws.{totals-kept-of-valid, totals-valid-of-kept, length-recounted-superblocks, length-recounted-live}
 use Rattle.heaplaws.proofs.CountLaws.{superblock-at-replaced, superblock-at-others, owner-and-class-of-belongs, superblocks-of-new-state}
 
@@ -225,6 +226,10 @@ rest-valid-of-sound s order h names totals =
 pub sound-of-passes : (s : State) (order : List ℕ) → T (passes s order) → Sound s order
 unfolding passes
 sound-of-passes s order t = sound-of-limits-and-rest s order (both-left (withinLimits (s .setup)) _ t) (both-right (withinLimits (s .setup)) _ t)
+
+pub totals-kept-of-passes : (s : State) (order : List ℕ) → T (passes s order) → TotalsKept s
+unfolding passes
+totals-kept-of-passes s order t = totals-kept-of-rest s order (both-right (withinLimits (s .setup)) _ t)
 
 pub passes-of-sound : (s : State) (order : List ℕ) → Sound s order → T (namesValid s) → TotalsKept s → T (passes s order)
 unfolding passes

@@ -14,7 +14,7 @@ use Rattle.heap.specs.declared.Setup.{Setup}
 use Rattle.heap.specs.declared.State.{State}
 use Rattle.heap.specs.Table.{blank, superblockAt, liveIn, withOwner, isLiveBlock}
 use Rattle.heap.specs.Counts.{belongs, superblocksOf, liveOf, superblocksOfClass, liveOfClass}
-use Rattle.heap.specs.Totals.{recounted}
+use Rattle.heap.specs.Totals.{TotalsKept}
 use Rattle.moverules.specs.Moves.{mustMove}
 
 -- a way to compare superblocks, by which some are preferred and the others equal
@@ -79,10 +79,6 @@ pub record Sound (s : State) (order : List ℕ) : Type 0 where
 pub record NamesSound (s : State) : Type 0 where
   pub live : (m : ℕ) → (blockNamed (s .names) m ≡ notHeld → ⊥) → T (isLiveBlock s (blockNamed (s .names) m))
   pub distinct : (l m : ℕ) → (blockNamed (s .names) l ≡ notHeld → ⊥) → blockNamed (s .names) l ≡ blockNamed (s .names) m → l ≡ m
-
--- the totals' part of the check: "equal to the recount"
-abbrev pub TotalsKept : State → Type 0
-TotalsKept s = s .totals ≡ recounted (s .table)
 
 -- what the moves of heap h and class c, from state s, have come to: t is s with some superblocks of (h, c) passed to heap 0
 pub record TransferredFrom (h c : ℕ) (s t : State) : Type 0 where

@@ -23,10 +23,10 @@ use Rattle.heap.specs.declared.Totals.{Totals}
 use Rattle.heap.specs.declared.State.{State}
 use Rattle.heap.specs.Table.{blank, unused, superblockAt, liveIn}
 use Rattle.heap.specs.Counts.{total, belongs, oneIfBelongs, liveIfBelongs, superblocksOf, liveOf}
-use Rattle.heap.specs.Totals.{heapCount, totalCount, totalIndex, superblocksKept, liveKept, noTotals, isCounted, withCounted, countedBelow, recounted}
+use Rattle.heap.specs.Totals.{heapCount, totalCount, totalIndex, superblocksKept, liveKept, noTotals, isCounted, withCounted, countedBelow, recounted, TotalsKept}
 use Rattle.heap.specs.States.{withSuperblock, withNames, newState}
 use Rattle.checkrules.specs.Check.{sameTotals, totalsValid}
-use Rattle.heaplaws.proofs.StateFacts.{Unused, Owned, Sound, TotalsKept}
+use Rattle.heaplaws.proofs.StateFacts.{Unused, Owned, Sound}
 use Rattle.heaplaws.proofs.CountLaws.{belongs-true, owner-and-class-of-belongs, superblocks-zero-of-none-belongs}
 
 -- ---- one superblock counted

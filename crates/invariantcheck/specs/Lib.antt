@@ -1,1 +1,1 @@
-pub mod TallyInvariant
+pub mod TotalsInvariant

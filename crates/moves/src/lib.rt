@@ -2,36 +2,47 @@
 // heap 0.
 ghost use mathlib.Core.Path.{_≡_};
 ghost use Prim.Native.Nat.{_<_};
+ghost use Rattle.heap.specs.Totals.{TotalsKept};
 ghost use Rattle.moverules.specs.Moves.{mustMove, transferred, foundTransferred, excessTransferred, invariantRestored};
 use heap::Found;
 use heap::Moved;
 use heap::State;
+use heap::Superblock;
 
-// The heap and class meet both conditions of the move rule.
+// The heap and class meet both conditions of the move rule, by the totals kept.
 pub fn must_move(s: State, heap: u8, class: u8) -> bool
+    requires { ⌜ (heap < 9) × (class < 27) × TotalsKept s ⌝ }
     ensures { λ r. ⌜ r ≡ mustMove heap class s ⌝ }
 {
     let n = classes::block_count(class) as u32;
-    let k = counts::count_of(s, heap, class);
-    let a = k.superblocks * n;
+    let at = heap as usize * 27 + class as usize;
+    let a = s.totals.superblocks[at] as u32 * n;
+    let u = s.totals.live[at] as u32;
     let t = s.setup;
-    thresholds::both_conditions(t, n, a, k.live)
+    thresholds::both_conditions(t, n, a, u)
 }
 
 // Superblock k passes to heap 0; past the table's end there is none.
 fn transfer(s: State, k: usize) -> State
+    requires { ⌜ TotalsKept s ⌝ }
     ensures { λ r. ⌜ r ≡ transferred k s ⌝ }
 {
     if 64 <= k {
         return s;
     }
-    let mut t = s;
-    t.table[k].owner = 0;
-    t
+    let b = s.table[k];
+    let live = b.live;
+    let moved = Superblock {
+        owner: 0,
+        class: b.class,
+        live,
+    };
+    table::replace(s, k, moved)
 }
 
 // The superblock that was found passes to heap 0.
 fn transfer_found(s: State, found: Found) -> State
+    requires { ⌜ TotalsKept s ⌝ }
     ensures { λ r. ⌜ r ≡ foundTransferred found s ⌝ }
 {
     match found {
@@ -42,7 +53,7 @@ fn transfer_found(s: State, found: Found) -> State
 
 // The moves of a processor heap and class: as many as the rule asks, not one.
 fn transfer_excess(s: State, heap: u8, class: u8) -> Moved
-    requires { ⌜ 0 < heap ⌝ }
+    requires { ⌜ (0 < heap) × (heap < 9) × (class < 27) × TotalsKept s ⌝ }
     ensures { λ r. ⌜ r ≡ excessTransferred heap class s ⌝ }
 {
     let mut t = s;
@@ -57,6 +68,7 @@ fn transfer_excess(s: State, heap: u8, class: u8) -> Moved
 
 // The moves after a free in the heap and class; none where the heap is heap 0.
 pub fn restore_invariant(s: State, heap: u8, class: u8) -> Moved
+    requires { ⌜ (heap < 9) × (class < 27) × TotalsKept s ⌝ }
     ensures { λ r. ⌜ r ≡ invariantRestored heap class s ⌝ }
 {
     if heap == 0 {

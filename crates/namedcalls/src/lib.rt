@@ -1,6 +1,8 @@
-// A take and a free of a block called by name, behind the check, on a state by value and lent order storage of any length: what the plain
-// calls do, with the name bound to the block taken, or the held address freed. As these, they are total.
+// A take and a free of a block called by name, behind the check, on a state by value and lent order storage that pass it: what the plain
+// calls do, with the name bound to the block taken, or the held address freed.
 ghost use mathlib.Core.Path.{_≡_};
+ghost use mathlib.Core.Bool.{true};
+ghost use Rattle.checkrules.specs.Check.{passes};
 ghost use Rattle.calls.specs.Answers.{After, HasNumberAndValuesOf};
 ghost use Rattle.calls.specs.Named.{nameBound, boundBy, namedTakeUnchecked, heldAddress, namedFreeUnchecked};
 use calls::Answer;
@@ -11,6 +13,7 @@ use heap::State;
 
 // The address of a block for the size, with the name bound to it; or refusal 2, 14, 3 or 4.
 pub fn take(s: State, order: &mut [u16], processor: u8, name: u16, size: u16) -> Answer
+    requires { ⌜ passes s (now order) ≡ true ⌝ }
     ensures { λ r. ⌜ record { answer = r; order = now (order .exit) } ≡ namedTakeUnchecked s (now (order .entry)) processor name size ⌝ }
     ensures number_and_values { λ r. ⌜ HasNumberAndValuesOf (r .outcome) (namedTakeUnchecked s (now (order .entry)) processor name size .answer .outcome) ⌝ }
 {
@@ -59,6 +62,7 @@ fn bind_name(name: u16, address: u32, s: State) -> State
 
 // The block that the name points at is free again, its name let go, and the move rule is followed; or refusal 2, 15, 5, 6 or 7.
 pub fn free(s: State, order: &mut [u16], processor: u8, name: u16) -> Answer
+    requires { ⌜ passes s (now order) ≡ true ⌝ }
     ensures { λ r. ⌜ record { answer = r; order = now (order .exit) } ≡ namedFreeUnchecked s (now (order .entry)) processor name ⌝ }
     ensures number_and_values { λ r. ⌜ HasNumberAndValuesOf (r .outcome) (namedFreeUnchecked s (now (order .entry)) processor name .answer .outcome) ⌝ }
 {

@@ -1,33 +1,32 @@
-// What a free does to its superblock, the names and the order places. Each function is total, as the definitions are: past the table's 64
-// superblocks a change changes nothing.
+// What a free does to its superblock, the names and the order places.
 ghost use mathlib.Core.Path.{_≡_};
-ghost use Rattle.calls.specs.Free.{markCleared, orderPushed, blockFreed};
+ghost use Prim.Native.Nat.{_<_};
+ghost use Rattle.heap.specs.Totals.{TotalsKept};
+ghost use Rattle.calls.specs.Free.{superblockIndex, markCleared, orderPushed, blockFreed};
 use heap::State;
 use heap::Superblock;
 
 // The state with the block at the address no longer live.
 fn clear_mark(s: State, address: u32) -> State
+    requires { ⌜ (superblockIndex address < 64) × TotalsKept s ⌝ }
     ensures { λ r. ⌜ r ≡ markCleared s address ⌝ }
 {
     let k = (address / 4096) as usize;
-    if k >= 64 {
-        return s;
-    }
     let block = addresses::block_at(s, address) as usize;
     let b = s.table[k];
     let old = b.live;
     let freed = bitmap::clear_live(old, block);
-    let mut t = s;
-    t.table[k] = Superblock {
+    let cleared = Superblock {
         owner: b.owner,
         class: b.class,
         live: freed,
     };
-    t
+    table::replace(s, k, cleared)
 }
 
 // The state with that, and with no name that points at the block.
 pub fn free_block(s: State, address: u32) -> State
+    requires { ⌜ (superblockIndex address < 64) × TotalsKept s ⌝ }
     ensures { λ r. ⌜ r ≡ blockFreed s address ⌝ }
 {
     let block = addresses::block_number_at(s, address);
@@ -40,10 +39,13 @@ pub fn free_block(s: State, address: u32) -> State
 
 // Puts the number of the block at the address in the next place of its superblock's order.
 pub fn push_block(s: State, order: &mut [u16], address: u32)
+    requires { ⌜ superblockIndex address < 64 ⌝ }
     ensures { λ _. ⌜ now (order .exit) ≡ orderPushed s (now (order .entry)) address ⌝ }
 {
     let k = address / 4096;
-    let next = table::filled_at(s, k as usize);
+    let i = k as usize;
+    let b = s.table[i];
+    let next = table::filled_in(b);
     let j = addresses::block_at(s, address);
     freelists::put_place(order, k, next, j);
 }

@@ -1,5 +1,5 @@
 // The check of a state handed in: the setup numbers, the order places lent, then the rest. The rest is what is asked of each
-// superblock alone, the emptiness invariant, and the names.
+// superblock alone, then, by one recount, the totals and the emptiness invariant, and the names.
 ghost use mathlib.Core.Path.{_≡_};
 ghost use Rattle.statecheck.specs.FirstRefusal.{firstRefusal};
 use heap::State;
@@ -13,10 +13,16 @@ pub fn first_refusal(s: State, order: &[u16]) -> u8
     if first != 0 {
         return first;
     }
-    if !superblockcheck::each_valid(s, order) {
+    let table = s.table;
+    if !superblockcheck::each_valid(s.setup, table, order) {
         return 13;
     }
-    if !invariantcheck::emptiness_invariant(s) {
+    let kept = s.totals;
+    let counted = tally::recount(table);
+    if !totalscheck::same_totals(kept, counted) {
+        return 13;
+    }
+    if !invariantcheck::emptiness_invariant(s.setup, counted) {
         return 13;
     }
     if !namecheck::names_valid(s) {

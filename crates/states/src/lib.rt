@@ -10,6 +10,7 @@ use calls::Outcome;
 use heap::Setup;
 use heap::State;
 use heap::Superblock;
+use heap::Totals;
 
 // ---- whole states
 
@@ -23,7 +24,7 @@ pub fn is_processor(s: State, processor: u8) -> bool
     processor <= s.setup.processors
 }
 
-// A new setup's state: its numbers, 64 unused superblocks and no names.
+// A new setup's state: its numbers, 64 unused superblocks, no names and totals of 0.
 pub fn new_state(u: Setup) -> State
     ensures { λ r. ⌜ r ≡ newState u ⌝ }
 {
@@ -36,10 +37,14 @@ pub fn new_state(u: Setup) -> State
         setup: u,
         table: [b; 64],
         names: [65535u16; 1024],
+        totals: Totals {
+            superblocks: [0u8; 243],
+            live: [0u16; 243],
+        },
     }
 }
 
-// What a refused setup hands back: five zeros, 64 unused superblocks and no names.
+// What a refused setup hands back: five zeros, 64 unused superblocks, no names and totals of 0.
 pub fn no_state() -> State
     ensures { λ r. ⌜ r ≡ noState ⌝ }
 {

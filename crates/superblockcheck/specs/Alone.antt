@@ -2,11 +2,11 @@
 use mathlib.Core.Bool.{Bool}
 use mathlib.Core.List.{List}
 use Prim.Native.Nat.{ℕ}
+use lib.ListN.{getD}
 use Rattle.laws.specs.Sums.{both, allBelow}
 use Rattle.heap.specs.declared.Superblock.{Superblock}
 use Rattle.heap.specs.declared.Setup.{Setup}
-use Rattle.heap.specs.declared.State.{State}
-use Rattle.heap.specs.Table.{superblockAt}
+use Rattle.heap.specs.Table.{blank}
 use Rattle.checkrules.specs.Check.{superblockValid, unusedFrom, sparseIfGlobal}
 
 -- what the check asks of superblock k alone
@@ -14,5 +14,5 @@ unfoldable pub aloneValid : Setup → List ℕ → ℕ → Superblock → Bool
 aloneValid u order k b = both (superblockValid u order k b) (both (unusedFrom (u .superblocks) k b) (sparseIfGlobal u b))
 
 -- and so each superblock
-unfoldable pub eachValid : State → List ℕ → Bool
-eachValid s order = allBelow (λ k. aloneValid (s .setup) order k (superblockAt s k)) 64
+unfoldable pub eachValid : Setup → List Superblock → List ℕ → Bool
+eachValid u table order = allBelow (λ k. aloneValid u order k (getD table k blank)) 64

@@ -3,18 +3,16 @@ ghost use mathlib.Core.Path.{_≡_};
 ghost use Rattle.checkrules.specs.Check.{sparseIfGlobal};
 ghost use Rattle.superblockcheck.specs.Alone.{aloneValid, eachValid};
 use heap::Setup;
-use heap::State;
 use heap::Superblock;
 
 // Each superblock of the table passes.
-pub fn each_valid(s: State, order: &[u16]) -> bool
-    ensures { λ r. ⌜ r ≡ eachValid s (now (order .entry)) ⌝ }
+pub fn each_valid(setup: Setup, table: [Superblock; 64], order: &[u16]) -> bool
+    ensures { λ r. ⌜ r ≡ eachValid setup table (now (order .entry)) ⌝ }
 {
-    let setup = s.setup;
     let mut k: u8 = 0;
     while k < 64 {
         let i = k as usize;
-        let b = s.table[i];
+        let b = table[i];
         if !alone_valid(setup, order, k, b) {
             return false;
         }

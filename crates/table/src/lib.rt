@@ -1,11 +1,11 @@
-// Superblock k of a state.
-// Each function is total, as the definitions are: past the table's 64 superblocks the owner and the class read as 0 and nothing is
-// live, and a change there changes nothing.
+// Superblock k of a state: read, and replaced with the totals kept.
+// Each function that reads is total, as the definitions are: past the table's 64 superblocks the owner and the class read as 0.
 ghost use mathlib.Core.Path.{_≡_};
-ghost use Prim.Native.Nat.{_-_, _≤_};
+ghost use Prim.Native.Nat.{_-_, _≤_, _<_};
 ghost use Rattle.classes.specs.Classes.{blocksOf};
-ghost use Rattle.heap.specs.Table.{superblockAt, liveIn, withMarkAt};
+ghost use Rattle.heap.specs.Table.{superblockAt, liveIn};
 ghost use Rattle.heap.specs.States.{withSuperblock};
+ghost use Rattle.heap.specs.Totals.{TotalsKept};
 use heap::State;
 use heap::Superblock;
 
@@ -31,45 +31,29 @@ pub fn class_at(s: State, k: usize) -> u8
     b.class
 }
 
-// How many of its blocks are live.
-pub fn live_at(s: State, k: usize) -> u32
-    ensures { λ r. ⌜ (r ≡ liveIn (superblockAt s k)) × (r ≤ 256) ⌝ }
+// How many places of a superblock's order are filled: n - live.
+pub fn filled_in(b: Superblock) -> u16
+    ensures { λ r. ⌜ (r ≡ blocksOf (b .class) - liveIn b) × (r ≤ 256) ⌝ }
 {
-    if k >= 64 {
-        return 0;
-    }
-    let b = s.table[k];
-    predicates::live_in(b)
-}
-
-// How many places of its order are filled: n - live.
-pub fn filled_at(s: State, k: usize) -> u16
-    ensures { λ r. ⌜ (r ≡ blocksOf (superblockAt s k .class) - liveIn (superblockAt s k)) × (r ≤ 256) ⌝ }
-{
-    let class = class_at(s, k);
-    let n = classes::block_count(class) as u32;
-    let live = live_at(s, k);
+    let n = classes::block_count(b.class) as u32;
+    let live = predicates::live_in(b);
     if n < live {
         return 0;
     }
     (n - live) as u16
 }
 
-// The state with block j of superblock k live.
-pub fn mark_at(s: State, k: usize, j: usize) -> State
-    ensures { λ r. ⌜ r ≡ withSuperblock s k (withMarkAt (superblockAt s k) j) ⌝ }
+// The state with superblock k replaced: the totals no longer count the old one, and count the new one.
+pub fn replace(s: State, k: usize, b: Superblock) -> State
+    requires { ⌜ (k < 64) × TotalsKept s ⌝ }
+    ensures { λ r. ⌜ r ≡ withSuperblock s k b ⌝ }
 {
-    if k >= 64 {
-        return s;
-    }
-    let b = s.table[k];
-    let old = b.live;
-    let taken = bitmap::set_live(old, j);
+    let old = s.table[k];
+    let kept = s.totals;
+    let without = totals::count_out(kept, old);
+    let recounted = totals::count_in(without, b);
     let mut t = s;
-    t.table[k] = Superblock {
-        owner: b.owner,
-        class: b.class,
-        live: taken,
-    };
+    t.table[k] = b;
+    t.totals = recounted;
     t
 }

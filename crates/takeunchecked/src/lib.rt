@@ -1,7 +1,9 @@
-// Take behind the check, on a state by value and lent order storage of any length. What it answers is the page's answer where
-// the state passes the check, which is the caller's to make; it is total, and defined on every other state too.
+// Take behind the check, on a state by value and lent order storage that pass it: the check is the caller's to make.
 ghost use mathlib.Core.Path.{_≡_};
+ghost use mathlib.Core.Bool.{true};
 ghost use Rattle.heap.specs.declared.Found.the-variants.{Nothing};
+ghost use Rattle.checkrules.specs.Check.{passes};
+ghost use Rattle.heap.specs.Totals.{TotalsKept};
 ghost use Rattle.calls.specs.Answers.{HasNumberAndValuesOf};
 ghost use Rattle.calls.specs.Take.{otherPlaces, takenAt, takeUnchecked};
 use calls::Answer;
@@ -10,6 +12,7 @@ use heap::State;
 
 // The address of a block for the size, from place 1 or else from the other places; or refusal 2, 3 or 4.
 pub fn take(s: State, order: &mut [u16], processor: u8, size: u16) -> Answer
+    requires { ⌜ passes s (now order) ≡ true ⌝ }
     ensures { λ r. ⌜ record { answer = r; order = now (order .exit) } ≡ takeUnchecked s (now (order .entry)) processor size ⌝ }
     ensures number_and_values { λ r. ⌜ HasNumberAndValuesOf (r .outcome) (takeUnchecked s (now (order .entry)) processor size .answer .outcome) ⌝ }
 {
@@ -29,6 +32,7 @@ pub fn take(s: State, order: &mut [u16], processor: u8, size: u16) -> Answer
 
 // A block from places 2 to 4, or refusal 4.
 fn take_elsewhere(s: State, order: &mut [u16], heap: u8, class: u8) -> Answer
+    requires { ⌜ TotalsKept s ⌝ }
     ensures { λ r. ⌜ record { answer = r; order = now (order .exit) } ≡ takenAt heap class s (now (order .entry)) Nothing (otherPlaces class s) ⌝ }
 {
     let other = other_places(s, class);
