@@ -30,7 +30,7 @@ use Rattle.heaplaws.proofs.StateFacts.{Unused, Owned, Sound}
 use Rattle.heaplaws.proofs.CountLaws.{belongs-true, owner-and-class-of-belongs, superblocks-zero-of-none-belongs}
 
 -- ---- one superblock counted
-counted-heap-and-class : (b : Superblock) → isCounted b ≡ true → (b .owner < heapCount) × (b .class < 27)
+pub counted-heap-and-class : (b : Superblock) → isCounted b ≡ true → (b .owner < heapCount) × (b .class < 27)
 unfolding isCounted
 counted-heap-and-class b e =
     let t = T-of-true _ e in

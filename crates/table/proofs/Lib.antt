@@ -1,2 +1,2 @@
 pub mod PastTableLaws
-pub mod TableReadLaws
+pub mod ReplacedLaws

@@ -7,10 +7,12 @@ use native.Mathlib.Omega.{arith}
 use lib.ListN.{length, List·getD-eq-default}
 use lib.Seq.{set-out}
 use Rattle.marks.specs.Marks.{isMarked}
-use Rattle.marklaws.proofs.MarkLaws.{mark-bit-of-empty-list, no-mark-of-mark-bit-zero, live-count-zero-of-marks-clear}
+use Rattle.marklaws.proofs.MarkLaws.{mark-bit-of-empty-list, no-mark-of-mark-bit-zero}
 use Rattle.heap.specs.declared.Superblock.{Superblock}
+use Rattle.heap.specs.declared.Totals.{Totals}
 use Rattle.heap.specs.declared.State.{State}
-use Rattle.heap.specs.Table.{blank, superblockAt, liveIn, isUnused}
+use Rattle.heap.specs.Table.{blank, superblockAt, isUnused}
+use Rattle.heap.specs.Totals.{recounted, TotalsKept}
 use Rattle.heap.specs.States.{withSuperblock}
 
 module _ (s : State) (k : ℕ) (long : length (s .table) ≡ 64) (h : 64 ≤ k) where
@@ -23,9 +25,6 @@ module _ (s : State) (k : ℕ) (long : length (s .table) ≡ 64) (h : 64 ≤ k) 
   pub class-past-table : 0 ≡ superblockAt s k .class
   class-past-table = ap (λ (b : Superblock). b .class) (sym superblock-past-table-is-blank)
 
-  pub live-past-table : 0 ≡ liveIn (superblockAt s k)
-  live-past-table = sym (ap (λ (b : Superblock). liveIn b) superblock-past-table-is-blank ∙ live-count-zero-of-marks-clear [] (λ j l. mark-bit-of-empty-list j))
-
   pub not-unused-past-table : isUnused (superblockAt s k) ≡ false
   unfolding isUnused
   not-unused-past-table = ap (λ (b : Superblock). isUnused b) superblock-past-table-is-blank
@@ -33,5 +32,7 @@ module _ (s : State) (k : ℕ) (long : length (s .table) ≡ 64) (h : 64 ≤ k) 
   pub mark-past-table : (j : ℕ) → false ≡ isMarked (superblockAt s k .live) j
   mark-past-table j = sym (ap (λ (b : Superblock). isMarked (b .live) j) superblock-past-table-is-blank ∙ no-mark-of-mark-bit-zero [] j (mark-bit-of-empty-list j))
 
-  pub with-superblock-past-table : (b : Superblock) → s ≡ withSuperblock s k b
-  with-superblock-past-table b = ap (λ (l : List Superblock). record { setup = s .setup; table = l; names = s .names }) (sym (set-out (s .table) k b (omega arith)))
+  pub with-superblock-past-table : (b : Superblock) → TotalsKept s → s ≡ withSuperblock s k b
+  with-superblock-past-table b kept =
+      ap (λ (t : Totals). record { setup = s .setup; table = s .table; names = s .names; totals = t }) kept
+      ∙ ap (λ (l : List Superblock). record { setup = s .setup; table = l; names = s .names; totals = recounted l }) (sym (set-out (s .table) k b (omega arith)))
