@@ -9,7 +9,7 @@ use lib.ListN.{length}
 use borrow.Author.Tests.{eqb-true, leb-false, lt-ltb, not-false}
 use lib.Dec.{eqb, leb, ltb}
 use Rattle.laws.specs.Sums.{pick}
-use Rattle.laws.proofs.TestLaws.{T-of-true, not-T-of-false, neither-left, neither-right, pick-true}
+use Rattle.laws.proofs.TestLaws.{T-of-true, neither-left, neither-right, pick-true}
 use Rattle.classes.specs.Classes.{sizeOf, blocksOf}
 use Rattle.classes.proofs.OffsetLaws.{offset-of-block}
 use Rattle.marklaws.proofs.MarkLaws.{mark-bit-one-of-mark}
@@ -19,10 +19,10 @@ use Rattle.orderlaws.proofs.OrderLaws.{length-with-place}
 use Rattle.heap.specs.declared.Setup.{Setup}
 use Rattle.heap.specs.declared.State.{State}
 use Rattle.heap.specs.declared.Moved.{Moved}
-use Rattle.heap.specs.Table.{liveIn, isUnused}
+use Rattle.heap.specs.Table.{liveIn}
 use Rattle.heap.specs.States.{withNames}
 use Rattle.heap.specs.Counts.{superblocksOfClass, liveOfClass, ownersChanged}
-use Rattle.heaplaws.proofs.StateFacts.{Sound, Shape, Unused, Owned}
+use Rattle.heaplaws.proofs.StateFacts.{Sound, Shape}
 use Rattle.heap.specs.Totals.{TotalsKept}
 use Rattle.calls.specs.declared.Outcome.the-variants.{Moves}
 use Rattle.calls.specs.Answers.{After, refused, isProcessor}
@@ -31,7 +31,8 @@ use Rattle.calls.specs.Free.{superblockIndex, offsetOf, superblockHolding, bloc
 use Rattle.moverules.specs.Moves.{invariantRestored}
 use Rattle.calllaws.proofs.CheckedLaws.{checked-refused-or-passed, bounds-of-is-processor}
 use Rattle.calllaws.proofs.CallEffects.{Passed, FreeAccepted, FreeEffect}
-use Rattle.heaplaws.proofs.StateCheckLaws.{is-unused-of-facts, shape-with-names, sound-with-names}
+use Rattle.calllaws.proofs.AddressLaws.{mapped-below-superblocks, mapped-is-owned}
+use Rattle.heaplaws.proofs.StateCheckLaws.{shape-with-names, sound-with-names}
 use Rattle.calllaws.proofs.NamesKeptLaws.{names-valid-without-block, names-valid-after-free}
 use Rattle.calllaws.proofs.MarkClearedLaws.{LiveBlock}
 use Rattle.calllaws.proofs.InvariantRestoredLaws.{InvariantRestored, invariant-restored-after-free, invariant-restored-effect, invariant-restored-shape, invariant-restored-sound, invariant-restored-totals-kept}
@@ -103,23 +104,11 @@ module _ (s : State) (order : List ℕ) (i a : ℕ) (shape : Shape s) (acc : Fre
   unfolding addressOf blockOf
   free-address = omega (arith, offset-of-block (superblockHolding s a .class) (offsetOf a) offset-multiple-of-size)
 
-  address-below-end : a < s .setup .superblocks * 4096
-  unfolding isUnmapped
-  address-below-end = leb-false (s .setup .superblocks * 4096) a (neither-left (leb (s .setup .superblocks * 4096) a) (isUnused (superblockHolding s a)) (acc .mapped))
-
   below : superblockIndex a < s .setup .superblocks
-  below = let l = address-below-end in omega arith
-
-  not-unused : Unused (superblockHolding s a) → ⊥
-  unfolding isUnmapped
-  not-unused u = not-T-of-false (isUnused (superblockHolding s a)) (neither-right (leb (s .setup .superblocks * 4096) a) (isUnused (superblockHolding s a)) (acc .mapped)) (is-unused-of-facts (superblockHolding s a) u)
+  below = mapped-below-superblocks s order a (acc .passed .sound) (acc .mapped)
 
   owned : superblockHolding s a .owner ≡ 255 → ⊥
-  owned e = go (acc .passed .sound .each (superblockIndex a) (let h = acc .passed .sound .numbers .superblocks-high in let l = below in omega arith))
-    where
-      go : Unused (superblockHolding s a) ⊎ Owned (s .setup) order (superblockIndex a) (superblockHolding s a) → ⊥
-      go (inl u) = not-unused u
-      go (inr o) = let l = o .owner in let h = acc .passed .sound .numbers .processors-high in omega arith
+  owned e = let o = mapped-is-owned s order a (acc .passed .sound) (acc .mapped) in omega (arith, o .owner, acc .passed .sound .numbers .processors-high)
 
   block : blockOf s a < blocksOf (superblockHolding s a .class)
   unfolding isMisaligned

@@ -9,7 +9,7 @@ use borrow.Author.Tests.{eqb-true, eq-eqb, leb-false}
 use lib.ListN.{length, getD, drop}
 use lib.Dec.{eqb, leb}
 use Rattle.laws.specs.Sums.{pick}
-use Rattle.laws.proofs.TestLaws.{neither-left, neither-right}
+use Rattle.laws.proofs.TestLaws.{neither-right}
 use Rattle.classes.specs.Classes.{sizeOf, blocksOf, classOf}
 use Rattle.classes.proofs.ClassTableLaws.{blocks-of-le-256}
 use Rattle.marklaws.proofs.MarkLaws.{mark-bit-one-of-mark, marks-clear-of-live-count-zero}
@@ -20,7 +20,7 @@ use Rattle.heap.specs.declared.Setup.{Setup}
 use Rattle.heap.specs.declared.State.{State}
 use Rattle.heap.specs.declared.Found.{Found}
 use Rattle.heap.specs.declared.Found.the-variants.{At, Nothing}
-use Rattle.heap.specs.Table.{superblockAt, liveIn, isUnused}
+use Rattle.heap.specs.Table.{superblockAt, liveIn}
 use Rattle.heap.specs.States.{noState}
 use Rattle.choicerules.specs.Choice.{fullest, lowestEmpty, lowestUnused, orElse}
 use Rattle.checkrules.specs.Check.{withinLimits}
@@ -31,11 +31,12 @@ use Rattle.calls.specs.declared.Call.the-variants.{Take, Free, NamedTake, Named
 use Rattle.calls.specs.Answers.{After, refused}
 use Rattle.calls.specs.Setup.{acceptedSetup, setupOf}
 use Rattle.calls.specs.Take.{otherPlaces, acquiredOrder, takenFrom, takenFromOther, takeOf}
-use Rattle.calls.specs.Free.{superblockIndex, offsetOf, superblockHolding, blockOf, isUnmapped, isMisaligned, isLiveAt, orderPushed, freedAt, freeOf}
+use Rattle.calls.specs.Free.{superblockIndex, offsetOf, superblockHolding, blockOf, isMisaligned, isLiveAt, orderPushed, freedAt, freeOf}
 use Rattle.calls.specs.Named.{withNameBound, heldAddress}
 use Rattle.calls.specs.Calls.{callOf}
 use Rattle.calllaws.proofs.NamedCallLaws.{named-take-refused-or-accepted, named-free-refused-or-accepted}
 use Rattle.calllaws.proofs.CallEffects.{Passed, TakeAccepted, FreeAccepted}
+use Rattle.calllaws.proofs.AddressLaws.{mapped-below-superblocks}
 use Rattle.calllaws.proofs.TakeLaws.{take-refused-or-accepted}
 use Rattle.calllaws.proofs.FreeLaws.{free-refused-or-accepted}
 
@@ -172,10 +173,7 @@ module _ (s : State) (order : List ℕ) (i size : ℕ) where
 module _ (s : State) (order : List ℕ) (i a : ℕ) where
   module _ (acc : FreeAccepted s order i a) where
     freed-superblock-below-superblocks : superblockIndex a < s .setup .superblocks
-    unfolding isUnmapped
-    freed-superblock-below-superblocks =
-        let l = leb-false (s .setup .superblocks * 4096) a (neither-left (leb (s .setup .superblocks * 4096) a) (isUnused (superblockHolding s a)) (acc .mapped)) in
-        omega arith
+    freed-superblock-below-superblocks = mapped-below-superblocks s order a (acc .passed .sound) (acc .mapped)
 
     freed-block-lt-256 : blockOf s a < 256
     unfolding isMisaligned

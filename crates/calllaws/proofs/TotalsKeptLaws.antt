@@ -21,9 +21,10 @@ use Rattle.heap.specs.Totals.{heapCount, totalCount, totalIndex, superblocksKep
 use Rattle.heap.specs.States.{noState, newState}
 use Rattle.choicerules.specs.Choice.{fullest, emptiest}
 use Rattle.checkrules.specs.Check.{withinLimits, restValid}
-use Rattle.moverules.specs.Moves.{mustMove, transferred, foundTransferred, transfersUpTo, excessTransferred, invariantRestored}
+use Rattle.moverules.specs.Moves.{mustMove, foundTransferred, transfersUpTo, excessTransferred, invariantRestored}
 use Rattle.heaplaws.proofs.StateFacts.{Shape, WithinLimits}
 use Rattle.heaplaws.proofs.StateCheckLaws.{sound-of-passes}
+use Rattle.heaplaws.proofs.MoveLaws.{totals-kept-of-found-transferred}
 use Rattle.heaplaws.proofs.TotalsLaws.{new-state-totals-kept, recounted-superblocks, recounted-live, superblocks-kept-are-counted, live-kept-is-counted, totals-equal-of-each, length-recounted-superblocks, length-recounted-live, superblocks-kept-above-processors, live-kept-above-processors}
 use Rattle.calls.specs.declared.Outcome.{Outcome}
 use Rattle.calls.specs.declared.Outcome.the-variants.{Ready, Address, Moves, Refused}
@@ -60,16 +61,10 @@ totals-kept-iff-counted s shape = (totals-counted-of-kept s, kept)
         (totals-equal-of-each (s .totals .live) _ (shape .live-totals-length) (length-recounted-live (s .table)) (λ h c lh lc. each h c lh lc .1 ∙ sym (recounted-live s h c lh lc)))
 
 -- ---- calls, by their definitions alone
--- each move replaces a superblock, and the totals with it
-moved-recounted : (found : Found) (s : State) → TotalsKept s → TotalsKept (foundTransferred found s)
-unfolding foundTransferred transferred
-moved-recounted (At k) s kept = refl
-moved-recounted Nothing s kept = kept
-
 moves-recounted : (k h c m : ℕ) (s : State) → TotalsKept s → TotalsKept (transfersUpTo k h c m s .state)
 unfolding transfersUpTo
 moves-recounted zero h c m s kept = kept
-moves-recounted (suc k) h c m s kept = go (mustMove h c s) (moves-recounted k h c (m + 1) (foundTransferred (emptiest h c s) s) (moved-recounted (emptiest h c s) s kept))
+moves-recounted (suc k) h c m s kept = go (mustMove h c s) (moves-recounted k h c (m + 1) (foundTransferred (emptiest h c s) s) (totals-kept-of-found-transferred (emptiest h c s) s kept))
   where
     go : (b : Bool) → TotalsKept (transfersUpTo k h c (m + 1) (foundTransferred (emptiest h c s) s) .state)
         → TotalsKept (pick b (transfersUpTo k h c (m + 1) (foundTransferred (emptiest h c s) s)) (record { moves = m; state = s }) .state)

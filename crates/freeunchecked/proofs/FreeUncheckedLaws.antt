@@ -1,17 +1,24 @@
 -- A free behind the check, in the forms that the code's proofs ask. Assumes nothing.
-use mathlib.Core.Path.{_≡_, sym, _∙_}
+use mathlib.Core.Path.{_≡_, refl, sym, _∙_}
 use mathlib.Core.Bool.{Bool, true, false}
 use mathlib.Core.List.{List}
-use Prim.Native.Nat.{ℕ, _/_}
+use Prim.Native.Nat.{ℕ, _/_, _<_}
+use native.Mathlib.Omega.{arith}
 use borrow.Author.Tests.{not-true, not-false}
+use Rattle.laws.proofs.TestLaws.{T-of-true}
 use Rattle.heap.specs.declared.State.{State}
 use Rattle.heap.specs.declared.Moved.{Moved}
 use Rattle.heap.specs.Table.{superblockAt}
+use Rattle.heap.specs.Totals.{TotalsKept}
 use Rattle.moverules.specs.Moves.{invariantRestored}
+use Rattle.checkrules.specs.Check.{passes}
+use Rattle.heaplaws.proofs.StateFacts.{Sound}
+use Rattle.heaplaws.proofs.StateCheckLaws.{sound-of-passes, totals-kept-of-passes}
 use Rattle.calls.specs.declared.Answer.{Answer}
 use Rattle.calls.specs.declared.Outcome.the-variants.{Moves, Refused}
 use Rattle.calls.specs.Answers.{After, HasNumberAndValuesOf, isProcessor}
-use Rattle.calls.specs.Free.{isUnmapped, isMisaligned, isLiveAt, orderPushed, blockFreed, freedAt, freeUnchecked}
+use Rattle.calls.specs.Free.{superblockIndex, superblockHolding, isUnmapped, isMisaligned, isLiveAt, markCleared, orderPushed, blockFreed, freedAt, freeUnchecked}
+use Rattle.calllaws.proofs.AddressLaws.{mapped-below-64, mapped-is-owned}
 use Rattle.calls.proofs.AnswerLaws.{number-and-values-by-rules, refused-of-answer}
 
 abbrev answerAndOrder : Answer → List ℕ → After
@@ -46,6 +53,28 @@ module _ (s : State) (order : List ℕ) (i a : ℕ) (t : Bool) (p : t ≡ isProc
         pub free-unchecked-is-freed-at : (after : After) → w ≡ true → after ≡ freedAt s order a → after ≡ freeUnchecked s order i a
         unfolding freeUnchecked
         free-unchecked-is-freed-at after o h = h ∙ sym (rw (← p, f, ← g, k, ← l, m, ← n, o))
+
+-- ---- what the check and the tests of the address tell of the superblock
+module _ (s : State) (order : List ℕ) (a : ℕ) (p : passes s order ≡ true) (x : Bool) (g : x ≡ isUnmapped s a) (k : x ≡ false) where
+  sound : Sound s order
+  sound = sound-of-passes s order (T-of-true _ p)
+
+  pub freed-superblock : (superblockIndex a < 64) × (superblockHolding s a .owner < 9) × (superblockHolding s a .class < 27) × TotalsKept s
+  freed-superblock =
+      let o = mapped-is-owned s order a sound (sym g ∙ k) in
+      (mapped-below-64 s order a sound (sym g ∙ k), omega (arith, o .owner, sound .numbers .processors-high), o .class, totals-kept-of-passes s order (T-of-true _ p))
+
+-- so, of its owner and class as the code reads them
+pub freed-owner : (s : State) (a owner : ℕ) → owner ≡ superblockAt s (a / 4096) .owner → superblockHolding s a .owner < 9 → owner < 9
+freed-owner s a owner e l = rw e l
+
+pub freed-class : (s : State) (a class : ℕ) → class ≡ superblockAt s (a / 4096) .class → superblockHolding s a .class < 27 → class < 27
+freed-class s a class e l = rw e l
+
+-- the totals of the state in which the block is free are the recount too
+pub block-freed-totals-kept : (s t : State) (a : ℕ) → t ≡ blockFreed s a → TotalsKept t
+unfolding blockFreed markCleared
+block-freed-totals-kept s t a e = rw e refl
 
 pub freed-at-by-steps : (s : State) (order new : List ℕ) (a owner class : ℕ) (t : State) (m : Moved) (count : ℕ) (next : State) → owner ≡ superblockAt s (a / 4096) .owner → class ≡ superblockAt s (a / 4096) .class
     → new ≡ orderPushed s order a → t ≡ blockFreed s a → m ≡ invariantRestored owner class t → count ≡ m .moves → next ≡ m .state

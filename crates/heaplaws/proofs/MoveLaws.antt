@@ -166,6 +166,12 @@ unfolding foundTransferred transferred
 length-of-found-transferred (At k) s = length-set (s .table) k (withOwner 0 (superblockAt s k))
 length-of-found-transferred Nothing s = refl
 
+-- a superblock that passes on is replaced, and the totals with it
+pub totals-kept-of-found-transferred : (found : Found) (s : State) → TotalsKept s → TotalsKept (foundTransferred found s)
+unfolding foundTransferred transferred
+totals-kept-of-found-transferred (At k) s kept = totals-kept-with-superblock s k (withOwner 0 (superblockAt s k))
+totals-kept-of-found-transferred Nothing s kept = kept
+
 -- ---- several moves: from state s to t, and then one more
 -- superblock b of state s has become d: the two cases of TransferredFrom
 abbrev KeptOrTransferred : ℕ → ℕ → Setup → Superblock → Superblock → Type 0

@@ -1,46 +1,56 @@
 -- Laws of the move rule's code: the test, one superblock passed on, and the loop of the moves. Assumes nothing.
-use mathlib.Core.Path.{_≡_, refl, sym, ap, _∙_}
+use mathlib.Core.Path.{_≡_, refl, sym, ap, _∙_, subst}
 use mathlib.Core.Bool.{Bool, true, false, _&&_}
-use mathlib.Core.List.{List}
 use Prim.Native.Nat.{ℕ, suc, _+_, _-_, _*_, _≤_, _<_}
 use native.Mathlib.Omega.{arith}
 use mir.Syntax.{w8}
 use mir.Val.{Fits}
-use lib.ListN.{length}
-use lib.Seq.{set-out}
+use lib.ListN.{length, getD}
 use Rattle.laws.proofs.TestLaws.{T-of-true}
 use Rattle.classes.specs.Classes.{blocksOf}
-use Rattle.heap.specs.declared.Superblock.{Superblock}
 use Rattle.heap.specs.declared.State.{State}
 use Rattle.heap.specs.declared.Moved.{Moved}
 use Rattle.heap.specs.declared.Found.{Found}
 use Rattle.heap.specs.Table.{superblockAt, withOwner}
 use Rattle.heap.specs.Counts.{superblocksOf, blocksIn, liveOf}
+use Rattle.heap.specs.Totals.{superblocksKept, liveKept, TotalsKept}
+use Rattle.heap.specs.States.{withSuperblock}
 use Rattle.choicerules.specs.Choice.{emptiest}
 use Rattle.moverules.specs.Moves.{bothConditions, mustMove, transferred, foundTransferred, transfersUpTo, excessTransferred}
 use Rattle.heaplaws.proofs.CountLaws.{superblocks-of-le-64}
-use Rattle.heaplaws.proofs.MoveLaws.{length-of-found-transferred, superblocks-after-transfer, transfers-up-to-stop, transfers-up-to-step}
+use Rattle.heaplaws.proofs.TotalsLaws.{superblocks-kept-are-counted, live-kept-is-counted, recounted-superblocks-le-64}
+use Rattle.heaplaws.proofs.MoveLaws.{length-of-found-transferred, totals-kept-of-found-transferred, superblocks-after-transfer, transfers-up-to-stop, transfers-up-to-step}
+use Rattle.table.proofs.PastTableLaws.{with-superblock-past-table}
 
--- the test, from the counts
-pub must-move-from-counts : (h c : ℕ) (s : State) (n k u : ℕ) (r : Bool) → n ≡ blocksOf c → k ≡ superblocksOf h c s → u ≡ liveOf h c s
-    → r ≡ bothConditions (s .setup .spare) (s .setup .p) (s .setup .q) n (k * n) u → r ≡ mustMove h c s
-unfolding mustMove blocksIn
-must-move-from-counts h c s n k u r p q e g = rw (← p, ← q, ← e) g
+-- a total of superblocks is at most 64
+pub superblocks-total-le-64 : (s : State) (x : ℕ) → TotalsKept s → getD (s .totals .superblocks) x 0 ≤ 64
+superblocks-total-le-64 s x kept = rw kept (recounted-superblocks-le-64 (s .table) x)
 
--- past the table's end nothing passes on
-pub transferred-past-table : (k : ℕ) (s : State) → length (s .table) ≡ 64 → 64 ≤ k → s ≡ transferred k s
+-- the test, from the totals kept
+pub must-move-from-totals : (h c : ℕ) (s : State) (n : ℕ) (r : Bool) → h < 9 → c < 27 → TotalsKept s → n ≡ blocksOf c
+    → r ≡ bothConditions (s .setup .spare) (s .setup .p) (s .setup .q) n (getD (s .totals .superblocks) (h * 27 + c) 0 * n) (getD (s .totals .live) (h * 27 + c) 0) → r ≡ mustMove h c s
+unfolding mustMove blocksIn superblocksKept liveKept
+must-move-from-totals h c s n r lh lc kept p g = rw (← p, ← superblocks-kept-are-counted s h c lh lc kept, ← live-kept-is-counted s h c lh lc kept) g
+
+-- a superblock replaced by one of heap 0 has passed on; past the table's end nothing does
+pub transferred-by-replacement : (k : ℕ) (s t : State) → t ≡ withSuperblock s k (record { owner = 0; class = superblockAt s k .class; live = superblockAt s k .live }) → t ≡ transferred k s
 unfolding transferred
-transferred-past-table k s long h = sym (ap (λ (l : List Superblock). record { setup = s .setup; table = l; names = s .names }) (set-out (s .table) k (withOwner 0 (superblockAt s k)) (omega arith)))
+transferred-by-replacement k s t e = e
+
+pub transferred-past-table : (k : ℕ) (s : State) → TotalsKept s → length (s .table) ≡ 64 → 64 ≤ k → s ≡ transferred k s
+unfolding transferred
+transferred-past-table k s kept long h = with-superblock-past-table s k long h (withOwner 0 (superblockAt s k)) kept
 
 -- after m moves from state s, which left t: the moves still to be made are those from t
 pub record TransferInvariant (h c : ℕ) (s t : State) (m : ℕ) : Type 0 where
   pub transfers-left : transfersUpTo (64 - m) h c m t ≡ excessTransferred h c s
   pub superblocks-left : superblocksOf h c t + m ≡ superblocksOf h c s
   pub length-is : length (t .table) ≡ 64
+  pub totals : TotalsKept t
 
-pub transfer-invariant-start : (h c : ℕ) (s : State) → length (s .table) ≡ 64 → TransferInvariant h c s s 0
+pub transfer-invariant-start : (h c : ℕ) (s : State) → length (s .table) ≡ 64 → TotalsKept s → TransferInvariant h c s s 0
 unfolding excessTransferred
-transfer-invariant-start h c s long = record { transfers-left = refl; superblocks-left = omega arith; length-is = long }
+transfer-invariant-start h c s long kept = record { transfers-left = refl; superblocks-left = omega arith; length-is = long; totals = kept }
 
 -- no more moves than superblocks, so the count fits
 pub transfer-count-fits-w8 : (h c : ℕ) (s t : State) (m : ℕ) → TransferInvariant h c s t m → Fits w8 (m + 1)
@@ -77,4 +87,5 @@ module _ (h c : ℕ) (t next : State) (must : Bool) (found : Found) (long : leng
         transfers-left = ap (λ (x : State). transfersUpTo (64 - (m + 1)) h c (m + 1) x) next-is-emptiest-transferred ∙ sym (transfers-up-to-step (64 - (m + 1)) h c m t must-move-true) ∙ ap (λ (k : ℕ). transfersUpTo k h c m t) fuel ∙ d .transfers-left;
         superblocks-left = omega (arith, one-superblock-less);
         length-is = ap (λ (x : State). length (x .table)) next-is ∙ length-of-found-transferred found t ∙ long;
+        totals = subst TotalsKept (sym next-is) (totals-kept-of-found-transferred found t (d .totals));
       }

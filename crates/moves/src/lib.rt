@@ -16,8 +16,9 @@ pub fn must_move(s: State, heap: u8, class: u8) -> bool
 {
     let n = classes::block_count(class) as u32;
     let at = heap as usize * 27 + class as usize;
-    let a = s.totals.superblocks[at] as u32 * n;
-    let u = s.totals.live[at] as u32;
+    let kept = s.totals;
+    let a = kept.superblocks[at] as u32 * n;
+    let u = kept.live[at] as u32;
     let t = s.setup;
     thresholds::both_conditions(t, n, a, u)
 }

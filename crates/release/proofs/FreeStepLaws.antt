@@ -19,10 +19,10 @@ order-pushed-by-steps s order left a filled j ef ej e = rw (← ef, ← ej) e
 
 -- the block's mark cleared
 module _ (s : State) (a j : ℕ) (ej : j ≡ blockOf s a) where
-  pub mark-cleared-by-steps : (live : List ℕ) → live ≡ withoutMark (superblockAt s (a / 4096) .live) j
-      → withSuperblock s (a / 4096) (record { owner = superblockAt s (a / 4096) .owner; class = superblockAt s (a / 4096) .class; live = live }) ≡ markCleared s a
+  pub mark-cleared-by-steps : (live : List ℕ) (t : State) → live ≡ withoutMark (superblockAt s (a / 4096) .live) j
+      → t ≡ withSuperblock s (a / 4096) (record { owner = superblockAt s (a / 4096) .owner; class = superblockAt s (a / 4096) .class; live = live }) → t ≡ markCleared s a
   unfolding markCleared
-  mark-cleared-by-steps live e = rw (e, ej)
+  mark-cleared-by-steps live t e f = rw (f, e, ej)
 
 -- and its name let go
 pub block-freed-by-steps : (s t : State) (a block : ℕ) (names : List ℕ) → block ≡ blockNumberAt s a → names ≡ withoutBlock (s .names) block → t ≡ markCleared s a → withNames t names ≡ blockFreed s a

@@ -9,10 +9,10 @@ use Rattle.choice.proofs.scan.Statement.{statement}
 use Rattle.choice.proofs.scan.Tie as tie
 
 abbrev Inv-loop : tie.InvT-loop
-Inv-loop w n s lead₀ k₀ best k = (k ≤ n) × (best .found ≡ chosenBelow (meetsCriterion w) (preferredBy w) (s .table) k) × BestInTable (s .table) best
+Inv-loop w n table lead₀ k₀ best k = (k ≤ n) × (best .found ≡ chosenBelow (meetsCriterion w) (preferredBy w) table k) × BestInTable table best
 
 abbrev μ-loop : tie.MeasureT-loop
-μ-loop w n s lead₀ k₀ best k = n - k
+μ-loop w n table lead₀ k₀ best k = n - k
 
 loop-holds : tie.Need-loop-holds Inv-loop μ-loop
 loop-holds c = search (needs, chosen-below-zero, best-in-table-start)
@@ -20,8 +20,8 @@ loop-holds c = search (needs, chosen-below-zero, best-in-table-start)
 mul-b : tie.Need-mul-b Inv-loop μ-loop
 mul-b c = search needs
 
-element-copy-out-b : tie.Need-element-copy-out-b Inv-loop μ-loop
-element-copy-out-b c = search needs
+array-copy-out-b : tie.Need-array-copy-out-b Inv-loop μ-loop
+array-copy-out-b c = search needs
 
 best-after-requires : tie.Need-best-after-requires Inv-loop μ-loop
 best-after-requires c κs = search needs
@@ -46,7 +46,7 @@ scan-spec =
     μ-loop
     loop-holds
     mul-b
-    element-copy-out-b
+    array-copy-out-b
     best-after-requires
     add-k
     loop-less

@@ -1,5 +1,5 @@
 -- `freeunchecked::free` meets its contract. Assumes nothing.
-use Rattle.freeunchecked.proofs.FreeUncheckedLaws.{free-unchecked-clauses, free-outcomes}
+use Rattle.freeunchecked.proofs.FreeUncheckedLaws.{free-unchecked-clauses, free-outcomes, freed-superblock}
 use borrow.Author.Needs.{needs}
 use Rattle.freeunchecked.proofs.free.Statement.{statement}
 use Rattle.freeunchecked.proofs.free.Tie as tie
@@ -41,7 +41,9 @@ returns-4 : tie.Need-returns-4
 returns-4 c = free-unchecked-clauses _ _ _ _ (search free-outcomes)
 
 free-at-requires : tie.Need-free-at-requires
-free-at-requires c κs = search needs
+free-at-requires c κs =
+    let mapped = c .before .before .before .before .before in
+    freed-superblock _ _ _ (mapped .before .before .before .before .before .pre) _ (mapped .before .is-unmapped .ensures) (mapped .if2 .left)
 
 same-length : tie.Need-same-length
 same-length c = search needs

@@ -1,5 +1,5 @@
 -- `freeunchecked::free_at` meets its contract. Assumes nothing.
-use Rattle.freeunchecked.proofs.FreeUncheckedLaws.{freed-at-by-steps}
+use Rattle.freeunchecked.proofs.FreeUncheckedLaws.{freed-owner, freed-class, block-freed-totals-kept, freed-at-by-steps}
 use borrow.Author.Needs.{needs}
 use Rattle.freeunchecked.proofs.free_at.Statement.{statement}
 use Rattle.freeunchecked.proofs.free_at.Tie as tie
@@ -20,7 +20,7 @@ free-block-requires : tie.Need-free-block-requires
 free-block-requires c κs = search needs
 
 restore-invariant-requires : tie.Need-restore-invariant-requires
-restore-invariant-requires c κs = search needs
+restore-invariant-requires c κs = (search freed-owner, search freed-class, search block-freed-totals-kept)
 
 same-length : tie.Need-same-length
 same-length c = search needs

@@ -1,7 +1,6 @@
 -- `moves::transfer` meets its contract: past the table's end nothing passes on. Assumes nothing.
-use Rattle.moves.proofs.TransferLoopLaws.{transferred-past-table}
 use Rattle.laws.proofs.ReplacedElement.{length-of-length-map}
-use Rattle.moverules.specs.Moves.{transferred}
+use Rattle.moves.proofs.TransferLoopLaws.{transferred-past-table, transferred-by-replacement}
 use borrow.Author.Needs.{needs}
 use Rattle.moves.proofs.transfer.Statement.{statement}
 use Rattle.moves.proofs.transfer.Tie as tie
@@ -9,15 +8,17 @@ use Rattle.moves.proofs.transfer.Tie as tie
 returns : tie.Need-returns
 returns c = search (transferred-past-table, length-of-length-map)
 
-mul-t : tie.Need-mul-t
-mul-t c = search needs
+mul-b : tie.Need-mul-b
+mul-b c = search needs
 
-way-write-given-t : tie.Need-way-write-given-t
-way-write-given-t c = search needs
+element-copy-out-b : tie.Need-element-copy-out-b
+element-copy-out-b c = search needs
+
+replace-requires : tie.Need-replace-requires
+replace-requires c κs = search needs
 
 returns-2 : tie.Need-returns-2
-unfolding transferred
-returns-2 c = search needs
+returns-2 c = search transferred-by-replacement
 
 pub transfer-spec : {M : Type 1} → statement M
-transfer-spec = tie.close (tie.spec returns mul-t way-write-given-t returns-2)
+transfer-spec = tie.close (tie.spec returns mul-b element-copy-out-b replace-requires returns-2)

@@ -1,14 +1,20 @@
 -- `release::push_block` meets its contract. Assumes nothing.
-use borrow.Author.Needs.{needs}
 use Rattle.release.proofs.FreeStepLaws.{order-pushed-by-steps}
+use borrow.Author.Needs.{needs}
 use Rattle.release.proofs.push_block.Statement.{statement}
 use Rattle.release.proofs.push_block.Tie as tie
 
-cast-filled-at : tie.Need-cast-filled-at
-cast-filled-at c = search needs
+cast-i : tie.Need-cast-i
+cast-i c = search needs
 
-filled-at-requires : tie.Need-filled-at-requires
-filled-at-requires c κs = search needs
+mul-b : tie.Need-mul-b
+mul-b c = search needs
+
+element-copy-out-b : tie.Need-element-copy-out-b
+element-copy-out-b c = search needs
+
+filled-in-requires : tie.Need-filled-in-requires
+filled-in-requires c κs = search needs
 
 block-at-requires : tie.Need-block-at-requires
 block-at-requires c κs = search needs
@@ -26,8 +32,10 @@ pub push-block-spec : {M : Type 1} → statement M
 push-block-spec =
     tie.close
     (tie.spec
-    cast-filled-at
-    filled-at-requires
+    cast-i
+    mul-b
+    element-copy-out-b
+    filled-in-requires
     block-at-requires
     put-place-requires
     same-length
