@@ -4,13 +4,16 @@ use mathlib.Core.Bool.{Bool, true, false, not}
 use mathlib.Core.List.{List, [], _∷_, _++_, map}
 use Prim.Native.Nat.{ℕ, _-_, _^_}
 use lib.ListN.{length, replicate}
+use Rattle.laws.specs.Lists.{increased}
 use Rattle.names.specs.Names.{noNames, withName}
 use Rattle.heap.specs.declared.Superblock.{Superblock}
 use Rattle.heap.specs.declared.Setup.{Setup}
+use Rattle.heap.specs.declared.Totals.{Totals}
 use Rattle.heap.specs.declared.State.{State}
 use Rattle.heap.specs.Table.{unused}
+use Rattle.heap.specs.Totals.{noTotals}
 use Rattle.heap.specs.States.{withNames}
-use Rattle.checkrules.specs.Check.{withinLimits, superblockValid, unusedFrom, emptinessInvariant, sparseIfGlobal, namesValid}
+use Rattle.checkrules.specs.Check.{withinLimits, superblockValid, unusedFrom, emptinessInvariant, sparseIfGlobal, namesValid, totalsValid}
 use Rattle.heap.proofs.TableCases.{of, small-setup}
 use Rattle.heap.proofs.CaseStates.{unnamedState}
 use Rattle.checkrules.proofs.CheckDefinitions.{checkDefinitions}
@@ -82,3 +85,37 @@ pub names-valid-cases :
     ≡ true ∷ true ∷ false ∷ false ∷ false ∷ false ∷ false ∷ false ∷ []
 unfolding checkDefinitions
 names-valid-cases = refl
+
+-- ---- "equal to the recount": the totals of three superblocks, heap 1's of class 23 with two live blocks and of class 25, full, and heap 0's of class 24 with one
+abbrev pub with-totals : Totals → State
+with-totals t = let s = unnamedState small-setup (of 1 23 5 ∷ of 0 24 2 ∷ of 1 25 3 ∷ replicate 61 unused) in record { setup = s .setup; table = s .table; names = s .names; totals = t }
+
+-- these, changed: n more superblocks at x, m more live blocks at y
+abbrev pub totals-with : ℕ → ℕ → ℕ → ℕ → Totals
+totals-with n x m y =
+    record {
+      superblocks = increased 24 1 (increased x n (increased 50 1 (increased 52 1 (noTotals .superblocks))));
+      live = increased 24 1 (increased y m (increased 50 2 (increased 52 2 (noTotals .live))));
+    }
+
+-- right; then wrong by one: superblocks, live blocks, of heap 1, of heap 0, of heap 3, which is above P, and of the last heap and class; by the widest numbers
+pub totals-valid-cases :
+    map (λ (t : Totals). totalsValid (with-totals t))
+    (totals-with 0 0 0 0 ∷ totals-with 1 50 0 0 ∷ totals-with 0 0 1 50 ∷ totals-with 1 24 0 0 ∷ totals-with 0 0 1 24 ∷ totals-with 1 81 0 0 ∷ totals-with 0 0 1 81 ∷ totals-with 1 242 0 0 ∷ totals-with 0 0 1 242 ∷ totals-with 0 0 65535 0 ∷ noTotals ∷ [])
+    ≡ true ∷ replicate 10 false
+unfolding checkDefinitions
+totals-valid-cases = refl
+
+-- one too few, and two that cancel out: a live block, or a superblock, in another class of the heap, or in another heap
+abbrev pub exchanged-totals : ℕ → ℕ → ℕ → ℕ → Totals
+exchanged-totals a b c d =
+    record {
+      superblocks = increased 24 1 (increased 50 a (increased 52 b (noTotals .superblocks)));
+      live = increased 24 1 (increased 50 c (increased 52 d (noTotals .live)));
+    }
+
+pub totals-cancel-cases :
+    map (λ (t : Totals). totalsValid (with-totals t)) (exchanged-totals 1 1 2 2 ∷ exchanged-totals 0 1 2 2 ∷ exchanged-totals 1 1 2 1 ∷ exchanged-totals 2 0 2 2 ∷ exchanged-totals 1 1 1 3 ∷ [])
+    ≡ true ∷ replicate 4 false
+unfolding checkDefinitions
+totals-cancel-cases = refl

@@ -4,9 +4,10 @@ use mathlib.Core.Bool.{true, false}
 use mathlib.Core.List.{List, [], _∷_, _++_}
 use Prim.Native.Nat.{ℕ}
 use lib.ListN.{replicate}
-use Rattle.names.specs.Names.{withName}
+use Rattle.names.specs.Names.{noNames, withName}
 use Rattle.heap.specs.declared.State.{State}
 use Rattle.heap.specs.Table.{unused}
+use Rattle.heap.specs.Totals.{noTotals}
 use Rattle.heap.specs.States.{withSuperblock, withNames}
 use Rattle.checkrules.specs.Check.{passes}
 use Rattle.heap.proofs.TableCases.{of}
@@ -22,7 +23,7 @@ abbrev pub three-superblocks-order : List ℕ
 three-superblocks-order = 1 ∷ replicate 255 8 ++ 0 ∷ replicate 511 9
 
 -- it passes; and does not with q = 9; with a place that holds another block; with superblock 3 in use; with two empty ones of class 26 in heap 1; with heap 0's just not sparse;
--- with a name at block 0 of superblock 1, which is not live
+-- with a name at block 0 of superblock 1, which is not live; with totals of 0
 pub passes-cases :
     passes three-superblocks three-superblocks-order
     ∷ passes (unnamedState (setup-with 1 3 1 3 9) (three-superblocks .table)) three-superblocks-order
@@ -31,7 +32,8 @@ pub passes-cases :
     ∷ passes (unnamedState (setup-with 1 4 1 3 7) (of 1 23 5 ∷ of 1 26 0 ∷ of 1 25 3 ∷ of 1 26 0 ∷ replicate 60 unused)) (1 ∷ replicate 255 8 ++ 0 ∷ 1 ∷ replicate 510 9 ++ 0 ∷ 1 ∷ [])
     ∷ passes (unnamedState (setup-with 1 3 1 4 8) (three-superblocks .table)) three-superblocks-order
     ∷ passes (withNames three-superblocks (withName (three-superblocks .names) 9 256)) three-superblocks-order
+    ∷ passes (record { setup = three-superblocks .setup; table = three-superblocks .table; names = noNames; totals = noTotals }) three-superblocks-order
     ∷ []
-    ≡ true ∷ false ∷ false ∷ false ∷ false ∷ false ∷ false ∷ []
+    ≡ true ∷ false ∷ false ∷ false ∷ false ∷ false ∷ false ∷ false ∷ []
 unfolding checkDefinitions
 passes-cases = refl

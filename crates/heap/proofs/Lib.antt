@@ -1,2 +1,3 @@
 pub mod CaseStates
 pub mod TableCases
+pub mod TotalsCases

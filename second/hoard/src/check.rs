@@ -1,19 +1,14 @@
 //! The check of a state handed in.
 
-use crate::engine::{over_emptiness_threshold, Usage};
+use crate::engine::over_emptiness_threshold;
 use crate::names::NOT_HELD;
 use crate::outcome::Refusal;
 use crate::size_class::SIZE_CLASSES;
 use crate::state::{Setup, State, Superblock, GLOBAL_HEAP, ORDER_PLACES};
-
-/// Most processors of a setup within limits.
-const MOST_PROCESSORS: usize = 8;
+use crate::totals::Totals;
 
 /// Names that are passed over together where none is held.
 const NAMES_AT_ONCE: usize = 16;
-
-/// Live and all blocks of each heap and class.
-type UsageTable = [[Usage; SIZE_CLASSES.len()]; MOST_PROCESSORS + 1];
 
 /// Whether the five setup numbers are within their limits.
 pub fn setup_within_limits(setup: &Setup) -> bool {
@@ -58,10 +53,11 @@ pub fn check_handed_in(state: &State, order: &[u16]) -> Result<(), Refusal> {
     Ok(())
 }
 
-/// The check of the superblocks, with the usage of every heap counted on the way.
+/// The check of the superblocks and of the totals, which are counted anew on the
+/// way. Those handed in may be any numbers: they are read once they are right.
 fn superblocks_are_sound(state: &State, order: &[u16]) -> bool {
     let setup = &state.control.setup;
-    let mut usage: UsageTable = Default::default();
+    let mut recount = Totals::NONE;
     for (number, superblock) in state.superblocks.iter().enumerate() {
         if *superblock == Superblock::UNUSED {
             continue;
@@ -73,15 +69,18 @@ fn superblocks_are_sound(state: &State, order: &[u16]) -> bool {
             return false;
         }
         let places = &order[number * ORDER_PLACES..][..ORDER_PLACES];
-        if !marks_are_in_range(superblock) || !order_is_sound(superblock, places) {
+        let live = superblock.live_count();
+        if !marks_are_in_range(superblock) || !order_is_sound(superblock, live, places) {
             return false;
         }
-        if superblock.owner == GLOBAL_HEAP && !empty_enough_for_global(setup, superblock) {
+        let is_global = superblock.owner == GLOBAL_HEAP;
+        if is_global && !empty_enough_for_global(setup, superblock, live) {
             return false;
         }
-        usage[usize::from(superblock.owner)][usize::from(superblock.class)].add(superblock);
+        recount.add(superblock.owner, superblock.class, live);
     }
-    !any_heap_over_threshold(setup, &usage)
+    let totals = &state.control.totals;
+    recount == *totals && !any_heap_over_threshold(setup, totals)
 }
 
 /// Whether each held name points at a live block and no two at one, in superblocks
@@ -121,13 +120,14 @@ fn marks_are_in_range(superblock: &Superblock) -> bool {
     })
 }
 
-/// Whether the filled order places of an owned superblock hold each unmarked
-/// block just once. There are as many filled places as unmarked blocks, so it is
-/// enough that no block is marked, out of range or met before.
-fn order_is_sound(superblock: &Superblock, places: &[u16]) -> bool {
+/// Whether the filled order places of an owned superblock, of whose blocks `live`
+/// are marked, hold each unmarked block just once. There are as many filled places
+/// as unmarked blocks, so it is enough that no block is marked, out of range or met
+/// before.
+fn order_is_sound(superblock: &Superblock, live: u32, places: &[u16]) -> bool {
     let blocks = superblock.size_class().blocks;
     let mut taken = superblock.live;
-    for &place in &places[..superblock.free_count() as usize] {
+    for &place in &places[..(blocks - live) as usize] {
         let block = u32::from(place);
         if block >= blocks {
             return false;
@@ -142,16 +142,20 @@ fn order_is_sound(superblock: &Superblock, places: &[u16]) -> bool {
 }
 
 /// Whether a superblock of the global heap is as empty as a moved one must be.
-fn empty_enough_for_global(setup: &Setup, superblock: &Superblock) -> bool {
+fn empty_enough_for_global(setup: &Setup, superblock: &Superblock, live: u32) -> bool {
     let (p, q) = (u32::from(setup.p), u32::from(setup.q));
-    q * superblock.live_count() < (q - p) * superblock.size_class().blocks
+    q * live < (q - p) * superblock.size_class().blocks
 }
 
-/// Whether a processor heap and class should have given up a superblock.
-fn any_heap_over_threshold(setup: &Setup, usage: &UsageTable) -> bool {
-    usage[1..=usize::from(setup.processors)].iter().any(|heap| {
-        heap.iter()
-            .zip(&SIZE_CLASSES)
-            .any(|(usage, class)| over_emptiness_threshold(setup, class, usage))
+/// Whether a processor heap and class should have given up a superblock. One of up
+/// to K superblocks has no more than K superblocks' worth of free blocks.
+fn any_heap_over_threshold(setup: &Setup, totals: &Totals) -> bool {
+    (1..=setup.processors).any(|heap| {
+        let owned = (0u8..).zip(totals.superblocks[usize::from(heap)]);
+        let mut classes = owned.filter(|&(_, superblocks)| superblocks > setup.spare);
+        classes.any(|(class, _)| {
+            let usage = totals.usage(heap, class);
+            over_emptiness_threshold(setup, &SIZE_CLASSES[usize::from(class)], &usage)
+        })
     })
 }

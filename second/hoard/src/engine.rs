@@ -6,23 +6,7 @@ use crate::outcome::{Answer, Outcome, Refusal};
 use crate::record::Command;
 use crate::size_class::{class_of_size, SizeClass, SIZE_CLASSES, SUPERBLOCK_BYTES};
 use crate::state::{Setup, State, Superblock, GLOBAL_HEAP, ORDER_PLACES, UNUSED_OWNER};
-
-/// Blocks of one heap and class.
-#[derive(Clone, Copy, Debug, Default, PartialEq, Eq)]
-pub struct Usage {
-    /// Live blocks (u).
-    pub live: u32,
-    /// All blocks, live or not (a).
-    pub blocks: u32,
-}
-
-impl Usage {
-    /// Counts a superblock in.
-    pub fn add(&mut self, superblock: &Superblock) {
-        self.live += superblock.live_count();
-        self.blocks += superblock.size_class().blocks;
-    }
-}
+use crate::totals::Usage;
 
 /// Where a take finds its superblock.
 struct Offer {
@@ -45,7 +29,7 @@ pub fn run(command: &Command, state: &State, order: &mut [u16]) -> Answer {
     }
 }
 
-/// Sets up: every superblock unused, the order places of the setup all 0.
+/// Sets up: every superblock unused, totals and the order places of the setup all 0.
 pub fn setup(asked: Setup, order: &mut [u16]) -> Answer {
     if let Err(refusal) = check_setup(&asked, order) {
         return Answer {
@@ -125,21 +109,35 @@ fn take_block(
     let class = class_of_size(size).ok_or(Refusal::Size)?;
     let offer = find_superblock(state, processor, class).ok_or(Refusal::NoSuperblock)?;
 
-    let superblock = &mut state.superblocks[offer.number];
     let places = places_of(order, offer.number);
     if !offer.from_own_heap {
-        superblock.owner = processor;
-        if superblock.live_count() == 0 {
-            renew(superblock, class, places);
-        }
+        acquire(state, offer.number, processor, class, places);
     }
+    let superblock = &mut state.superblocks[offer.number];
     let last_filled = superblock.free_count() - 1;
     let block = u32::from(places[last_filled as usize]);
     superblock.mark(block);
+    state.control.totals.add_live(processor, class);
     Ok(BlockId {
         superblock: offer.number,
         block,
     })
+}
+
+/// Gives a superblock of the global heap, or an unused one, to a processor's heap,
+/// renewed for the class if nothing in it is live.
+fn acquire(state: &mut State, number: usize, processor: u8, class: u8, places: &mut [u16]) {
+    let superblock = &mut state.superblocks[number];
+    let totals = &mut state.control.totals;
+    let live = superblock.live_count();
+    if superblock.owner == GLOBAL_HEAP {
+        totals.remove(GLOBAL_HEAP, superblock.class, live);
+    }
+    superblock.owner = processor;
+    if live == 0 {
+        renew(superblock, class, places);
+    }
+    totals.add(processor, class, live);
 }
 
 /// The free itself, of a live block in a state that has passed. Returns the number
@@ -152,6 +150,7 @@ fn free_block(state: &mut State, freed: BlockId, order: &mut [u16]) -> u32 {
     state.control.names.release(freed);
 
     let (owner, class) = (superblock.owner, superblock.class);
+    state.control.totals.remove_live(owner, class);
     if owner == GLOBAL_HEAP {
         return 0;
     }
@@ -258,27 +257,22 @@ fn places_of(order: &mut [u16], number: usize) -> &mut [u16] {
 fn transfer_excess(state: &mut State, heap: u8, class: u8) -> u32 {
     let mut moves = 0;
     while heap_is_over_threshold(state, heap, class) {
-        let Some(number) = emptiest(state, heap, class) else {
+        let Some((number, live)) = emptiest(state, heap, class) else {
             break;
         };
         state.superblocks[number].owner = GLOBAL_HEAP;
+        let totals = &mut state.control.totals;
+        totals.remove(heap, class, live);
+        totals.add(GLOBAL_HEAP, class, live);
         moves += 1;
     }
     moves
 }
 
 fn heap_is_over_threshold(state: &State, heap: u8, class: u8) -> bool {
-    let mut usage = Usage::default();
-    for superblock in &state.superblocks {
-        if superblock.owner == heap && superblock.class == class {
-            usage.add(superblock);
-        }
-    }
-    over_emptiness_threshold(
-        &state.control.setup,
-        &SIZE_CLASSES[usize::from(class)],
-        &usage,
-    )
+    let usage = state.control.totals.usage(heap, class);
+    let class = &SIZE_CLASSES[usize::from(class)];
+    over_emptiness_threshold(&state.control.setup, class, &usage)
 }
 
 /// Whether both conditions of the move rule hold: more than K superblocks' worth
@@ -286,12 +280,13 @@ fn heap_is_over_threshold(state: &State, heap: u8, class: u8) -> bool {
 pub fn over_emptiness_threshold(setup: &Setup, class: &SizeClass, usage: &Usage) -> bool {
     let (p, q) = (u32::from(setup.p), u32::from(setup.q));
     let spare_blocks = u32::from(setup.spare) * class.blocks;
-    usage.live + spare_blocks < usage.blocks && q * usage.live < (q - p) * usage.blocks
+    let blocks = usage.superblocks * class.blocks;
+    usage.live + spare_blocks < blocks && q * usage.live < (q - p) * blocks
 }
 
 /// The superblock of a heap and class with fewest live, the lower number among
-/// equals.
-fn emptiest(state: &State, heap: u8, class: u8) -> Option<usize> {
+/// equals, and how many these are.
+fn emptiest(state: &State, heap: u8, class: u8) -> Option<(usize, u32)> {
     let mut best: Option<(usize, u32)> = None;
     for (number, superblock) in state.superblocks.iter().enumerate() {
         if superblock.owner != heap || superblock.class != class {
@@ -302,5 +297,5 @@ fn emptiest(state: &State, heap: u8, class: u8) -> Option<usize> {
             best = Some((number, live));
         }
     }
-    best.map(|(number, _)| number)
+    best
 }

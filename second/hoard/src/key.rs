@@ -2,11 +2,11 @@
 
 use std::fmt::{self, Display, Write};
 
-use crate::engine::{run, Usage};
+use crate::engine::run;
 use crate::outcome::{Outcome, Refusal};
 use crate::record::{decode, Command, Stop, LONGEST_RECORD};
-use crate::size_class::SIZE_CLASSES;
 use crate::state::{Setup, State, ORDER_PLACES, SUPERBLOCKS};
+use crate::totals::{Usage, CLASSES};
 
 /// The whole printed key of a record.
 pub fn key(record: &[u8]) -> Vec<u8> {
@@ -56,27 +56,15 @@ fn print_commands(record: &[u8], text: &mut String) -> Result<State, Stop> {
 /// Prints a line for each heap and class with a superblock.
 fn print_heaps(state: &State, text: &mut String) {
     for heap in 0..=state.control.setup.processors {
-        for class in 0..SIZE_CLASSES.len() as u8 {
-            print_heap_and_class(state, heap, class, text);
+        for class in 0..CLASSES as u8 {
+            let Usage { superblocks, live } = state.control.totals.usage(heap, class);
+            if superblocks > 0 {
+                print_line(
+                    text,
+                    format_args!("heap {heap} class {class} superblocks {superblocks} live {live}"),
+                );
+            }
         }
-    }
-}
-
-fn print_heap_and_class(state: &State, heap: u8, class: u8, text: &mut String) {
-    let mut superblocks = 0;
-    let mut usage = Usage::default();
-    for superblock in &state.superblocks {
-        if superblock.owner == heap && superblock.class == class {
-            superblocks += 1;
-            usage.add(superblock);
-        }
-    }
-    if superblocks > 0 {
-        let live = usage.live;
-        print_line(
-            text,
-            format_args!("heap {heap} class {class} superblocks {superblocks} live {live}"),
-        );
     }
 }
 

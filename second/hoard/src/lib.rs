@@ -3,13 +3,14 @@
 //! A record is a setup and a run of takes and frees. Heap 0 is the global heap,
 //! heaps 1 to P belong to processors. Each superblock holds blocks of one size
 //! class and has a free list, kept in the lent order storage. A take may give its
-//! block a name, by which it may be freed. [`setup`], [`take`], [`free`],
+//! block a name, by which it may be freed. The state has the totals of each heap and
+//! class: its superblocks and live blocks. [`setup`], [`take`], [`free`],
 //! [`take_named`] and [`free_named`] are the calls, [`run`] makes the one that a
 //! command asks for; those on superblocks lent as a row end in `_row`; [`key`]
 //! answers a whole record.
 //!
-//! The engine scans: nothing is cached between calls, and each call checks the
-//! whole state it is given.
+//! The engine scans: nothing but the state goes from call to call, and each call
+//! checks the whole state it is given.
 
 mod check;
 mod engine;
@@ -20,11 +21,10 @@ mod record;
 mod row;
 mod size_class;
 mod state;
+mod totals;
 
 pub use check::{check_handed_in, setup_within_limits};
-pub use engine::{
-    free, free_named, over_emptiness_threshold, renew, run, setup, take, take_named, Usage,
-};
+pub use engine::{free, free_named, over_emptiness_threshold, renew, run, setup, take, take_named};
 pub use key::key;
 pub use names::{BlockId, Names, NAMES, NOT_HELD};
 pub use outcome::{Answer, Outcome, Refusal, RowAnswer};
@@ -37,3 +37,4 @@ pub use size_class::{class_of_size, SizeClass, SIZE_CLASSES, SUPERBLOCK_BYTES};
 pub use state::{
     Control, Setup, State, Superblock, GLOBAL_HEAP, ORDER_PLACES, SUPERBLOCKS, UNUSED_OWNER,
 };
+pub use totals::{Totals, Usage, CLASSES, HEAPS};

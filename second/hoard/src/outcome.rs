@@ -64,8 +64,8 @@ pub struct Answer {
     pub state: State,
 }
 
-/// Outcome of a call on a lent row and the setup numbers and names handed back;
-/// the superblocks are in the row.
+/// Outcome of a call on a lent row and the setup numbers, names and totals handed
+/// back; the superblocks are in the row.
 #[derive(Clone, Debug, PartialEq, Eq)]
 pub struct RowAnswer {
     pub outcome: Outcome,

@@ -1,6 +1,6 @@
 //! The calls on a lent row: the superblocks are records that the caller lends, in
-//! a row of any length, and an accepted call edits them there. Setup numbers and
-//! names go in and come back by value.
+//! a row of any length, and an accepted call edits them there. Setup numbers,
+//! names and totals go in and come back by value.
 
 use crate::check::{check_numbers_and_storage, check_setup};
 use crate::engine::{run, setup};
@@ -23,7 +23,8 @@ pub fn run_row(
 
 /// Sets up on a lent row. Refusals: 1, 12, then 13 for a row that is not 64
 /// long. What the row holds is not checked; an accepted setup writes every
-/// record as unused. A refused one hands back five zeros and writes nothing.
+/// record as unused. A refused one hands back five zeros, no name and totals of 0,
+/// and writes nothing.
 pub fn setup_row(asked: Setup, row: &mut [Superblock], order: &mut [u16]) -> RowAnswer {
     let refusal = match check_setup(&asked, order) {
         Err(refusal) => Some(refusal),
@@ -38,7 +39,8 @@ pub fn setup_row(asked: Setup, row: &mut [Superblock], order: &mut [u16]) -> Row
 
 /// Takes a block on a lent row. Refusals: 13 for the setup numbers, 12, 13 for
 /// the row's length and the rest of the check, then the take's own. A refused
-/// take changes nothing and hands back the setup numbers and names it was given.
+/// take changes nothing and hands back the setup numbers, names and totals it was
+/// given.
 pub fn take_row(
     control: Control,
     row: &mut [Superblock],

@@ -1,7 +1,9 @@
-//! Setup, superblocks and the state handed from call to call, names included.
+//! Setup, superblocks and the state handed from call to call, names and totals
+//! included.
 
 use crate::names::{BlockId, Names};
 use crate::size_class::{SizeClass, SIZE_CLASSES, SUPERBLOCK_BYTES};
+use crate::totals::Totals;
 
 /// Superblocks that a state carries, used or not.
 pub const SUPERBLOCKS: usize = 64;
@@ -109,19 +111,21 @@ impl Superblock {
 pub struct Control {
     pub setup: Setup,
     pub names: Names,
+    pub totals: Totals,
 }
 
 impl Control {
-    /// A setup with no name held.
+    /// A setup with no name held and totals of 0.
     pub fn new(setup: Setup) -> Control {
         Control {
             setup,
             names: Names::NONE,
+            totals: Totals::NONE,
         }
     }
 }
 
-/// What a call is handed and hands back: setup, names and 64 superblocks.
+/// What a call is handed and hands back: setup, names, totals and 64 superblocks.
 #[derive(Clone, Debug, PartialEq, Eq)]
 pub struct State {
     pub control: Control,
@@ -129,7 +133,7 @@ pub struct State {
 }
 
 impl State {
-    /// A state with every superblock unused and no name held.
+    /// A state with every superblock unused, no name held and totals of 0.
     pub fn new(setup: Setup) -> State {
         State {
             control: Control::new(setup),

@@ -1,18 +1,26 @@
 //! Setup, take and free on states and storage handed in.
 
 use hoard::{free, free_named, renew, setup, take, take_named};
-use hoard::{Answer, Outcome, Refusal, Setup, State, Superblock, ORDER_PLACES, SUPERBLOCKS};
+use hoard::{Answer, Outcome, Refusal, Setup, State, Superblock, Totals};
+use hoard::{ORDER_PLACES, SUPERBLOCKS};
 
 fn numbers(processors: u8, superblocks: u8, spare: u8, p: u8, q: u8) -> Setup {
     Setup::from_numbers([processors, superblocks, spare, p, q])
 }
 
-/// Gives superblock `number` to a heap with the first `live` blocks live.
+/// Gives superblock `number` to a heap with the first `live` blocks live, and puts
+/// the totals right.
 fn own(state: &mut State, order: &mut [u16], number: usize, owner: u8, class: u8, live: u32) {
     let superblock = &mut state.superblocks[number];
     superblock.owner = owner;
     renew(superblock, class, &mut order[number * ORDER_PLACES..]);
     (0..live).for_each(|block| superblock.mark(block));
+    recount(state);
+}
+
+/// Puts the totals right for the superblocks as they are.
+fn recount(state: &mut State) {
+    state.control.totals = Totals::recount(&state.superblocks);
 }
 
 /// A state of six superblocks of class 16 with 7, 7, 7, 8, 8, 8 live.
@@ -223,6 +231,7 @@ fn setup_numbers_before_storage_before_the_rest() {
     for (processor, size) in [(1, 0), (0, 0), (1, 2049), (0, 2049)] {
         let (mut state, mut order) = on_the_threshold();
         state.superblocks[0].owner = 2;
+        recount(&mut state);
         assert_eq!(refused(&take(&state, processor, size, &mut order)), 13);
         let short = &mut order[1..];
         assert_eq!(refused(&take(&state, processor, size, short)), 12);
@@ -252,17 +261,19 @@ fn refused_calls_hand_back_the_state_they_were_given() {
     assert_eq!(order, before);
 }
 
-/// Checks that one change to a sound state makes it fail.
+/// Checks that one change to a sound state, with right totals for it, makes it fail.
 fn fails_after(change: impl Fn(&mut State, &mut Vec<u16>)) {
     let (mut state, mut order) = on_the_threshold();
     state.superblocks[5] = Superblock::UNUSED;
     state.control.setup.spare = 2;
+    recount(&mut state);
     assert_eq!(
         take(&state, 1, 16, &mut order).outcome,
         Outcome::At(5 * 4096)
     );
     let (_, mut order) = on_the_threshold();
     change(&mut state, &mut order);
+    recount(&mut state);
     assert_eq!(refused(&take(&state, 1, 16, &mut order)), 13);
     assert_eq!(refused(&free(&state, 1, 0, &mut order)), 13);
     assert_eq!(refused(&take_named(&state, 1, 0, 16, &mut order)), 13);

@@ -2,7 +2,7 @@
 
 use hoard::{free_named_row, free_row, renew, run, run_row, setup, setup_row};
 use hoard::{take_named_row, take_row, BlockId, Command, Control, Names, Outcome, RowAnswer};
-use hoard::{Setup, State, Superblock, ORDER_PLACES, SUPERBLOCKS};
+use hoard::{Setup, State, Superblock, Totals, Usage, ORDER_PLACES, SUPERBLOCKS};
 
 const LENGTHS: [usize; 5] = [0, 1, 63, 64, 65];
 
@@ -38,6 +38,7 @@ fn sound() -> (State, Vec<u16>) {
     renew(&mut state.superblocks[0], 26, &mut order);
     state.superblocks[0].mark(0);
     state.control.names.bind(7, FIRST_BLOCK);
+    state.control.totals = Totals::recount(&state.superblocks);
     (state, order)
 }
 
@@ -58,8 +59,8 @@ fn setup_is_refused(asked: Setup, length: usize, places: usize, refusal: u8) {
     assert_eq!(order, vec![7; places]);
 }
 
-/// Takes and frees, plain and by name, that are all refused: numbers, names, row and
-/// storage as they were.
+/// Takes and frees, plain and by name, that are all refused: numbers, names, totals,
+/// row and storage as they were.
 fn calls_are_refused(state: &State, length: usize, order: &[u16], refusal: u8) {
     let control = || state.control.clone();
     // The last two pairs of calls would have refusals of their own.
@@ -130,22 +131,27 @@ fn state_numbers_before_storage_before_length() {
                 calls_are_refused(&state, length, &order[..places], 13);
             }
         }
-        // Short storage is 12 whatever the row's length, and whatever row and names
-        // hold.
+        // Short storage is 12 whatever the row's length, and whatever row, names and
+        // totals hold.
         let mut damaged = sound.clone();
         damaged.superblocks[0].owner = 2;
+        damaged.control.totals = Totals::recount(&damaged.superblocks);
         let mut misnamed = sound.clone();
         misnamed.control.names.0[1023] = 1;
+        let mut miscounted = sound.clone();
+        miscounted.control.totals.live[8][26] = 65535;
         for places in [0, 1, order.len() - 1] {
-            for state in [&sound, &damaged, &misnamed] {
+            for state in [&sound, &damaged, &misnamed, &miscounted] {
                 calls_are_refused(state, length, &order[..places], 12);
             }
         }
-        // The length and what row and names hold are 13, before the calls' own.
+        // The length and what row, names and totals hold are 13, before the calls'
+        // own.
         if length > 0 {
             calls_are_refused(&damaged, length, &order, 13);
         }
         calls_are_refused(&misnamed, length, &order, 13);
+        calls_are_refused(&miscounted, length, &order, 13);
         if length != SUPERBLOCKS {
             calls_are_refused(&sound, length, &order, 13);
         }
@@ -158,6 +164,7 @@ fn each_record_of_a_row_is_checked() {
     for number in 0..SUPERBLOCKS {
         let mut state = sound.clone();
         state.superblocks[number] = ODD;
+        state.control.totals = Totals::recount(&state.superblocks);
         calls_are_refused(&state, SUPERBLOCKS, &order, 13);
     }
 }
@@ -237,6 +244,28 @@ fn names_go_in_and_come_back_by_value() {
     assert_eq!(freed.outcome, Outcome::Moved(0));
     assert_eq!(freed.control.names, Names::NONE);
     assert_eq!((row[0].owner, row[0].live_count()), (1, 0));
+}
+
+#[test]
+fn totals_go_in_and_come_back_by_value() {
+    let (state, order) = sound();
+    let (mut row, mut lent) = (row_of(&state, 64), order.clone());
+    let usage = |answer: &RowAnswer, class| answer.control.totals.usage(1, class);
+    let taken = take_row(state.control.clone(), &mut row, 1, 2048, &mut lent);
+    assert_eq!(usage(&taken, 26), usage_of(1, 2));
+    let taken = take_named_row(taken.control, &mut row, 1, 0, 16, &mut lent);
+    assert_eq!(usage(&taken, 26), usage_of(1, 2));
+    assert_eq!(usage(&taken, 0), usage_of(1, 1));
+    let freed = free_row(taken.control, &mut row, 1, 4096, &mut lent);
+    assert_eq!(usage(&freed, 0), usage_of(1, 0));
+    let freed = free_named_row(freed.control, &mut row, 1, 7, &mut lent);
+    assert_eq!(usage(&freed, 26), usage_of(1, 1));
+    let ready = setup_row(numbers(8, 1, 1, 1, 4), &mut row, &mut lent);
+    assert_eq!(ready.control.totals, Totals::NONE);
+}
+
+fn usage_of(superblocks: u32, live: u32) -> Usage {
+    Usage { superblocks, live }
 }
 
 #[test]

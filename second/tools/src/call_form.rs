@@ -4,7 +4,8 @@
 use std::fmt::Write;
 
 use hoard::{
-    Answer, BlockId, Bytes, Command, Control, Outcome, Setup, State, Superblock, SETUP_BYTE,
+    Answer, BlockId, Bytes, Command, Control, Outcome, Setup, State, Superblock, Totals, Usage,
+    CLASSES, HEAPS, SETUP_BYTE,
 };
 
 use crate::row_form::{answer_row_input, read_row_input, ROW_BYTE};
@@ -49,8 +50,8 @@ pub fn run_call(input: &CallInput, order: &mut [u16]) -> Answer {
     hoard::run(&input.call, &input.state, order)
 }
 
-/// The lines of an answer: outcome, setup, superblocks in use, held names, changed
-/// places.
+/// The lines of an answer: outcome, setup, superblocks in use, held names, totals,
+/// changed places.
 pub(crate) fn print_answer(
     outcome: &Outcome,
     control: &Control,
@@ -74,12 +75,28 @@ pub(crate) fn print_answer(
     for (name, BlockId { superblock, block }) in control.names.held() {
         text += &format!("name {name} superblock {superblock} block {block}\n");
     }
+    print_totals(&mut text, &control.totals);
     for (place, (old, new)) in before.iter().zip(after).enumerate() {
         if old != new {
             text += &format!("place {place} {new}\n");
         }
     }
     text + "end\n"
+}
+
+/// Prints a line for each heap and class with a total that is not 0, whether or not
+/// the setup has such a heap.
+fn print_totals(text: &mut String, totals: &Totals) {
+    for heap in 0..HEAPS as u8 {
+        for class in 0..CLASSES as u8 {
+            let Usage { superblocks, live } = totals.usage(heap, class);
+            if superblocks > 0 || live > 0 {
+                *text += &format!(
+                    "total heap {heap} class {class} superblocks {superblocks} live {live}\n"
+                );
+            }
+        }
+    }
 }
 
 /// The call in `bytes`, if they are one call and nothing more.
@@ -115,7 +132,20 @@ fn read_call_on_state(kind: u8, bytes: &mut Bytes) -> Option<(Command, State)> {
     for number in &mut state.control.names.0 {
         *number = u16::from_le_bytes(bytes.read()?);
     }
+    state.control.totals = read_totals(bytes)?;
     Some((call, state))
+}
+
+/// The totals, heaps then classes: all of superblocks, then all of live blocks.
+fn read_totals(bytes: &mut Bytes) -> Option<Totals> {
+    let mut totals = Totals::NONE;
+    for superblocks in totals.superblocks.as_flattened_mut() {
+        [*superblocks] = bytes.read()?;
+    }
+    for live in totals.live.as_flattened_mut() {
+        *live = u16::from_le_bytes(bytes.read()?);
+    }
+    Some(totals)
 }
 
 fn read_superblock(bytes: &mut Bytes) -> Option<Superblock> {
@@ -151,6 +181,8 @@ pub fn write_input(input: &CallInput) -> Vec<u8> {
         call.write_numbers(&mut bytes);
         write_superblocks(&mut bytes, &state.superblocks);
         write_numbers(&mut bytes, &state.control.names.0);
+        bytes.extend(state.control.totals.superblocks.as_flattened());
+        write_numbers(&mut bytes, state.control.totals.live.as_flattened());
     }
     bytes.extend((order.len() as u32).to_le_bytes());
     write_numbers(&mut bytes, order);
@@ -164,7 +196,7 @@ fn write_superblocks(bytes: &mut Vec<u8>, superblocks: &[Superblock]) {
     }
 }
 
-/// Writes names or order places.
+/// Writes names, totals of live blocks or order places.
 fn write_numbers(bytes: &mut Vec<u8>, numbers: &[u16]) {
     bytes.extend(numbers.iter().flat_map(|number| number.to_le_bytes()));
 }

@@ -9,4 +9,5 @@ pub mod paper;
 pub mod row_form;
 pub mod run;
 pub mod table;
+pub mod total_faults;
 pub mod xorshift;

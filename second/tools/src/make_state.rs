@@ -3,15 +3,20 @@
 //! same on lent rows.
 
 use hoard::{
-    BlockId, Command, Names, Setup, State, Superblock, GLOBAL_HEAP, NAMED_FREE_BYTE, NAMES,
-    NOT_HELD, ORDER_PLACES, SIZE_CLASSES, SUPERBLOCKS, SUPERBLOCK_BYTES, UNUSED_OWNER,
+    BlockId, Command, Names, Setup, State, Superblock, CLASSES, GLOBAL_HEAP, NAMED_FREE_BYTE,
+    NAMES, NOT_HELD, ORDER_PLACES, SIZE_CLASSES, SUPERBLOCKS, SUPERBLOCK_BYTES, UNUSED_OWNER,
 };
 
-use crate::call_form::{write_input, CallInput, MOST_PLACES};
-use crate::make_record::{any_processor, any_run, edge_setup, setup_in_limits, zero_or_beside};
+use crate::call_form::{run_call, write_input, CallInput, MOST_PLACES};
+use crate::make_record::{
+    any_processor, any_run, edge_setup, setup_in_limits, size_of_class, zero_or_beside,
+};
 use crate::naming::{available_name, free_of_live, held_name};
 use crate::row_form::{write_row_input, RowInput, MOST_RECORDS};
 use crate::table::{live_addresses, most_live_of_global, named_call, owned_blocks, Table};
+use crate::total_faults::{
+    break_totals, forget_change, has_step, loosen_totals, Step, STEPS, TOTAL_FAULTS,
+};
 use crate::xorshift::Xorshift;
 
 /// Kinds of states.
@@ -63,6 +68,25 @@ pub enum Kind {
     NameRange,
     /// Two names at one block.
     NameTwice,
+    /// A total one too many.
+    TotalMore,
+    /// A total one too few, or the widest number in place of 0.
+    TotalLess,
+    /// Two totals that are wrong by as much: one more here and one less there, or
+    /// swapped.
+    TotalCancel,
+    /// A total of a heap above P that is not 0.
+    TotalAboveP,
+    /// A wrong total of heap 0.
+    TotalHeap0,
+    /// Wrong totals of superblocks, with all those of live blocks right.
+    TotalSuperblocksOnly,
+    /// Wrong totals of live blocks, with all those of superblocks right.
+    TotalLiveOnly,
+    /// Totals of very large numbers, or wrong in their upper bits alone.
+    TotalWide,
+    /// Totals that an accepted call changed, some or all as they were before it.
+    TotalStale,
     /// One order place fewer than N x 256.
     StorageShort,
     /// Just N x 256 order places.
@@ -90,7 +114,7 @@ pub enum Kind {
 }
 
 /// Every kind with its name.
-pub const KINDS: [(&str, Kind); 34] = [
+pub const KINDS: [(&str, Kind); 43] = [
     ("replayed", Kind::Replayed),
     ("built", Kind::Built),
     ("loose", Kind::Loose),
@@ -114,6 +138,15 @@ pub const KINDS: [(&str, Kind); 34] = [
     ("name-high", Kind::NameHigh),
     ("name-range", Kind::NameRange),
     ("name-twice", Kind::NameTwice),
+    ("total-more", Kind::TotalMore),
+    ("total-less", Kind::TotalLess),
+    ("total-cancel", Kind::TotalCancel),
+    ("total-above-p", Kind::TotalAboveP),
+    ("total-heap-0", Kind::TotalHeap0),
+    ("total-superblocks-only", Kind::TotalSuperblocksOnly),
+    ("total-live-only", Kind::TotalLiveOnly),
+    ("total-wide", Kind::TotalWide),
+    ("total-stale", Kind::TotalStale),
     ("storage-short", Kind::StorageShort),
     ("storage-exact", Kind::StorageExact),
     ("storage-long", Kind::StorageLong),
@@ -194,9 +227,10 @@ fn row(random: &mut Xorshift) -> RowInput {
 /// A call of any other kind on a row of any length. Setup numbers are at times
 /// broken on top, storage is at times short, one in sixteen is no call at all.
 fn row_damaged(random: &mut Xorshift) -> Vec<u8> {
-    let kind = match random.below(6) {
-        0 | 1 => Kind::SetupCall,
-        2 => Kind::ZeroDamaged,
+    let kind = match random.below(8) {
+        0..=2 => Kind::SetupCall,
+        3 => Kind::ZeroDamaged,
+        4 => random.pick(&TOTAL_FAULTS),
         _ => random.pick(&KINDS[..KINDS.len() - 2]).1,
     };
     let mut input = make_input(kind, random);
@@ -250,6 +284,7 @@ fn make_input(kind: Kind, random: &mut Xorshift) -> CallInput {
         Kind::StorageShort | Kind::StorageExact | Kind::StorageLong | Kind::StorageEmpty => {
             with_storage(kind, random)
         }
+        Kind::TotalStale => stale_totals(random),
         Kind::TwoFaults => two_faults(random),
         Kind::Zero => zero(random),
         Kind::ZeroDamaged => zero_damaged(random),
@@ -306,7 +341,9 @@ fn loose(random: &mut Xorshift) -> CallInput {
     let setup = setup_in_limits(random, 8, 64);
     let mut table = scatter(random, setup, setup.superblocks);
     table.name_some_blocks(random);
-    table.with_call(random)
+    let mut input = table.with_call(random);
+    loosen_totals(random, &mut input.state.control.totals);
+    input
 }
 
 /// A sound state or a setup within limits, with storage of the length that the kind names.
@@ -356,8 +393,8 @@ fn setup_call(random: &mut Xorshift) -> CallInput {
 
 /// A sound state with superblock 0 owned, partly live, of class 1 to 23, and the
 /// last superblock of the setup unused. The setup leaves some of the 64 out.
-fn owned_and_unused(random: &mut Xorshift) -> Table {
-    let mut setup = setup_in_limits(random, 8, 60);
+fn owned_and_unused(random: &mut Xorshift, most_processors: u8) -> Table {
+    let mut setup = setup_in_limits(random, most_processors, 60);
     setup.superblocks = setup.superblocks.max(2);
     let mut table = scatter(random, setup, setup.superblocks - 1);
     let class = random.byte_between(1, 23);
@@ -370,9 +407,11 @@ fn owned_and_unused(random: &mut Xorshift) -> Table {
     table
 }
 
-/// A sound state with one clause of the check broken.
+/// A sound state with one clause of the check broken. Where it is not the totals',
+/// they are right for the superblocks as they are then.
 fn damaged(kind: Kind, random: &mut Xorshift) -> CallInput {
-    let mut table = owned_and_unused(random);
+    let most_processors = if kind == Kind::TotalAboveP { 7 } else { 8 };
+    let mut table = owned_and_unused(random, most_processors);
     match kind {
         Kind::SetupNumber => break_setup(random, &mut table.state.control.setup),
         Kind::MarkHigh => {
@@ -385,10 +424,64 @@ fn damaged(kind: Kind, random: &mut Xorshift) -> CallInput {
         }
         Kind::GlobalFull | Kind::GlobalLimit => around_global_limit(kind, random, &mut table),
         Kind::Beyond => own_beyond(random, &mut table),
+        // Heap 0 has a superblock then.
+        Kind::TotalHeap0 => around_global_limit(Kind::GlobalLimit, random, &mut table),
+        kind if TOTAL_FAULTS.contains(&kind) => {}
         kind if NAME_FAULTS.contains(&kind) => break_names(kind, random, &mut table.state),
         _ => break_unused(kind, random, &mut table),
     }
-    table.with_call(random)
+    let mut input = table.with_call(random);
+    if TOTAL_FAULTS.contains(&kind) {
+        break_totals(kind, random, &mut input.state);
+    }
+    input
+}
+
+/// The state after a call that passed a superblock from heap to heap, with totals
+/// from before it.
+fn stale_totals(random: &mut Xorshift) -> CallInput {
+    let step = random.pick(&STEPS);
+    loop {
+        let input = match step {
+            Step::Moved => around_threshold(random, 1),
+            _ => take_from_many_global(random),
+        };
+        let mut order = input.order.clone();
+        let state = run_call(&input, &mut order).state;
+        if has_step(step, &input.state.superblocks, &state.superblocks) {
+            let before = &input.state.control.totals;
+            let mut input = Table { state, order }.with_call(random);
+            forget_change(random, before, &mut input.state.control.totals);
+            return input;
+        }
+    }
+}
+
+/// A take on a sound state with many superblocks in the global heap, in half of all
+/// cases of a class that it has there.
+fn take_from_many_global(random: &mut Xorshift) -> CallInput {
+    let setup = setup_in_limits(random, 8, 16);
+    let mut table = scatter(random, setup, setup.superblocks);
+    for superblock in &mut table.state.superblocks {
+        if superblock.owner != UNUSED_OWNER && random.chance(1, 2) {
+            superblock.owner = GLOBAL_HEAP;
+        }
+    }
+    table.restore_invariants();
+    table.name_some_blocks(random);
+    let global = table.state.superblocks.iter();
+    let global = global.filter(|superblock| superblock.owner == GLOBAL_HEAP);
+    let mut classes: Vec<u8> = global.map(|superblock| superblock.class).collect();
+    if classes.is_empty() || random.chance(1, 2) {
+        classes = (0..CLASSES as u8).collect();
+    }
+    let class = random.pick(&classes);
+    let mut input = table.with_call(random);
+    input.call = Command::Take {
+        processor: random.byte_between(1, setup.processors),
+        size: size_of_class(random, class),
+    };
+    input
 }
 
 /// Makes a name point where there is no live block, or two at one.
@@ -611,7 +704,8 @@ fn spread(random: &mut Xorshift, live: u32, count: u32, class: u8, setup: &Setup
 /// Two faults or more at once, of state, storage and call: the first in the order
 /// of refusals counts.
 fn two_faults(random: &mut Xorshift) -> CallInput {
-    let mut table = owned_and_unused(random);
+    let mut table = owned_and_unused(random, 8);
+    table.recount_totals();
     let short = table.state.control.setup.order_places() - 1;
     let mut call = call_with_two_faults(random, &table.state);
     match random.below(10) {
@@ -620,12 +714,13 @@ fn two_faults(random: &mut Xorshift) -> CallInput {
             table.order.truncate(short);
         }
         1 => {
-            break_owner_or_name(random, &mut table);
+            break_owner_name_or_total(random, &mut table);
             table.order.truncate(short);
         }
-        2 | 3 => break_owner_or_name(random, &mut table),
+        2 | 3 => break_owner_name_or_total(random, &mut table),
         4 | 5 => {
             leave_superblock_0(&mut table.state);
+            table.recount_totals();
             call = take_with_none_left(random, &table.state);
         }
         _ => {}
@@ -637,13 +732,21 @@ fn two_faults(random: &mut Xorshift) -> CallInput {
     }
 }
 
-/// Breaks the owner of a superblock or, more often, a name.
-fn break_owner_or_name(random: &mut Xorshift, table: &mut Table) {
-    if random.chance(1, 6) {
-        break_unused(Kind::Owner, random, table);
-    } else {
-        let kind = random.pick(&NAME_FAULTS);
-        break_names(kind, random, &mut table.state);
+/// Breaks the owner of a superblock or, more often, a name or a total.
+fn break_owner_name_or_total(random: &mut Xorshift, table: &mut Table) {
+    match random.below(6) {
+        0 => {
+            break_unused(Kind::Owner, random, table);
+            table.recount_totals();
+        }
+        1 | 2 => {
+            let kind = random.pick(&[Kind::TotalMore, Kind::TotalLess, Kind::TotalCancel]);
+            break_totals(kind, random, &mut table.state);
+        }
+        _ => {
+            let kind = random.pick(&NAME_FAULTS);
+            break_names(kind, random, &mut table.state);
+        }
     }
 }
 
@@ -816,6 +919,6 @@ fn spoil_length(random: &mut Xorshift, bytes: &mut Vec<u8>) {
         }
         2 => bytes.push(random.byte()),
         3 => bytes[0] = random.byte_between(NAMED_FREE_BYTE + 1, 255),
-        _ => bytes.truncate(random.below(4300) as usize),
+        _ => bytes.truncate(random.below(5100) as usize),
     }
 }

@@ -1,7 +1,7 @@
 //! A state and its order storage, built superblock by superblock.
 
 use hoard::{
-    over_emptiness_threshold, BlockId, Command, Setup, State, Superblock, Usage, GLOBAL_HEAP,
+    over_emptiness_threshold, BlockId, Command, Setup, State, Superblock, Totals, GLOBAL_HEAP,
     NAMES, ORDER_PLACES, SIZE_CLASSES, SUPERBLOCKS, SUPERBLOCK_BYTES, UNUSED_OWNER,
 };
 
@@ -66,12 +66,7 @@ impl Table {
     }
 
     fn is_over_threshold(&self, heap: u8, class: u8) -> bool {
-        let mut usage = Usage::default();
-        for superblock in &self.state.superblocks {
-            if superblock.owner == heap && superblock.class == class {
-                usage.add(superblock);
-            }
-        }
+        let usage = Totals::recount(&self.state.superblocks).usage(heap, class);
         let class = &SIZE_CLASSES[usize::from(class)];
         over_emptiness_threshold(&self.state.control.setup, class, &usage)
     }
@@ -103,8 +98,15 @@ impl Table {
         self.name_blocks(most, random);
     }
 
-    /// The table with a call and, at random, as much storage as it needs or more.
+    /// Puts the totals right for the superblocks as they are, sound or not.
+    pub fn recount_totals(&mut self) {
+        self.state.control.totals = Totals::recount(&self.state.superblocks);
+    }
+
+    /// The table with right totals, a call and, at random, as much storage as it
+    /// needs or more.
     pub fn with_call(mut self, random: &mut Xorshift) -> CallInput {
+        self.recount_totals();
         if random.chance(1, 2) {
             self.order.truncate(self.state.control.setup.order_places());
         }

@@ -5,7 +5,7 @@ mod replay;
 use std::collections::{BTreeMap, HashMap};
 
 use hoard::{check_handed_in, class_of_size, decode, write_command, Answer, Command, Outcome};
-use hoard::{Refusal, State, GLOBAL_HEAP, SIZE_CLASSES, SUPERBLOCK_BYTES, UNUSED_OWNER};
+use hoard::{Refusal, State, Totals, GLOBAL_HEAP, SIZE_CLASSES, SUPERBLOCK_BYTES, UNUSED_OWNER};
 use tools::make_record::{make_record, Kind, KINDS};
 
 use replay::replay;
@@ -154,6 +154,17 @@ impl Ledger {
         assert_eq!(held.collect::<HashMap<_, _>>(), self.names);
     }
 
+    /// The totals are a recount; over all heaps their live blocks are those that the
+    /// calls left live.
+    fn check_totals(&self, state: &State) {
+        let totals = &state.control.totals;
+        assert_eq!(*totals, Totals::recount(&state.superblocks));
+        for (class, &live) in self.live.iter().enumerate() {
+            let of_heaps = totals.live.iter().map(|heap| u64::from(heap[class]));
+            assert_eq!(of_heaps.sum::<u64>(), live);
+        }
+    }
+
     /// (q - p) n A is at most q M + (q - p) P K n, for each class.
     fn check_bound(&self, state: &State) {
         let [processors, _, spare, p, q] = state.control.setup.numbers().map(u64::from);
@@ -172,8 +183,8 @@ fn owners_changed(before: &State, after: &State) -> u32 {
     pairs.filter(|(old, new)| old.owner != new.owner).count() as u32
 }
 
-/// Runs a record and checks the bound, the moves, the names and the state after each
-/// call.
+/// Runs a record and checks the bound, the moves, the names, the totals and the state
+/// after each call.
 fn check_run(record: &[u8]) {
     let mut ledger = Ledger {
         classes: HashMap::new(),
@@ -195,6 +206,7 @@ fn check_run(record: &[u8]) {
         ledger.note(&step.command, outcome);
         ledger.check_bound(state);
         ledger.check_names(state);
+        ledger.check_totals(state);
         check_handed_in(state, step.order).expect("an accepted call yields a sound state");
     });
 }

@@ -61,7 +61,8 @@ fn printed_form_of_a_setup() {
 fn printed_form_of_a_take() {
     assert_eq!(
         answer_bytes(&take_bytes(64)),
-        "at 0\nsetup 1 1 1 1 2\nsuperblock 0 owner 1 class 26 live 1 0 0 0\nplace 0 1\nend\n"
+        "at 0\nsetup 1 1 1 1 2\nsuperblock 0 owner 1 class 26 live 1 0 0 0\n\
+            total heap 1 class 26 superblocks 1 live 1\nplace 0 1\nend\n"
     );
     for length in [0, 1, 63] {
         assert_eq!(

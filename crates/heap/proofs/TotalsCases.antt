@@ -1,0 +1,37 @@
+-- The totals of each heap and class, in cases that tell the recount from near misses, by computation. Assumes nothing.
+use mathlib.Core.Path.{_≡_, refl}
+use mathlib.Core.List.{List, [], _∷_, _++_, map}
+use Prim.Native.Nat.{ℕ, _+_}
+use lib.ListN.{getD, replicate}
+use Rattle.laws.specs.Sums.{sumBelow}
+use Rattle.laws.specs.Lists.{increased}
+use Rattle.marks.specs.Marks.{bit, markBit, liveCount}
+use Rattle.heap.specs.declared.Superblock.{Superblock}
+use Rattle.heap.specs.declared.State.{State}
+use Rattle.heap.specs.Table.{unused}
+use Rattle.heap.specs.Totals.{superblocksKept, liveKept, isCounted, withCounted, countedBelow, recounted}
+use Rattle.heap.specs.States.{withSuperblock, withNames}
+use Rattle.heap.proofs.CaseStates.{unnamedState}
+use Rattle.heap.proofs.TableCases.{of, small-setup}
+
+-- Heap 1 has two superblocks of class 23, with two live blocks and none, heap 0 one of class 24 with one, heap 8 one of class 26 with two. Of no heap or
+-- no class are an unused one, one with owner 9, one with owner 254 and one with class 27.
+abbrev pub counted-state : State
+counted-state = unnamedState small-setup (of 1 23 5 ∷ unused ∷ of 0 24 2 ∷ of 1 23 0 ∷ of 9 3 1 ∷ of 254 0 1 ∷ of 1 27 1 ∷ replicate 56 unused ++ of 8 26 3 ∷ [])
+
+-- superblocks and live blocks of heaps and classes, and of all together
+abbrev pub totals-seen : State → List (ℕ × ℕ)
+totals-seen s =
+    map (λ (x : ℕ × ℕ). (superblocksKept (x .0) (x .1) s, liveKept (x .0) (x .1) s)) ((1, 23) ∷ (0, 24) ∷ (8, 26) ∷ (2, 0) ∷ (0, 0) ∷ (0, 23) ∷ (1, 24) ∷ [])
+    ++ (sumBelow (λ x. getD (s .totals .superblocks) x 0) 243, sumBelow (λ x. getD (s .totals .live) x 0) 243) ∷ []
+
+pub recounted-cases : totals-seen counted-state ≡ (2, 2) ∷ (1, 1) ∷ (1, 2) ∷ (0, 0) ∷ (0, 0) ∷ (0, 0) ∷ (0, 0) ∷ (4, 5) ∷ []
+unfolding superblocksKept liveKept recounted countedBelow withCounted isCounted increased liveCount sumBelow markBit bit
+recounted-cases = refl
+
+-- superblock 0 passes to heap 0 and class 24 with one live block: heap 1's are one fewer, heap 0's one more; then superblock 63 is unused, and other names change none
+pub totals-after-changes :
+    totals-seen (withSuperblock counted-state 0 (of 0 24 1)) ∷ totals-seen (withNames (withSuperblock counted-state 63 unused) []) ∷ []
+    ≡ ((1, 0) ∷ (2, 2) ∷ (1, 2) ∷ (0, 0) ∷ (0, 0) ∷ (0, 0) ∷ (0, 0) ∷ (4, 4) ∷ []) ∷ ((2, 2) ∷ (1, 1) ∷ (0, 0) ∷ (0, 0) ∷ (0, 0) ∷ (0, 0) ∷ (0, 0) ∷ (3, 3) ∷ []) ∷ []
+unfolding superblocksKept liveKept recounted countedBelow withCounted isCounted increased liveCount sumBelow markBit bit
+totals-after-changes = refl
