@@ -12,15 +12,16 @@ use formrules::Request;
 use heap::Setup;
 use heap::State;
 use heap::Superblock;
-use rowrules::Control;
+use heap::Totals;
 use rowrules::RecordsAnswer;
 use rowrules::RowAnswer;
 use stream::Input;
 
-// The longest input that the program takes has 38241 bytes: a free or a named take on a lent row, with 17000 places
-// (2 + 11 + 64 × 34 + 1024 × 2 + 4 + 2 × 17000). The buffer has one byte more, so that an input that it truncates is bad in any case.
+// The longest input that the program takes has 38970 bytes: a free or a named take on a lent row, with 17000 places
+// (2 + 11 + 64 × 34 + 1024 × 2 + 243 × 3 + 4 + 2 × 17000). The buffer has one byte more, so that an input that it truncates is bad in
+// any case.
 fn main() {
-    let mut input = [0u8; 38242];
+    let mut input = [0u8; 38971];
     let read = stream::read_input(b"call", &mut input);
     let Input::Bytes(n) = read else {
         return;
@@ -165,7 +166,7 @@ fn row_call_on(length: usize, bytes: &[u8], order: &mut [u16], before: &mut [u16
     }
 }
 
-// The superblocks go in as records, the setup numbers and the names by value.
+// The superblocks go in as records, the setup numbers, the names and the totals by value.
 fn row_answer_to(length: usize, bytes: &[u8], order: &mut [u16]) -> RecordsAnswer {
     let asked = asked_in(bytes);
     match asked {
@@ -175,10 +176,7 @@ fn row_answer_to(length: usize, bytes: &[u8], order: &mut [u16]) -> RecordsAnswe
         }
         Asked::OnState(c) => {
             let s = state_in(bytes);
-            let setup = s.setup;
-            let names = s.names;
-            let control = Control { setup, names };
-            rowplain::call_by_row(length, records_of(s), order, control, c)
+            rowplain::call_by_row(length, records_of(s), order, tablecall::control_of(s), c)
         }
     }
 }
@@ -207,19 +205,17 @@ fn records_of(s: State) -> [Superblock; 65] {
 
 // ---- printed lines; each function answers whether they were all written
 
-// A state handed back is printed as a row of its 64 superblocks, with its setup numbers and names.
+// A state handed back is printed as a row of its 64 superblocks, with its setup numbers, names and totals.
 fn print_answer(a: Answer) -> bool {
     let outcome = a.outcome;
     let s = a.state;
-    let setup = s.setup;
-    let names = s.names;
-    let control = Control { setup, names };
+    let control = tablecall::control_of(s);
     let records = records_of(s);
     let answer = RowAnswer { outcome, control };
     print_row(64, RecordsAnswer { records, answer })
 }
 
-// The outcome, the setup, the row's records and the names.
+// The outcome, the setup, the row's records, the names and the totals.
 fn print_row(length: usize, l: RecordsAnswer) -> bool
     requires { ⌜ length ≤ 65 ⌝ }
 {
@@ -229,6 +225,7 @@ fn print_row(length: usize, l: RecordsAnswer) -> bool
     let control = a.control;
     let u = control.setup;
     let names = control.names;
+    let totals = control.totals;
     if !print_outcome(outcome) {
         return false;
     }
@@ -238,7 +235,10 @@ fn print_row(length: usize, l: RecordsAnswer) -> bool
     if !print_records(length, records) {
         return false;
     }
-    print_names(names)
+    if !print_names(names) {
+        return false;
+    }
+    print_totals(totals)
 }
 
 // Each of the first records that differs from an unused one.
@@ -278,6 +278,35 @@ fn print_name(m: usize, number: u16) -> bool {
     let superblock = put_field(&mut line, name, b" superblock ", (number / 256) as u64);
     let block = put_field(&mut line, superblock, b" block ", (number % 256) as u64);
     let end = put_end(&mut line, block);
+    write(&line[..end])
+}
+
+// The totals of each heap and class of which one is not 0.
+fn print_totals(totals: Totals) -> bool {
+    let mut x = 0;
+    while x < 243 {
+        let superblocks = totals.superblocks[x];
+        let live = totals.live[x];
+        if !print_total(x, superblocks, live) {
+            return false;
+        }
+        x += 1;
+    }
+    true
+}
+
+fn print_total(x: usize, superblocks: u8, live: u16) -> bool {
+    if superblocks == 0 {
+        if live == 0 {
+            return true;
+        }
+    }
+    let mut line = [0u8; 128];
+    let heap = put_field(&mut line, 0, b"total heap ", (x / 27) as u64);
+    let class = put_field(&mut line, heap, b" class ", (x % 27) as u64);
+    let owned = put_field(&mut line, class, b" superblocks ", superblocks as u64);
+    let taken = put_field(&mut line, owned, b" live ", live as u64);
+    let end = put_end(&mut line, taken);
     write(&line[..end])
 }
 

@@ -3,9 +3,10 @@
 ghost use mathlib.Core.Path.{_≡_};
 ghost use Prim.Native.Nat.{_^_, _<_};
 ghost use lib.ListN.{length};
-ghost use Rattle.formrules.specs.Form.{superblockIn, namesIn, stateIn, placesIn};
+ghost use Rattle.formrules.specs.Form.{superblockIn, namesIn, totalsIn, stateIn, placesIn};
 use heap::State;
 use heap::Superblock;
+use heap::Totals;
 use littleendian::byte_at;
 use littleendian::eight_at;
 use littleendian::position_after;
@@ -43,7 +44,24 @@ fn names_at(bytes: &[u8], at: usize) -> [u16; 1024]
     names
 }
 
-// The setup numbers with the 64 superblocks that begin at a position, and the names behind them.
+// The 243 totals of superblocks that begin at a position, and behind them the 243 of live blocks.
+fn totals_at(bytes: &[u8], at: usize) -> Totals
+    ensures { λ r. ⌜ r ≡ totalsIn (now (bytes .entry)) at ⌝ }
+{
+    let mut superblocks = [0u8; 243];
+    let mut live = [0u16; 243];
+    let mut x = 0;
+    while x < 243 {
+        let owned = byte_at(bytes, position_after(bytes, at, x));
+        superblocks[x] = owned;
+        let taken = two_at(bytes, position_after(bytes, at, 243 + 2 * x));
+        live[x] = taken;
+        x += 1;
+    }
+    Totals { superblocks, live }
+}
+
+// The setup numbers with the 64 superblocks that begin at a position, and behind them the names and the totals.
 pub fn state_at(bytes: &[u8], at: usize) -> State
     ensures { λ r. ⌜ r ≡ stateIn (now (bytes .entry)) at ⌝ }
 {
@@ -60,11 +78,13 @@ pub fn state_at(bytes: &[u8], at: usize) -> State
         k += 1;
     }
     let names = names_at(bytes, position_after(bytes, at, 2176));
+    let totals = totals_at(bytes, position_after(bytes, at, 4224));
     let setup = callform::setup_in(bytes);
     State {
         setup,
         table,
         names,
+        totals,
     }
 }
 

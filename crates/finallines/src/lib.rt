@@ -6,7 +6,8 @@ use fields::put_nothing;
 use heap::State;
 use text::put_text;
 ghost use mathlib.Core.Path.{_≡_};
-ghost use Prim.Native.Nat.{_≤_};
+ghost use Prim.Native.Nat.{_≤_, _<_};
+ghost use Rattle.heap.specs.Totals.{TotalsKept};
 ghost use Rattle.textrules.specs.Text.{pasted};
 ghost use Rattle.linerules.specs.Lines.{heapLine, heapLineIf, classLines, heapLines, finalLines, closingLines};
 
@@ -22,19 +23,22 @@ fn heap_line(out: &mut [u8], at: usize, heap: u8, class: u8, superblocks: u32, l
 
 // The line of a heap and class, where it has a superblock.
 fn heap_line_if(out: &mut [u8], at: usize, heap: u8, class: u8, s: State) -> usize
+    requires { ⌜ (heap < 9) × (class < 27) × TotalsKept s ⌝ }
     ensures { λ r. ⌜ record { end = r; buffer = now (out .exit) } ≡ pasted (now (out .entry)) at (heapLineIf heap class s) ⌝ }
 {
+    let totals = s.totals;
     let x = heap as usize * 27 + class as usize;
-    let superblocks = s.totals.superblocks[x] as u32;
+    let superblocks = totals.superblocks[x] as u32;
     if superblocks == 0 {
         return put_nothing(out, at);
     }
-    let live = s.totals.live[x] as u32;
+    let live = totals.live[x] as u32;
     heap_line(out, at, heap, class, superblocks, live)
 }
 
 // The lines of a heap, classes rising.
 fn class_lines(out: &mut [u8], at: usize, heap: u8, s: State) -> usize
+    requires { ⌜ (heap < 9) × TotalsKept s ⌝ }
     ensures { λ r. ⌜ record { end = r; buffer = now (out .exit) } ≡ pasted (now (out .entry)) at (classLines heap 27 s) ⌝ }
 {
     let mut end = put_nothing(out, at);
@@ -48,7 +52,7 @@ fn class_lines(out: &mut [u8], at: usize, heap: u8, s: State) -> usize
 
 // The lines of the heaps below a number, heaps rising.
 fn heap_lines(out: &mut [u8], at: usize, heaps: usize, s: State) -> usize
-    requires { ⌜ heaps ≤ 256 ⌝ }
+    requires { ⌜ (heaps ≤ 9) × TotalsKept s ⌝ }
     ensures { λ r. ⌜ record { end = r; buffer = now (out .exit) } ≡ pasted (now (out .entry)) at (heapLines heaps s) ⌝ }
 {
     let mut end = put_nothing(out, at);
@@ -62,6 +66,7 @@ fn heap_lines(out: &mut [u8], at: usize, heaps: usize, s: State) -> usize
 
 // The lines at the end of a record that does not stop.
 fn final_lines(out: &mut [u8], at: usize, s: State) -> usize
+    requires { ⌜ TotalsKept s × (s .setup .processors ≤ 8) ⌝ }
     ensures { λ r. ⌜ record { end = r; buffer = now (out .exit) } ≡ pasted (now (out .entry)) at (finalLines s) ⌝ }
 {
     let end = heap_lines(out, at, s.setup.processors as usize + 1, s);
@@ -70,6 +75,7 @@ fn final_lines(out: &mut [u8], at: usize, s: State) -> usize
 
 // The lines after the last command of a record: none after a stop line.
 pub fn closing_lines(out: &mut [u8], at: usize, stopped: bool, s: State) -> usize
+    requires { ⌜ TotalsKept s × (s .setup .processors ≤ 8) ⌝ }
     ensures { λ r. ⌜ record { end = r; buffer = now (out .exit) } ≡ pasted (now (out .entry)) at (closingLines stopped s) ⌝ }
 {
     if !stopped {

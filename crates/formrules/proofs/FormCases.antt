@@ -7,7 +7,7 @@ use lib.ListN.{getD, length, replicate, take}
 use Rattle.heap.specs.Table.{blank}
 use Rattle.formrules.specs.declared.Request.the-variants.{Setup, Take, Free, NamedTake, NamedFree}
 use Rattle.laws.specs.Lists.{listed}
-use Rattle.formrules.specs.Form.{callIn, superblockIn, namesIn, stateIn, tableOffset, placesOffset, placeCount, wellFormed}
+use Rattle.formrules.specs.Form.{callIn, superblockIn, namesIn, totalsIn, stateIn, tableOffset, placesOffset, placeCount, wellFormed}
 
 -- ---- the call, by its first byte; behind it every byte another
 abbrev distinct-bytes : List ℕ
@@ -22,6 +22,18 @@ names-in-cases : (take 4 (namesIn distinct-bytes 5) ≡ 1798 ∷ 2312 ∷ 10 ∷
 unfolding namesIn listed
 names-in-cases = (refl, refl)
 
+-- ---- the totals, from byte 1 on: 4 and 5 the first and the last of superblocks, then 6 and 7 the first of live blocks; past the end 0
+abbrev totals-bytes : List ℕ
+totals-bytes = 3 ∷ 4 ∷ (replicate 241 255 ++ (5 ∷ 6 ∷ 7 ∷ 8 ∷ 9 ∷ []))
+
+totals-of-superblocks-in-cases : (getD (totalsIn totals-bytes 1 .superblocks) 0 0 ≡ 4) × (getD (totalsIn totals-bytes 1 .superblocks) 242 0 ≡ 5) × (length (totalsIn [] 0 .superblocks) ≡ 243)
+unfolding totalsIn listed
+totals-of-superblocks-in-cases = (refl, refl, refl)
+
+totals-of-live-blocks-in-cases : (take 3 (totalsIn totals-bytes 1 .live) ≡ 1798 ∷ 2312 ∷ 0 ∷ []) × (length (totalsIn [] 0 .live) ≡ 243)
+unfolding totalsIn listed
+totals-of-live-blocks-in-cases = (refl, refl)
+
 -- ---- the state: superblocks from byte 3 on, 7 the last byte of the last of them, then name 0
 abbrev state-bytes : List ℕ
 state-bytes = replicate 2178 255 ++ (7 ∷ 1 ∷ 2 ∷ [])
@@ -34,39 +46,47 @@ superblocks-before-names : getD (stateIn state-bytes 3 .table) 63 blank ≡ reco
 unfolding stateIn superblockIn listed
 superblocks-before-names = refl
 
+-- 1 and 2 the last name, then the totals
+abbrev names-then-totals : List ℕ
+names-then-totals = replicate 4225 255 ++ (1 ∷ 2 ∷ 3 ∷ 4 ∷ [])
+
+totals-after-names : (getD (stateIn names-then-totals 3 .names) 1023 0 ≡ 513) × (take 3 (stateIn names-then-totals 3 .totals .superblocks) ≡ 3 ∷ 4 ∷ 0 ∷ [])
+unfolding stateIn namesIn totalsIn listed
+totals-after-names = (refl, refl)
+
 -- ---- where superblocks and order places begin, by the first byte
 table-offset-cases : (tableOffset (1 ∷ []) ≡ 9) × (tableOffset (2 ∷ []) ≡ 11) × (tableOffset (3 ∷ []) ≡ 11) × (tableOffset (4 ∷ []) ≡ 9)
 unfolding tableOffset
 table-offset-cases = (refl, refl, refl, refl)
 
-places-offset-cases : (placesOffset (0 ∷ []) ≡ 10) × (placesOffset (1 ∷ []) ≡ 4237) × (placesOffset (2 ∷ []) ≡ 4239) × (placesOffset (3 ∷ []) ≡ 4239) × (placesOffset (4 ∷ []) ≡ 4237)
+places-offset-cases : (placesOffset (0 ∷ []) ≡ 10) × (placesOffset (1 ∷ []) ≡ 4966) × (placesOffset (2 ∷ []) ≡ 4968) × (placesOffset (3 ∷ []) ≡ 4968) × (placesOffset (4 ∷ []) ≡ 4966)
 unfolding placesOffset tableOffset
 places-offset-cases = (refl, refl, refl, refl, refl)
 
--- ---- L: of a setup behind its numbers, of a call on a state behind the names
-abbrev names-then-length : List ℕ
-names-then-length = replicate 4232 255 ++ (1 ∷ 2 ∷ 3 ∷ 4 ∷ 5 ∷ 6 ∷ [])
+-- ---- L: of a setup behind its numbers, of a call on a state behind the totals
+abbrev totals-then-length : List ℕ
+totals-then-length = replicate 4961 255 ++ (1 ∷ 2 ∷ 3 ∷ 4 ∷ 5 ∷ 6 ∷ [])
 
-place-count-cases : (placeCount (0 ∷ distinct-bytes) ≡ 151521030) × (placeCount (3 ∷ names-then-length) ≡ 100992003) × (placeCount (4 ∷ names-then-length) ≡ 67305985)
+place-count-cases : (placeCount (0 ∷ distinct-bytes) ≡ 151521030) × (placeCount (3 ∷ totals-then-length) ≡ 100992003) × (placeCount (4 ∷ totals-then-length) ≡ 67305985)
 unfolding placeCount tableOffset
 place-count-cases = (refl, refl, refl)
 
 -- ---- the whole form: named calls without a place; a byte missing or left over; the length of the other; one place; 5 is no call
-well-formed-named-take : (wellFormed (3 ∷ replicate 4238 0) ≡ true) × (wellFormed (3 ∷ replicate 4237 0) ≡ false) × (wellFormed (3 ∷ replicate 4239 0) ≡ false) × (wellFormed (3 ∷ replicate 4236 0) ≡ false)
+well-formed-named-take : (wellFormed (3 ∷ replicate 4967 0) ≡ true) × (wellFormed (3 ∷ replicate 4966 0) ≡ false) × (wellFormed (3 ∷ replicate 4968 0) ≡ false) × (wellFormed (3 ∷ replicate 4965 0) ≡ false)
 unfolding wellFormed placesOffset placeCount tableOffset
 well-formed-named-take = (refl, refl, refl, refl)
 
-well-formed-named-free : (wellFormed (4 ∷ replicate 4236 0) ≡ true) × (wellFormed (4 ∷ replicate 4235 0) ≡ false) × (wellFormed (4 ∷ replicate 4237 0) ≡ false) × (wellFormed (4 ∷ replicate 4238 0) ≡ false)
+well-formed-named-free : (wellFormed (4 ∷ replicate 4965 0) ≡ true) × (wellFormed (4 ∷ replicate 4964 0) ≡ false) × (wellFormed (4 ∷ replicate 4966 0) ≡ false) × (wellFormed (4 ∷ replicate 4967 0) ≡ false)
 unfolding wellFormed placesOffset placeCount tableOffset
 well-formed-named-free = (refl, refl, refl, refl)
 
 abbrev one-place-lent : List ℕ
-one-place-lent = 4 ∷ (replicate 4232 0 ++ (1 ∷ 0 ∷ 0 ∷ 0 ∷ []))
+one-place-lent = 4 ∷ (replicate 4961 0 ++ (1 ∷ 0 ∷ 0 ∷ 0 ∷ []))
 
 well-formed-with-place : (wellFormed (one-place-lent ++ (8 ∷ 9 ∷ [])) ≡ true) × (wellFormed (one-place-lent ++ (8 ∷ [])) ≡ false) × (wellFormed one-place-lent ≡ false)
 unfolding wellFormed placesOffset placeCount tableOffset
 well-formed-with-place = (refl, refl, refl)
 
-unknown-call-not-well-formed : (wellFormed (5 ∷ replicate 4238 0) ≡ false) × (wellFormed (5 ∷ replicate 4236 0) ≡ false)
+unknown-call-not-well-formed : (wellFormed (5 ∷ replicate 4967 0) ≡ false) × (wellFormed (5 ∷ replicate 4965 0) ≡ false)
 unfolding wellFormed placesOffset placeCount tableOffset
 unknown-call-not-well-formed = (refl, refl)

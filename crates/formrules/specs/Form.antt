@@ -9,6 +9,7 @@ use Rattle.laws.specs.Lists.{listed}
 use Rattle.littleendian.specs.Bytes.{byteAt, twoAt, fourAt, eightAt}
 use Rattle.heap.specs.declared.Superblock.{Superblock}
 use Rattle.heap.specs.declared.Setup.{Setup}
+use Rattle.heap.specs.declared.Totals.{Totals}
 use Rattle.heap.specs.declared.State.{State}
 use Rattle.formrules.specs.declared.Request.{Request}
 use Rattle.formrules.specs.declared.Request.the-variants as request
@@ -44,22 +45,36 @@ namesIn b at = listed (λ m. twoAt b (at + 2 * m)) 1024
 abbrev pub namesOffset : ℕ → ℕ
 namesOffset at = at + 64 * 34
 
--- the setup numbers with superblocks 0 to 63, which begin at a position, and the names
+-- the totals of each heap and class from a position on: first 243 of superblocks, of one byte each, then 243 of live blocks, of two bytes each
+unfoldable pub totalsIn : List ℕ → ℕ → Totals
+totalsIn b at = record { superblocks = listed (λ x. byteAt b (at + x)) 243; live = listed (λ x. twoAt b (at + (243 + 2 * x))) 243 }
+
+-- where the totals begin: after the 1024 names
+abbrev pub totalsOffset : ℕ → ℕ
+totalsOffset at = namesOffset at + 1024 * 2
+
+-- the setup numbers with superblocks 0 to 63, which begin at a position, the names and the totals
 unfoldable pub stateIn : List ℕ → ℕ → State
-stateIn b at = record { setup = setupIn b; table = listed (λ k. superblockIn b (at + 34 * k)) 64; names = namesIn b (namesOffset at) }
+stateIn b at =
+    record {
+      setup = setupIn b;
+      table = listed (λ k. superblockIn b (at + 34 * k)) 64;
+      names = namesIn b (namesOffset at);
+      totals = totalsIn b (totalsOffset at);
+    }
 
 -- where the superblocks begin: after the numbers of a take or a named free, or of a free or a named take
 unfoldable pub tableOffset : List ℕ → ℕ
 tableOffset b = pick (either (eqb (byteAt b 0) 1) (eqb (byteAt b 0) 4)) 9 11
 
 -- ---- the order places
--- where they begin: after the setup numbers, or the names, and the four bytes of L
+-- where they begin: after the setup numbers, or the totals, and the four bytes of L
 unfoldable pub placesOffset : List ℕ → ℕ
-placesOffset b = pick (eqb (byteAt b 0) 0) 10 (namesOffset (tableOffset b) + (1024 * 2 + 4))
+placesOffset b = pick (eqb (byteAt b 0) 0) 10 (totalsOffset (tableOffset b) + (243 + 243 * 2 + 4))
 
 -- L, the number of order places lent
 unfoldable pub placeCount : List ℕ → ℕ
-placeCount b = pick (eqb (byteAt b 0) 0) (fourAt b 6) (fourAt b (namesOffset (tableOffset b) + 1024 * 2))
+placeCount b = pick (eqb (byteAt b 0) 0) (fourAt b 6) (fourAt b (totalsOffset (tableOffset b) + (243 + 243 * 2)))
 
 -- the first n places, of two bytes each, from a position on
 unfoldable pub placesIn : List ℕ → ℕ → ℕ → List ℕ

@@ -2,4 +2,5 @@ pub mod CallAcceptedLaws
 pub mod RowLaws
 pub mod RowNameLaws
 pub mod RowDemand3
+pub mod RowTotalsLaws
 pub mod RowCallCases

@@ -5,6 +5,7 @@ use Prim.Native.Nat.{ℕ}
 use native.Mathlib.Omega.{arith}
 use lib.ListN.{getD, replicate}
 use Rattle.heap.specs.declared.Superblock.{Superblock}
+use Rattle.heap.specs.declared.Totals.{Totals}
 use Rattle.calls.specs.declared.Call.{Call}
 use Rattle.calls.specs.declared.Call.the-variants.{Take, Free, NamedTake, NamedFree}
 use Rattle.calls.specs.declared.Outcome.the-variants.{Ready, Address, Moves}
@@ -13,7 +14,7 @@ use Rattle.calls.proofs.CallDefinitions.{callDefinitions}
 use Rattle.rowrules.specs.declared.Control.{Control}
 use Rattle.rowrules.specs.Row.{RowAfter, callOn, rowCall}
 use Rattle.rowrules.specs.RowClaim.{RowStep, RowLinked}
-use Rattle.rowrules.proofs.RowCases.{CallCase, call-refused-case, row-after, control-with, example-setup, example-control, no-name-held, unused-superblock, storage-of-258}
+use Rattle.rowrules.proofs.RowCases.{CallCase, call-refused-case, row-after, control-with, example-setup, name-6-held, no-name-held, example-totals, zero-totals, unused-superblock, storage-of-258}
 
 -- superblock 0 with its first 2048 bytes live, and then with nothing live
 abbrev pub first-block-live : Superblock
@@ -22,30 +23,37 @@ first-block-live = record { owner = 2; class = 26; live = 1 ∷ 0 ∷ 0 ∷ 0 �
 abbrev pub no-block-live : Superblock
 no-block-live = record { owner = 2; class = 26; live = 0 ∷ 0 ∷ 0 ∷ 0 ∷ [] }
 
--- example-setup's control with no name
+-- the totals with superblock 0 in use: heap 2 and class 26 have one superblock and so many live blocks
+abbrev pub totals-with-live : ℕ → Totals
+totals-with-live n = record { superblocks = replicate 80 0 ++ 1 ∷ replicate 162 0; live = replicate 80 0 ++ n ∷ replicate 162 0 }
+
+-- the control of an unused row with no name
 abbrev pub unnamed-control : Control
-unnamed-control = control-with example-setup no-name-held
+unnamed-control = control-with example-setup no-name-held zero-totals
 
 abbrev pub unused-row : List Superblock
 unused-row = replicate 64 unused-superblock
 
--- what a take of the first block leaves, and a free of it
-abbrev pub row-after-take : Control → RowAfter
-row-after-take control = row-after (Address 0) control (first-block-live ∷ replicate 63 unused-superblock) (1 ∷ 0 ∷ replicate 254 7 ++ 8 ∷ 9 ∷ [])
+-- what a take of the first block leaves, with the names then, and a free of it
+abbrev pub row-after-take : List ℕ → RowAfter
+row-after-take names = row-after (Address 0) (control-with example-setup names (totals-with-live 1)) (first-block-live ∷ replicate 63 unused-superblock) (1 ∷ 0 ∷ replicate 254 7 ++ 8 ∷ 9 ∷ [])
 
 abbrev pub row-after-free : RowAfter
-row-after-free = row-after (Moves 0) unnamed-control (no-block-live ∷ replicate 63 unused-superblock) (1 ∷ 0 ∷ replicate 254 7 ++ 8 ∷ 9 ∷ [])
+row-after-free = row-after (Moves 0) (control-with example-setup no-name-held (totals-with-live 0)) (no-block-live ∷ replicate 63 unused-superblock) (1 ∷ 0 ∷ replicate 254 7 ++ 8 ∷ 9 ∷ [])
 
--- a call on the row that such a take left
-abbrev pub case-after-take : Control → Call → RowAfter → CallCase
-case-after-take control call after = record { control = control; row = row-after-take control .row; order = row-after-take control .order; call = call; after = after }
+-- a call on the row that such a take left; and one that is refused there
+abbrev pub case-after : RowAfter → Call → RowAfter → CallCase
+case-after before call after = record { control = before .control; row = before .row; order = before .order; call = call; after = after }
+
+abbrev pub refused-after : RowAfter → Call → ℕ → CallCase
+refused-after before call r = call-refused-case r (before .control) (before .row) (before .order) call
 
 -- the call's own refusals; an accepted take and free write their superblock's record and its order places
 abbrev pub whole-row-call-cases : List CallCase
 whole-row-call-cases =
     call-refused-case 3 unnamed-control unused-row storage-of-258 (Take 2 2049) ∷ call-refused-case 5 unnamed-control unused-row storage-of-258 (Free 2 0)
-    ∷ record { control = unnamed-control; row = unused-row; order = storage-of-258; call = Take 2 2048; after = row-after-take unnamed-control }
-    ∷ case-after-take unnamed-control (Free 1 0) row-after-free ∷ []
+    ∷ record { control = unnamed-control; row = unused-row; order = storage-of-258; call = Take 2 2048; after = row-after-take no-name-held }
+    ∷ case-after (row-after-take no-name-held) (Free 1 0) row-after-free ∷ []
 
 pub whole-row-call-cases-are-computed : map (λ (k : CallCase). rowCall (k .control) (k .row) (k .order) (k .call)) whole-row-call-cases ≡ map (λ (k : CallCase). k .after) whole-row-call-cases
 unfolding callOn callDefinitions
@@ -55,22 +63,33 @@ whole-row-call-cases-are-computed = refl
 -- either free of its block lets it go; and then it is not held, 15
 abbrev pub named-row-call-cases : List CallCase
 named-row-call-cases =
-    call-refused-case 13 example-control unused-row storage-of-258 (NamedTake 2 10 2048)
-    ∷ record { control = unnamed-control; row = unused-row; order = storage-of-258; call = NamedTake 2 6 2048; after = row-after-take example-control }
-    ∷ call-refused-case 14 example-control (row-after-take example-control .row) (row-after-take example-control .order) (NamedTake 1 6 2048)
-    ∷ case-after-take example-control (Free 1 0) row-after-free ∷ case-after-take example-control (NamedFree 1 6) row-after-free
-    ∷ call-refused-case 15 unnamed-control (row-after-free .row) (row-after-free .order) (NamedFree 1 6) ∷ []
+    call-refused-case 13 (control-with example-setup name-6-held zero-totals) unused-row storage-of-258 (NamedTake 2 10 2048)
+    ∷ record { control = unnamed-control; row = unused-row; order = storage-of-258; call = NamedTake 2 6 2048; after = row-after-take name-6-held }
+    ∷ refused-after (row-after-take name-6-held) (NamedTake 1 6 2048) 14
+    ∷ case-after (row-after-take name-6-held) (Free 1 0) row-after-free ∷ case-after (row-after-take name-6-held) (NamedFree 1 6) row-after-free
+    ∷ refused-after row-after-free (NamedFree 1 6) 15 ∷ []
 
 pub named-row-call-cases-are-computed : map (λ (k : CallCase). rowCall (k .control) (k .row) (k .order) (k .call)) named-row-call-cases ≡ map (λ (k : CallCase). k .after) named-row-call-cases
 unfolding callOn callDefinitions
 named-row-call-cases-are-computed = refl
+
+-- Totals: one that is not the recount fails the check, 13, whether of live blocks or of superblocks, and is handed back
+abbrev pub wrong-totals-cases : List CallCase
+wrong-totals-cases =
+    call-refused-case 13 (control-with example-setup no-name-held (totals-with-live 2)) (row-after-free .row) (row-after-free .order) (Take 2 2048)
+    ∷ call-refused-case 13 (control-with example-setup no-name-held (totals-with-live 0)) unused-row storage-of-258 (Take 2 2048)
+    ∷ call-refused-case 13 (control-with example-setup no-name-held example-totals) unused-row storage-of-258 (NamedTake 2 6 2048) ∷ []
+
+pub wrong-totals-cases-are-computed : map (λ (k : CallCase). rowCall (k .control) (k .row) (k .order) (k .call)) wrong-totals-cases ≡ map (λ (k : CallCase). k .after) wrong-totals-cases
+unfolding callOn callDefinitions
+wrong-totals-cases-are-computed = refl
 
 -- ---- lists
 abbrev pub row-after-setup : RowAfter
 row-after-setup = row-after Ready unnamed-control unused-row storage-of-258
 
 abbrev pub take-step : RowStep
-take-step = record { call = Take 2 2048; after = row-after-take unnamed-control }
+take-step = record { call = Take 2 2048; after = row-after-take no-name-held }
 
 abbrev pub free-step : RowStep
 free-step = record { call = Free 1 0; after = row-after-free }
@@ -81,7 +100,7 @@ unfolding RowLinked callOn callDefinitions
 take-then-free-linked = (refl, (refl, tt))
 
 -- and the names that it handed back: a block that is taken by name is freed by it
-pub named-take-then-named-free-linked : RowLinked row-after-setup (record { call = NamedTake 2 6 2048; after = row-after-take example-control } ∷ record { call = NamedFree 1 6; after = row-after-free } ∷ [])
+pub named-take-then-named-free-linked : RowLinked row-after-setup (record { call = NamedTake 2 6 2048; after = row-after-take name-6-held } ∷ record { call = NamedFree 1 6; after = row-after-free } ∷ [])
 unfolding RowLinked callOn callDefinitions
 named-take-then-named-free-linked = (refl, (refl, tt))
 

@@ -21,6 +21,7 @@ use Rattle.heap.specs.States.{noState}
 use Rattle.checkrules.specs.Check.{withinLimits}
 use Rattle.heaplaws.proofs.StateFacts.{Shape}
 use Rattle.heaplaws.proofs.StateCheckLaws.{new-state-sound, new-state-names-valid, new-state-shape}
+use Rattle.heaplaws.proofs.TotalsLaws.{new-state-totals-kept}
 use Rattle.calls.specs.declared.Call.{Call}
 use Rattle.calls.specs.declared.Call.the-variants.{Take}
 use Rattle.calls.specs.declared.Outcome.{Outcome}
@@ -149,7 +150,7 @@ module _ (u : Setup) (row : List Superblock) (order : List ℕ) where
       go true false d e g = inl (12, setup-on-refused-12-of-storage (length row) u row order e (leb-false (u .superblocks * 256) (length order) g))
       go false b d e g = inl (1, setup-on-refused-1-of-limits (length row) u row order e)
 
-  -- a refused setup hands back five zeros and no names, and changes neither row nor storage
+  -- a refused setup hands back five zeros, no names and totals of 0, and changes neither row nor storage
   pub row-setup-refused : (r : ℕ) → rowSetup u row order .outcome ≡ Refused r → rowSetup u row order ≡ rowRefused r (controlOf noState) row order
   unfolding numberOf isReady
   row-setup-refused r e = go row-setup-refused-or-accepted
@@ -189,7 +190,7 @@ module _ (u : Setup) (row : List Superblock) (order : List ℕ) where
             s,
             ap asAfter s ∙ sym (state-setup-accepts u order (true-of-T (withinLimits u) t) l),
             ap (λ (x : RowAfter). length (x .row)) s ∙ length-replicate 64 unused,
-            subst (λ (x : RowAfter). Passed (stateOf (x .control) (x .row)) (x .order)) (sym s) (record { sound = new-state-sound u places t; names = new-state-names-valid u; room = room }),
+            subst (λ (x : RowAfter). Passed (stateOf (x .control) (x .row)) (x .order)) (sym s) (record { sound = new-state-sound u places t; names = new-state-names-valid u; totals = new-state-totals-kept u; room = room }),
             subst (λ (x : RowAfter). Shape (stateOf (x .control) (x .row))) (sym s) (new-state-shape u),
           )
 
@@ -208,7 +209,7 @@ module _ (control : Control) (row : List Superblock) (order : List ℕ) (call : 
           let e = call-on-64-is-call-of (length row) control row order call f in
           ⊎-elim (λ h. inl (h .0, e ∙ ap asRowAfter (h .1))) (λ g. inr (f, g, e)) (call-refused-or-accepted (stateOf control row) order call)
 
-  -- a refused call changes neither row nor storage, nor the setup numbers or the names
+  -- a refused call changes neither row nor storage, nor the setup numbers, the names or the totals
   pub row-call-refused : (r : ℕ) → rowCall control row order call .outcome ≡ Refused r → rowCall control row order call ≡ rowRefused r control row order
   unfolding numberOf
   row-call-refused r e = go row-call-refused-or-accepted

@@ -12,7 +12,7 @@ abbrev pub numbered : ℕ → Superblock
 numbered k = record { owner = k; class = 9; live = [] }
 
 abbrev pub example-control : Control
-example-control = record { setup = record { processors = 2; superblocks = 1; spare = 3; p = 4; q = 5 }; names = 10 ∷ 11 ∷ [] }
+example-control = record { setup = record { processors = 2; superblocks = 1; spare = 3; p = 4; q = 5 }; names = 10 ∷ 11 ∷ []; totals = record { superblocks = 14 ∷ []; live = 15 ∷ 16 ∷ [] } }
 
 -- what the call left
 abbrev pub row-after-call : RowAfter

@@ -1,4 +1,4 @@
--- Cases of the calls on a lent row, each shown whole: outcome, setup numbers, names, row and all order places. No two of the numbers in them are the same by chance. Assumes nothing.
+-- Cases of the calls on a lent row, each shown whole: outcome, setup numbers, names, totals, row and all order places. No two of the numbers in them are the same by chance. Assumes nothing.
 use mathlib.Core.Path.{_≡_, refl, ap}
 use mathlib.Core.List.{List, [], _∷_, _++_, map}
 use Prim.Native.Nat.{ℕ}
@@ -8,6 +8,7 @@ use Rattle.laws.specs.Sums.{allBelow}
 use Rattle.order.specs.Order.{cleared}
 use Rattle.heap.specs.declared.Superblock.{Superblock}
 use Rattle.heap.specs.declared.Setup.{Setup}
+use Rattle.heap.specs.declared.Totals.{Totals}
 use Rattle.heap.specs.Table.{isUnused}
 use Rattle.checkrules.specs.Check.{withinLimits, superblockValid, restValid}
 use Rattle.calls.specs.declared.Call.{Call}
@@ -38,14 +39,21 @@ name-6-held = replicate 6 65535 ++ 0 ∷ replicate 1017 65535
 abbrev pub no-name-held : List ℕ
 no-name-held = replicate 1024 65535
 
-abbrev pub control-with : Setup → List ℕ → Control
-control-with u names = record { setup = u; names = names }
+-- totals that no row has; and totals of 0
+abbrev pub example-totals : Totals
+example-totals = record { superblocks = replicate 242 21 ++ 22 ∷ []; live = replicate 242 23 ++ 24 ∷ [] }
+
+abbrev pub zero-totals : Totals
+zero-totals = record { superblocks = replicate 243 0; live = replicate 243 0 }
+
+abbrev pub control-with : Setup → List ℕ → Totals → Control
+control-with u names totals = record { setup = u; names = names; totals = totals }
 
 abbrev pub example-control : Control
-example-control = control-with example-setup name-6-held
+example-control = control-with example-setup name-6-held example-totals
 
 abbrev pub control-with-p-equal-q : Control
-control-with-p-equal-q = control-with setup-with-p-equal-q name-6-held
+control-with-p-equal-q = control-with setup-with-p-equal-q name-6-held example-totals
 
 -- an unused superblock, and a record that no check passes
 abbrev pub unused-superblock : Superblock
@@ -71,17 +79,17 @@ pub record SetupCase : Type 0 where
   pub order : List ℕ
   pub after : RowAfter
 
--- a refused setup hands back five zeros and no names, and leaves row and storage
+-- a refused setup hands back five zeros, no names and totals of 0, and leaves row and storage
 abbrev pub setup-refused-case : ℕ → Setup → List Superblock → List ℕ → SetupCase
-setup-refused-case r u row order = record { setup = u; row = row; order = order; after = row-after (Refused r) (control-with zero-setup no-name-held) row order }
+setup-refused-case r u row order = record { setup = u; row = row; order = order; after = row-after (Refused r) (control-with zero-setup no-name-held zero-totals) row order }
 
 -- "1, 12, then 13 for a lent row that is not 64 long"; an accepted one writes all 64 records, whatever they were, and the first N × 256 places, and
--- holds no names
+-- holds no names and has totals of 0
 abbrev pub row-setup-cases : List SetupCase
 row-setup-cases =
     setup-refused-case 1 setup-with-p-equal-q (replicate 63 invalid-superblock) storage-of-255 ∷ setup-refused-case 12 example-setup (replicate 63 invalid-superblock) storage-of-255 ∷ setup-refused-case 13 example-setup (replicate 63 invalid-superblock) storage-of-258 ∷ setup-refused-case 13 example-setup (replicate 65 invalid-superblock) storage-of-258
     ∷ setup-refused-case 1 setup-with-p-equal-q (replicate 64 invalid-superblock) storage-of-258 ∷ setup-refused-case 12 example-setup (replicate 64 invalid-superblock) storage-of-255
-    ∷ record { setup = example-setup; row = replicate 64 invalid-superblock; order = storage-of-258; after = row-after Ready (control-with example-setup no-name-held) (replicate 64 unused-superblock) (replicate 256 0 ++ 8 ∷ 9 ∷ []) } ∷ []
+    ∷ record { setup = example-setup; row = replicate 64 invalid-superblock; order = storage-of-258; after = row-after Ready (control-with example-setup no-name-held zero-totals) (replicate 64 unused-superblock) (replicate 256 0 ++ 8 ∷ 9 ∷ []) } ∷ []
 
 pub row-setup-cases-are-computed : map (λ (k : SetupCase). rowSetup (k .setup) (k .row) (k .order)) row-setup-cases ≡ map (λ (k : SetupCase). k .after) row-setup-cases
 unfolding setupOn withinLimits cleared
@@ -95,7 +103,7 @@ pub record CallCase : Type 0 where
   pub call : Call
   pub after : RowAfter
 
--- a refused one hands back the setup numbers and the names, and leaves row and storage
+-- a refused one hands back the setup numbers, the names and the totals, and leaves row and storage
 abbrev pub call-refused-case : ℕ → Control → List Superblock → List ℕ → Call → CallCase
 call-refused-case r control row order call = record { control = control; row = row; order = order; call = call; after = row-after (Refused r) control row order }
 
@@ -110,11 +118,12 @@ pub row-call-cases-are-computed : map (λ (k : CallCase). rowCall (k .control) (
 unfolding callOn callOf takeOf checked withinLimits restValid superblockValid isUnused allBelow
 row-call-cases-are-computed = refl
 
--- a call on 64 records leaves what the call on their state leaves: outcome, setup numbers, names, row and storage, whatever the names, the row and the call
-pub call-on-64-is-computed : (names : List ℕ) (row : List Superblock) (call : Call)
-    → (let a = callOf (record { setup = example-setup; table = row; names = names }) storage-of-258 call in callOn 64 (control-with example-setup names) row storage-of-258 call ≡ row-after (a .answer .outcome) (control-with (a .answer .state .setup) (a .answer .state .names)) (a .answer .state .table) (a .order))
+-- a call on 64 records leaves what the call on their state leaves: outcome, setup numbers, names, totals, row and storage, whatever the names, the totals, the
+-- row and the call
+pub call-on-64-is-computed : (names : List ℕ) (totals : Totals) (row : List Superblock) (call : Call)
+    → (let a = callOf (record { setup = example-setup; table = row; names = names; totals = totals }) storage-of-258 call in callOn 64 (control-with example-setup names totals) row storage-of-258 call ≡ row-after (a .answer .outcome) (control-with (a .answer .state .setup) (a .answer .state .names) (a .answer .state .totals)) (a .answer .state .table) (a .order))
 unfolding callOn withinLimits
-call-on-64-is-computed names row call = refl
+call-on-64-is-computed names totals row call = refl
 
 -- ---- lists
 abbrev pub refused-before : RowAfter
@@ -123,7 +132,7 @@ refused-before = row-after (Refused 13) example-control (replicate 63 unused-sup
 abbrev pub refused-step : Call → Control → List Superblock → RowStep
 refused-step call control row = record { call = call; after = row-after (Refused 13) control row storage-of-258 }
 
--- each call gets the setup numbers, the names and the row that the one before it left
+-- each call gets the setup numbers, the names, the totals and the row that the one before it left
 pub refused-calls-linked : RowLinked refused-before (refused-step (Take 2 2048) example-control (replicate 63 unused-superblock) ∷ refused-step (Free 1 0) example-control (replicate 63 unused-superblock) ∷ [])
 unfolding RowLinked callOn withinLimits
 refused-calls-linked = (refl, (refl, tt))
@@ -136,8 +145,15 @@ another-row-not-linked linked =
     absurd (omega (arith, z))
 
 -- nor is one that got other names
-pub other-names-not-linked : RowLinked refused-before (refused-step (Take 2 2048) (control-with example-setup no-name-held) (replicate 63 unused-superblock) ∷ []) → ⊥
+pub other-names-not-linked : RowLinked refused-before (refused-step (Take 2 2048) (control-with example-setup no-name-held example-totals) (replicate 63 unused-superblock) ∷ []) → ⊥
 unfolding RowLinked callOn withinLimits
 other-names-not-linked linked =
     let z : _≡_ {A = ℕ} 65535 0 = ap (λ (x : RowAfter). getD (x .control .names) 6 1) (linked .0) in
+    absurd (omega (arith, z))
+
+-- nor one that got other totals
+pub other-totals-not-linked : RowLinked refused-before (refused-step (Take 2 2048) (control-with example-setup name-6-held zero-totals) (replicate 63 unused-superblock) ∷ []) → ⊥
+unfolding RowLinked callOn withinLimits
+other-totals-not-linked linked =
+    let z : _≡_ {A = ℕ} 0 22 = ap (λ (x : RowAfter). getD (x .control .totals .superblocks) 242 1) (linked .0) in
     absurd (omega (arith, z))

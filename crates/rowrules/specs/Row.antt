@@ -33,11 +33,11 @@ rowAfter r row order = record { outcome = r .outcome; control = r .control; row 
 
 -- the state that a control and a row of 64 records make
 abbrev pub stateOf : Control → List Superblock → State
-stateOf control row = record { setup = control .setup; table = row; names = control .names }
+stateOf control row = record { setup = control .setup; table = row; names = control .names; totals = control .totals }
 
 -- all of a state but its superblocks
 abbrev pub controlOf : State → Control
-controlOf s = record { setup = s .setup; names = s .names }
+controlOf s = record { setup = s .setup; names = s .names; totals = s .totals }
 
 -- what a call on a state leaves, its table read as the row
 abbrev pub asRowAfter : After → RowAfter
@@ -48,12 +48,13 @@ abbrev pub rowRefused : ℕ → Control → List Superblock → List ℕ → Row
 rowRefused r control row order = record { outcome = Refused r; control = control; row = row; order = order }
 
 -- "an accepted setup writes them all": 64 unused superblocks, and the first N × 256 order places 0; "A new .. setup holds no names"
--- (document 02, item 2)
+-- (document 02, item 2) and "has them at 0", the totals (item 3)
 abbrev pub rowAcceptedSetup : Setup → List ℕ → RowAfter
 rowAcceptedSetup u order = record { outcome = Ready; control = controlOf (newState u); row = replicate 64 unused; order = cleared order (u .superblocks * 256) }
 
 -- A setup where n records are lent: "setup 1, 12, then 13 for a lent row that is not 64 long (its contents are not checked ..)". "A
--- refused setup hands back five zeros ..; a lent row it does not write." "A .. refused setup holds no names" (document 02, item 2).
+-- refused setup hands back five zeros ..; a lent row it does not write." "A .. refused setup holds no names" (document 02, item 2) and
+-- "has them at 0", the totals (item 3).
 unfoldable pub setupOn : ℕ → Setup → List Superblock → List ℕ → RowAfter
 setupOn n u row order =
     pick (withinLimits u)

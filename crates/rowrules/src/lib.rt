@@ -2,11 +2,13 @@
 use calls::Outcome;
 use heap::Setup;
 use heap::Superblock;
+use heap::Totals;
 
 // What a call on a lent row is given and hands back by value: all of a state but its superblocks.
 pub struct Control {
     pub setup: Setup,
     pub names: [u16; 1024],
+    pub totals: Totals,
 }
 
 // What a call on a lent row hands back: its outcome and the control after it. The superblocks are in the row.

@@ -26,10 +26,12 @@ pub fn state_of(control: Control, table: [Superblock; 64]) -> State
 {
     let setup = control.setup;
     let names = control.names;
+    let totals = control.totals;
     State {
         setup,
         table,
         names,
+        totals,
     }
 }
 
@@ -39,7 +41,12 @@ pub fn control_of(s: State) -> Control
 {
     let setup = s.setup;
     let names = s.names;
-    Control { setup, names }
+    let totals = s.totals;
+    Control {
+        setup,
+        names,
+        totals,
+    }
 }
 
 // The refusals before any superblock is looked at: setup numbers, 12, 13 for the row's length; 0 where none applies.

@@ -8,7 +8,7 @@ use lib.ListN.{length, take, length-set}
 use Rattle.laws.specs.Lists.{listed}
 use Rattle.formrules.specs.Form.{superblockIn}
 use Rattle.laws.proofs.ListedLaws.{listed-none, listed-step}
-use Rattle.callload.proofs.StateInLaws.{superblock-in-position-after, names-in-position-after, state-in-of-all-superblocks}
+use Rattle.callload.proofs.StateInLaws.{superblock-in-position-after, names-in-position-after, totals-in-position-after, state-in-of-all-superblocks}
 use Rattle.callload.proofs.state_at.Statement.{statement}
 use Rattle.callload.proofs.state_at.Tie as tie
 
@@ -51,11 +51,17 @@ position-after-requires-2 c κs = search needs
 names-at-requires : tie.Need-names-at-requires Inv-loop μ-loop
 names-at-requires c κs = search needs
 
+position-after-requires-3 : tie.Need-position-after-requires-3 Inv-loop μ-loop
+position-after-requires-3 c κs = search needs
+
+totals-at-requires : tie.Need-totals-at-requires Inv-loop μ-loop
+totals-at-requires c κs = search needs
+
 setup-in-requires : tie.Need-setup-in-requires Inv-loop μ-loop
 setup-in-requires c κs = search needs
 
 returns : tie.Need-returns Inv-loop μ-loop
-returns c = search (state-in-of-all-superblocks, names-in-position-after)
+returns c = search (state-in-of-all-superblocks, names-in-position-after, totals-in-position-after)
 
 pub state-at-spec : {M : Type 1} → statement M
 state-at-spec =
@@ -74,5 +80,7 @@ state-at-spec =
     loop-again
     position-after-requires-2
     names-at-requires
+    position-after-requires-3
+    totals-at-requires
     setup-in-requires
     returns)

@@ -1,12 +1,20 @@
--- `finallines::heap_line_if` meets its contract: by the number of superblocks. Assumes nothing.
-use Rattle.finallines.proofs.FinalLinesLaws.{heap-line-if-of-no-superblock, heap-line-if-of-superblocks}
-use native.Mathlib.Omega.{arith}
+-- `finallines::heap_line_if` meets its contract: by the number of superblocks that is kept. Assumes nothing.
+use Rattle.finallines.proofs.FinalLinesLaws.{heap-line-if-of-no-superblock-kept, heap-line-if-of-superblocks-kept}
 use borrow.Author.Needs.{needs}
 use Rattle.finallines.proofs.heap_line_if.Statement.{statement}
 use Rattle.finallines.proofs.heap_line_if.Tie as tie
 
-count-of-requires : tie.Need-count-of-requires
-count-of-requires c κs = search needs
+mul-x : tie.Need-mul-x
+mul-x c = search needs
+
+add-x : tie.Need-add-x
+add-x c = search needs
+
+element-copy-out-superblocks : tie.Need-element-copy-out-superblocks
+element-copy-out-superblocks c = search needs
+
+cast-superblocks : tie.Need-cast-superblocks
+cast-superblocks c = search needs
 
 put-nothing-requires : tie.Need-put-nothing-requires
 put-nothing-requires c κs = search needs
@@ -15,9 +23,16 @@ same-length : tie.Need-same-length
 same-length c = search needs
 
 returns : tie.Need-returns
-returns c =
-    let n = c .before .before .before .before .before .before .count-of in
-    heap-line-if-of-no-superblock _ _ _ _ _ (n .result .superblocks) (n .ensures .0) (omega arith) (c .before .before .put-nothing .ensures)
+returns c = search heap-line-if-of-no-superblock-kept
+
+mul-live : tie.Need-mul-live
+mul-live c = search needs
+
+element-copy-out-live : tie.Need-element-copy-out-live
+element-copy-out-live c = search needs
+
+cast-live : tie.Need-cast-live
+cast-live c = search needs
 
 heap-line-requires : tie.Need-heap-line-requires
 heap-line-requires c κs = search needs
@@ -26,17 +41,22 @@ same-length-2 : tie.Need-same-length-2
 same-length-2 c = search needs
 
 returns-2 : tie.Need-returns-2
-returns-2 c =
-    heap-line-if-of-superblocks _ _ _ _ _ _ _ (c .before .before .heap-line .ensures) (omega arith) (omega arith) (omega arith)
+returns-2 c = search heap-line-if-of-superblocks-kept
 
 pub heap-line-if-spec : {M : Type 1} → statement M
 heap-line-if-spec =
     tie.close
     (tie.spec
-    count-of-requires
+    mul-x
+    add-x
+    element-copy-out-superblocks
+    cast-superblocks
     put-nothing-requires
     same-length
     returns
+    mul-live
+    element-copy-out-live
+    cast-live
     heap-line-requires
     same-length-2
     returns-2)
