@@ -20,12 +20,13 @@ pub block-offset-le : (class j size : ℕ) → size ≡ sizeOf class → j ≤ 6
 block-offset-le class j size e h = mul-le-mul {n₁ = j} {m₁ = size} {n₂ = 65535} {m₂ = 2048} h (let g = size-of-le-2048 class in omega arith)
 
 -- what is taken from superblock k
-module _ (k : ℕ) (s : State) (order : List ℕ) (filled j class address : ℕ) (t : State)
-    (ef : filled ≡ blocksOf (superblockAt s k .class) - liveIn (superblockAt s k)) (ej : j ≡ lastFilled order k filled) (ec : class ≡ superblockAt s k .class)
-    (ea : address ≡ addressOf k class j) (et : t ≡ withSuperblock s k (withMarkAt (superblockAt s k) j)) where
+module _ (k : ℕ) (s : State) (order : List ℕ) (filled j address : ℕ) (taken : List ℕ) (t : State)
+    (ef : filled ≡ blocksOf (superblockAt s k .class) - liveIn (superblockAt s k)) (ej : j ≡ lastFilled order k filled)
+    (ea : address ≡ addressOf k (superblockAt s k .class) j) (em : taken ≡ withMarkAt (superblockAt s k) j .live)
+    (et : t ≡ withSuperblock s k (record { owner = superblockAt s k .owner; class = superblockAt s k .class; live = taken })) where
   pub taken-from-by-steps : _≡_ {A = After} (record { answer = record { outcome = Address address; state = t }; order = order }) (takenFrom k s order)
   unfolding takenFrom nextBlock
-  taken-from-by-steps = rw (et, ea, ec, ej, ef)
+  taken-from-by-steps = rw (et, em, ea, ej, ef)
 
   pub taken-from-number-and-values : HasNumberAndValuesOf (Address address) (takenFrom k s order .answer .outcome)
   taken-from-number-and-values = number-and-values-by-rules (record { outcome = Address address; state = t }) order (takenFrom k s order) taken-from-by-steps

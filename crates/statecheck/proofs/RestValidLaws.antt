@@ -1,24 +1,33 @@
--- The rest of the check as three parts: each superblock alone, the emptiness invariant, and the names. Assumes nothing.
+-- The rest of the check as the code goes: each superblock alone, the totals and the emptiness invariant by one recount, and the names. Assumes nothing.
 use mathlib.Core.Path.{_≡_, refl, sym, ap, _∙_}
 use mathlib.Core.Bool.{Bool, true, false, not}
 use mathlib.Core.List.{List}
-use Prim.Native.Nat.{ℕ}
+use Prim.Native.Nat.{ℕ, _*_, _≤_, _<_}
+use native.Mathlib.Omega.{arith}
 use borrow.Author.Tests.{not-true, not-false}
-use Rattle.laws.specs.Sums.{both, allBelow}
-use Rattle.laws.proofs.TestLaws.{both-false-right}
+use lib.ListN.{length}
+use lib.Dec.{leb}
+use Rattle.laws.specs.Sums.{pick, both, allBelow}
+use Rattle.laws.proofs.TestLaws.{T-of-true, both-false-right}
 use Rattle.laws.proofs.SumLaws.{all-both}
+use Rattle.heap.specs.declared.Totals.{Totals}
 use Rattle.heap.specs.declared.State.{State}
 use Rattle.heap.specs.Table.{superblockAt}
-use Rattle.checkrules.specs.Check.{superblockValid, unusedFrom, sparseIfGlobal, emptinessInvariant, namesValid, restValid}
+use Rattle.heap.specs.Totals.{heapCount, recounted}
+use Rattle.checkrules.specs.Check.{withinLimits, superblockValid, unusedFrom, sparseIfGlobal, emptinessInvariant, namesValid, sameTotals, totalsValid, restValid}
+use Rattle.heaplaws.proofs.StateCheckLaws.{facts-of-within-limits}
 use Rattle.superblockcheck.specs.Alone.{aloneValid, eachValid}
+use Rattle.invariantcheck.specs.TotalsInvariant.{totalsInvariant}
+use Rattle.invariantcheck.proofs.EmptinessInvariantLaws.{totals-invariant-of-recount}
+use Rattle.limits.specs.SetupRefusal.{setupRefusal}
 
--- the rest of the check: each superblock alone, the heaps, and the names
-pub rest-valid-is-both : (s : State) (order : List ℕ) → restValid s order ≡ both (eachValid s order) (both (emptinessInvariant s) (namesValid s))
+-- the clauses in the code's order
+rest-valid-by-parts : (s : State) (order : List ℕ) → restValid s order ≡ both (eachValid (s .setup) (s .table) order) (both (totalsValid s) (both (emptinessInvariant s) (namesValid s)))
 unfolding restValid eachValid aloneValid
-rest-valid-is-both s order =
+rest-valid-by-parts s order =
     sym
-    (ap (λ (t : Bool). both t (both (emptinessInvariant s) (namesValid s))) (all-both good (λ k. both (past k) (thin k)) 64 ∙ ap (both (allBelow good 64)) (all-both past thin 64))
-    ∙ regroup (allBelow good 64) (allBelow past 64) (emptinessInvariant s) (allBelow thin 64))
+    (ap (λ (t : Bool). both t (both (totalsValid s) (both (emptinessInvariant s) (namesValid s)))) (all-both good (λ k. both (past k) (thin k)) 64 ∙ ap (both (allBelow good 64)) (all-both past thin 64))
+    ∙ regroup (allBelow good 64) (allBelow past 64) (emptinessInvariant s) (allBelow thin 64) (namesValid s) (totalsValid s))
   where
     good : ℕ → Bool
     good k = superblockValid (s .setup) order k (superblockAt s k)
@@ -29,29 +38,56 @@ rest-valid-is-both s order =
     thin : ℕ → Bool
     thin k = sparseIfGlobal (s .setup) (superblockAt s k)
 
-    regroup : (a b h d : Bool) → both (both a (both b d)) (both h (namesValid s)) ≡ both a (both b (both h (both d (namesValid s))))
-    regroup false b h d = refl
-    regroup true false h d = refl
-    regroup true true true true = refl
-    regroup true true true false = refl
-    regroup true true false d = both-false-right d
+    regroup : (a b h d n t : Bool) → both (both a (both b d)) (both t (both h n)) ≡ both a (both b (both h (both d (both n t))))
+    regroup false b h d n t = refl
+    regroup true false h d n t = refl
+    regroup true true true true true true = refl
+    regroup true true true true true false = refl
+    regroup true true true true false true = refl
+    regroup true true true true false false = refl
+    regroup true true true false n t = refl
+    regroup true true false true n true = refl
+    regroup true true false true n false = refl
+    regroup true true false false n t = refl
 
-module _ (s : State) (order : List ℕ) (t : Bool) (e : t ≡ eachValid s order) where
+-- a setup that is not refused has at most 8 processors, so that totals are kept of all their heaps
+processors-have-totals : (s : State) (order : List ℕ) (first : ℕ) → first ≡ setupRefusal 13 (s .setup) order → first ≡ 0 → s .setup .processors < heapCount
+unfolding setupRefusal
+processors-have-totals s order first e z = go (withinLimits (s .setup)) refl (sym z ∙ e)
+  where
+    go : (a : Bool) → withinLimits (s .setup) ≡ a → _≡_ {A = ℕ} 0 (pick a (pick (leb (s .setup .superblocks * 256) (length order)) 0 12) 13) → s .setup .processors < heapCount
+    go true w q = let h = facts-of-within-limits (s .setup) (T-of-true _ w) .processors-high in omega arith
+    go false w q = absurd (omega arith)
+
+-- ---- each part, by its answer
+module _ (s : State) (order : List ℕ) (first : ℕ) (lawful : first ≡ setupRefusal 13 (s .setup) order) (none : first ≡ 0) (t : Bool) (e : t ≡ eachValid (s .setup) (s .table) order) where
   pub rest-valid-false-of-each : not t ≡ true → false ≡ restValid s order
-  rest-valid-false-of-each f = sym (rw (rest-valid-is-both s order, ← e, not-true t f))
+  rest-valid-false-of-each f = sym (rw (rest-valid-by-parts s order, ← e, not-true t f))
 
-  module _ (u : Bool) (f : not t ≡ false) (g : u ≡ emptinessInvariant s) where
-    pub rest-valid-false-of-emptiness-invariant : not u ≡ true → false ≡ restValid s order
-    rest-valid-false-of-emptiness-invariant h = sym (rw (rest-valid-is-both s order, ← e, not-false t f, ← g, not-true u h))
+  module _ (f : not t ≡ false) (counted : Totals) (recount : counted ≡ recounted (s .table)) (v : Bool) (h : v ≡ sameTotals (s .totals) counted) where
+    same-is-totals-valid : v ≡ totalsValid s
+    unfolding totalsValid
+    same-is-totals-valid = h ∙ ap (sameTotals (s .totals)) recount
 
-    rest-valid-is-names-valid : (v : Bool) → not u ≡ false → v ≡ namesValid s → restValid s order ≡ v
-    rest-valid-is-names-valid v h n = rw (rest-valid-is-both s order, ← e, not-false t f, ← g, not-false u h) (sym n)
+    pub rest-valid-false-of-totals : not v ≡ true → false ≡ restValid s order
+    rest-valid-false-of-totals g = sym (rw (rest-valid-by-parts s order, ← e, not-false t f, ← same-is-totals-valid, not-true v g))
 
-    pub rest-valid-false-of-names : (v : Bool) → not u ≡ false → v ≡ namesValid s → not v ≡ true → false ≡ restValid s order
-    rest-valid-false-of-names v h n w = sym (rest-valid-is-names-valid v h n ∙ not-true v w)
+    module _ (g : not v ≡ false) (u : Bool) (i : u ≡ totalsInvariant (s .setup) counted) where
+      invariant-is-emptiness-invariant : u ≡ emptinessInvariant s
+      invariant-is-emptiness-invariant = i ∙ ap (totalsInvariant (s .setup)) recount ∙ totals-invariant-of-recount s (processors-have-totals s order first lawful none)
 
-    pub rest-valid-of-parts : (v : Bool) → not u ≡ false → v ≡ namesValid s → not v ≡ false → true ≡ restValid s order
-    rest-valid-of-parts v h n w = sym (rest-valid-is-names-valid v h n ∙ not-false v w)
+      pub rest-valid-false-of-emptiness-invariant : not u ≡ true → false ≡ restValid s order
+      rest-valid-false-of-emptiness-invariant j = sym (rw (rest-valid-by-parts s order, ← e, not-false t f, ← same-is-totals-valid, not-false v g, ← invariant-is-emptiness-invariant, not-true u j))
+
+      module _ (j : not u ≡ false) (w : Bool) (n : w ≡ namesValid s) where
+        rest-valid-is-names-valid : restValid s order ≡ w
+        rest-valid-is-names-valid = rw (rest-valid-by-parts s order, ← e, not-false t f, ← same-is-totals-valid, not-false v g, ← invariant-is-emptiness-invariant, not-false u j) (sym n)
+
+        pub rest-valid-false-of-names : not w ≡ true → false ≡ restValid s order
+        rest-valid-false-of-names k = sym (rest-valid-is-names-valid ∙ not-true w k)
+
+        pub rest-valid-of-parts : not w ≡ false → true ≡ restValid s order
+        rest-valid-of-parts k = sym (rest-valid-is-names-valid ∙ not-false w k)
 
 -- how a proof finds which of them it asks
-pub ruleset rest-valid-rules = (rest-valid-false-of-each, rest-valid-false-of-emptiness-invariant, rest-valid-false-of-names, rest-valid-of-parts)
+pub ruleset rest-valid-rules = (rest-valid-false-of-each, rest-valid-false-of-totals, rest-valid-false-of-emptiness-invariant, rest-valid-false-of-names, rest-valid-of-parts)

@@ -6,6 +6,7 @@ use Prim.Native.Nat.{ℕ, _+_, _-_, _*_, _≤_, _<_}
 use native.Mathlib.Omega.{arith}
 use borrow.Author.Count.{below-more}
 use borrow.Author.Tests.{not-true, not-false, eqb-true, eq-eqb, ne-eqb, le-leb, lt-leb, lt-ltb, le-ltb}
+use lib.ListN.{getD}
 use lib.Dec.{T, eqb, ltb}
 use Rattle.laws.specs.Sums.{both, either}
 use Rattle.laws.proofs.TestLaws.{T-of-true, both-false-right, both-true-right}
@@ -14,8 +15,7 @@ use Rattle.classes.specs.Classes.{blocksOf}
 use Rattle.filledplaces.specs.FilledPlaces.{placesValid}
 use Rattle.heap.specs.declared.Superblock.{Superblock}
 use Rattle.heap.specs.declared.Setup.{Setup}
-use Rattle.heap.specs.declared.State.{State}
-use Rattle.heap.specs.Table.{superblockAt, liveIn, isUnused}
+use Rattle.heap.specs.Table.{blank, liveIn, isUnused}
 use Rattle.checkrules.specs.Check.{superblockValid, unusedFrom, sparseIfGlobal}
 use Rattle.superblockcheck.specs.Alone.{aloneValid, eachValid}
 
@@ -71,14 +71,15 @@ module _ (u : Setup) (b : Superblock) where
   sparse-if-global-of-heap-0 n live r z e l t = t ∙ sym (simp (eq-eqb (b .owner) 0 z, ← e, ← l))
 
 -- the loop over the table
-pub each-valid-false-of-one : (s : State) (order : List ℕ) (k : ℕ) (r : Bool) → k < 64 → r ≡ aloneValid (s .setup) order k (superblockAt s k) → not r ≡ true → false ≡ eachValid s order
-unfolding eachValid
-each-valid-false-of-one s order k r l e f = all-false (λ i. aloneValid (s .setup) order i (superblockAt s i)) 64 k l (sym e ∙ not-true r f)
+module _ (u : Setup) (table : List Superblock) (order : List ℕ) (k : ℕ) where
+  pub each-valid-false-of-one : (r : Bool) → k < 64 → r ≡ aloneValid u order k (getD table k blank) → not r ≡ true → false ≡ eachValid u table order
+  unfolding eachValid
+  each-valid-false-of-one r l e f = all-false (λ i. aloneValid u order i (getD table i blank)) 64 k l (sym e ∙ not-true r f)
 
-pub each-valid-step : (s : State) (order : List ℕ) (k : ℕ) (r : Bool) → r ≡ aloneValid (s .setup) order k (superblockAt s k) → not r ≡ false
-    → ((i : ℕ) → i < k → T (aloneValid (s .setup) order i (superblockAt s i))) → (i : ℕ) → i < k + 1 → T (aloneValid (s .setup) order i (superblockAt s i))
-each-valid-step s order k r e f h = below-more (λ i. T (aloneValid (s .setup) order i (superblockAt s i))) k h (T-of-true _ (sym e ∙ not-false r f))
+  pub each-valid-step : (r : Bool) → r ≡ aloneValid u order k (getD table k blank) → not r ≡ false
+      → ((i : ℕ) → i < k → T (aloneValid u order i (getD table i blank))) → (i : ℕ) → i < k + 1 → T (aloneValid u order i (getD table i blank))
+  each-valid-step r e f h = below-more (λ i. T (aloneValid u order i (getD table i blank))) k h (T-of-true _ (sym e ∙ not-false r f))
 
-pub each-valid-of-all-64 : (s : State) (order : List ℕ) (k : ℕ) → 64 ≤ k → ((i : ℕ) → i < k → T (aloneValid (s .setup) order i (superblockAt s i))) → true ≡ eachValid s order
-unfolding eachValid
-each-valid-of-all-64 s order k l h = all-true (λ i. aloneValid (s .setup) order i (superblockAt s i)) 64 (λ i li. h i (omega arith))
+  pub each-valid-of-all-64 : 64 ≤ k → ((i : ℕ) → i < k → T (aloneValid u order i (getD table i blank))) → true ≡ eachValid u table order
+  unfolding eachValid
+  each-valid-of-all-64 l h = all-true (λ i. aloneValid u order i (getD table i blank)) 64 (λ i li. h i (omega arith))

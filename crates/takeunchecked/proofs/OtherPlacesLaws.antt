@@ -2,12 +2,17 @@
 use mathlib.Core.Path.{_≡_, refl, sym, ap, _∙_}
 use mathlib.Core.List.{List}
 use Prim.Native.Nat.{ℕ, _<_}
+use native.Mathlib.Decide.{decLt}
 use native.Mathlib.Omega.{arith}
+use lib.ListN.{length, List·getD-eq-default}
+use Rattle.heap.specs.declared.Superblock.{Superblock}
 use Rattle.heap.specs.declared.State.{State}
 use Rattle.heap.specs.declared.Found.{Found}
 use Rattle.heap.specs.declared.Found.the-variants.{At, Nothing}
+use Rattle.heap.specs.Table.{blank, superblockAt}
 use Rattle.choicerules.specs.Choice.{fullest, lowestEmpty, lowestUnused, orElse}
 use Rattle.heaplaws.proofs.ChoiceLaws.{best-of-fullest, best-of-lowest-empty, best-of-lowest-unused}
+use Rattle.heaplaws.proofs.StateCheckLaws.{facts-of-is-unused}
 use Rattle.calls.specs.declared.Answer.{Answer}
 use Rattle.calls.specs.declared.Outcome.the-variants.{Refused}
 use Rattle.calls.specs.Answers.{After}
@@ -26,21 +31,35 @@ pub other-places-is-lowest-unused : (c : ℕ) (s : State) (a b d : Found) → a 
 unfolding otherPlaces
 other-places-is-lowest-unused c s a b d e f g h i = i ∙ rw (← e, f, ← g, h)
 
--- a superblock found has a number of at most 255
-pub fullest-lt-64 : (h c : ℕ) (s : State) (k : ℕ) → fullest h c s ≡ At k → k < 64
-fullest-lt-64 h c s k e = best-of-fullest h c s k e .below
-
-pub fullest-lt-256 : (h c : ℕ) (s : State) (a : Found) (k : ℕ) → a ≡ fullest h c s → a ≡ At k → k < 256
-fullest-lt-256 h c s a k e f = omega (arith, fullest-lt-64 h c s k (sym e ∙ f))
-
-pub other-places-lt-256 : (c : ℕ) (s : State) (a : Found) (k : ℕ) → s .setup .superblocks < 256 → a ≡ otherPlaces c s → a ≡ At k → k < 256
-unfolding otherPlaces
-other-places-lt-256 c s a k n e f = go (fullest 0 c s) refl (lowestEmpty s) refl (lowestUnused s) refl (sym f ∙ e)
+-- a superblock found is one of the table's 64: past the table's end nothing is unused
+lowest-unused-lt-64 : (s : State) (k : ℕ) → length (s .table) ≡ 64 → lowestUnused s ≡ At k → k < 64
+lowest-unused-lt-64 s k long e = go (decLt k 64)
   where
-    go : (x : Found) → x ≡ fullest 0 c s → (y : Found) → y ≡ lowestEmpty s → (z : Found) → z ≡ lowestUnused s → At k ≡ orElse x (orElse y z) → k < 256
-    go (At i) p y q z r w = omega (arith, fullest-lt-64 0 c s k (sym p ∙ sym w))
-    go Nothing p (At i) q z r w = let b = best-of-lowest-empty s k (sym q ∙ sym w) .below in omega arith
-    go Nothing p Nothing q z r w = let b = best-of-lowest-unused s k (sym r ∙ sym w) .below in omega arith
+    go : Dec (k < 64) → k < 64
+    go (yes h) = h
+    go (no f) =
+        let unused-owner = facts-of-is-unused (superblockAt s k) (best-of-lowest-unused s k e .meets-criterion) .owner in
+        let past : superblockAt s k ≡ blank = List·getD-eq-default (s .table) blank {n = k} (omega arith) in
+        omega (arith, ap (λ (b : Superblock). b .owner) past)
+
+pub fullest-lt-64 : (h c : ℕ) (s : State) (a : Found) (k : ℕ) → a ≡ fullest h c s → a ≡ At k → k < 64
+fullest-lt-64 h c s a k e f = best-of-fullest h c s k (sym e ∙ f) .below
+
+pub other-places-lt-64 : (c : ℕ) (s : State) (a : Found) (k : ℕ) → length (s .table) ≡ 64 → a ≡ otherPlaces c s → a ≡ At k → k < 64
+unfolding otherPlaces
+other-places-lt-64 c s a k long e f = go (fullest 0 c s) refl (lowestEmpty s) refl (lowestUnused s) refl (sym f ∙ e)
+  where
+    go : (x : Found) → x ≡ fullest 0 c s → (y : Found) → y ≡ lowestEmpty s → (z : Found) → z ≡ lowestUnused s → At k ≡ orElse x (orElse y z) → k < 64
+    go (At i) p y q z r w = fullest-lt-64 0 c s (At i) k p (sym w)
+    go Nothing p (At i) q z r w = best-of-lowest-empty s k (sym q ∙ sym w) .below
+    go Nothing p Nothing q z r w = lowest-unused-lt-64 s k long (sym r ∙ sym w)
+
+-- so its number fits a byte
+pub fullest-lt-256 : (h c : ℕ) (s : State) (a : Found) (k : ℕ) → a ≡ fullest h c s → a ≡ At k → k < 256
+fullest-lt-256 h c s a k e f = omega (arith, fullest-lt-64 h c s a k e f)
+
+pub other-places-lt-256 : (c : ℕ) (s : State) (a : Found) (k : ℕ) → length (s .table) ≡ 64 → a ≡ otherPlaces c s → a ≡ At k → k < 256
+other-places-lt-256 c s a k long e f = omega (arith, other-places-lt-64 c s a k long e f)
 
 -- what a take answers
 pub taken-at-of-own : (h c : ℕ) (s : State) (order : List ℕ) (own : Found) (k : ℕ) (after : After) → own ≡ fullest h c s → own ≡ At k → after ≡ takenFrom k s order

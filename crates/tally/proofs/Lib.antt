@@ -1,1 +1,1 @@
-pub mod TallyLaws
+pub mod RecountLaws

@@ -46,11 +46,15 @@ module _ (b : Superblock) (x : ℕ) (at : x ≡ indexOf (b .owner) (b .class)) w
           absurd (let z : ⊥ = omega arith in z)
       go false e q = refl
 
-  with-counted-of-index : (f : Superblock → ℕ) (l : List ℕ) (n : ℕ) → x < 243 → n ≡ f b → set l x (getD l x 0 + n) ≡ withCounted f b l
+  pub with-counted-of-index : (f : Superblock → ℕ) (l : List ℕ) (n : ℕ) → x < 243 → n ≡ f b → set l x (getD l x 0 + n) ≡ withCounted f b l
   unfolding withCounted
   with-counted-of-index f l n below e =
       let i = counted-of-index below in
       rw (i .0, e, sym (i .1)) (sym (increased-is-set x (f b) l))
+
+  pub with-counted-of-no-index : (f : Superblock → ℕ) (l : List ℕ) → 243 ≤ x → l ≡ withCounted f b l
+  unfolding withCounted
+  with-counted-of-no-index f l past = let e = not-counted-of-no-index past in rw e
 
   without-counted-of-index : (f : Superblock → ℕ) (l : List ℕ) (n : ℕ) → x < 243 → n ≡ getD l x 0 - f b → set l x n ≡ withoutCounted f b l
   unfolding withoutCounted
@@ -58,8 +62,8 @@ module _ (b : Superblock) (x : ℕ) (at : x ≡ indexOf (b .owner) (b .class)) w
 
   -- one of no heap or class is not counted
   pub counted-in-of-no-index : (t : Totals) → 243 ≤ x → t ≡ countedIn b t
-  unfolding countedIn withCounted
-  counted-in-of-no-index t l = let e = not-counted-of-no-index l in rw e
+  unfolding countedIn
+  counted-in-of-no-index t l = ap₂ (λ (a d : List ℕ). record { superblocks = a; live = d }) (with-counted-of-no-index (λ y. 1) (t .superblocks) l) (with-counted-of-no-index liveIn (t .live) l)
 
   pub counted-out-of-no-index : (t : Totals) → 243 ≤ x → t ≡ countedOut b t
   unfolding countedOut withoutCounted

@@ -1,5 +1,6 @@
 // The check of a state's totals: those kept are those counted. What is kept may be any number of its width, and is only compared.
 ghost use mathlib.Core.Path.{_≡_};
+ghost use lib.ListN.{length};
 ghost use Rattle.laws.specs.Lists.{sameNumbers};
 ghost use Rattle.checkrules.specs.Check.{sameTotals};
 use heap::Totals;
@@ -18,8 +19,10 @@ pub fn same_totals(kept: Totals, counted: Totals) -> bool
     same_live(&kept_live, &live)
 }
 
-// The numbers are equal: how many differ is counted, without a branch in the loop.
+// The numbers are equal: how many differ is counted, without a branch in the loop. A reference does not tell the proof how long its array is,
+// so the lengths are asked for.
 fn same_superblocks(a: &[u8; 243], b: &[u8; 243]) -> bool
+    requires { ⌜ (length (now a) ≡ 243) × (length (now b) ≡ 243) ⌝ }
     ensures { λ r. ⌜ r ≡ sameNumbers (now (a .entry)) (now (b .entry)) ⌝ }
 {
     let mut differ: u8 = 0;
@@ -34,15 +37,16 @@ fn same_superblocks(a: &[u8; 243], b: &[u8; 243]) -> bool
 }
 
 fn same_live(a: &[u16; 243], b: &[u16; 243]) -> bool
+    requires { ⌜ (length (now a) ≡ 243) × (length (now b) ≡ 243) ⌝ }
     ensures { λ r. ⌜ r ≡ sameNumbers (now (a .entry)) (now (b .entry)) ⌝ }
 {
     let mut differ: u16 = 0;
-    let mut i: usize = 0;
-    while i < 243 {
-        if a[i] != b[i] {
+    let mut j: usize = 0;
+    while j < 243 {
+        if a[j] != b[j] {
             differ += 1;
         }
-        i += 1;
+        j += 1;
     }
     differ == 0
 }

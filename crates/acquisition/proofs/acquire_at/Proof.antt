@@ -1,12 +1,8 @@
--- `acquisition::acquire_at` meets its contract: past the table nothing changes. Assumes nothing.
+-- `acquisition::acquire_at` meets its contract: the superblock is replaced by what the heap acquires. Assumes nothing.
 use borrow.Author.Needs.{needs}
-use Rattle.laws.proofs.ReplacedElement.{length-of-length-map}
-use Rattle.table.proofs.PastTableLaws.{with-superblock-past-table}
+use Rattle.acquisition.proofs.AcquisitionLaws.{acquired-at-by-steps}
 use Rattle.acquisition.proofs.acquire_at.Statement.{statement}
 use Rattle.acquisition.proofs.acquire_at.Tie as tie
-
-returns : tie.Need-returns
-returns c = search (length-of-length-map, with-superblock-past-table)
 
 mul-b : tie.Need-mul-b
 mul-b c = search needs
@@ -17,16 +13,12 @@ element-copy-out-b c = search needs
 acquire-requires : tie.Need-acquire-requires
 acquire-requires c κs = search needs
 
-mul-t9 : tie.Need-mul-t9
-mul-t9 c = search needs
+replace-requires : tie.Need-replace-requires
+replace-requires c κs = search needs
 
-element-set-from-t : tie.Need-element-set-from-t
-element-set-from-t c = search needs
-
-returns-2 : tie.Need-returns-2
-returns-2 c = rw (c .acquire .ensures)
+returns : tie.Need-returns
+returns c = search acquired-at-by-steps
 
 pub acquire-at-spec : {M : Type 1} → statement M
 acquire-at-spec =
-    tie.close
-    (tie.spec returns mul-b element-copy-out-b acquire-requires mul-t9 element-set-from-t returns-2)
+    tie.close (tie.spec mul-b element-copy-out-b acquire-requires replace-requires returns)

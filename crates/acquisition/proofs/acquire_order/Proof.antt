@@ -4,8 +4,8 @@ use Rattle.acquisition.proofs.AcquisitionLaws.{acquired-order-of-empty,
 use Rattle.acquisition.proofs.acquire_order.Statement.{statement}
 use Rattle.acquisition.proofs.acquire_order.Tie as tie
 
-live-at-requires : tie.Need-live-at-requires
-live-at-requires c κs = search needs
+live-in-requires : tie.Need-live-in-requires
+live-in-requires c κs = search needs
 
 block-count-requires : tie.Need-block-count-requires
 block-count-requires c κs = search needs
@@ -26,7 +26,7 @@ pub acquire-order-spec : {M : Type 1} → statement M
 acquire-order-spec =
     tie.close
     (tie.spec
-    live-at-requires
+    live-in-requires
     block-count-requires
     renew-order-requires
     same-length

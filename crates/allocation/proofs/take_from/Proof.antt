@@ -4,23 +4,29 @@ use Rattle.allocation.proofs.TakeFromLaws.{taken-from-by-steps, taken-f
 use Rattle.allocation.proofs.take_from.Statement.{statement}
 use Rattle.allocation.proofs.take_from.Tie as tie
 
-filled-at-requires : tie.Need-filled-at-requires
-filled-at-requires c κs = search needs
+mul-b : tie.Need-mul-b
+mul-b c = search needs
+
+element-copy-out-b : tie.Need-element-copy-out-b
+element-copy-out-b c = search needs
+
+filled-in-requires : tie.Need-filled-in-requires
+filled-in-requires c κs = search needs
 
 last-filled-requires : tie.Need-last-filled-requires
 last-filled-requires c κs = search needs
 
-class-at-requires : tie.Need-class-at-requires
-class-at-requires c κs = search needs
-
 address-of-requires : tie.Need-address-of-requires
 address-of-requires c κs = search needs
 
-cast-mark-at : tie.Need-cast-mark-at
-cast-mark-at c = search needs
+cast-set-live : tie.Need-cast-set-live
+cast-set-live c = search needs
 
-mark-at-requires : tie.Need-mark-at-requires
-mark-at-requires c κs = search needs
+set-live-requires : tie.Need-set-live-requires
+set-live-requires c κs = search needs
+
+replace-requires : tie.Need-replace-requires
+replace-requires c κs = search needs
 
 returns : tie.Need-returns
 returns c = (search taken-from-by-steps, search taken-from-number-and-values)
@@ -29,10 +35,12 @@ pub take-from-spec : {M : Type 1} → statement M
 take-from-spec =
     tie.close
     (tie.spec
-    filled-at-requires
+    mul-b
+    element-copy-out-b
+    filled-in-requires
     last-filled-requires
-    class-at-requires
     address-of-requires
-    cast-mark-at
-    mark-at-requires
+    cast-set-live
+    set-live-requires
+    replace-requires
     returns)

@@ -1,54 +1,38 @@
--- `invariantcheck::emptiness_invariant` meets its contract. The loop's invariant: the processor heaps below the next tally's first keep the invariant. The measure is the heaps left. Assumes nothing.
-use Prim.Native.Nat.{ℕ, _+_, _-_, _≤_, _<_}
+-- `invariantcheck::emptiness_invariant` meets its contract. The loop's invariant: the heaps passed keep the invariant. The measure is the heaps left. Assumes nothing.
+use Prim.Native.Nat.{ℕ, _-_, _≤_, _<_}
 use native.Mathlib.Omega.{arith}
-use borrow.Author.Needs.{needs}
 use lib.Dec.{T}
-use Rattle.invariantcheck.proofs.EmptinessInvariantLaws.{noClassMustMove, no-class-must-move-start, no-class-must-move-step, emptiness-invariant-false-of-nine, emptiness-invariant-of-all-heaps}
+use Rattle.invariantcheck.specs.TotalsInvariant.{heapInvariant}
+use Rattle.invariantcheck.proofs.EmptinessInvariantLaws.{totals-invariant-false-of-heap, heap-invariants-step, totals-invariant-of-all-heaps}
 use Rattle.invariantcheck.proofs.emptiness_invariant.Statement.{statement}
 use Rattle.invariantcheck.proofs.emptiness_invariant.Tie as tie
 
 abbrev Inv-loop : tie.InvT-loop
-Inv-loop s setup last first₀ first = (h : ℕ) → 1 ≤ h → h ≤ s .setup .processors → h < first → T (noClassMustMove s h)
+Inv-loop setup superblocks live heap₀ heap = (heap ≤ 9) × ((i : ℕ) → i < heap → T (heapInvariant setup (record { superblocks = superblocks; live = live }) i))
 
 abbrev μ-loop : tie.MeasureT-loop
-μ-loop s setup last first₀ first = last + 1 - first
-
-cast-last : tie.Need-cast-last Inv-loop μ-loop
-cast-last c = omega arith
+μ-loop setup superblocks live heap₀ heap = 9 - heap
 
 loop-holds : tie.Need-loop-holds Inv-loop μ-loop
-loop-holds c = no-class-must-move-start (c .before .before .args .s)
+loop-holds c = (omega arith, λ i l. absurd (let z : ⊥ = omega arith in z))
 
-cast-tally-from : tie.Need-cast-tally-from Inv-loop μ-loop
-cast-tally-from c = omega arith
-
-tally-from-requires : tie.Need-tally-from-requires Inv-loop μ-loop
-tally-from-requires c κs = search needs
-
-tally-invariant-requires : tie.Need-tally-invariant-requires Inv-loop μ-loop
-tally-invariant-requires c κs =
-    let t = c .before .before .before .before .tally-from .ensures in
-    (omega arith, t .superblocks-bound, t .live-bound)
+heap-invariant-requires : tie.Need-heap-invariant-requires Inv-loop μ-loop
+heap-invariant-requires c κs = omega arith
 
 returns : tie.Need-returns Inv-loop μ-loop
-returns c = search emptiness-invariant-false-of-nine
+returns c = search totals-invariant-false-of-heap
 
-add-first : tie.Need-add-first Inv-loop μ-loop
-add-first c = omega arith
+add-heap : tie.Need-add-heap Inv-loop μ-loop
+add-heap c = omega arith
 
 loop-less : tie.Need-loop-less Inv-loop μ-loop
 loop-less c = omega arith
 
 loop-again : tie.Need-loop-again Inv-loop μ-loop
-loop-again c =
-    let n = c .before in
-    let t = n .before .before .before .before .before in
-    let l = t .before .before .loop in
-    let s = t .before .before .before .before .before .args .s in
-    no-class-must-move-step s (l .first) (t .tally-from .result .superblocks) (t .tally-from .result .live) (t .tally-from .ensures) (n .tally-invariant .result) (n .tally-invariant .ensures) (c .if1 .left) (l .inv)
+loop-again c = (omega arith, search heap-invariants-step)
 
 returns-2 : tie.Need-returns-2 Inv-loop μ-loop
-returns-2 c = search emptiness-invariant-of-all-heaps
+returns-2 c = search totals-invariant-of-all-heaps
 
 pub emptiness-invariant-spec : {M : Type 1} → statement M
 emptiness-invariant-spec =
@@ -56,13 +40,10 @@ emptiness-invariant-spec =
     (tie.spec
     Inv-loop
     μ-loop
-    cast-last
     loop-holds
-    cast-tally-from
-    tally-from-requires
-    tally-invariant-requires
+    heap-invariant-requires
     returns
-    add-first
+    add-heap
     loop-less
     loop-again
     returns-2)

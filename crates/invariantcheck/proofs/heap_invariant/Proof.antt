@@ -1,20 +1,18 @@
 -- `invariantcheck::heap_invariant` meets its contract. The loop's invariant: the classes passed keep the invariant. The measure is the classes left. Assumes nothing.
 use Prim.Native.Nat.{ℕ, _-_, _≤_, _<_}
 use native.Mathlib.Omega.{arith}
+use borrow.Author.Needs.{needs}
 use lib.Dec.{T}
-use Rattle.invariantcheck.specs.TallyInvariant.{classInvariant}
+use Rattle.invariantcheck.specs.TotalsInvariant.{classInvariant}
 use Rattle.invariantcheck.proofs.EmptinessInvariantLaws.{heap-invariant-of-heap-0, heap-invariant-past-processors, heap-invariant-false-of-class, class-invariants-step, heap-invariant-of-all-classes}
 use Rattle.invariantcheck.proofs.heap_invariant.Statement.{statement}
 use Rattle.invariantcheck.proofs.heap_invariant.Tie as tie
 
 abbrev Inv-loop : tie.InvT-loop
-Inv-loop setup superblocks live first j h base c₀ c = (c ≤ 27) × ((d : ℕ) → d < c → T (classInvariant setup superblocks live j d))
+Inv-loop setup superblocks live heap base c₀ c = (c ≤ 27) × ((d : ℕ) → d < c → T (classInvariant setup (record { superblocks = superblocks; live = live }) heap d))
 
 abbrev μ-loop : tie.MeasureT-loop
-μ-loop setup superblocks live first j h base c₀ c = 27 - c
-
-add-h : tie.Need-add-h Inv-loop μ-loop
-add-h c = omega arith
+μ-loop setup superblocks live heap base c₀ c = 27 - c
 
 returns : tie.Need-returns Inv-loop μ-loop
 returns c = search heap-invariant-of-heap-0
@@ -37,9 +35,6 @@ cast-at c = omega arith
 add-at : tie.Need-add-at Inv-loop μ-loop
 add-at c = omega arith
 
-mul-n : tie.Need-mul-n Inv-loop μ-loop
-mul-n c = omega arith
-
 element-copy-out-n : tie.Need-element-copy-out-n Inv-loop μ-loop
 element-copy-out-n c = omega arith
 
@@ -50,9 +45,7 @@ element-copy-out-u : tie.Need-element-copy-out-u Inv-loop μ-loop
 element-copy-out-u c = omega arith
 
 pair-invariant-requires : tie.Need-pair-invariant-requires Inv-loop μ-loop
-pair-invariant-requires c κs =
-    let z = c .before .before .before .before .before .before .before in
-    (z .pre .2 _, z .pre .3 _)
+pair-invariant-requires c κs = search needs
 
 returns-3 : tie.Need-returns-3 Inv-loop μ-loop
 returns-3 c = search heap-invariant-false-of-class
@@ -75,7 +68,6 @@ heap-invariant-spec =
     (tie.spec
     Inv-loop
     μ-loop
-    add-h
     returns
     cast-if2
     returns-2
@@ -83,7 +75,6 @@ heap-invariant-spec =
     loop-holds
     cast-at
     add-at
-    mul-n
     element-copy-out-n
     mul-u
     element-copy-out-u

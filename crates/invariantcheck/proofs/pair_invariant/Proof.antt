@@ -1,6 +1,5 @@
 -- `invariantcheck::pair_invariant` meets its contract: without superblocks the first condition fails. Assumes nothing.
-use Rattle.thresholds.proofs.MoveRuleLaws.{blocks-fit}
-use Rattle.invariantcheck.proofs.EmptinessInvariantLaws.{pair-invariant-of-no-superblocks, pair-invariant-by-both-conditions}
+use Rattle.invariantcheck.proofs.EmptinessInvariantLaws.{blocks-of-byte-fit, pair-invariant-of-no-superblocks, pair-invariant-by-both-conditions}
 use borrow.Author.Needs.{needs}
 use Rattle.invariantcheck.proofs.pair_invariant.Statement.{statement}
 use Rattle.invariantcheck.proofs.pair_invariant.Tie as tie
@@ -15,7 +14,7 @@ cast-n : tie.Need-cast-n
 cast-n c = search needs
 
 mul-both-conditions : tie.Need-mul-both-conditions
-mul-both-conditions c = search blocks-fit
+mul-both-conditions c = search blocks-of-byte-fit
 
 both-conditions-requires : tie.Need-both-conditions-requires
 both-conditions-requires c κs = search needs

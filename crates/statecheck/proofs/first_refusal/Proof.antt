@@ -17,20 +17,29 @@ each-valid-requires c κs = search needs
 returns-2 : tie.Need-returns-2
 returns-2 c = search (first-refusal-rules, rest-valid-rules)
 
-emptiness-invariant-requires : tie.Need-emptiness-invariant-requires
-emptiness-invariant-requires c κs = search needs
+recount-requires : tie.Need-recount-requires
+recount-requires c κs = search needs
+
+same-totals-requires : tie.Need-same-totals-requires
+same-totals-requires c κs = search needs
 
 returns-3 : tie.Need-returns-3
 returns-3 c = search (first-refusal-rules, rest-valid-rules)
 
-names-valid-requires : tie.Need-names-valid-requires
-names-valid-requires c κs = search needs
+emptiness-invariant-requires : tie.Need-emptiness-invariant-requires
+emptiness-invariant-requires c κs = search needs
 
 returns-4 : tie.Need-returns-4
 returns-4 c = search (first-refusal-rules, rest-valid-rules)
 
+names-valid-requires : tie.Need-names-valid-requires
+names-valid-requires c κs = search needs
+
 returns-5 : tie.Need-returns-5
 returns-5 c = search (first-refusal-rules, rest-valid-rules)
+
+returns-6 : tie.Need-returns-6
+returns-6 c = search (first-refusal-rules, rest-valid-rules)
 
 pub first-refusal-spec : {M : Type 1} → statement M
 first-refusal-spec =
@@ -40,8 +49,11 @@ first-refusal-spec =
     returns
     each-valid-requires
     returns-2
-    emptiness-invariant-requires
+    recount-requires
+    same-totals-requires
     returns-3
-    names-valid-requires
+    emptiness-invariant-requires
     returns-4
-    returns-5)
+    names-valid-requires
+    returns-5
+    returns-6)

@@ -3,17 +3,18 @@ use Prim.Native.Nat.{ℕ, _-_, _≤_, _<_}
 use native.Mathlib.Omega.{arith}
 use borrow.Author.Needs.{needs}
 use lib.Dec.{T}
-use Rattle.heap.specs.Table.{superblockAt}
+use lib.ListN.{getD}
+use Rattle.heap.specs.Table.{blank}
 use Rattle.superblockcheck.specs.Alone.{aloneValid}
 use Rattle.superblockcheck.proofs.AloneValidLaws.{each-valid-false-of-one, each-valid-step, each-valid-of-all-64}
 use Rattle.superblockcheck.proofs.each_valid.Statement.{statement}
 use Rattle.superblockcheck.proofs.each_valid.Tie as tie
 
 abbrev Inv-loop : tie.InvT-loop
-Inv-loop order s setup k₀ k = (k ≤ 64) × ((i : ℕ) → i < k → T (aloneValid setup order i (superblockAt s i)))
+Inv-loop setup order table k₀ k = (k ≤ 64) × ((i : ℕ) → i < k → T (aloneValid setup order i (getD table i blank)))
 
 abbrev μ-loop : tie.MeasureT-loop
-μ-loop order s setup k₀ k = 64 - k
+μ-loop setup order table k₀ k = 64 - k
 
 loop-holds : tie.Need-loop-holds Inv-loop μ-loop
 loop-holds c = (omega arith, λ i l. absurd (let z : ⊥ = omega arith in z))
@@ -24,8 +25,8 @@ cast-i c = omega arith
 mul-b : tie.Need-mul-b Inv-loop μ-loop
 mul-b c = omega arith
 
-element-copy-out-b : tie.Need-element-copy-out-b Inv-loop μ-loop
-element-copy-out-b c = omega arith
+array-copy-out-b : tie.Need-array-copy-out-b Inv-loop μ-loop
+array-copy-out-b c = omega arith
 
 alone-valid-requires : tie.Need-alone-valid-requires Inv-loop μ-loop
 alone-valid-requires c κs = search needs
@@ -54,7 +55,7 @@ each-valid-spec =
     loop-holds
     cast-i
     mul-b
-    element-copy-out-b
+    array-copy-out-b
     alone-valid-requires
     returns
     add-k

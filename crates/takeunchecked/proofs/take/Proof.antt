@@ -1,6 +1,8 @@
 -- `takeunchecked::take` meets its contract. Assumes nothing.
+use Rattle.laws.proofs.TestLaws.{T-of-true}
+use Rattle.heaplaws.proofs.StateCheckLaws.{totals-kept-of-passes}
 use Rattle.takeunchecked.proofs.TakeUncheckedLaws.{take-unchecked-clauses, take-outcomes}
-use Rattle.takeunchecked.proofs.OtherPlacesLaws.{fullest-lt-256, taken-at-own-rules}
+use Rattle.takeunchecked.proofs.OtherPlacesLaws.{fullest-lt-64, fullest-lt-256, taken-at-own-rules}
 use borrow.Author.Needs.{needs}
 use Rattle.takeunchecked.proofs.take.Statement.{statement}
 use Rattle.takeunchecked.proofs.take.Tie as tie
@@ -36,13 +38,13 @@ cast-take-from : tie.Need-cast-take-from
 cast-take-from c = search (needs, fullest-lt-256)
 
 take-from-requires : tie.Need-take-from-requires
-take-from-requires c κs = search needs
+take-from-requires c κs = (search fullest-lt-64, search (T-of-true, totals-kept-of-passes))
 
 enum-told : tie.Need-enum-told
 enum-told c = search needs
 
 take-elsewhere-requires : tie.Need-take-elsewhere-requires
-take-elsewhere-requires c κs = search needs
+take-elsewhere-requires c κs = search (T-of-true, totals-kept-of-passes)
 
 same-length : tie.Need-same-length
 same-length c = search needs

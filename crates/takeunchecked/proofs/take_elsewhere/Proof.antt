@@ -1,5 +1,6 @@
 -- `takeunchecked::take_elsewhere` meets its contract. Assumes nothing.
-use Rattle.takeunchecked.proofs.OtherPlacesLaws.{other-places-lt-256, taken-at-other-rules}
+use Rattle.laws.proofs.ReplacedElement.{length-of-length-map}
+use Rattle.takeunchecked.proofs.OtherPlacesLaws.{other-places-lt-64, other-places-lt-256, taken-at-other-rules}
 use borrow.Author.Needs.{needs}
 use Rattle.takeunchecked.proofs.take_elsewhere.Statement.{statement}
 use Rattle.takeunchecked.proofs.take_elsewhere.Tie as tie
@@ -11,10 +12,10 @@ enum-known-other : tie.Need-enum-known-other
 enum-known-other c = search needs
 
 cast-take-from-other : tie.Need-cast-take-from-other
-cast-take-from-other c = search (needs, other-places-lt-256)
+cast-take-from-other c = search (needs, length-of-length-map, other-places-lt-256)
 
 take-from-other-requires : tie.Need-take-from-other-requires
-take-from-other-requires c κs = search needs
+take-from-other-requires c κs = (search (length-of-length-map, other-places-lt-64), search needs)
 
 enum-told : tie.Need-enum-told
 enum-told c = search needs
