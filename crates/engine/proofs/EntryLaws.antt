@@ -6,12 +6,12 @@ use Prim.Native.Nat.{ℕ, _*_}
 use native.Mathlib.Omega.{arith}
 use lib.ListN.{length}
 use lib.Dec.{leb}
-use Rattle.laws.specs.Sums.{pick}
+use Rattle.laws.specs.Sums.{pick, both}
 use Rattle.order.specs.Order.{cleared}
 use Rattle.heap.specs.declared.Setup.{Setup}
 use Rattle.heap.specs.declared.State.{State}
 use Rattle.heap.specs.States.{noState, newState}
-use Rattle.checkrules.specs.Check.{withinLimits, restValid}
+use Rattle.checkrules.specs.Check.{withinLimits, restValid, passes}
 use Rattle.heaplaws.proofs.StateFacts.{Shape}
 use Rattle.calls.specs.declared.Answer.{Answer}
 use Rattle.calls.specs.declared.Call.{Call}
@@ -78,6 +78,17 @@ unfolding firstRefusal checked
 checked-of-no-refusal s order r next e z = go (withinLimits (s .setup)) (leb (s .setup .superblocks * 256) (length order)) (restValid s order) (sym z ∙ e)
   where
     go : (a b c : Bool) → _≡_ {A = ℕ} 0 (pick a (pick b (pick c 0 13) 12) 13) → pick a (pick b (pick c next (refused 13 s order)) (refused 12 s order)) (refused 13 s order) ≡ next
+    go true true true q = refl
+    go true true false q = absurd (omega arith)
+    go true false c q = absurd (omega arith)
+    go false b c q = absurd (omega arith)
+
+-- and then the state passes, as the calls behind the check ask
+pub passes-of-no-refusal : (s : State) (order : List ℕ) (first : ℕ) → first ≡ firstRefusal s order → first ≡ 0 → passes s order ≡ true
+unfolding firstRefusal passes
+passes-of-no-refusal s order first e z = go (withinLimits (s .setup)) (leb (s .setup .superblocks * 256) (length order)) (restValid s order) (sym z ∙ e)
+  where
+    go : (a b c : Bool) → _≡_ {A = ℕ} 0 (pick a (pick b (pick c 0 13) 12) 13) → both a c ≡ true
     go true true true q = refl
     go true true false q = absurd (omega arith)
     go true false c q = absurd (omega arith)

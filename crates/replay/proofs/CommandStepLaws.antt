@@ -23,6 +23,7 @@ use Rattle.calls.specs.Take.{takeOf}
 use Rattle.calls.specs.Free.{freeOf}
 use Rattle.calls.specs.Named.{namedTakeOf, namedFreeOf}
 use Rattle.calls.specs.Calls.{callOf}
+use Rattle.calllaws.proofs.TotalsKeptLaws.{call-keeps-totals, new-or-refused-setup-totals-kept}
 use Rattle.commands.specs.declared.Command.{Command}
 use Rattle.commands.specs.declared.Command.the-variants as command
 use Rattle.commands.specs.Record.{commandAt, sizeOfCommand}
@@ -30,7 +31,8 @@ use Rattle.commandlaws.proofs.CommandLaws.{commandsAt, remaining, remaining-ins
 use Rattle.linerules.specs.Lines.{setupLine, takeLine, freeLine, namedTakeLine, namedFreeLine, callLine, stopLine, closingLines}
 use Rattle.replay.specs.declared.Replay.{Replay}
 use Rattle.keyrules.specs.Key.{stateAndStorage, setupText, textOf, orderAfter}
-use Rattle.replay.specs.Steps.{TextAndOrder, textAhead, orderAhead, textAndOrderAhead, commandsLeft, InBounds, Stepped, nextOf, stopOf, Stopped, commandOf}
+use Rattle.keylaws.proofs.SetupKeptLaws.{setup-kept-by-take, setup-kept-by-free, setup-kept-by-named-take, setup-kept-by-named-free, processors-after-setup-le-8}
+use Rattle.replay.specs.Steps.{TextAndOrder, textAhead, orderAhead, textAndOrderAhead, commandsLeft, TotalsReadable, InBounds, Stepped, nextOf, stopOf, Stopped, commandOf}
 
 -- ---- of what a call left, the state and the storage count
 text-of-starting-from : (after : After) (cs : List Command) → textOf after cs ≡ textOf (stateAndStorage (after .answer .state) (after .order)) cs
@@ -113,12 +115,12 @@ module _ (r : List ℕ) (x : Replay) (order out : List ℕ) (bounds : InBounds x
 
   -- ---- a command that was read whole, of k bytes, and prints a line
   module _ (line : List ℕ) (after : After) (k end : ℕ) (text : List ℕ) (put : record { end = end; buffer = text } ≡ pasted out (x .end) line) (some : 4 ≤ k)
-      (inside : x .at + k ≤ length r) (short : length r ≤ 60000) where
+      (inside : x .at + k ≤ length r) (short : length r ≤ 60000) (readable : TotalsReadable (after .answer .state)) where
     abbrev nextReplay : Replay
     nextReplay = nextOf r (after .answer .state) (x .at + k) end
 
     next-replay-in-bounds : InBounds nextReplay text
-    next-replay-in-bounds = record { position-bound = omega arith; text-end-bound = omega (arith, put-end-le out (x .end) line put, put-length out (x .end) line put) }
+    next-replay-in-bounds = record { position-bound = omega arith; text-end-bound = omega (arith, put-end-le out (x .end) line put, put-length out (x .end) line put); totals-readable = readable }
 
     commands-left-of-next-lt : commandsLeft nextReplay < commandsLeft x
     unfolding commandsLeft
@@ -163,14 +165,19 @@ module _ (r : List ℕ) (x : Replay) (order out : List ℕ) (bounds : InBounds x
           ∙ sym text-and-order-ahead-of-going
 
       stays : InBounds (stopOf x (y .end)) text
-      stays = record { position-bound = bounds .position-bound; text-end-bound = omega (arith, put-end-le out (x .end) line (s .line-written), put-length out (x .end) line (s .line-written)) }
+      stays = record { position-bound = bounds .position-bound; text-end-bound = omega (arith, put-end-le out (x .end) line (s .line-written), put-length out (x .end) line (s .line-written)); totals-readable = bounds .totals-readable }
 
       fewer : 0 < commandsLeft x
       fewer = subst (λ (n : ℕ). 0 < n) (sym commands-left-of-going) (omega (arith, bounds .position-bound))
 
   -- ---- the commands
+  -- a call keeps the totals and the setup numbers, so that the totals can be read after it too
+  totals-readable-after-call : (call : Call) → callOf (x .state) order call .answer .state .setup ≡ x .state .setup → TotalsReadable (callOf (x .state) order call .answer .state)
+  totals-readable-after-call call same =
+      (call-keeps-totals (x .state) order call (bounds .totals-readable .0), subst (λ (u : Setup). u .processors ≤ 8) (sym same) (bounds .totals-readable .1))
+
   -- a call, of k bytes, that left this and prints its outcome so
-  module _ (d : Command) (k : ℕ) (line : Outcome → List ℕ) (left : After) (inside-record : (length r ≤ 60000) × (0 < x .at) × (x .at + k ≤ length r)) (some : 4 ≤ k)
+  module _ (d : Command) (k : ℕ) (line : Outcome → List ℕ) (left : After) (readable : TotalsReadable (left .answer .state)) (inside-record : (length r ≤ 60000) × (0 < x .at) × (x .at + k ≤ length r)) (some : 4 ≤ k)
       (commands : commandsAt r (x .at) ≡ d ∷ remaining r (x .at + k))
       (text-is : textOf (stateAndStorage (x .state) order) (d ∷ remaining r (x .at + k)) ≡ line (left .answer .outcome) ++ textOf left (remaining r (x .at + k)))
       (order-is : orderAfter (stateAndStorage (x .state) order) (d ∷ remaining r (x .at + k)) ≡ orderAfter left (remaining r (x .at + k))) where
@@ -181,7 +188,7 @@ module _ (r : List ℕ) (x : Replay) (order out : List ℕ) (bounds : InBounds x
         let after : After = record { answer = a; order = new } in
         let rest = remaining r (x .at + k) in
         subst (λ (z : Replay). Stepped r x order out z new text) (sym is)
-        (stepped-of-line (line (a .outcome)) after k end text put some (inside-record .2) (inside-record .0)
+        (stepped-of-line (line (a .outcome)) after k end text put some (inside-record .2) (inside-record .0) (subst (λ (z : After). TotalsReadable (z .answer .state)) (sym e) readable)
         (ap (textOf (stateAndStorage (x .state) order)) commands ∙ text-is ∙ ap (λ (z : After). line (z .answer .outcome) ++ textOf z rest) (sym e))
         (ap (orderAfter (stateAndStorage (x .state) order)) commands ∙ order-is ∙ ap (λ (z : After). orderAfter z rest) (sym e)))
 
@@ -192,19 +199,19 @@ module _ (r : List ℕ) (x : Replay) (order out : List ℕ) (bounds : InBounds x
   unfolding callOf callLine commandOf sizeOfCommand textOf orderAfter
   stepped-of-call (call.Take i size) c a new e end text put n size-is y is =
       let d = command.Take i size in
-      stepped-of-line-and-answer d 4 (takeLine i size) (takeOf (x .state) order i size) (take-later-and-inside r (x .at) d c i size refl) (omega arith) (commands-take r (x .at) d c i size refl) refl refl a new e end text put y
+      stepped-of-line-and-answer d 4 (takeLine i size) (takeOf (x .state) order i size) (totals-readable-after-call (call.Take i size) (setup-kept-by-take (x .state) order i size)) (take-later-and-inside r (x .at) d c i size refl) (omega arith) (commands-take r (x .at) d c i size refl) refl refl a new e end text put y
       (is ∙ ap (λ (k : ℕ). nextOf r (a .state) (x .at + k) end) size-is)
   stepped-of-call (call.Free i address) c a new e end text put n size-is y is =
       let d = command.Free i address in
-      stepped-of-line-and-answer d 6 (freeLine i address) (freeOf (x .state) order i address) (free-later-and-inside r (x .at) d c i address refl) (omega arith) (commands-free r (x .at) d c i address refl) refl refl a new e end text put y
+      stepped-of-line-and-answer d 6 (freeLine i address) (freeOf (x .state) order i address) (totals-readable-after-call (call.Free i address) (setup-kept-by-free (x .state) order i address)) (free-later-and-inside r (x .at) d c i address refl) (omega arith) (commands-free r (x .at) d c i address refl) refl refl a new e end text put y
       (is ∙ ap (λ (k : ℕ). nextOf r (a .state) (x .at + k) end) size-is)
   stepped-of-call (call.NamedTake i m size) c a new e end text put n size-is y is =
       let d = command.NamedTake i m size in
-      stepped-of-line-and-answer d 6 (namedTakeLine i m size) (namedTakeOf (x .state) order i m size) (named-take-later-and-inside r (x .at) d c i m size refl) (omega arith) (commands-named-take r (x .at) d c i m size refl) refl refl a new e end text put y
+      stepped-of-line-and-answer d 6 (namedTakeLine i m size) (namedTakeOf (x .state) order i m size) (totals-readable-after-call (call.NamedTake i m size) (setup-kept-by-named-take (x .state) order i m size)) (named-take-later-and-inside r (x .at) d c i m size refl) (omega arith) (commands-named-take r (x .at) d c i m size refl) refl refl a new e end text put y
       (is ∙ ap (λ (k : ℕ). nextOf r (a .state) (x .at + k) end) size-is)
   stepped-of-call (call.NamedFree i m) c a new e end text put n size-is y is =
       let d = command.NamedFree i m in
-      stepped-of-line-and-answer d 4 (namedFreeLine i m) (namedFreeOf (x .state) order i m) (named-free-later-and-inside r (x .at) d c i m refl) (omega arith) (commands-named-free r (x .at) d c i m refl) refl refl a new e end text put y
+      stepped-of-line-and-answer d 4 (namedFreeLine i m) (namedFreeOf (x .state) order i m) (totals-readable-after-call (call.NamedFree i m) (setup-kept-by-named-free (x .state) order i m)) (named-free-later-and-inside r (x .at) d c i m refl) (omega arith) (commands-named-free r (x .at) d c i m refl) refl refl a new e end text put y
       (is ∙ ap (λ (k : ℕ). nextOf r (a .state) (x .at + k) end) size-is)
 
   module _ (u : Setup) (c : command.Setup (u .processors) (u .superblocks) (u .spare) (u .p) (u .q) ≡ commandAt r (x .at))
@@ -233,6 +240,9 @@ module _ (r : List ℕ) (x : Replay) (order out : List ℕ) (bounds : InBounds x
         ∙ ap (λ (z : After). pick (eqb (numberOf (z .answer .outcome)) 0) (orderAfter z setup-rest) (z .order)) (sym e)
         ∙ ap (λ (m : ℕ). pick (eqb m 0) (orderAfter setup-after setup-rest) new) (sym n)
 
+    totals-readable-after-setup : TotalsReadable (a .state)
+    totals-readable-after-setup = subst (λ (z : After). TotalsReadable (z .answer .state)) (sym e) (new-or-refused-setup-totals-kept u order, processors-after-setup-le-8 u order)
+
     pub stepped-of-setup : number ≡ 0 → (end : ℕ) (text : List ℕ) → record { end = end; buffer = text } ≡ pasted out (x .end) (setupLine u)
         → (y : Replay) → y ≡ nextOf r (a .state) (x .at + 6) end → Stepped r x order out y new text
     unfolding setup-after setup-rest
@@ -240,7 +250,7 @@ module _ (r : List ℕ) (x : Replay) (order out : List ℕ) (bounds : InBounds x
         let inside-record = setup-first-and-inside r (x .at) (command.Setup (u .processors) (u .superblocks) (u .spare) (u .p) (u .q)) c (u .processors) (u .superblocks) (u .spare) (u .p) (u .q) refl in
         let yes : eqb number 0 ≡ true = eq-eqb number 0 zero in
         subst (λ (z : Replay). Stepped r x order out z new text) (sym is)
-        (stepped-of-line (setupLine u) setup-after 6 end text put (omega arith) (inside-record .2) (inside-record .0)
+        (stepped-of-line (setupLine u) setup-after 6 end text put (omega arith) (inside-record .2) (inside-record .0) totals-readable-after-setup
         (text-of-setup-command ∙ rw yes)
         (order-after-setup-command ∙ rw yes))
 

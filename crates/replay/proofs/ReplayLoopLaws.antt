@@ -1,5 +1,5 @@
 -- The loop over the commands, from the first to the end of the key. Assumes nothing.
-use mathlib.Core.Path.{_≡_, refl, ap, _∙_}
+use mathlib.Core.Path.{_≡_, refl, sym, ap, _∙_, subst}
 use mathlib.Core.Bool.{true, false}
 use mathlib.Core.List.{List}
 use Prim.Native.Nat.{ℕ, _+_, _≤_, _<_}
@@ -9,13 +9,14 @@ use Rattle.textrules.specs.Text.{pasted}
 use Rattle.textrules.proofs.PasteLaws.{put-end, put-upto, put-behind}
 use Rattle.heap.specs.declared.State.{State}
 use Rattle.heap.specs.States.{noState}
+use Rattle.heaplaws.proofs.TotalsLaws.{new-state-totals-kept}
 use Rattle.littleendian.specs.Bytes.{byteAt}
 use Rattle.commands.specs.Record.{commandsOf}
 use Rattle.linerules.specs.Lines.{closingLines}
 use Rattle.replay.specs.declared.Replay.{Replay}
 use Rattle.keyrules.specs.declared.Printed.the-variants.{Text, NoRoom}
 use Rattle.keyrules.specs.Key.{keyOf, storageOf, room, KeyOrNoRoom}
-use Rattle.replay.specs.Steps.{TextAndOrder, textAhead, orderAhead, textAndOrderAhead, keyAndStorage, InBounds, Stepped, Finished}
+use Rattle.replay.specs.Steps.{TextAndOrder, textAhead, orderAhead, textAndOrderAhead, keyAndStorage, TotalsReadable, InBounds, Stepped, Finished}
 use Rattle.keylaws.proofs.KeyRoomLaws.{key-fits-room}
 
 abbrev firstReplay : State → Replay
@@ -26,8 +27,8 @@ pub text-and-order-ahead-at-start : (r order out : List ℕ) (s : State) → s �
 unfolding textAndOrderAhead textAhead orderAhead keyAndStorage keyOf storageOf commandsOf
 text-and-order-ahead-at-start r order out s e = rw e
 
-pub in-bounds-at-start : (out : List ℕ) (s : State) → InBounds (firstReplay s) out
-in-bounds-at-start out s = record { position-bound = omega arith; text-end-bound = omega arith }
+pub in-bounds-at-start : (out : List ℕ) (s : State) → s ≡ noState → InBounds (firstReplay s) out
+in-bounds-at-start out s e = record { position-bound = omega arith; text-end-bound = omega arith; totals-readable = subst TotalsReadable (sym e) (new-state-totals-kept (noState .setup), omega arith) }
 
 -- ---- after each command
 pub text-and-order-ahead-step : (r order₀ out₀ order out new text : List ℕ) (x y : Replay) → textAndOrderAhead r x order out ≡ keyAndStorage r order₀ out₀ → Stepped r x order out y new text → textAndOrderAhead r y new text ≡ keyAndStorage r order₀ out₀

@@ -8,6 +8,7 @@ use lib.Dec.{ltb}
 use Rattle.laws.specs.Sums.{pick}
 use Rattle.textrules.specs.Text.{Pasted, pasted}
 use Rattle.heap.specs.declared.State.{State}
+use Rattle.heap.specs.Totals.{TotalsKept}
 use Rattle.calls.specs.declared.Call.{Call}
 use Rattle.calls.specs.declared.Call.the-variants as call
 use Rattle.commands.specs.declared.Command.{Command}
@@ -42,10 +43,15 @@ keyAndStorage r order out = record { text = pasted out 0 (keyOf r order); order 
 unfoldable pub commandsLeft : Replay → ℕ
 commandsLeft x = pick (x .going) (60001 - x .at) 0
 
--- the position is one of a record that is not too long, and the text ends in the buffer
+-- the final lines can be read from a state's totals: they are the recount, and each of its heaps has some
+abbrev pub TotalsReadable : State → Type 0
+TotalsReadable s = TotalsKept s × (s .setup .processors ≤ 8)
+
+-- the position is one of a record that is not too long, the text ends in the buffer, and the totals can be read
 pub record InBounds (x : Replay) (out : List ℕ) : Type 0 where
   pub position-bound : x .at ≤ 60000
   pub text-end-bound : x .end ≤ length out
+  pub totals-readable : TotalsReadable (x .state)
 
 -- one command on: what stands and is still to come stays the same
 pub record Stepped (r : List ℕ) (x : Replay) (order out : List ℕ) (y : Replay) (new text : List ℕ) : Type 0 where

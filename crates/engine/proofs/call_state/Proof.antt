@@ -1,6 +1,6 @@
 -- `engine::call_state` meets its contract. Assumes nothing.
 use Rattle.heaplaws.proofs.ShapeLaws.{shape-of-state}
-use Rattle.engine.proofs.EntryLaws.{call-clauses, call-outcomes}
+use Rattle.engine.proofs.EntryLaws.{call-clauses, call-outcomes, passes-of-no-refusal}
 use borrow.Author.Needs.{needs}
 use Rattle.engine.proofs.call_state.Statement.{statement}
 use Rattle.engine.proofs.call_state.Tie as tie
@@ -21,25 +21,25 @@ enum-known-c : tie.Need-enum-known-c
 enum-known-c c = search needs
 
 take-requires : tie.Need-take-requires
-take-requires c κs = search needs
+take-requires c κs = search passes-of-no-refusal
 
 enum-known-c-2 : tie.Need-enum-known-c-2
 enum-known-c-2 c = search needs
 
 free-requires : tie.Need-free-requires
-free-requires c κs = search needs
+free-requires c κs = search passes-of-no-refusal
 
 enum-known-c-3 : tie.Need-enum-known-c-3
 enum-known-c-3 c = search needs
 
 take-requires-2 : tie.Need-take-requires-2
-take-requires-2 c κs = search needs
+take-requires-2 c κs = search passes-of-no-refusal
 
 enum-known-c-4 : tie.Need-enum-known-c-4
 enum-known-c-4 c = search needs
 
 free-requires-2 : tie.Need-free-requires-2
-free-requires-2 c κs = search needs
+free-requires-2 c κs = search passes-of-no-refusal
 
 same-length-2 : tie.Need-same-length-2
 same-length-2 c = search needs
