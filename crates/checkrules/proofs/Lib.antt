@@ -1,3 +1,3 @@
 pub mod CheckDefinitions
 pub mod CheckCases
-pub mod WholeCheckCases
+pub mod ClauseLaws

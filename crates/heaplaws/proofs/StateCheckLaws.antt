@@ -27,6 +27,7 @@ use Rattle.heap.specs.States.{withSuperblock, withNames, newState}
 use Rattle.heap.specs.Counts.{superblocksOf, liveOf, blocksIn, belongs}
 use Rattle.moverules.specs.Moves.{bothConditions, mustMove}
 use Rattle.checkrules.specs.Check.{within, withinLimits, superblockValid, unusedFrom, emptinessInvariant, sparseIfGlobal, namesValid, totalsValid, restValid, passes}
+use Rattle.checkrules.proofs.ClauseLaws.{clauses-of-rest, rest-of-clauses, limits-of-passes, rest-of-passes, passes-of-limits-and-rest}
 use Rattle.heaplaws.proofs.StateFacts.{Shape, WithinLimits, Unused, Owned, Sparse, Sound, NamesSound}
 use Rattle.heap.specs.Totals.{TotalsKept}
 use Rattle.heaplaws.proofs.TotalsLaws.{totals-kept-of-valid, totals-valid-of-kept, length-recounted-superblocks, length-recounted-live}
@@ -167,33 +168,21 @@ emptiness-invariant-of-not-must-move s h =
 
 -- the check's two parts, as the calls test them
 pub sound-of-limits-and-rest : (s : State) (order : List ℕ) → T (withinLimits (s .setup)) → T (restValid s order) → Sound s order
-unfolding restValid
 sound-of-limits-and-rest s order a b =
-    let b1 = both-right (allBelow (λ k. superblockValid (s .setup) order k (superblockAt s k)) 64) _ b in
-    let b2 = both-right (allBelow (λ k. unusedFrom (s .setup .superblocks) k (superblockAt s k)) 64) _ b1 in
+    let clauses = clauses-of-rest s order b in
     record {
       numbers = facts-of-within-limits (s .setup) a;
-      each = λ k l. unused-or-owned-of-superblock-valid (s .setup) order k (superblockAt s k)
-          (all-at (λ k. superblockValid (s .setup) order k (superblockAt s k)) 64 (both-left (allBelow (λ k. superblockValid (s .setup) order k (superblockAt s k)) 64) _ b) k l);
-      past-unused = λ k l. unused-of-unused-from (s .setup .superblocks) k (superblockAt s k)
-          (all-at (λ k. unusedFrom (s .setup .superblocks) k (superblockAt s k)) 64 (both-left (allBelow (λ k. unusedFrom (s .setup .superblocks) k (superblockAt s k)) 64) _ b1) k l);
-      invariant = not-must-move-of-emptiness-invariant s (both-left (emptinessInvariant s) _ b2);
-      sparse = λ k l. sparse-of-sparse-if-global (s .setup) (superblockAt s k) (all-at (λ k. sparseIfGlobal (s .setup) (superblockAt s k)) 64 (both-left (allBelow (λ k. sparseIfGlobal (s .setup) (superblockAt s k)) 64) _ (both-right (emptinessInvariant s) _ b2)) k l);
+      each = λ k l. unused-or-owned-of-superblock-valid (s .setup) order k (superblockAt s k) (all-at (λ k. superblockValid (s .setup) order k (superblockAt s k)) 64 (clauses .superblocks) k l);
+      past-unused = λ k l. unused-of-unused-from (s .setup .superblocks) k (superblockAt s k) (all-at (λ k. unusedFrom (s .setup .superblocks) k (superblockAt s k)) 64 (clauses .past-unused) k l);
+      invariant = not-must-move-of-emptiness-invariant s (clauses .processor-heaps);
+      sparse = λ k l. sparse-of-sparse-if-global (s .setup) (superblockAt s k) (all-at (λ k. sparseIfGlobal (s .setup) (superblockAt s k)) 64 (clauses .global-heap) k l);
     }
 
-names-and-totals-valid-of-rest : (s : State) (order : List ℕ) → T (restValid s order) → T (both (namesValid s) (totalsValid s))
-unfolding restValid
-names-and-totals-valid-of-rest s order b =
-    both-right (allBelow (λ k. sparseIfGlobal (s .setup) (superblockAt s k)) 64) _
-    (both-right (emptinessInvariant s) _
-    (both-right (allBelow (λ k. unusedFrom (s .setup .superblocks) k (superblockAt s k)) 64) _
-    (both-right (allBelow (λ k. superblockValid (s .setup) order k (superblockAt s k)) 64) _ b)))
-
 pub names-valid-of-rest : (s : State) (order : List ℕ) → T (restValid s order) → T (namesValid s)
-names-valid-of-rest s order b = both-left (namesValid s) (totalsValid s) (names-and-totals-valid-of-rest s order b)
+names-valid-of-rest s order b = clauses-of-rest s order b .names
 
 pub totals-kept-of-rest : (s : State) (order : List ℕ) → T (restValid s order) → TotalsKept s
-totals-kept-of-rest s order b = totals-kept-of-valid s (both-right (namesValid s) (totalsValid s) (names-and-totals-valid-of-rest s order b))
+totals-kept-of-rest s order b = totals-kept-of-valid s (clauses-of-rest s order b .totals)
 
 -- the names
 pub names-sound-of-valid : (s : State) → T (namesValid s) → NamesSound s
@@ -209,31 +198,29 @@ unfolding namesValid
 names-valid-of-sound s h = both-make (eachHeld (isLiveBlock s) (s .names)) _ (each-held-of-blocks-named (isLiveBlock s) (s .names) (h .live)) (no-two-of-same-name (s .names) (h .distinct))
 
 pub rest-valid-of-sound : (s : State) (order : List ℕ) → Sound s order → T (namesValid s) → TotalsKept s → T (restValid s order)
-unfolding restValid
 rest-valid-of-sound s order h names totals =
-    both-make (allBelow (λ k. superblockValid (s .setup) order k (superblockAt s k)) 64) _ (all-of-each (λ k. superblockValid (s .setup) order k (superblockAt s k)) 64 (λ k l. good k (h .each k l)))
-    (both-make (allBelow (λ k. unusedFrom (s .setup .superblocks) k (superblockAt s k)) 64) _
-    (all-of-each (λ k. unusedFrom (s .setup .superblocks) k (superblockAt s k)) 64 (λ k l. unused-from-of-unused (s .setup .superblocks) k (superblockAt s k) (h .past-unused k l)))
-    (both-make (emptinessInvariant s) _ (emptiness-invariant-of-not-must-move s (h .invariant))
-    (both-make (allBelow (λ k. sparseIfGlobal (s .setup) (superblockAt s k)) 64) _
-    (all-of-each (λ k. sparseIfGlobal (s .setup) (superblockAt s k)) 64 (λ k l. sparse-if-global-of-sparse (s .setup) (superblockAt s k) (h .sparse k l)))
-    (both-make (namesValid s) (totalsValid s) names (totals-valid-of-kept s totals)))))
+    rest-of-clauses s order
+    (record {
+      superblocks = all-of-each (λ k. superblockValid (s .setup) order k (superblockAt s k)) 64 (λ k l. good k (h .each k l));
+      past-unused = all-of-each (λ k. unusedFrom (s .setup .superblocks) k (superblockAt s k)) 64 (λ k l. unused-from-of-unused (s .setup .superblocks) k (superblockAt s k) (h .past-unused k l));
+      processor-heaps = emptiness-invariant-of-not-must-move s (h .invariant);
+      global-heap = all-of-each (λ k. sparseIfGlobal (s .setup) (superblockAt s k)) 64 (λ k l. sparse-if-global-of-sparse (s .setup) (superblockAt s k) (h .sparse k l));
+      names = names;
+      totals = totals-valid-of-kept s totals;
+    })
   where
     good : (k : ℕ) → Unused (superblockAt s k) ⊎ Owned (s .setup) order k (superblockAt s k) → T (superblockValid (s .setup) order k (superblockAt s k))
     good k (inl a) = superblock-valid-of-unused (s .setup) order k (superblockAt s k) a
     good k (inr a) = superblock-valid-of-owned (s .setup) order k (superblockAt s k) a
 
 pub sound-of-passes : (s : State) (order : List ℕ) → T (passes s order) → Sound s order
-unfolding passes
-sound-of-passes s order t = sound-of-limits-and-rest s order (both-left (withinLimits (s .setup)) _ t) (both-right (withinLimits (s .setup)) _ t)
+sound-of-passes s order t = sound-of-limits-and-rest s order (limits-of-passes s order t) (rest-of-passes s order t)
 
 pub totals-kept-of-passes : (s : State) (order : List ℕ) → T (passes s order) → TotalsKept s
-unfolding passes
-totals-kept-of-passes s order t = totals-kept-of-rest s order (both-right (withinLimits (s .setup)) _ t)
+totals-kept-of-passes s order t = totals-kept-of-rest s order (rest-of-passes s order t)
 
 pub passes-of-sound : (s : State) (order : List ℕ) → Sound s order → T (namesValid s) → TotalsKept s → T (passes s order)
-unfolding passes
-passes-of-sound s order h names totals = both-make (withinLimits (s .setup)) _ (within-limits-of-facts (s .setup) (h .numbers)) (rest-valid-of-sound s order h names totals)
+passes-of-sound s order h names totals = passes-of-limits-and-rest s order (within-limits-of-facts (s .setup) (h .numbers)) (rest-valid-of-sound s order h names totals)
 
 -- ---- a new state
 pub superblock-at-new-state-unused : (u : Setup) (k : ℕ) → k < 64 → superblockAt (newState u) k ≡ unused

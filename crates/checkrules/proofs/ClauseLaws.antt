@@ -1,0 +1,56 @@
+-- The check asks every one of its clauses, and nothing else. Assumes nothing.
+use mathlib.Core.List.{List}
+use Prim.Native.Nat.{ℕ}
+use lib.Dec.{T}
+use Rattle.laws.specs.Sums.{allBelow}
+use Rattle.laws.proofs.TestLaws.{both-left, both-right, both-make}
+use Rattle.heap.specs.declared.State.{State}
+use Rattle.heap.specs.Table.{superblockAt}
+use Rattle.checkrules.specs.Check.{withinLimits, superblockValid, unusedFrom, emptinessInvariant, sparseIfGlobal, namesValid, totalsValid, restValid, passes}
+
+-- all but the setup numbers, clause by clause
+pub record RestClauses (s : State) (order : List ℕ) : Type 0 where
+  pub superblocks : T (allBelow (λ k. superblockValid (s .setup) order k (superblockAt s k)) 64)
+  pub past-unused : T (allBelow (λ k. unusedFrom (s .setup .superblocks) k (superblockAt s k)) 64)
+  pub processor-heaps : T (emptinessInvariant s)
+  pub global-heap : T (allBelow (λ k. sparseIfGlobal (s .setup) (superblockAt s k)) 64)
+  pub names : T (namesValid s)
+  pub totals : T (totalsValid s)
+
+pub clauses-of-rest : (s : State) (order : List ℕ) → T (restValid s order) → RestClauses s order
+unfolding restValid
+clauses-of-rest s order t =
+    let a = both-right (allBelow (λ k. superblockValid (s .setup) order k (superblockAt s k)) 64) _ t in
+    let b = both-right (allBelow (λ k. unusedFrom (s .setup .superblocks) k (superblockAt s k)) 64) _ a in
+    let c = both-right (emptinessInvariant s) _ b in
+    let d = both-right (allBelow (λ k. sparseIfGlobal (s .setup) (superblockAt s k)) 64) _ c in
+    record {
+      superblocks = both-left (allBelow (λ k. superblockValid (s .setup) order k (superblockAt s k)) 64) _ t;
+      past-unused = both-left (allBelow (λ k. unusedFrom (s .setup .superblocks) k (superblockAt s k)) 64) _ a;
+      processor-heaps = both-left (emptinessInvariant s) _ b;
+      global-heap = both-left (allBelow (λ k. sparseIfGlobal (s .setup) (superblockAt s k)) 64) _ c;
+      names = both-left (namesValid s) (totalsValid s) d;
+      totals = both-right (namesValid s) (totalsValid s) d;
+    }
+
+pub rest-of-clauses : (s : State) (order : List ℕ) → RestClauses s order → T (restValid s order)
+unfolding restValid
+rest-of-clauses s order h =
+    both-make (allBelow (λ k. superblockValid (s .setup) order k (superblockAt s k)) 64) _ (h .superblocks)
+    (both-make (allBelow (λ k. unusedFrom (s .setup .superblocks) k (superblockAt s k)) 64) _ (h .past-unused)
+    (both-make (emptinessInvariant s) _ (h .processor-heaps)
+    (both-make (allBelow (λ k. sparseIfGlobal (s .setup) (superblockAt s k)) 64) _ (h .global-heap)
+    (both-make (namesValid s) (totalsValid s) (h .names) (h .totals)))))
+
+-- the whole check asks the setup numbers too
+pub limits-of-passes : (s : State) (order : List ℕ) → T (passes s order) → T (withinLimits (s .setup))
+unfolding passes
+limits-of-passes s order t = both-left (withinLimits (s .setup)) _ t
+
+pub rest-of-passes : (s : State) (order : List ℕ) → T (passes s order) → T (restValid s order)
+unfolding passes
+rest-of-passes s order t = both-right (withinLimits (s .setup)) _ t
+
+pub passes-of-limits-and-rest : (s : State) (order : List ℕ) → T (withinLimits (s .setup)) → T (restValid s order) → T (passes s order)
+unfolding passes
+passes-of-limits-and-rest s order a b = both-make (withinLimits (s .setup)) _ a b
