@@ -27,7 +27,7 @@ use Rattle.calls.specs.Named.{namedTakeOf, heldAddress, namedFreeOf}
 use Rattle.calls.specs.Calls.{callOf}
 use Rattle.calllaws.proofs.CallEffects.{Passed, TakeAccepted, FreeAccepted, NamedTakeAccepted, NamedFreeAccepted, TakeEffect, FreeEffect}
 use Rattle.bound.specs.Ledger.{Name, named, unnamed, Entry, classOfEntry, isAt, removed, afterTake, afterFree, ledgerAfter, entriesOf}
-use Rattle.bound.specs.Claim.{Bounded, TakeOwnerChanges, FreeOwnerChanges, OwnerChanges, peakWith}
+use Rattle.bound.specs.Claim.{Step, Bounded, TakeOwnerChanges, FreeOwnerChanges, OwnerChanges, peakWith}
 use Rattle.calllaws.proofs.TakeLaws.{take-refused-or-accepted, taken-block, take-address, take-effect, take-names, take-shape, take-passed}
 use Rattle.calllaws.proofs.FreeLaws.{free-refused-or-accepted, moves, free-outcome, free-address, free-effect, free-names, free-shape, free-passed}
 use Rattle.calllaws.proofs.NamedCallLaws.{facts-of-available, named-take-refused-or-accepted, named-taken-block, named-take-address, named-take-effect, named-take-names, named-take-shape, named-take-passed, named-free-refused-or-accepted}
@@ -342,3 +342,7 @@ module _ (u : Setup) (s : State) (order : List ℕ) (ledger : List Entry) (peak 
   after-call (Free i a) = ⊎-elim (refused-or (Free i a)) (λ h. after-accepted-free i a h) (free-refused-or-accepted s order i a)
   after-call (NamedTake i m size) = ⊎-elim (refused-or (NamedTake i m size)) (λ h. after-accepted-named-take i m size (h .0) (h .1)) (named-take-refused-or-accepted s order i m size)
   after-call (NamedFree i m) = ⊎-elim (refused-or (NamedFree i m)) (λ h. after-accepted-named-free i m h) (named-free-refused-or-accepted s order i m)
+
+  -- the same of a step of a list
+  pub after-step : (step : Step) → step .after ≡ callOf s order (step .call) → AfterCall u s ledger peak (step .call) (step .after)
+  after-step step e = subst (AfterCall u s ledger peak (step .call)) (sym e) (after-call (step .call))

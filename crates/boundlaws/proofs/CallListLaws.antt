@@ -53,4 +53,4 @@ steps-are-unchecked-from u before ledger peak (call ∷ calls) g =
 -- after an accepted setup the check is never in the way
 pub steps-are-unchecked : (u : Setup) (order : List ℕ) → setupOf u order .answer .outcome ≡ Ready → (calls : List Call)
     → stepsBy callOf (setupOf u order) calls ≡ stepsBy callUnchecked (setupOf u order) calls
-steps-are-unchecked u order ready calls = steps-are-unchecked-from u (setupOf u order) [] (λ c. 0) calls (list-invariant-after-setup u order ready)
+steps-are-unchecked u order ready calls = steps-are-unchecked-from u (setupOf u order) [] (λ c. 0) calls (list-invariant-after-setup u order (setupOf u order) refl ready)

@@ -27,7 +27,7 @@ use Rattle.heaplaws.proofs.CountLaws.{owned-of-new-state, live-of-class-of-new-
 use Rattle.boundlaws.proofs.LedgerLaws.{entries-at-empty, entries-of-empty}
 use Rattle.boundlaws.proofs.LiveAtLaws.{live-at-of-new-state}
 use Rattle.boundlaws.proofs.LedgerNames.{EntryAgrees, each-entry-empty}
-use Rattle.boundlaws.proofs.CallInvariantLaws.{Listed, ListInvariant, AfterCall, after-call}
+use Rattle.boundlaws.proofs.CallInvariantLaws.{Listed, ListInvariant, AfterCall, after-step}
 
 -- ---- after the setup
 ledger-of-new-state : (u : Setup) → Listed (newState u) []
@@ -54,11 +54,12 @@ storage-of-ready-setup u order numbers ready = go (decLe (u .superblocks * 256) 
     go (yes h) = h
     go (no f) = absurd (never 12 (sym (ap (λ (x : After). x .answer .outcome) (setup-refused-12-of-storage u order (true-of-T (withinLimits u) numbers) (lt-of-not-le f))) ∙ ready))
 
-pub list-invariant-after-setup : (u : Setup) (order : List ℕ) → setupOf u order .answer .outcome ≡ Ready → ListInvariant u (setupOf u order .answer .state) (setupOf u order .order) [] (λ c. 0)
-list-invariant-after-setup u order ready =
+pub list-invariant-after-setup : (u : Setup) (order : List ℕ) (start : After) → start ≡ setupOf u order → start .answer .outcome ≡ Ready → ListInvariant u (start .answer .state) (start .order) [] (λ c. 0)
+list-invariant-after-setup u order start e started =
+    let ready : setupOf u order .answer .outcome ≡ Ready = ap (λ (x : After). x .answer .outcome) (sym e) ∙ started in
     let h = accepted-setup-of-ready u order ready in
     let room : u .superblocks * 256 ≤ length (cleared order (u .superblocks * 256)) = subst (λ (n : ℕ). u .superblocks * 256 ≤ n) (sym (length-cleared order (u .superblocks * 256))) (storage-of-ready-setup u order (h .0) ready) in
-    subst (λ (x : After). ListInvariant u (x .answer .state) (x .order) [] (λ c. 0)) (sym (h .1))
+    subst (λ (x : After). ListInvariant u (x .answer .state) (x .order) [] (λ c. 0)) (sym (e ∙ h .1))
     (record {
       passed = record { sound = h .2; names = new-state-names-valid u; totals = new-state-totals-kept u; room = room };
       shape = h .3;
@@ -76,12 +77,10 @@ claims-of-list-invariant u before ledger peak [] g linked = g .bounded
 claims-of-list-invariant u before ledger peak (step ∷ steps) g linked = (g .bounded, n .owner-changes, claims-of-list-invariant u (step .after) (ledgerAfter ledger (step .call) (step .after .answer .outcome)) (peakWith peak (ledgerAfter ledger (step .call) (step .after .answer .outcome))) steps (n .invariant) (linked .1))
   where
     n : AfterCall u (before .answer .state) ledger peak (step .call) (step .after)
-    n = subst (AfterCall u (before .answer .state) ledger peak (step .call)) (sym (linked .0)) (after-call u (before .answer .state) (before .order) ledger peak g (step .call))
+    n = after-step u (before .answer .state) (before .order) ledger peak g step (linked .0)
 
 -- For every accepted setup, whatever stood in the storage before, and every list of takes and frees after it, plain and named.
 pub demand-3 : (u : Setup) (order : List ℕ) (start : After) → start ≡ setupOf u order → start .answer .outcome ≡ Ready
     → (steps : List Step) → Linked start steps → Claims u start [] (λ c. 0) steps
 demand-3 u order start e ready steps linked =
-    claims-of-list-invariant u start [] (λ c. 0) steps
-    (subst (λ (x : After). ListInvariant u (x .answer .state) (x .order) [] (λ c. 0)) (sym e) (list-invariant-after-setup u order (ap (λ (x : After). x .answer .outcome) (sym e) ∙ ready)))
-    linked
+    claims-of-list-invariant u start [] (λ c. 0) steps (list-invariant-after-setup u order start e ready) linked

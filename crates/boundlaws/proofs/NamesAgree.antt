@@ -1,6 +1,6 @@
 -- Document 02, item 2: the names of the ledger, from the calls and their answers alone, and those of the state agree after every list of calls.
 -- Assumes nothing.
-use mathlib.Core.Path.{_≡_, refl, sym, ap, ap₂, _∙_, subst}
+use mathlib.Core.Path.{_≡_, refl, ap, ap₂, _∙_}
 use mathlib.Core.Bool.{Bool, true, false}
 use mathlib.Core.List.{List, [], _∷_}
 use Prim.Native.Nat.{ℕ, _+_, _/_, _%_, _<_}
@@ -25,7 +25,7 @@ use Rattle.bound.specs.Claim.{Step, Linked, peakWith}
 use Rattle.boundlaws.proofs.LedgerLaws.{entriesAt}
 use Rattle.boundlaws.proofs.LiveAtLaws.{liveAt, live-for-owned, live-at-of-address}
 use Rattle.boundlaws.proofs.LedgerNames.{EachEntry, each-entry-map, holdsAddress, EntryAgrees}
-use Rattle.boundlaws.proofs.CallInvariantLaws.{ListInvariant, AfterCall, after-call}
+use Rattle.boundlaws.proofs.CallInvariantLaws.{ListInvariant, AfterCall, after-step}
 use Rattle.boundlaws.proofs.Demand3.{list-invariant-after-setup}
 
 -- some entry passes the test
@@ -93,12 +93,10 @@ names-agree-from u before ledger peak (step ∷ steps) g linked =
     names-agree-from u (step .after) (ledgerAfter ledger (step .call) (step .after .answer .outcome)) (peakWith peak (ledgerAfter ledger (step .call) (step .after .answer .outcome))) steps (n .invariant) (linked .1)
   where
     n : AfterCall u (before .answer .state) ledger peak (step .call) (step .after)
-    n = subst (AfterCall u (before .answer .state) ledger peak (step .call)) (sym (linked .0)) (after-call u (before .answer .state) (before .order) ledger peak g (step .call))
+    n = after-step u (before .answer .state) (before .order) ledger peak g step (linked .0)
 
 -- After every accepted setup and every list of calls after it, plain and named: the ledger's names and the state's agree.
 pub ledger-and-state-names-agree : (u : Setup) (order : List ℕ) (start : After) → start ≡ setupOf u order → start .answer .outcome ≡ Ready → (steps : List Step) → Linked start steps
     → NamesAgree (lastAfter start steps .answer .state) (ledgerOf [] steps)
 ledger-and-state-names-agree u order start e ready steps linked =
-    names-agree-from u start [] (λ c. 0) steps
-    (subst (λ (x : After). ListInvariant u (x .answer .state) (x .order) [] (λ c. 0)) (sym e) (list-invariant-after-setup u order (ap (λ (x : After). x .answer .outcome) (sym e) ∙ ready)))
-    linked
+    names-agree-from u start [] (λ c. 0) steps (list-invariant-after-setup u order start e ready) linked

@@ -1,13 +1,20 @@
--- Document 02, item 3, over lists of calls: "Every operation keeps them equal to the recount". Assumes nothing.
-use mathlib.Core.Path.{_≡_, sym, subst}
+-- Document 02, item 3, over lists of calls: "Every operation keeps them equal to the recount", and the live totals agree with the ledger of the calls and
+-- their answers. Assumes nothing.
+use mathlib.Core.Path.{_≡_, sym, _∙_, subst}
 use mathlib.Core.List.{List, [], _∷_}
-use Prim.Native.Nat.{ℕ}
+use Prim.Native.Nat.{ℕ, suc, _+_, _<_}
+use Rattle.laws.specs.Sums.{sumBelow}
 use Rattle.heap.specs.declared.Setup.{Setup}
-use Rattle.heap.specs.Totals.{TotalsKept}
+use Rattle.heap.specs.declared.State.{State}
+use Rattle.heap.specs.Totals.{liveKept, TotalsKept}
+use Rattle.calls.specs.declared.Outcome.the-variants.{Ready}
 use Rattle.calls.specs.Answers.{After}
 use Rattle.calls.specs.Setup.{setupOf}
-use Rattle.calllaws.proofs.TotalsKeptLaws.{TotalsCounted, totals-counted-of-kept, call-keeps-totals, new-or-refused-setup-totals-kept}
-use Rattle.bound.specs.Claim.{Step, Linked}
+use Rattle.calllaws.proofs.TotalsKeptLaws.{TotalsCounted, totals-counted-of-kept, call-keeps-totals, new-or-refused-setup-totals-kept, live-totals-are-live-of-class}
+use Rattle.bound.specs.Ledger.{Entry, ledgerAfter, entriesOf}
+use Rattle.bound.specs.Claim.{Step, Linked, peakWith}
+use Rattle.boundlaws.proofs.CallInvariantLaws.{ListInvariant, after-step}
+use Rattle.boundlaws.proofs.Demand3.{list-invariant-after-setup}
 
 -- the totals of each heap and class are the recount before the list and after each of its calls, accepted or refused
 unfoldable pub TotalsCountedOver : After → List Step → Type 0
@@ -27,3 +34,33 @@ totals-counted-from before (step ∷ steps) kept linked =
 pub totals-kept-over-list : (u : Setup) (order : List ℕ) (start : After) → start ≡ setupOf u order → (steps : List Step) → Linked start steps → TotalsCountedOver start steps
 totals-kept-over-list u order start e steps linked =
     totals-counted-from start steps (subst (λ (x : After). TotalsKept (x .answer .state)) (sym e) (new-or-refused-setup-totals-kept u order)) linked
+
+-- ---- from the calls and their answers alone
+-- the live totals of each class, over heap 0 and the P processor heaps, are the ledger's live blocks of the class
+abbrev pub LiveTotalsAgree : Setup → State → List Entry → Type 0
+LiveTotalsAgree u s ledger = (c : ℕ) → c < 27 → liveKept 0 c s + sumBelow (λ i. liveKept (suc i) c s) (u .processors) ≡ entriesOf c ledger
+
+-- before the list and after each of its calls, with the ledger kept from the calls and their answers
+unfoldable pub LiveTotalsAgreeOver : Setup → After → List Entry → List Step → Type 0
+LiveTotalsAgreeOver u before ledger [] = LiveTotalsAgree u (before .answer .state) ledger
+LiveTotalsAgreeOver u before ledger (step ∷ steps) =
+    LiveTotalsAgree u (before .answer .state) ledger × LiveTotalsAgreeOver u (step .after) (ledgerAfter ledger (step .call) (step .after .answer .outcome)) steps
+
+live-totals-agree-of-list-invariant : (u : Setup) (s : State) (order : List ℕ) (ledger : List Entry) (peak : ℕ → ℕ) → ListInvariant u s order ledger peak → LiveTotalsAgree u s ledger
+live-totals-agree-of-list-invariant u s order ledger peak g c l =
+    subst (λ (v : Setup). liveKept 0 c s + sumBelow (λ i. liveKept (suc i) c s) (v .processors) ≡ entriesOf c ledger) (g .setup)
+    (live-totals-are-live-of-class s order (g .passed) c l ∙ sym (g .listed .counted c l))
+
+live-totals-agree-from : (u : Setup) (before : After) (ledger : List Entry) (peak : ℕ → ℕ) (steps : List Step) → ListInvariant u (before .answer .state) (before .order) ledger peak → Linked before steps
+    → LiveTotalsAgreeOver u before ledger steps
+unfolding Linked LiveTotalsAgreeOver
+live-totals-agree-from u before ledger peak [] g linked = live-totals-agree-of-list-invariant u (before .answer .state) (before .order) ledger peak g
+live-totals-agree-from u before ledger peak (step ∷ steps) g linked =
+    let new : List Entry = ledgerAfter ledger (step .call) (step .after .answer .outcome) in
+    let n = after-step u (before .answer .state) (before .order) ledger peak g step (linked .0) in
+    (live-totals-agree-of-list-invariant u (before .answer .state) (before .order) ledger peak g, live-totals-agree-from u (step .after) new (peakWith peak new) steps (n .invariant) (linked .1))
+
+-- For every accepted setup, whatever stood in the storage before, and every list of takes and frees after it, plain and named.
+pub live-totals-agree-with-ledger : (u : Setup) (order : List ℕ) (start : After) → start ≡ setupOf u order → start .answer .outcome ≡ Ready → (steps : List Step) → Linked start steps
+    → LiveTotalsAgreeOver u start [] steps
+live-totals-agree-with-ledger u order start e ready steps linked = live-totals-agree-from u start [] (λ c. 0) steps (list-invariant-after-setup u order start e ready) linked

@@ -8,7 +8,8 @@ use Prim.Native.Nat.{ℕ, zero, suc, _+_, _*_, _≤_, _<_}
 use native.Mathlib.Omega.{arith}
 use lib.ListN.{length, getD-replicate}
 use lib.Dec.{eqb, leb}
-use Rattle.laws.specs.Sums.{pick}
+use Rattle.laws.specs.Sums.{pick, sumBelow}
+use Rattle.laws.proofs.SumLaws.{sum-cong}
 use Rattle.laws.proofs.TestLaws.{T-of-true}
 use Rattle.classes.specs.Classes.{classOf, isTooLarge}
 use Rattle.names.specs.Names.{isHeld}
@@ -16,14 +17,16 @@ use Rattle.heap.specs.declared.Setup.{Setup}
 use Rattle.heap.specs.declared.State.{State}
 use Rattle.heap.specs.declared.Found.{Found}
 use Rattle.heap.specs.declared.Found.the-variants.{At, Nothing}
-use Rattle.heap.specs.Counts.{superblocksOf, liveOf}
+use Rattle.heap.specs.Table.{superblockAt}
+use Rattle.heap.specs.Counts.{superblocksOf, liveOf, superblocksOfClass, liveOfClass}
 use Rattle.heap.specs.Totals.{heapCount, totalCount, totalIndex, superblocksKept, liveKept, TotalsKept}
 use Rattle.heap.specs.States.{noState, newState}
 use Rattle.choicerules.specs.Choice.{fullest, emptiest}
 use Rattle.checkrules.specs.Check.{withinLimits, restValid}
 use Rattle.moverules.specs.Moves.{mustMove, foundTransferred, transfersUpTo, excessTransferred, invariantRestored}
 use Rattle.heaplaws.proofs.StateFacts.{Shape, WithinLimits}
-use Rattle.heaplaws.proofs.StateCheckLaws.{sound-of-passes}
+use Rattle.heaplaws.proofs.StateCheckLaws.{sound-of-passes, owned-of-owner}
+use Rattle.heaplaws.proofs.CountLaws.{owned-is-sum-over-heaps, live-is-sum-over-heaps}
 use Rattle.heaplaws.proofs.MoveLaws.{totals-kept-of-found-transferred}
 use Rattle.heaplaws.proofs.TotalsLaws.{new-state-totals-kept, recounted-superblocks, recounted-live, superblocks-kept-are-counted, live-kept-is-counted, totals-equal-of-each, length-recounted-superblocks, length-recounted-live, superblocks-kept-above-processors, live-kept-above-processors}
 use Rattle.calls.specs.declared.Outcome.{Outcome}
@@ -214,3 +217,29 @@ heaps-above-processors-have-0-after-call s order call shape accepted h c above l
     let sound = sound-of-passes (after .answer .state) (after .order) (T-of-true _ (call-passes-if-accepted s order call shape accepted)) in
     let kept = accepted-call-recounts s order call accepted in
     (superblocks-kept-above-processors (after .answer .state) (after .order) sound kept h c above lh lc, live-kept-above-processors (after .answer .state) (after .order) sound kept h c above lh lc)
+
+-- ---- a class's totals over heap 0 and the P processor heaps, in a state that passes
+module _ (s : State) (order : List ℕ) (passed : Passed s order) (c : ℕ) (lc : c < 27) where
+  sum-over-heaps-cong : (f g : ℕ → ℕ) → ((h : ℕ) → h < heapCount → f h ≡ g h)
+      → f 0 + sumBelow (λ i. f (suc i)) (s .setup .processors) ≡ g 0 + sumBelow (λ i. g (suc i)) (s .setup .processors)
+  sum-over-heaps-cong f g each =
+      let high = passed .sound .numbers .processors-high in
+      ap₂ _+_ (each 0 (omega arith)) (sum-cong (λ i. f (suc i)) (λ i. g (suc i)) (s .setup .processors) (λ i l. each (suc i) (omega arith)))
+
+  few-processors : s .setup .processors < 255
+  few-processors = omega (arith, passed .sound .numbers .processors-high)
+
+  owner-le-processors : (k : ℕ) → k < 64 → (superblockAt s k .owner ≡ 255 → ⊥) → superblockAt s k .owner ≤ s .setup .processors
+  owner-le-processors k l f = owned-of-owner s order (passed .sound) k l f .owner
+
+  -- the superblock totals are the A of the bound ..
+  pub superblock-totals-are-superblocks-of-class : superblocksKept 0 c s + sumBelow (λ i. superblocksKept (suc i) c s) (s .setup .processors) ≡ superblocksOfClass c s
+  superblock-totals-are-superblocks-of-class =
+      sum-over-heaps-cong (λ h. superblocksKept h c s) (λ h. superblocksOf h c s) (λ h lh. superblocks-kept-are-counted s h c lh lc (passed .totals))
+      ∙ sym (owned-is-sum-over-heaps (s .setup .processors) c s few-processors owner-le-processors)
+
+  -- .. and the live totals the live blocks of the class
+  pub live-totals-are-live-of-class : liveKept 0 c s + sumBelow (λ i. liveKept (suc i) c s) (s .setup .processors) ≡ liveOfClass c s
+  live-totals-are-live-of-class =
+      sum-over-heaps-cong (λ h. liveKept h c s) (λ h. liveOf h c s) (λ h lh. live-kept-is-counted s h c lh lc (passed .totals))
+      ∙ sym (live-is-sum-over-heaps (s .setup .processors) c s few-processors owner-le-processors)

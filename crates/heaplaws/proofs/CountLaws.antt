@@ -200,19 +200,39 @@ heaps-of-owned-of-class p c b h t =
     let o = facts-of-owned-of-class c b t in
     both-make (leb (b .owner) p) (eqb (b .class) c) (T-of-true _ (le-leb (b .owner) p (h (o .0)))) (T-of-true _ (eq-eqb (b .class) c (o .1)))
 
--- where each superblock is unused or owned by heap 0 to P, a class's superblocks are those of its heaps
-pub owned-is-sum-over-heaps : (p c : ℕ) (s : State) → p < 255 → ((k : ℕ) → k < 64 → (superblockAt s k .owner ≡ 255 → ⊥) → superblockAt s k .owner ≤ p)
-    → superblocksOfClass c s ≡ superblocksOf 0 c s + sumBelow (λ i. superblocksOf (suc i) c s) p
-unfolding superblocksOfClass superblocksOf total
-owned-is-sum-over-heaps p c s q h =
-    sum-cong (λ k. one (isOwnedOfClass c (superblockAt s k))) (λ k. sumBelow (λ i. oneIfBelongs i c (superblockAt s k)) (suc p)) 64 each
-    ∙ sum-swap (λ k i. oneIfBelongs i c (superblockAt s k)) 64 (suc p)
-    ∙ sym (sum-from-heap-0 (λ i. sumBelow (λ k. oneIfBelongs i c (superblockAt s k)) 64) p)
-  where
-    each : (k : ℕ) → k < 64 → one (isOwnedOfClass c (superblockAt s k)) ≡ sumBelow (λ i. oneIfBelongs i c (superblockAt s k)) (suc p)
-    each k l =
-        ap one (equal-of-iff (isOwnedOfClass c (superblockAt s k)) (ownedByHeapsTo p c (superblockAt s k)) (heaps-of-owned-of-class p c (superblockAt s k) (h k l)) (owned-of-class-of-heaps p c (superblockAt s k) q))
-        ∙ sym (sum-over-heaps-of-one p c (superblockAt s k))
+-- over any n heaps a superblock's live blocks are counted as often as the superblock itself
+live-over-heaps : (h : ℕ → ℕ) (n c : ℕ) (b : Superblock) → sumBelow (λ i. liveIfBelongs (h i) c b) n ≡ liveIn b * sumBelow (λ i. oneIfBelongs (h i) c b) n
+live-over-heaps h n c b =
+    sum-cong (λ i. liveIfBelongs (h i) c b) (λ i. liveIn b * oneIfBelongs (h i) c b) n (λ i l. live-if-belongs-as-product (h i) c b) ∙ sum-scale (liveIn b) (λ i. oneIfBelongs (h i) c b) n
+
+-- where a number of each superblock is the sum of a number for each heap, so are the totals
+total-over-heaps : (p : ℕ) (s : State) (f : Superblock → ℕ) (g : ℕ → Superblock → ℕ) → ((k : ℕ) → k < 64 → f (superblockAt s k) ≡ sumBelow (λ i. g i (superblockAt s k)) (suc p))
+    → total f (s .table) ≡ total (g 0) (s .table) + sumBelow (λ i. total (g (suc i)) (s .table)) p
+unfolding total
+total-over-heaps p s f g each =
+    sum-cong (λ k. f (superblockAt s k)) (λ k. sumBelow (λ i. g i (superblockAt s k)) (suc p)) 64 each
+    ∙ sum-swap (λ k i. g i (superblockAt s k)) 64 (suc p)
+    ∙ sym (sum-from-heap-0 (λ i. sumBelow (λ k. g i (superblockAt s k)) 64) p)
+
+-- where each superblock is unused or owned by heap 0 to P, a class's superblocks are those of its heaps, and so are its live blocks
+module _ (p c : ℕ) (s : State) (q : p < 255) (h : (k : ℕ) → k < 64 → (superblockAt s k .owner ≡ 255 → ⊥) → superblockAt s k .owner ≤ p) where
+  one-over-heaps : (k : ℕ) → k < 64 → one (isOwnedOfClass c (superblockAt s k)) ≡ sumBelow (λ i. oneIfBelongs i c (superblockAt s k)) (suc p)
+  one-over-heaps k l =
+      ap one (equal-of-iff (isOwnedOfClass c (superblockAt s k)) (ownedByHeapsTo p c (superblockAt s k)) (heaps-of-owned-of-class p c (superblockAt s k) (h k l)) (owned-of-class-of-heaps p c (superblockAt s k) q))
+      ∙ sym (sum-over-heaps-of-one p c (superblockAt s k))
+
+  pub owned-is-sum-over-heaps : superblocksOfClass c s ≡ superblocksOf 0 c s + sumBelow (λ i. superblocksOf (suc i) c s) p
+  unfolding superblocksOfClass superblocksOf
+  owned-is-sum-over-heaps = total-over-heaps p s (λ b. one (isOwnedOfClass c b)) (λ i. oneIfBelongs i c) one-over-heaps
+
+  pub live-is-sum-over-heaps : liveOfClass c s ≡ liveOf 0 c s + sumBelow (λ i. liveOf (suc i) c s) p
+  unfolding liveOfClass liveOf
+  live-is-sum-over-heaps =
+      total-over-heaps p s (λ b. pick (isOwnedOfClass c b) (liveIn b) 0) (λ i. liveIfBelongs i c)
+      (λ k l.
+      pick-as-product (isOwnedOfClass c (superblockAt s k)) (liveIn (superblockAt s k))
+      ∙ ap (λ (x : ℕ). liveIn (superblockAt s k) * x) (one-over-heaps k l)
+      ∙ sym (live-over-heaps (λ i. i) (suc p) c (superblockAt s k)))
 
 one-mono : (a b : Bool) → (T a → T b) → one a ≤ one b
 one-mono true true f = le-refl 1
@@ -229,8 +249,7 @@ live-of-heaps-le-live-of-class p c s q =
   where
     each : (b : Superblock) → sumBelow (λ i. liveIfBelongs (suc i) c b) p ≤ pick (isOwnedOfClass c b) (liveIn b) 0
     each b =
-        let scaled : sumBelow (λ i. liveIfBelongs (suc i) c b) p ≡ liveIn b * sumBelow (λ i. oneIfBelongs (suc i) c b) p =
-        sum-cong (λ i. liveIfBelongs (suc i) c b) (λ i. liveIn b * oneIfBelongs (suc i) c b) p (λ i l. live-if-belongs-as-product (suc i) c b) ∙ sum-scale (liveIn b) (λ i. oneIfBelongs (suc i) c b) p in
+        let scaled = live-over-heaps suc p c b in
         let few : sumBelow (λ i. oneIfBelongs (suc i) c b) p ≤ one (isOwnedOfClass c b) =
         omega (arith, sum-from-heap-0 (λ i. oneIfBelongs i c b) p, sum-over-heaps-of-one p c b, one-mono (ownedByHeapsTo p c b) (isOwnedOfClass c b) (owned-of-class-of-heaps p c b q)) in
         omega (arith, pick-as-product (isOwnedOfClass c b) (liveIn b), mul-le-mul-left (liveIn b) few)

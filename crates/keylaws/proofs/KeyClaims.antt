@@ -22,7 +22,7 @@ use Rattle.calls.specs.Calls.{callOf}
 use Rattle.bound.specs.Claim.{Step, Linked, Claims}
 use Rattle.boundlaws.proofs.Demand3.{demand-3}
 use Rattle.boundlaws.proofs.NamesAgree.{lastAfter}
-use Rattle.boundlaws.proofs.TotalsOverLists.{TotalsCountedOver, totals-kept-over-list}
+use Rattle.boundlaws.proofs.TotalsOverLists.{TotalsCountedOver, totals-kept-over-list, LiveTotalsAgreeOver, live-totals-agree-with-ledger}
 use Rattle.boundlaws.proofs.CallListLaws.{stepsBy, steps-linked}
 use Rattle.commands.specs.declared.Command.{Command}
 use Rattle.commands.specs.declared.Command.the-variants as command
@@ -221,3 +221,8 @@ key-demand-3 r order = go (commandAt r 0) refl
 -- Document 02, item 3: the totals are the recount after such a record's setup and after each of its calls
 pub key-totals-kept : (r order : List ℕ) (u : Setup) (commands : List Command) → KeyClaims r order u commands → TotalsCountedOver (setupOf u order) (stepsIn (setupOf u order) commands)
 key-totals-kept r order u commands h = totals-kept-over-list u order (setupOf u order) refl (stepsIn (setupOf u order) commands) (h .linked)
+
+-- .. and each class's live totals are the live blocks of the ledger that its calls and their answers make
+pub key-live-totals-agree-with-ledger : (r order : List ℕ) (u : Setup) (commands : List Command) → KeyClaims r order u commands
+    → LiveTotalsAgreeOver u (setupOf u order) [] (stepsIn (setupOf u order) commands)
+key-live-totals-agree-with-ledger r order u commands h = live-totals-agree-with-ledger u order (setupOf u order) refl (h .ready) (stepsIn (setupOf u order) commands) (h .linked)

@@ -7,6 +7,7 @@ use Rattle.heap.specs.declared.Superblock.{Superblock}
 use Rattle.heap.specs.declared.Setup.{Setup}
 use Rattle.calls.specs.declared.Outcome.the-variants.{Ready}
 use Rattle.calls.specs.declared.Call.{Call}
+use Rattle.calls.specs.Setup.{setupOf}
 use Rattle.bound.specs.Claim.{Linked}
 use Rattle.boundlaws.proofs.Demand3.{demand-3}
 use Rattle.rowrules.specs.Row.{RowAfter, rowSetup, rowCall}
@@ -22,12 +23,18 @@ linked-of-row-linked before (step ∷ steps) long linked = (
   linked-of-row-linked (step .after) steps (ap (λ (x : RowAfter). length (x .row)) (linked .0) ∙ length-of-row-call (before .control) (before .row) (before .order) (step .call) ∙ long) (linked .1),
 )
 
+-- .. and after an accepted setup on the row, one from what that setup leaves
+pub row-list-is-call-list : (u : Setup) (row : List Superblock) (order : List ℕ) (start : RowAfter) → start ≡ rowSetup u row order → start .outcome ≡ Ready
+    → (steps : List RowStep) → RowLinked start steps → (asAfter start ≡ setupOf u order) × Linked (asAfter start) (map stepOf steps)
+row-list-is-call-list u row order start e ready steps linked =
+    let h = row-setup-ready u row order (ap (λ (x : RowAfter). x .outcome) (sym e) ∙ ready) in
+    (ap asAfter e ∙ h .1, linked-of-row-linked start steps (ap (λ (x : RowAfter). length (x .row)) e ∙ h .2) linked)
+
 -- For every accepted setup on a lent row, whatever stood in row and storage before, and every list of takes and frees on that row after it, plain and named.
 pub row-demand-3 : (u : Setup) (row : List Superblock) (order : List ℕ) (start : RowAfter) → start ≡ rowSetup u row order → start .outcome ≡ Ready
     → (steps : List RowStep) → RowLinked start steps → RowClaims u start [] (λ c. 0) steps
 row-demand-3 u row order start e ready steps linked =
-    let h = row-setup-ready u row order (ap (λ (x : RowAfter). x .outcome) (sym e) ∙ ready) in
-    demand-3 u order (asAfter start) (ap asAfter e ∙ h .1) ready (map stepOf steps) (linked-of-row-linked start steps (ap (λ (x : RowAfter). length (x .row)) e ∙ h .2) linked)
+    let list = row-list-is-call-list u row order start e ready steps linked in demand-3 u order (asAfter start) (list .0) ready (map stepOf steps) (list .1)
 
 -- the calls of a list with what each left: any calls make such a list
 unfoldable pub rowSteps : RowAfter → List Call → List RowStep

@@ -1,7 +1,7 @@
 -- Totals on a lent row (document 02, item 3). Assumes nothing.
 use mathlib.Core.Path.{_≡_, sym, ap, _∙_, subst}
 use mathlib.Core.Logic.{⊎-elim}
-use mathlib.Core.List.{List, map}
+use mathlib.Core.List.{List, [], map}
 use Prim.Native.Nat.{ℕ, _*_, _≤_}
 use lib.ListN.{length}
 use Rattle.heap.specs.declared.Superblock.{Superblock}
@@ -11,12 +11,12 @@ use Rattle.heaplaws.proofs.StateFacts.{WithinLimits}
 use Rattle.calls.specs.declared.Call.{Call}
 use Rattle.calls.specs.declared.Outcome.the-variants.{Ready, Refused}
 use Rattle.calllaws.proofs.TotalsKeptLaws.{TotalsCounted, totals-counted-of-kept, call-keeps-totals, call-refused-13-of-wrong-total}
-use Rattle.boundlaws.proofs.TotalsOverLists.{TotalsCountedOver, totals-kept-over-list}
+use Rattle.boundlaws.proofs.TotalsOverLists.{TotalsCountedOver, totals-kept-over-list, LiveTotalsAgreeOver, live-totals-agree-with-ledger}
 use Rattle.rowrules.specs.declared.Control.{Control}
 use Rattle.rowrules.specs.Row.{RowAfter, stateOf, asRowAfter, rowRefused, rowSetup, rowCall}
 use Rattle.rowrules.specs.RowClaim.{RowStep, RowLinked, asAfter, stepOf}
-use Rattle.rowlaws.proofs.RowLaws.{call-on-64-is-call-of, row-setup-refused-or-accepted, row-setup-ready, row-call-refused-or-accepted, row-call-refused}
-use Rattle.rowlaws.proofs.RowDemand3.{linked-of-row-linked}
+use Rattle.rowlaws.proofs.RowLaws.{call-on-64-is-call-of, row-setup-refused-or-accepted, row-call-refused-or-accepted, row-call-refused}
+use Rattle.rowlaws.proofs.RowDemand3.{row-list-is-call-list}
 
 -- "a new or refused setup has them at 0"
 pub row-setup-totals-are-0 : (u : Setup) (row : List Superblock) (order : List ℕ) → rowSetup u row order .control .totals ≡ noTotals
@@ -53,5 +53,10 @@ module _ (control : Control) (row : List Superblock) (order : List ℕ) (call : 
 pub row-totals-kept-over-list : (u : Setup) (row : List Superblock) (order : List ℕ) (start : RowAfter) → start ≡ rowSetup u row order → start .outcome ≡ Ready
     → (steps : List RowStep) → RowLinked start steps → TotalsCountedOver (asAfter start) (map stepOf steps)
 row-totals-kept-over-list u row order start e ready steps linked =
-    let h = row-setup-ready u row order (ap (λ (x : RowAfter). x .outcome) (sym e) ∙ ready) in
-    totals-kept-over-list u order (asAfter start) (ap asAfter e ∙ h .1) (map stepOf steps) (linked-of-row-linked start steps (ap (λ (x : RowAfter). length (x .row)) e ∙ h .2) linked)
+    let list = row-list-is-call-list u row order start e ready steps linked in totals-kept-over-list u order (asAfter start) (list .0) (map stepOf steps) (list .1)
+
+-- .. and each class's live totals are the live blocks of the ledger that the calls and their answers make
+pub row-live-totals-agree-with-ledger : (u : Setup) (row : List Superblock) (order : List ℕ) (start : RowAfter) → start ≡ rowSetup u row order → start .outcome ≡ Ready
+    → (steps : List RowStep) → RowLinked start steps → LiveTotalsAgreeOver u (asAfter start) [] (map stepOf steps)
+row-live-totals-agree-with-ledger u row order start e ready steps linked =
+    let list = row-list-is-call-list u row order start e ready steps linked in live-totals-agree-with-ledger u order (asAfter start) (list .0) ready (map stepOf steps) (list .1)
