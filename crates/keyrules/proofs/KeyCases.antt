@@ -5,43 +5,36 @@ use mathlib.Core.List.{List, [], _∷_, _++_}
 use Prim.Native.Nat.{ℕ, _+_, _*_}
 use lib.ListN.{replicate}
 use lib.Dec.{leb}
-use Rattle.calls.specs.Answers.{numberOf}
+use Rattle.names.specs.Names.{noNames, withName}
+use Rattle.heap.specs.Table.{unused}
+use Rattle.heap.specs.States.{withNames}
+use Rattle.heap.proofs.CaseStates.{unnamedState}
+use Rattle.heap.proofs.TableCases.{of}
+use Rattle.calls.specs.Answers.{After, numberOf}
+use Rattle.commands.specs.declared.Command.the-variants.{Take, NamedTake, NamedFree}
 use Rattle.textrules.specs.Text.{letters}
 use Rattle.calls.proofs.CallDefinitions.{callDefinitions}
 use Rattle.commands.proofs.CommandDefinitions.{commandDefinitions}
 use Rattle.linerules.proofs.LineDefinitions.{lineDefinitions}
-use Rattle.keyrules.specs.Key.{setupText, textOf, orderAfter, keyOf, storageOf, room}
+use Rattle.keyrules.specs.Key.{stateAndStorage, setupText, textOf, orderAfter, keyOf, storageOf, room}
 
 -- what a key's case computes with
-keyDefinitions : Unit {0}
+unfoldable pub keyDefinitions : Unit {0}
 unfolding keyOf textOf setupText storageOf orderAfter numberOf commandDefinitions lineDefinitions callDefinitions
 keyDefinitions = tt
 
--- P = 1, N = 1, K = 1, p/q = 1/2; a take of 2048 bytes, one of size 0, one by processor 0, an unknown byte
-abbrev setup : List ℕ
+-- P = 1, N = 1, K = 1, p/q = 1/2; a take of 2048 bytes, and one by processor 0
+abbrev pub setup : List ℕ
 setup = 0 ∷ 1 ∷ 1 ∷ 1 ∷ 1 ∷ 2 ∷ []
 
-abbrev take : List ℕ
+abbrev pub take : List ℕ
 take = 1 ∷ 1 ∷ 0 ∷ 8 ∷ []
 
-abbrev size-0-take : List ℕ
-size-0-take = 1 ∷ 1 ∷ 0 ∷ 0 ∷ []
-
-abbrev take-by-processor-0 : List ℕ
+abbrev pub take-by-processor-0 : List ℕ
 take-by-processor-0 = 1 ∷ 0 ∷ 0 ∷ 8 ∷ []
 
--- the free of address 0; a take of 2048 bytes for a name, and a free of that name
-abbrev free-0 : List ℕ
-free-0 = 2 ∷ 1 ∷ 0 ∷ 0 ∷ 0 ∷ 0 ∷ []
-
-abbrev take-name : ℕ → List ℕ
-take-name name = 3 ∷ 1 ∷ name ∷ 0 ∷ 0 ∷ 8 ∷ []
-
-abbrev free-name : ℕ → List ℕ
-free-name name = 4 ∷ 1 ∷ name ∷ 0 ∷ []
-
 -- places for one superblock
-abbrev storage : List ℕ
+abbrev pub storage : List ℕ
 storage = replicate 256 0
 
 -- a refused setup, with a command behind it: its stop line alone, at 0
@@ -64,38 +57,37 @@ key-stopped-by-unknown-byte : keyOf (setup ++ take ++ (5 ∷ [])) storage ≡ le
 unfolding keyDefinitions
 key-stopped-by-unknown-byte = refl
 
--- a refused take prints its number and the record goes on, to its last state and `end`
-key-after-refused-take : keyOf (setup ++ take-by-processor-0 ++ take) storage
-    ≡ letters "setup 1 1 1 1 2\n" ++ letters "take 0 2048 refused 2\n" ++ letters "take 1 2048 at 0\n" ++ letters "heap 1 class 26 superblocks 1 live 1\n" ++ letters "end\n"
+-- a refused take prints its number and the record goes on, to `end`
+key-of-refused-take : keyOf (setup ++ take-by-processor-0) storage ≡ letters "setup 1 1 1 1 2\n" ++ letters "take 0 2048 refused 2\n" ++ letters "end\n"
 unfolding keyDefinitions
-key-after-refused-take = refl
+key-of-refused-take = refl
 
--- size 0 prints as 0 and is a live block of class 0 (document 02, item 1)
-key-of-size-0 : keyOf (setup ++ size-0-take) storage ≡ letters "setup 1 1 1 1 2\n" ++ letters "take 1 0 at 0\n" ++ letters "heap 1 class 0 superblocks 1 live 1\n" ++ letters "end\n"
-unfolding keyDefinitions
-key-of-size-0 = refl
+-- ---- calls by name, on a state of that setup: heap 1 has the superblock, of class 26, with these marks; name 5 points at its block j, or at none
+abbrev with-name-5 : ℕ → ℕ → List ℕ → After
+with-name-5 marks j order =
+    stateAndStorage (withNames (unnamedState (record { processors = 1; superblocks = 1; spare = 1; p = 1; q = 2 }) (of 1 26 marks ∷ replicate 63 unused)) (withName noNames 5 j)) order
 
--- name 5 is let go by a plain free of its address and used again; 14 while it is held, 15 once its block is freed by name (document 02, item 2)
-key-of-name-used-again : keyOf (setup ++ take-name 5 ++ free-0 ++ take-name 5 ++ take-name 5 ++ free-name 5 ++ free-name 5) storage
-    ≡ letters "setup 1 1 1 1 2\n" ++ letters "take 1 name 5 2048 at 0\n" ++ letters "free 1 0 moved 0\n" ++ letters "take 1 name 5 2048 at 0\n" ++ letters "take 1 name 5 2048 refused 14\n" ++ letters "free 1 name 5 moved 0\n" ++ letters "free 1 name 5 refused 15\n" ++ letters "heap 1 class 26 superblocks 1 live 0\n" ++ letters "end\n"
+-- a named free lets go the block that the name holds, not the one at address 0: the take after it gets that block
+text-of-held-block-freed : textOf (with-name-5 3 1 (1 ∷ 0 ∷ replicate 254 0)) (NamedFree 1 5 ∷ Take 1 2048 ∷ [])
+    ≡ letters "free 1 name 5 moved 0\n" ++ letters "take 1 2048 at 2048\n" ++ letters "heap 1 class 26 superblocks 1 live 2\n" ++ letters "end\n"
 unfolding keyDefinitions
-key-of-name-used-again = refl
+text-of-held-block-freed = refl
 
--- plain and named calls mixed: name 5 holds the block at 2048 and frees it, not the one at 0; the take that is refused as dry binds no name 6
-key-of-mixed-calls : keyOf (setup ++ take ++ take-name 5 ++ take-name 6 ++ free-name 6 ++ free-name 5 ++ take) storage
-    ≡ letters "setup 1 1 1 1 2\n" ++ letters "take 1 2048 at 0\n" ++ letters "take 1 name 5 2048 at 2048\n" ++ letters "take 1 name 6 2048 refused 4\n" ++ letters "free 1 name 6 refused 15\n" ++ letters "free 1 name 5 moved 0\n" ++ letters "take 1 2048 at 2048\n" ++ letters "heap 1 class 26 superblocks 1 live 2\n" ++ letters "end\n"
+-- a named take binds its name, by which its block is freed
+text-of-bound-name : textOf (with-name-5 1 65535 (1 ∷ 0 ∷ replicate 254 0)) (NamedTake 1 5 2048 ∷ NamedFree 1 5 ∷ [])
+    ≡ letters "take 1 name 5 2048 at 2048\n" ++ letters "free 1 name 5 moved 0\n" ++ letters "heap 1 class 26 superblocks 1 live 1\n" ++ letters "end\n"
 unfolding keyDefinitions
-key-of-mixed-calls = refl
+text-of-bound-name = refl
+
+-- and the storage is what the named free leaves: the block's number in the first place
+storage-after-named-free : orderAfter (with-name-5 3 0 (1 ∷ 0 ∷ replicate 255 7)) (NamedFree 1 5 ∷ []) ≡ 0 ∷ 0 ∷ replicate 255 7
+unfolding keyDefinitions
+storage-after-named-free = refl
 
 -- the storage that is left: the setup clears the places of its superblocks and no other, and a take of an unused superblock renews it
 storage-after-setup-and-take : storageOf (setup ++ take) (replicate 257 7) ≡ 1 ∷ 0 ∷ (replicate 254 0 ++ (7 ∷ []))
 unfolding keyDefinitions
 storage-after-setup-and-take = refl
-
--- a named take renews as well, and named frees, of block 0 and then block 1, fill the places from the first on
-storage-after-named-calls : storageOf (setup ++ take-name 5 ++ take-name 6 ++ free-name 5 ++ free-name 6) (replicate 257 7) ≡ 0 ∷ 1 ∷ (replicate 254 0 ++ (7 ∷ []))
-unfolding keyDefinitions
-storage-after-named-calls = refl
 
 -- a refused setup leaves it as it was
 storage-after-refused-setup : storageOf (0 ∷ 0 ∷ 1 ∷ 1 ∷ 1 ∷ 2 ∷ take) (replicate 3 7) ≡ replicate 3 7

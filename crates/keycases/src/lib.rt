@@ -1,0 +1,1 @@
+// Keys of whole records with several calls, in computed cases.
