@@ -6,7 +6,6 @@ use lib.ListN.{getD, replicate}
 use Rattle.laws.specs.Sums.{sumBelow}
 use Rattle.laws.specs.Lists.{increased}
 use Rattle.marks.specs.Marks.{bit, markBit, liveCount}
-use Rattle.heap.specs.declared.Superblock.{Superblock}
 use Rattle.heap.specs.declared.State.{State}
 use Rattle.heap.specs.Table.{unused}
 use Rattle.heap.specs.Totals.{superblocksKept, liveKept, isCounted, withCounted, countedBelow, recounted}

@@ -1,29 +1,28 @@
 -- The totals that a state keeps, and the recount. Assumes nothing.
-use mathlib.Core.Path.{_≡_, refl, sym, ap, ap₂, _∙_, subst}
+use mathlib.Core.Path.{_≡_, refl, sym, ap, ap₂, _∙_}
 use mathlib.Core.Bool.{Bool, true, false}
 use mathlib.Core.Logic.{_⊎_, inl, inr}
 use mathlib.Core.List.{List}
-use Prim.Native.Nat.{ℕ, zero, suc, _+_, _*_, _/_, _%_, _≤_, _<_, zero-le}
+use Prim.Native.Nat.{ℕ, zero, suc, _+_, _*_, _/_, _%_, _≤_, _<_}
 use native.Mathlib.Nat.{le-refl, suc-mul}
-use native.Mathlib.Decide.{ℕ-discrete}
 use native.Mathlib.Omega.{arith}
-use lib.ListN.{length, getD, set, replicate, length-replicate, getD-replicate}
+use lib.ListN.{length, getD, replicate, length-replicate, getD-replicate}
 use lib.Seq.{ext-getD}
 use lib.Dec.{T, ltb, ltb→lt}
 use borrow.Author.Tests.{lt-ltb}
-use Rattle.laws.specs.Sums.{pick, both, one, sumBelow}
+use Rattle.laws.specs.Sums.{pick, one, sumBelow}
 use Rattle.laws.specs.Lists.{increased, sameNumbers}
-use Rattle.laws.proofs.TestLaws.{T-of-true, true-of-T, false-of-not-T, not-T-of-false, both-left, both-right, both-make}
-use Rattle.laws.proofs.SumLaws.{sum-below-zero, sum-below-suc, sum-cong, sum-of-zeros}
+use Rattle.laws.proofs.TestLaws.{T-of-true, false-of-not-T, not-T-of-false, both-left, both-right, both-make}
+use Rattle.laws.proofs.SumLaws.{sum-cong, sum-of-zeros}
 use Rattle.laws.proofs.NumberLists.{increased-at, increased-elsewhere, increased-at-most, length-increased, equal-of-same-numbers, same-numbers-refl}
 use Rattle.marklaws.proofs.MarkLaws.{live-count-le-256}
 use Rattle.heap.specs.declared.Superblock.{Superblock}
 use Rattle.heap.specs.declared.Setup.{Setup}
 use Rattle.heap.specs.declared.Totals.{Totals}
 use Rattle.heap.specs.declared.State.{State}
-use Rattle.heap.specs.Table.{blank, unused, superblockAt, liveIn}
+use Rattle.heap.specs.Table.{blank, superblockAt, liveIn}
 use Rattle.heap.specs.Counts.{total, belongs, oneIfBelongs, liveIfBelongs, superblocksOf, liveOf}
-use Rattle.heap.specs.Totals.{heapCount, totalCount, totalIndex, superblocksKept, liveKept, noTotals, isCounted, withCounted, countedBelow, recounted, TotalsKept}
+use Rattle.heap.specs.Totals.{heapCount, totalCount, totalIndex, superblocksKept, liveKept, isCounted, withCounted, countedBelow, recounted, TotalsKept}
 use Rattle.heap.specs.States.{withSuperblock, withNames, newState}
 use Rattle.checkrules.specs.Check.{sameTotals, totalsValid}
 use Rattle.heaplaws.proofs.StateFacts.{Unused, Owned, Sound}

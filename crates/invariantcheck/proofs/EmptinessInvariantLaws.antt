@@ -17,7 +17,7 @@ use Rattle.classes.specs.Classes.{blocksOf}
 use Rattle.heap.specs.declared.Setup.{Setup}
 use Rattle.heap.specs.declared.Totals.{Totals}
 use Rattle.heap.specs.declared.State.{State}
-use Rattle.heap.specs.Counts.{blocksIn, liveOf}
+use Rattle.heap.specs.Counts.{blocksIn}
 use Rattle.heap.specs.Totals.{heapCount, recounted}
 use Rattle.moverules.specs.Moves.{bothConditions, mustMove}
 use Rattle.checkrules.specs.Check.{within, emptinessInvariant}

@@ -12,7 +12,7 @@ use Rattle.heap.specs.declared.State.{State}
 use Rattle.heap.specs.declared.Moved.{Moved}
 use Rattle.heap.specs.declared.Found.{Found}
 use Rattle.heap.specs.Table.{superblockAt, withOwner}
-use Rattle.heap.specs.Counts.{superblocksOf, blocksIn, liveOf}
+use Rattle.heap.specs.Counts.{superblocksOf, blocksIn}
 use Rattle.heap.specs.Totals.{superblocksKept, liveKept, TotalsKept}
 use Rattle.heap.specs.States.{withSuperblock}
 use Rattle.choicerules.specs.Choice.{emptiest}

@@ -1,8 +1,8 @@
 -- The recount of a table, superblock by superblock as the code goes. Assumes nothing.
 use mathlib.Core.Path.{_≡_, refl, sym, ap, ap₂, _∙_, subst}
 use mathlib.Core.List.{List}
-use Prim.Native.Nat.{ℕ, suc, _+_, _*_, _≤_, _<_}
-use native.Mathlib.Nat.{le-refl, mul-one}
+use Prim.Native.Nat.{ℕ, suc, _+_, _≤_, _<_}
+use native.Mathlib.Nat.{le-refl}
 use native.Mathlib.Numerals.{add-one}
 use native.Mathlib.Omega.{arith}
 use mir.Syntax.{w8, w16}
@@ -12,7 +12,7 @@ use Rattle.marklaws.proofs.MarkLaws.{live-count-le-256}
 use Rattle.heap.specs.declared.Superblock.{Superblock}
 use Rattle.heap.specs.declared.Totals.{Totals}
 use Rattle.heap.specs.Table.{blank, liveIn}
-use Rattle.heap.specs.Totals.{totalCount, withCounted, countedBelow, recounted}
+use Rattle.heap.specs.Totals.{withCounted, countedBelow, recounted}
 use Rattle.heaplaws.proofs.TotalsLaws.{length-counted-below, counted-below-at-most}
 use Rattle.totals.specs.OneSuperblock.{indexOf}
 use Rattle.totals.proofs.OneSuperblockLaws.{with-counted-of-index, with-counted-of-no-index}

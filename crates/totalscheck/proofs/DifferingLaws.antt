@@ -9,7 +9,7 @@ use borrow.Author.Tests.{eq-eqb, ne-eqb, eqb-true, not-true, not-false}
 use lib.ListN.{length, getD}
 use lib.Seq.{ext-getD}
 use lib.Dec.{T, eqb, eqb→eq}
-use Rattle.laws.specs.Sums.{one, both, sumBelow}
+use Rattle.laws.specs.Sums.{one}
 use Rattle.laws.specs.Lists.{sameNumbers}
 use Rattle.laws.proofs.TestLaws.{T-of-true, equal-of-iff}
 use Rattle.laws.proofs.SumLaws.{sum-below-zero, sum-below-suc, sum-of-zeros, term-le-sum}
