@@ -19,6 +19,7 @@ fn acquire(b: Superblock, heap: u8, class: u8) -> Superblock
             owner: heap,
             class,
             live: [0u64; 4],
+            rank: 0,
         };
     }
     let live = b.live;
@@ -26,6 +27,7 @@ fn acquire(b: Superblock, heap: u8, class: u8) -> Superblock
         owner: heap,
         class: b.class,
         live,
+        rank: b.rank,
     }
 }
 

@@ -34,6 +34,7 @@ pub fn take_from(s: State, order: &[u16], k: u8) -> Answer
         owner: b.owner,
         class: b.class,
         live: taken,
+        rank: b.rank,
     };
     let t = table::replace(s, i, marked);
     Answer {

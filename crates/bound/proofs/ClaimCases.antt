@@ -79,7 +79,7 @@ abbrev pub u : Setup
 u = record { processors = 2; superblocks = 20; spare = 5; p = 3; q = 7 }
 
 abbrev pub of : ℕ → ℕ → ℕ → Superblock
-of h c marks = record { owner = h; class = c; live = marks ∷ 0 ∷ 0 ∷ 0 ∷ [] }
+of h c marks = record { owner = h; class = c; live = marks ∷ 0 ∷ 0 ∷ 0 ∷ []; rank = 0 }
 
 -- eight of class c in heap 0, empty, and three in heap 1 with a block live; so many in heap 2 with two; two of class 25
 abbrev pub state-of-class : ℕ → ℕ → State

@@ -20,7 +20,7 @@ use Rattle.calls.proofs.CallDefinitions.{uncheckedCallDefinitions, call
 
 -- a superblock of heap h and class c with these marks in the first of its four numbers
 abbrev pub of : ℕ → ℕ → ℕ → Superblock
-of h c marks = record { owner = h; class = c; live = marks ∷ 0 ∷ 0 ∷ 0 ∷ [] }
+of h c marks = record { owner = h; class = c; live = marks ∷ 0 ∷ 0 ∷ 0 ∷ []; rank = 0 }
 
 abbrev pub setup-with : ℕ → ℕ → ℕ → ℕ → ℕ → Setup
 setup-with processors superblocks spare p q = record { processors = processors; superblocks = superblocks; spare = spare; p = p; q = q }
@@ -42,7 +42,7 @@ accepted-with order =
     record {
       answer = record {
         outcome = Ready;
-        state = unnamedState (record { processors = 2; superblocks = 5; spare = 1; p = 3; q = 7 }) (replicate 64 (record { owner = 255; class = 0; live = 0 ∷ 0 ∷ 0 ∷ 0 ∷ [] }));
+        state = unnamedState (record { processors = 2; superblocks = 5; spare = 1; p = 3; q = 7 }) (replicate 64 (record { owner = 255; class = 0; live = 0 ∷ 0 ∷ 0 ∷ 0 ∷ []; rank = 0 }));
       };
       order = order;
     }
@@ -53,7 +53,7 @@ refused-setup-with r order =
     record {
       answer = record {
         outcome = Refused r;
-        state = unnamedState (record { processors = 0; superblocks = 0; spare = 0; p = 0; q = 0 }) (replicate 64 (record { owner = 255; class = 0; live = 0 ∷ 0 ∷ 0 ∷ 0 ∷ [] }));
+        state = unnamedState (record { processors = 0; superblocks = 0; spare = 0; p = 0; q = 0 }) (replicate 64 (record { owner = 255; class = 0; live = 0 ∷ 0 ∷ 0 ∷ 0 ∷ []; rank = 0 }));
       };
       order = order;
     }
@@ -101,7 +101,7 @@ refused-case = refl
 -- with 170 blocks of 24, has block 169 live; superblock 1 is unused
 abbrev pub refusal-state : State
 refusal-state =
-    unnamedState (setup-with 2 5 1 3 7) (of 1 26 3 ∷ unused ∷ of 2 26 1 ∷ of 2 20 13 ∷ record { owner = 1; class = 1; live = 0 ∷ 0 ∷ 2199023255552 ∷ 0 ∷ [] } ∷ replicate 59 unused)
+    unnamedState (setup-with 2 5 1 3 7) (of 1 26 3 ∷ unused ∷ of 2 26 1 ∷ of 2 20 13 ∷ record { owner = 1; class = 1; live = 0 ∷ 0 ∷ 2199023255552 ∷ 0 ∷ []; rank = 0 } ∷ replicate 59 unused)
 
 -- 2: "0 or above P"
 pub is-processor-cases : map (isProcessor refusal-state) (0 ∷ 1 ∷ 2 ∷ 3 ∷ []) ≡ false ∷ true ∷ true ∷ false ∷ []
@@ -172,7 +172,7 @@ order-of-3 = replicate 768 61 ++ 4 ∷ 1 ∷ replicate 254 62
 
 abbrev pub state-with-3 : ℕ → State
 state-with-3 marks =
-    unnamedState (setup-with 2 5 1 3 7) (of 1 26 3 ∷ unused ∷ of 2 26 1 ∷ of 2 20 marks ∷ record { owner = 1; class = 1; live = 0 ∷ 0 ∷ 2199023255552 ∷ 0 ∷ [] } ∷ replicate 59 unused)
+    unnamedState (setup-with 2 5 1 3 7) (of 1 26 3 ∷ unused ∷ of 2 26 1 ∷ of 2 20 marks ∷ record { owner = 1; class = 1; live = 0 ∷ 0 ∷ 2199023255552 ∷ 0 ∷ []; rank = 0 } ∷ replicate 59 unused)
 
 pub taken-from-case : takenFrom 3 refusal-state order-of-3 ≡ record { answer = record { outcome = Address 13056; state = state-with-3 15 }; order = order-of-3 }
 unfolding uncheckedCallDefinitions

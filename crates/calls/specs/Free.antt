@@ -12,6 +12,7 @@ use Rattle.heap.specs.declared.Superblock.{Superblock}
 use Rattle.heap.specs.declared.State.{State}
 use Rattle.heap.specs.Table.{superblockAt, liveIn, isUnused, withoutMarkAt}
 use Rattle.heap.specs.States.{withSuperblock, withNames}
+use Rattle.heap.specs.Ranks.{rankedLatest}
 use Rattle.moverules.specs.Moves.{invariantRestored}
 use Rattle.calls.specs.Answers.{After, refused, checked, isProcessor}
 use Rattle.calls.specs.declared.Outcome.the-variants.{Moves}
@@ -56,9 +57,10 @@ orderPushed s order a = withPlace order (superblockIndex a) (blocksOf (superbloc
 unfoldable pub blockNumberAt : State → ℕ → ℕ
 blockNumberAt s a = pick (ltb (superblockIndex a) 64) (blockNumber (superblockIndex a) (blockOf s a)) notHeld
 
--- the block is freed, and its name let go: "A name holds from its take until its block is freed by either command" (document 02, item 2)
+-- the block is freed: its superblock, in whatever heap, is the last freed into (document 02, item 4), its mark is cleared, and its name let go: "A
+-- name holds from its take until its block is freed by either command" (item 2)
 unfoldable pub blockFreed : State → ℕ → State
-blockFreed s a = withNames (markCleared s a) (withoutBlock (s .names) (blockNumberAt s a))
+blockFreed s a = withNames (markCleared (rankedLatest (superblockIndex a) s) a) (withoutBlock (s .names) (blockNumberAt s a))
 
 -- "The answer reports the number of superblocks moved by that free."
 unfoldable pub freedAt : State → List ℕ → ℕ → After

@@ -13,6 +13,7 @@ use Rattle.heap.specs.declared.Found.{Found}
 use Rattle.heap.specs.declared.Found.the-variants.{At, Nothing}
 use Rattle.heap.specs.Table.{superblockAt, liveIn, withOwner, withMarkAt}
 use Rattle.heap.specs.States.{withSuperblock}
+use Rattle.heap.specs.Ranks.{unranked}
 use Rattle.choicerules.specs.Choice.{fullest, lowestEmpty, lowestUnused, orElse}
 use Rattle.calls.specs.Answers.{After, refused, checked, isProcessor}
 use Rattle.calls.specs.declared.Outcome.the-variants.{Address}
@@ -22,9 +23,10 @@ use Rattle.calls.specs.declared.Outcome.the-variants.{Address}
 unfoldable pub otherPlaces : ℕ → State → Found
 otherPlaces c s = orElse (fullest 0 c s) (orElse (lowestEmpty s) (lowestUnused s))
 
--- "To renew a superblock for class c: set its class, clear its marks", here as heap i's. "Renew" is document 01's term for reinitializing
+-- "To renew a superblock for class c: set its class, clear its marks", here as heap i's. "Renew" is document 01's term for reinitializing. It
+-- was not freed into since, and so has no rank
 abbrev pub renewedFor : ℕ → ℕ → Superblock
-renewedFor i c = record { owner = i; class = c; live = noMarks }
+renewedFor i c = record { owner = i; class = c; live = noMarks; rank = 0 }
 
 -- "From places 2 to 4 it becomes owned by heap i. A superblock with nothing live is renewed for c"
 unfoldable pub acquired : ℕ → ℕ → Superblock → Superblock
@@ -33,6 +35,10 @@ acquired i c b = pick (eqb (liveIn b) 0) (renewedFor i c) (withOwner i b)
 -- "and put n - 1 - j in place j for j below n"
 unfoldable pub acquiredOrder : ℕ → ℕ → Superblock → List ℕ → List ℕ
 acquiredOrder c k b order = pick (eqb (liveIn b) 0) (renewed order k (blocksOf c)) order
+
+-- a superblock that is renewed leaves the ranking, which closes its gap
+unfoldable pub unrankedIfEmpty : ℕ → State → State
+unrankedIfEmpty k s = pick (eqb (liveIn (superblockAt s k)) 0) (unranked k s) s
 
 -- the block in the last filled place of superblock k's order
 unfoldable pub nextBlock : State → List ℕ → ℕ → ℕ
@@ -56,7 +62,7 @@ takenFrom k s order =
 -- heap i acquires superblock k from place 2, 3 or 4, and the block is taken from it
 unfoldable pub takenFromOther : ℕ → ℕ → ℕ → State → List ℕ → After
 takenFromOther i c k s order =
-    takenFrom k (withSuperblock s k (acquired i c (superblockAt s k))) (acquiredOrder c k (superblockAt s k) order)
+    takenFrom k (withSuperblock (unrankedIfEmpty k s) k (acquired i c (superblockAt s k))) (acquiredOrder c k (superblockAt s k) order)
 
 -- "The superblock is the first that one of these four places offers"; refusal 4 (bench word: dry):
 -- "none of the four places offers a superblock"

@@ -10,7 +10,7 @@ use Rattle.heap.specs.Table.{unused}
 use Rattle.heap.specs.Totals.{noTotals}
 use Rattle.heap.specs.States.{withSuperblock, withNames}
 use Rattle.checkrules.specs.Check.{passes}
-use Rattle.heap.proofs.TableCases.{of}
+use Rattle.heap.proofs.TableCases.{of, ranked}
 use Rattle.heap.proofs.CaseStates.{unnamedState}
 use Rattle.checkrules.proofs.CheckCases.{setup-with}
 use Rattle.checkrules.proofs.CheckDefinitions.{checkDefinitions}
@@ -23,7 +23,7 @@ abbrev pub three-superblocks-order : List ℕ
 three-superblocks-order = 1 ∷ replicate 255 8 ++ 0 ∷ replicate 511 9
 
 -- it passes; and does not with q = 9; with a place that holds another block; with superblock 3 in use; with two empty ones of class 26 in heap 1; with heap 0's just not sparse;
--- with a name at block 0 of superblock 1, which is not live; with totals of 0
+-- with a name at block 0 of superblock 1, which is not live; with totals of 0; with superblocks 0 and 1 both of rank 1
 pub passes-cases :
     passes three-superblocks three-superblocks-order
     ∷ passes (unnamedState (setup-with 1 3 1 3 9) (three-superblocks .table)) three-superblocks-order
@@ -33,7 +33,8 @@ pub passes-cases :
     ∷ passes (unnamedState (setup-with 1 3 1 4 8) (three-superblocks .table)) three-superblocks-order
     ∷ passes (withNames three-superblocks (withName (three-superblocks .names) 9 256)) three-superblocks-order
     ∷ passes (record { setup = three-superblocks .setup; table = three-superblocks .table; names = noNames; totals = noTotals }) three-superblocks-order
+    ∷ passes (unnamedState (three-superblocks .setup) (ranked 1 23 5 1 ∷ ranked 0 24 2 1 ∷ of 1 25 3 ∷ replicate 61 unused)) three-superblocks-order
     ∷ []
-    ≡ true ∷ false ∷ false ∷ false ∷ false ∷ false ∷ false ∷ false ∷ []
+    ≡ true ∷ false ∷ false ∷ false ∷ false ∷ false ∷ false ∷ false ∷ false ∷ []
 unfolding checkDefinitions
 passes-cases = refl

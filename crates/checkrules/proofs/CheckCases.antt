@@ -4,17 +4,17 @@ use mathlib.Core.Bool.{Bool, true, false, not}
 use mathlib.Core.List.{List, [], _∷_, _++_, map}
 use Prim.Native.Nat.{ℕ, _-_, _^_}
 use lib.ListN.{length, replicate}
-use Rattle.laws.specs.Lists.{increased}
+use Rattle.laws.specs.Lists.{listed, increased}
 use Rattle.names.specs.Names.{noNames, withName}
 use Rattle.heap.specs.declared.Superblock.{Superblock}
 use Rattle.heap.specs.declared.Setup.{Setup}
 use Rattle.heap.specs.declared.Totals.{Totals}
 use Rattle.heap.specs.declared.State.{State}
-use Rattle.heap.specs.Table.{unused}
+use Rattle.heap.specs.Table.{unused, withRank}
 use Rattle.heap.specs.Totals.{noTotals}
 use Rattle.heap.specs.States.{withNames}
-use Rattle.checkrules.specs.Check.{withinLimits, superblockValid, unusedFrom, emptinessInvariant, sparseIfGlobal, namesValid, totalsValid}
-use Rattle.heap.proofs.TableCases.{of, small-setup}
+use Rattle.checkrules.specs.Check.{withinLimits, superblockValid, unusedFrom, emptinessInvariant, sparseIfGlobal, namesValid, totalsValid, ranksValid}
+use Rattle.heap.proofs.TableCases.{of, ranked, small-setup}
 use Rattle.heap.proofs.CaseStates.{unnamedState}
 use Rattle.checkrules.proofs.CheckDefinitions.{checkDefinitions}
 
@@ -73,7 +73,7 @@ emptiness-invariant-cases = refl
 
 -- ---- "each held name points at a live block, no two at one". Superblock 1, of class 20, has blocks 1 and 3 live, superblock 63 its block 255
 abbrev pub state-with-names : List ℕ → State
-state-with-names names = withNames (unnamedState small-setup (unused ∷ of 2 20 10 ∷ replicate 61 unused ++ record { owner = 1; class = 0; live = 0 ∷ 0 ∷ 0 ∷ 2 ^ 63 ∷ [] } ∷ [])) names
+state-with-names names = withNames (unnamedState small-setup (unused ∷ of 2 20 10 ∷ replicate 61 unused ++ record { owner = 1; class = 0; live = 0 ∷ 0 ∷ 0 ∷ 2 ^ 63 ∷ []; rank = 0 } ∷ [])) names
 
 -- no names; each live block named, by the first name and the last too; a name at block 2 of superblock 1, at block 3 of superblock 0, at block 1 of
 -- superblock 64, at the last number that is a block's; two names at block 1 of superblock 1, the first and the last, and two neighbours
@@ -119,3 +119,27 @@ pub totals-cancel-cases :
     ≡ true ∷ replicate 4 false
 unfolding checkDefinitions
 totals-cancel-cases = refl
+
+-- ---- "the ranked ones carry 1 (latest) upwards, each once without a gap, the rest 0, unused ones too": superblocks 0, 1 and 63 of heaps 1, 0 and 2, and superblock 2, which is unused
+abbrev pub with-ranks : ℕ → ℕ → ℕ → ℕ → State
+with-ranks a b c d = unnamedState small-setup (ranked 1 17 1 a ∷ ranked 0 17 1 b ∷ withRank c unused ∷ replicate 60 unused ++ ranked 2 16 1 d ∷ [])
+
+-- none ranked; one, two and three, in two orders
+pub ranks-valid-cases :
+    ranksValid (with-ranks 0 0 0 0) ∷ ranksValid (with-ranks 0 1 0 0) ∷ ranksValid (with-ranks 0 0 0 1) ∷ ranksValid (with-ranks 2 0 0 1) ∷ ranksValid (with-ranks 2 3 0 1) ∷ ranksValid (with-ranks 1 2 0 3) ∷ []
+    ≡ replicate 6 true
+unfolding checkDefinitions
+ranks-valid-cases = refl
+
+-- a gap: from 2 on, and in between; a double: of 1, of the last; an unused one ranked, in order too; a rank above the number of superblocks, the widest too
+pub ranks-not-valid-cases :
+    ranksValid (with-ranks 0 2 0 0) ∷ ranksValid (with-ranks 1 0 0 3) ∷ ranksValid (with-ranks 1 1 0 0) ∷ ranksValid (with-ranks 1 1 0 2) ∷ ranksValid (with-ranks 2 2 0 1)
+    ∷ ranksValid (with-ranks 0 0 1 0) ∷ ranksValid (with-ranks 1 2 3 0) ∷ ranksValid (with-ranks 0 0 0 65) ∷ ranksValid (with-ranks 1 2 0 255) ∷ []
+    ≡ replicate 9 false
+unfolding checkDefinitions
+ranks-not-valid-cases = refl
+
+-- all 64 ranked
+pub all-ranked-case : ranksValid (unnamedState small-setup (listed (λ k. ranked 1 26 1 (64 - k)) 64)) ≡ true
+unfolding checkDefinitions listed
+all-ranked-case = refl

@@ -6,7 +6,7 @@ use Rattle.laws.specs.Sums.{allBelow}
 use Rattle.laws.proofs.TestLaws.{both-left, both-right, both-make}
 use Rattle.heap.specs.declared.State.{State}
 use Rattle.heap.specs.Table.{superblockAt}
-use Rattle.checkrules.specs.Check.{withinLimits, superblockValid, unusedFrom, emptinessInvariant, sparseIfGlobal, namesValid, totalsValid, restValid, passes}
+use Rattle.checkrules.specs.Check.{withinLimits, superblockValid, unusedFrom, emptinessInvariant, sparseIfGlobal, namesValid, totalsValid, ranksValid, restValid, passes}
 
 -- all but the setup numbers, clause by clause
 pub record RestClauses (s : State) (order : List ℕ) : Type 0 where
@@ -16,6 +16,7 @@ pub record RestClauses (s : State) (order : List ℕ) : Type 0 where
   pub global-heap : T (allBelow (λ k. sparseIfGlobal (s .setup) (superblockAt s k)) 64)
   pub names : T (namesValid s)
   pub totals : T (totalsValid s)
+  pub ranks : T (ranksValid s)
 
 pub clauses-of-rest : (s : State) (order : List ℕ) → T (restValid s order) → RestClauses s order
 unfolding restValid
@@ -24,13 +25,15 @@ clauses-of-rest s order t =
     let b = both-right (allBelow (λ k. unusedFrom (s .setup .superblocks) k (superblockAt s k)) 64) _ a in
     let c = both-right (emptinessInvariant s) _ b in
     let d = both-right (allBelow (λ k. sparseIfGlobal (s .setup) (superblockAt s k)) 64) _ c in
+    let e = both-right (namesValid s) _ d in
     record {
       superblocks = both-left (allBelow (λ k. superblockValid (s .setup) order k (superblockAt s k)) 64) _ t;
       past-unused = both-left (allBelow (λ k. unusedFrom (s .setup .superblocks) k (superblockAt s k)) 64) _ a;
       processor-heaps = both-left (emptinessInvariant s) _ b;
       global-heap = both-left (allBelow (λ k. sparseIfGlobal (s .setup) (superblockAt s k)) 64) _ c;
-      names = both-left (namesValid s) (totalsValid s) d;
-      totals = both-right (namesValid s) (totalsValid s) d;
+      names = both-left (namesValid s) _ d;
+      totals = both-left (totalsValid s) (ranksValid s) e;
+      ranks = both-right (totalsValid s) (ranksValid s) e;
     }
 
 pub rest-of-clauses : (s : State) (order : List ℕ) → RestClauses s order → T (restValid s order)
@@ -40,7 +43,8 @@ rest-of-clauses s order h =
     (both-make (allBelow (λ k. unusedFrom (s .setup .superblocks) k (superblockAt s k)) 64) _ (h .past-unused)
     (both-make (emptinessInvariant s) _ (h .processor-heaps)
     (both-make (allBelow (λ k. sparseIfGlobal (s .setup) (superblockAt s k)) 64) _ (h .global-heap)
-    (both-make (namesValid s) (totalsValid s) (h .names) (h .totals)))))
+    (both-make (namesValid s) _ (h .names)
+    (both-make (totalsValid s) (ranksValid s) (h .totals) (h .ranks))))))
 
 -- the whole check asks the setup numbers too
 pub limits-of-passes : (s : State) (order : List ℕ) → T (passes s order) → T (withinLimits (s .setup))

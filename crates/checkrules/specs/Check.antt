@@ -3,7 +3,7 @@ use Prim.Native.Nat.{ℕ, suc, _-_, _*_}
 use mathlib.Core.Bool.{Bool, not}
 use mathlib.Core.List.{List}
 use lib.Dec.{eqb, leb, ltb}
-use Rattle.laws.specs.Sums.{both, either, allBelow}
+use Rattle.laws.specs.Sums.{both, either, one, allBelow}
 use Rattle.laws.specs.Lists.{sameNumbers}
 use Rattle.classes.specs.Classes.{blocksOf}
 use Rattle.filledplaces.specs.FilledPlaces.{placesValid}
@@ -14,6 +14,8 @@ use Rattle.heap.specs.declared.State.{State}
 use Rattle.names.specs.Names.{eachHeld, noTwoAtOne}
 use Rattle.heap.specs.Table.{superblockAt, liveIn, isUnused, isLiveBlock}
 use Rattle.heap.specs.Totals.{recounted}
+use Rattle.heap.specs.Counts.{total}
+use Rattle.heap.specs.Ranks.{isRanked}
 use Rattle.moverules.specs.Moves.{mustMove}
 
 -- a ≤ x ≤ b
@@ -59,6 +61,20 @@ sameTotals t r = both (sameNumbers (t .superblocks) (r .superblocks)) (sameNumbe
 unfoldable pub totalsValid : State → Bool
 totalsValid s = sameTotals (s .totals) (recounted (s .table))
 
+-- how many superblocks are ranked, and how many carry rank r
+unfoldable pub rankedCount : State → ℕ
+rankedCount s = total (λ b. one (isRanked b)) (s .table)
+
+unfoldable pub carrying : ℕ → State → ℕ
+carrying r s = total (λ b. one (eqb (b .rank) r)) (s .table)
+
+-- "the ranked ones carry 1 (latest) upwards, each once without a gap, the rest 0, unused ones too, and the state check tests this" (document 02,
+-- item 4): each number from 1 to as many as are ranked is carried by one superblock, and no unused one is ranked
+unfoldable pub ranksValid : State → Bool
+ranksValid s =
+    both (allBelow (λ r. eqb (carrying (suc r) s) 1) (rankedCount s))
+    (allBelow (λ k. not (both (isUnused (superblockAt s k)) (isRanked (superblockAt s k)))) 64)
+
 -- all but the setup numbers
 unfoldable pub restValid : State → List ℕ → Bool
 restValid s order =
@@ -67,7 +83,8 @@ restValid s order =
     (both (emptinessInvariant s)
     (both (allBelow (λ k. sparseIfGlobal (s .setup) (superblockAt s k)) 64)
     (both (namesValid s)
-    (totalsValid s)))))
+    (both (totalsValid s)
+    (ranksValid s))))))
 
 -- the whole check
 unfoldable pub passes : State → List ℕ → Bool

@@ -85,6 +85,7 @@ fn scan(table: [Superblock; 64], w: Criterion, n: usize) -> Found
         owner: 0,
         class: 0,
         live: [0u64; 4],
+        rank: 0,
     };
     let mut best = Best {
         found: Found::Nothing,

@@ -11,8 +11,9 @@ use Rattle.heap.specs.declared.Found.{Found}
 use Rattle.heap.specs.declared.Found.the-variants.{At, Nothing}
 use Rattle.heap.specs.Table.{unused, isUnused}
 use Rattle.heap.specs.Counts.{belongs}
-use Rattle.choicerules.specs.Choice.{prefer, chosenBelow, moreLive, fewerLive, neverPreferred, hasFree, emptyInGlobal, fullest, lowestEmpty, lowestUnused, emptiest, orElse}
-use Rattle.heap.proofs.TableCases.{of}
+use Rattle.heap.specs.Ranks.{isRanked, isMoreRecent}
+use Rattle.choicerules.specs.Choice.{prefer, chosenBelow, moreLive, fullerOrMoreRecent, fewerLive, neverPreferred, hasFree, emptyInGlobal, fullest, lowestEmpty, lowestUnused, emptiest, orElse}
+use Rattle.heap.proofs.TableCases.{of, ranked}
 use Rattle.heap.proofs.CaseStates.{unnamedState}
 
 -- N, and the superblocks: of class 16, with 10 blocks, heap 2 has a full one; heap 1 has 4, 10, 6, 6, 2 and 2 live, in that order.
@@ -26,8 +27,21 @@ choice-state n =
 pub fullest-cases :
     fullest 1 16 (choice-state 64) ∷ fullest 2 16 (choice-state 64) ∷ fullest 0 16 (choice-state 64) ∷ fullest 0 17 (choice-state 64) ∷ fullest 1 17 (choice-state 64) ∷ fullest 2 17 (choice-state 64) ∷ fullest 1 18 (choice-state 64) ∷ []
     ≡ At 4 ∷ Nothing ∷ At 8 ∷ At 7 ∷ At 6 ∷ At 63 ∷ Nothing ∷ []
-unfolding fullest chosenBelow prefer moreLive hasFree belongs blocksOf counts liveCount sumBelow markBit bit
+unfolding fullest chosenBelow prefer fullerOrMoreRecent moreLive isMoreRecent isRanked hasFree belongs blocksOf counts liveCount sumBelow markBit bit
 fullest-cases = refl
+
+-- of class 16 heap 1 has, with 4 live, unranked ones and ones of ranks 3 and 2, with 2 live one of rank 1, and full ones, of rank 4 and unranked; heap 2 has
+-- unranked ones; heap 0 has, with 1 live, one unranked and one of rank 5
+abbrev pub ranked-choice-state : State
+ranked-choice-state =
+    unnamedState (record { processors = 2; superblocks = 64; spare = 1; p = 3; q = 7 })
+    (of 1 16 15 ∷ ranked 1 16 30 3 ∷ ranked 1 16 60 2 ∷ ranked 1 16 3 1 ∷ ranked 1 16 1023 4 ∷ of 1 16 15 ∷ of 2 16 3 ∷ of 2 16 12 ∷ of 0 16 1 ∷ ranked 0 16 2 5 ∷ replicate 54 unused)
+
+-- "Among equally full superblocks in places 1 and 2 of a take, the one freed into most recently since it was last renewed comes first. Those not freed into since
+-- then follow, lower number first."
+pub fullest-of-equals-cases : fullest 1 16 ranked-choice-state ∷ fullest 2 16 ranked-choice-state ∷ fullest 0 16 ranked-choice-state ∷ [] ≡ At 2 ∷ At 6 ∷ At 9 ∷ []
+unfolding fullest chosenBelow prefer fullerOrMoreRecent moreLive isMoreRecent isRanked hasFree belongs blocksOf counts liveCount sumBelow markBit bit
+fullest-of-equals-cases = refl
 
 -- "heap i's class-c superblock with the fewest live, the lower number among equals"; a full one too
 pub emptiest-cases :
@@ -35,6 +49,12 @@ pub emptiest-cases :
     ≡ At 11 ∷ At 0 ∷ At 8 ∷ At 63 ∷ Nothing ∷ []
 unfolding emptiest chosenBelow prefer fewerLive belongs liveCount sumBelow markBit bit
 emptiest-cases = refl
+
+-- "The emptiest for a move is still chosen by number": of heap 1's with 2 live, which are 1 and 2, and of heap 0's, 3 and 4, the second is ranked, or ranked ahead
+pub emptiest-by-number-case :
+    map (λ (h : ℕ). emptiest h 16 (unnamedState (choice-state 64 .setup) (of 1 16 7 ∷ of 1 16 3 ∷ ranked 1 16 3 1 ∷ ranked 0 16 1 3 ∷ ranked 0 16 2 2 ∷ replicate 59 unused))) (1 ∷ 0 ∷ []) ≡ At 1 ∷ At 3 ∷ []
+unfolding emptiest chosenBelow prefer fewerLive belongs liveCount sumBelow markBit bit
+emptiest-by-number-case = refl
 
 -- "heap 0: the lowest-numbered superblock with nothing live, of any class"; another heap's empty one is none
 abbrev pub none-empty-in-global : State

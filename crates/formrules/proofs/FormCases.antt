@@ -42,7 +42,7 @@ names-after-superblocks : getD (stateIn state-bytes 3 .names) 0 0 ≡ 513
 unfolding stateIn namesIn listed
 names-after-superblocks = refl
 
-superblocks-before-names : getD (stateIn state-bytes 3 .table) 63 blank ≡ record { owner = 255; class = 255; live = 18446744073709551615 ∷ 18446744073709551615 ∷ 18446744073709551615 ∷ 576460752303423487 ∷ [] }
+superblocks-before-names : getD (stateIn state-bytes 3 .table) 63 blank ≡ record { owner = 255; class = 255; live = 18446744073709551615 ∷ 18446744073709551615 ∷ 18446744073709551615 ∷ 576460752303423487 ∷ []; rank = 0 }
 unfolding stateIn superblockIn listed
 superblocks-before-names = refl
 

@@ -1,3 +1,4 @@
 pub mod CaseStates
 pub mod TableCases
 pub mod TotalsCases
+pub mod RankCases

@@ -94,7 +94,7 @@ named-line-limit-cases = (refl, refl)
 -- ---- the lines at the end: P = 2, heap 0 too, two classes of heap 1, one of them with nothing live; the superblocks stand in another order,
 -- others are unused, and owner 3 is no heap where P is 2
 abbrev superblock : ℕ → ℕ → ℕ → Superblock
-superblock owner class marks = record { owner = owner; class = class; live = marks ∷ 0 ∷ 0 ∷ 0 ∷ [] }
+superblock owner class marks = record { owner = owner; class = class; live = marks ∷ 0 ∷ 0 ∷ 0 ∷ []; rank = 0 }
 
 abbrev several-superblocks : State
 several-superblocks =

@@ -37,6 +37,7 @@ fn transfer(s: State, k: usize) -> State
         owner: 0,
         class: b.class,
         live,
+        rank: b.rank,
     };
     table::replace(s, k, moved)
 }

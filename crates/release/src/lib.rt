@@ -20,6 +20,7 @@ fn clear_mark(s: State, address: u32) -> State
         owner: b.owner,
         class: b.class,
         live: freed,
+        rank: b.rank,
     };
     table::replace(s, k, cleared)
 }

@@ -32,6 +32,7 @@ pub fn new_state(u: Setup) -> State
         owner: 255,
         class: 0,
         live: [0u64; 4],
+        rank: 0,
     };
     State {
         setup: u,

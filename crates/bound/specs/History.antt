@@ -1,0 +1,79 @@
+-- Which superblocks were freed into since they were last renewed, and when, from a list of calls and their answers. An answer is an outcome and
+-- a state: the frees are told by the calls and outcomes, a renewal also by the state that the answer before it holds.
+use Prim.Native.Nat.{ℕ, suc, _/_, _<_}
+use mathlib.Core.Path.{_≡_}
+use mathlib.Core.Bool.{not}
+use mathlib.Core.Logic.{_↔_}
+use mathlib.Core.List.{List, [], _∷_}
+use lib.Dec.{eqb}
+use Rattle.laws.specs.Sums.{pick, both}
+use Rattle.heap.specs.declared.State.{State}
+use Rattle.heap.specs.Table.{superblockAt, liveIn}
+use Rattle.calls.specs.declared.Call.{Call}
+use Rattle.calls.specs.declared.Call.the-variants.{Take, Free, NamedTake, NamedFree}
+use Rattle.calls.specs.declared.Outcome.{Outcome}
+use Rattle.calls.specs.declared.Outcome.the-variants.{Ready, Address, Moves, Refused}
+use Rattle.calls.specs.Answers.{After}
+use Rattle.calls.specs.Named.{heldAddress}
+use Rattle.bound.specs.Claim.{Step}
+
+-- what a call did to a superblock, as far as the ranking goes
+pub data Event : Type 0 where
+  freedInto : ℕ → Event
+  renewed : ℕ → Event
+  neither : Event
+
+-- an accepted free of an address frees into the superblock that covers it: "Superblock s .. covers addresses s × 4096 to s × 4096 + 4095"
+unfoldable pub eventOfFree : ℕ → Outcome → Event
+eventOfFree a Ready = neither
+eventOfFree a (Address b) = neither
+eventOfFree a (Moves m) = freedInto (a / 4096)
+eventOfFree a (Refused r) = neither
+
+-- "A superblock with nothing live is renewed .. when it comes from place 2, 3 or 4; from place 1 it is not": it is that of the address that the
+-- take answered, which comes from place 1 where it was heap i's
+unfoldable pub eventOfTake : State → ℕ → Outcome → Event
+eventOfTake s i Ready = neither
+eventOfTake s i (Address a) =
+    pick (both (eqb (liveIn (superblockAt s (a / 4096))) 0) (not (eqb (superblockAt s (a / 4096) .owner) i))) (renewed (a / 4096)) neither
+eventOfTake s i (Moves m) = neither
+eventOfTake s i (Refused r) = neither
+
+-- a call on state s
+unfoldable pub eventOf : State → Call → Outcome → Event
+eventOf s (Take processor size) outcome = eventOfTake s processor outcome
+eventOf s (Free processor address) outcome = eventOfFree address outcome
+eventOf s (NamedTake processor name size) outcome = eventOfTake s processor outcome
+eventOf s (NamedFree processor name) outcome = eventOfFree (heldAddress s name) outcome
+
+-- the last free into a superblock since it was last renewed: so many calls ago, or there was none
+pub data LastFree : Type 0 where
+  callsAgo : ℕ → LastFree
+  notSinceRenewal : LastFree
+
+unfoldable pub oneCallMore : LastFree → LastFree
+oneCallMore (callsAgo n) = callsAgo (suc n)
+oneCallMore notSinceRenewal = notSinceRenewal
+
+-- that of superblock k after one more event
+unfoldable pub lastFreeAfter : ℕ → Event → LastFree → LastFree
+lastFreeAfter k (freedInto m) before = pick (eqb m k) (callsAgo 0) (oneCallMore before)
+lastFreeAfter k (renewed m) before = pick (eqb m k) notSinceRenewal (oneCallMore before)
+lastFreeAfter k neither before = oneCallMore before
+
+-- that of superblock k after the events, the latest of which comes first
+unfoldable pub lastFree : ℕ → List Event → LastFree
+lastFree k [] = notSinceRenewal
+lastFree k (event ∷ earlier) = lastFreeAfter k event (lastFree k earlier)
+
+-- the ranked superblocks are those freed into since they were last renewed, and the later the last free the lower the rank
+pub record RankedByLastFree (s : State) (events : List Event) : Type 0 where
+  pub unranked-iff : (k : ℕ) → k < 64 → (superblockAt s k .rank ≡ 0) ↔ (lastFree k events ≡ notSinceRenewal)
+  pub later-first : (k m x y : ℕ) → k < 64 → m < 64 → lastFree k events ≡ callsAgo x → lastFree m events ≡ callsAgo y → x < y → superblockAt s k .rank < superblockAt s m .rank
+
+-- before a list and after each of its calls
+unfoldable pub RankedByLastFreeOver : After → List Event → List Step → Type 0
+RankedByLastFreeOver before events [] = RankedByLastFree (before .answer .state) events
+RankedByLastFreeOver before events (step ∷ steps) =
+    RankedByLastFree (before .answer .state) events
+    × RankedByLastFreeOver (step .after) (eventOf (before .answer .state) (step .call) (step .after .answer .outcome) ∷ events) steps
