@@ -10,6 +10,7 @@ use Rattle.heap.specs.declared.Superblock.{Superblock}
 use Rattle.heap.specs.declared.Setup.{Setup}
 use Rattle.heap.specs.declared.State.{State}
 use Rattle.heap.specs.Table.{unused}
+use Rattle.heap.proofs.TableCases.{of}
 use Rattle.heap.proofs.CaseStates.{unnamedState}
 use Rattle.checkrules.specs.Check.{totalsValid}
 use Rattle.calls.specs.declared.Call.{Call}
@@ -19,7 +20,7 @@ use Rattle.calls.specs.declared.Outcome.the-variants.{Address, Moves, Refused}
 use Rattle.calls.specs.Answers.{After}
 use Rattle.calls.specs.Calls.{callOf}
 use Rattle.calls.proofs.CallDefinitions.{callDefinitions}
-use Rattle.calls.proofs.RuleCases.{of, setup-with}
+use Rattle.calls.proofs.RuleCases.{setup-with}
 
 -- a superblock of heap h and class c, with these marks, and what stands in its first places
 pub record SuperblockAndPlaces : Type 0 where

@@ -1,24 +1,27 @@
 -- The definitions that a computed case of a call unfolds, listed once: to unfold one of these names is to unfold all that its line names. Assumes nothing.
 use Rattle.classes.specs.Classes.{firstAtLeast, classOf, isTooLarge}
 use Rattle.marks.specs.Marks.{withMark, withoutMark}
+use Rattle.laws.specs.Lists.{listed}
+use Rattle.heap.specs.Ranks.{isMoreRecent, rankAfterFree, rankAfterRenewal, rankedLatest, unranked}
 use Rattle.order.specs.Order.{lastFilled, withPlace, descending, withRenewedPlaces, renewed, cleared}
-use Rattle.choicerules.specs.Choice.{prefer, chosenBelow, moreLive, fewerLive, neverPreferred, hasFree, emptyInGlobal, fullest, lowestEmpty, lowestUnused, emptiest}
+use Rattle.choicerules.specs.Choice.{prefer, chosenBelow, moreLive, fullerOrMoreRecent, fewerLive, neverPreferred, hasFree, emptyInGlobal, fullest, lowestEmpty, lowestUnused, emptiest}
 use Rattle.moverules.specs.Moves.{transferred, foundTransferred, transfersUpTo, excessTransferred, invariantRestored}
 use Rattle.checkrules.proofs.CheckDefinitions.{checkDefinitions}
 use Rattle.calls.specs.Answers.{checked, isProcessor}
 use Rattle.calls.specs.Setup.{setupOf}
-use Rattle.calls.specs.Take.{otherPlaces, acquired, acquiredOrder, nextBlock, addressOf, takenFrom, takenFromOther, takenAt, takeUnchecked, takeOf}
+use Rattle.calls.specs.Take.{otherPlaces, acquired, acquiredOrder, unrankedIfEmpty, nextBlock, addressOf, takenFrom, takenFromOther, takenAt, takeUnchecked, takeOf}
 use Rattle.calls.specs.Free.{blockOf, isUnmapped, isMisaligned, isLiveAt, markCleared, orderPushed, blockNumberAt, blockFreed, freedAt, freeUnchecked, freeOf}
 use Rattle.calls.specs.Named.{isUnavailable, nameBound, boundBy, withNameBound, namedTakeUnchecked, namedTakeOf, heldAddress, namedFreeUnchecked, namedFreeOf}
 use Rattle.calls.specs.Calls.{callOf, callUnchecked}
 
 -- the calls behind the check
 unfoldable pub uncheckedCallDefinitions : Unit {0}
-unfolding callUnchecked takeUnchecked takenAt takenFromOther takenFrom addressOf nextBlock acquiredOrder acquired otherPlaces
+unfolding callUnchecked takeUnchecked takenAt takenFromOther takenFrom addressOf nextBlock acquiredOrder acquired unrankedIfEmpty otherPlaces
     freeUnchecked freedAt orderPushed blockFreed markCleared blockNumberAt isLiveAt isMisaligned isUnmapped blockOf isProcessor
     namedTakeUnchecked withNameBound boundBy nameBound isUnavailable namedFreeUnchecked heldAddress
     invariantRestored excessTransferred transfersUpTo transferred foundTransferred
-    fullest lowestEmpty lowestUnused emptiest prefer chosenBelow moreLive fewerLive neverPreferred hasFree emptyInGlobal
+    fullest lowestEmpty lowestUnused emptiest prefer chosenBelow moreLive fullerOrMoreRecent fewerLive neverPreferred hasFree emptyInGlobal
+    rankedLatest unranked rankAfterFree rankAfterRenewal isMoreRecent listed
     lastFilled withPlace descending withRenewedPlaces renewed withMark withoutMark firstAtLeast classOf isTooLarge checkDefinitions
 uncheckedCallDefinitions = tt
 

@@ -6,7 +6,10 @@ use Prim.Native.Nat.{ℕ}
 use lib.ListN.{replicate}
 use Rattle.names.specs.Names.{noNames, withName}
 use Rattle.heap.specs.declared.State.{State}
+use Rattle.heap.specs.Table.{unused}
 use Rattle.heap.specs.States.{withNames}
+use Rattle.heap.proofs.CaseStates.{unnamedState}
+use Rattle.heap.proofs.TableCases.{of, ranked}
 use Rattle.calls.specs.declared.Call.{Call}
 use Rattle.calls.specs.declared.Call.the-variants.{Take, Free, NamedTake, NamedFree}
 use Rattle.calls.specs.declared.Outcome.the-variants.{Ready, Address, Moves, Refused}
@@ -15,8 +18,8 @@ use Rattle.calls.specs.Free.{blockNumberAt, blockFreed}
 use Rattle.calls.specs.Named.{isUnavailable, nameBound, boundBy, heldAddress}
 use Rattle.calls.specs.Calls.{callUnchecked}
 use Rattle.calls.proofs.CallDefinitions.{uncheckedCallDefinitions}
-use Rattle.calls.proofs.RuleCases.{after-with, refusal-state, state-with-3}
-use Rattle.calls.proofs.CallCases.{pair-state, pairOrder, order-before}
+use Rattle.calls.proofs.RuleCases.{setup-with, after-with, refusal-state}
+use Rattle.calls.proofs.CallCases.{pair-state, ranked-pair-state, pairOrder, order-before}
 
 -- Superblocks 0 and 1, of class 26, are heap 2's and heap 1's; block 0 of superblock 0, at 0, is live and name 5's, block 1 of superblock 1, at 6144,
 -- is live and name 1022's
@@ -55,8 +58,10 @@ pub bound-by-cases :
 unfolding uncheckedCallDefinitions
 bound-by-cases = refl
 
--- block 2 of superblock 3 loses its mark and its name 7; name 8, of block 0, stays
-pub block-freed-case : blockFreed (withNames refusal-state (withName (withName noNames 8 768) 7 770)) 13824 ≡ withNames (state-with-3 9) (withName noNames 8 768)
+-- block 2 of superblock 3 loses its mark and its name 7; name 8, of block 0, stays; superblock 3 is the last freed into, and those that were ranked follow
+pub block-freed-case :
+    blockFreed (withNames refusal-state (withName (withName noNames 8 768) 7 770)) 13824
+    ≡ withNames (unnamedState (setup-with 2 5 1 3 7) (ranked 1 26 3 3 ∷ unused ∷ ranked 2 26 1 4 ∷ ranked 2 20 9 1 ∷ record { owner = 1; class = 1; live = 0 ∷ 0 ∷ 2199023255552 ∷ 0 ∷ []; rank = 2 } ∷ replicate 59 unused)) (withName noNames 8 768)
 unfolding uncheckedCallDefinitions
 block-freed-case = refl
 
@@ -74,8 +79,8 @@ named-take-cases = refl
 pub named-free-cases :
     map named-unchecked (NamedFree 0 9 ∷ NamedFree 1 9 ∷ NamedFree 1 1024 ∷ NamedFree 1 5 ∷ Free 1 0 ∷ NamedFree 2 1022 ∷ [])
     ≡ refused 2 named-state order-before ∷ refused 15 named-state order-before ∷ refused 15 named-state order-before
-    ∷ after-with (Moves 0) (withNames (pair-state 0 2) (withName noNames 1022 257)) (pairOrder 1 0 0 67)
-    ∷ after-with (Moves 0) (withNames (pair-state 0 2) (withName noNames 1022 257)) (pairOrder 1 0 0 67)
+    ∷ after-with (Moves 0) (withNames (ranked-pair-state 0 1 2 2) (withName noNames 1022 257)) (pairOrder 1 0 0 67)
+    ∷ after-with (Moves 0) (withNames (ranked-pair-state 0 1 2 2) (withName noNames 1022 257)) (pairOrder 1 0 0 67)
     ∷ after-with (Moves 0) (withNames (pair-state 1 0) (withName noNames 5 0)) (pairOrder 1 66 0 1) ∷ []
 unfolding uncheckedCallDefinitions
 named-free-cases = refl

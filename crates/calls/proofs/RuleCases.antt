@@ -10,17 +10,14 @@ use Rattle.heap.specs.declared.State.{State}
 use Rattle.heap.specs.declared.Found.the-variants.{At}
 use Rattle.heap.specs.Table.{unused}
 use Rattle.heap.proofs.CaseStates.{unnamedState}
+use Rattle.heap.proofs.TableCases.{of, ranked}
 use Rattle.calls.specs.declared.Outcome.{Outcome}
 use Rattle.calls.specs.declared.Outcome.the-variants.{Ready, Address, Moves, Refused}
 use Rattle.calls.specs.Answers.{After, numberOf, valuesOf, refused, checked, isProcessor}
 use Rattle.calls.specs.Setup.{setupOf}
-use Rattle.calls.specs.Take.{otherPlaces, acquired, acquiredOrder, nextBlock, addressOf, takenFrom}
+use Rattle.calls.specs.Take.{otherPlaces, acquired, acquiredOrder, unrankedIfEmpty, nextBlock, addressOf, takenFrom}
 use Rattle.calls.specs.Free.{blockOf, isUnmapped, isMisaligned, isLiveAt, markCleared, orderPushed, freedAt}
 use Rattle.calls.proofs.CallDefinitions.{uncheckedCallDefinitions, callDefinitions}
-
--- a superblock of heap h and class c with these marks in the first of its four numbers
-abbrev pub of : ℕ → ℕ → ℕ → Superblock
-of h c marks = record { owner = h; class = c; live = marks ∷ 0 ∷ 0 ∷ 0 ∷ []; rank = 0 }
 
 abbrev pub setup-with : ℕ → ℕ → ℕ → ℕ → ℕ → Setup
 setup-with processors superblocks spare p q = record { processors = processors; superblocks = superblocks; spare = spare; p = p; q = q }
@@ -98,10 +95,10 @@ pub refused-case : refused 9 (state-with-wrong-owner 7) (4 ∷ 5 ∷ []) ≡ rec
 refused-case = refl
 
 -- ---- the conditions of refusals. P = 2, N = 5; superblock 3, of class 20 with 5 blocks of 768 bytes, has blocks 0, 2 and 3 live; superblock 4, of class 1
--- with 170 blocks of 24, has block 169 live; superblock 1 is unused
+-- with 170 blocks of 24, has block 169 live; superblock 1 is unused; superblocks 4, 0 and 2 are ranked, in this order
 abbrev pub refusal-state : State
 refusal-state =
-    unnamedState (setup-with 2 5 1 3 7) (of 1 26 3 ∷ unused ∷ of 2 26 1 ∷ of 2 20 13 ∷ record { owner = 1; class = 1; live = 0 ∷ 0 ∷ 2199023255552 ∷ 0 ∷ []; rank = 0 } ∷ replicate 59 unused)
+    unnamedState (setup-with 2 5 1 3 7) (ranked 1 26 3 2 ∷ unused ∷ ranked 2 26 1 3 ∷ of 2 20 13 ∷ record { owner = 1; class = 1; live = 0 ∷ 0 ∷ 2199023255552 ∷ 0 ∷ []; rank = 1 } ∷ replicate 59 unused)
 
 -- 2: "0 or above P"
 pub is-processor-cases : map (isProcessor refusal-state) (0 ∷ 1 ∷ 2 ∷ 3 ∷ []) ≡ false ∷ true ∷ true ∷ false ∷ []
@@ -144,10 +141,21 @@ pub address-of-cases : addressOf 3 20 2 ∷ addressOf 63 0 255 ∷ addressOf 17 
 unfolding uncheckedCallDefinitions
 address-of-cases = refl
 
--- "From places 2 to 4 it becomes owned by heap i. A superblock with nothing live is renewed for c": with nothing live, and with block 2 live
-pub acquired-cases : acquired 2 20 (of 0 23 0) ∷ acquired 2 20 (of 255 0 0) ∷ acquired 2 20 (of 0 20 4) ∷ [] ≡ of 2 20 0 ∷ of 2 20 0 ∷ of 2 20 4 ∷ []
+-- "From places 2 to 4 it becomes owned by heap i. A superblock with nothing live is renewed for c": with nothing live, and with block 2 live. A renewed one has no
+-- rank, another keeps its
+pub acquired-cases : acquired 2 20 (ranked 0 23 0 7) ∷ acquired 2 20 (of 255 0 0) ∷ acquired 2 20 (ranked 0 20 4 7) ∷ [] ≡ of 2 20 0 ∷ of 2 20 0 ∷ ranked 2 20 4 7 ∷ []
 unfolding uncheckedCallDefinitions
 acquired-cases = refl
+
+-- a superblock that is renewed leaves the ranking, and the gap closes: superblock 1, with nothing live, does, superblock 0 does not
+abbrev pub three-ranked : Superblock → Superblock → Superblock → State
+three-ranked a b c = unnamedState (setup-with 2 3 1 3 7) (a ∷ b ∷ c ∷ replicate 61 unused)
+
+pub unranked-if-empty-cases :
+    map (λ (k : ℕ). unrankedIfEmpty k (three-ranked (ranked 0 20 4 1) (ranked 0 23 0 2) (ranked 1 20 31 3))) (1 ∷ 0 ∷ [])
+    ≡ three-ranked (ranked 0 20 4 1) (of 0 23 0) (ranked 1 20 31 2) ∷ three-ranked (ranked 0 20 4 1) (ranked 0 23 0 2) (ranked 1 20 31 3) ∷ []
+unfolding uncheckedCallDefinitions
+unranked-if-empty-cases = refl
 
 -- the places that go first: heap 0's superblock of class 24 with a block live (place 2), its lowest empty one (3), the lowest unused one (4)
 abbrev pub state-offering : Superblock → Superblock → State
@@ -172,7 +180,7 @@ order-of-3 = replicate 768 61 ++ 4 ∷ 1 ∷ replicate 254 62
 
 abbrev pub state-with-3 : ℕ → State
 state-with-3 marks =
-    unnamedState (setup-with 2 5 1 3 7) (of 1 26 3 ∷ unused ∷ of 2 26 1 ∷ of 2 20 marks ∷ record { owner = 1; class = 1; live = 0 ∷ 0 ∷ 2199023255552 ∷ 0 ∷ []; rank = 0 } ∷ replicate 59 unused)
+    unnamedState (setup-with 2 5 1 3 7) (ranked 1 26 3 2 ∷ unused ∷ ranked 2 26 1 3 ∷ of 2 20 marks ∷ record { owner = 1; class = 1; live = 0 ∷ 0 ∷ 2199023255552 ∷ 0 ∷ []; rank = 1 } ∷ replicate 59 unused)
 
 pub taken-from-case : takenFrom 3 refusal-state order-of-3 ≡ record { answer = record { outcome = Address 13056; state = state-with-3 15 }; order = order-of-3 }
 unfolding uncheckedCallDefinitions
@@ -194,8 +202,10 @@ one-superblock-state marks = unnamedState (setup-with 2 1 1 3 7) (of 2 20 marks 
 abbrev pub after-with : Outcome → State → List ℕ → After
 after-with outcome s order = record { answer = record { outcome = outcome; state = s }; order = order }
 
--- a free of block 3, with the moves of its heap and class: none
-pub freed-at-case : freedAt (one-superblock-state 29) (1 ∷ 8 ∷ 9 ∷ []) 2304 ≡ after-with (Moves 0) (one-superblock-state 21) (1 ∷ 3 ∷ 9 ∷ [])
+-- a free of block 3, with the moves of its heap and class: none. The superblock is the last freed into
+pub freed-at-case :
+    freedAt (one-superblock-state 29) (1 ∷ 8 ∷ 9 ∷ []) 2304
+    ≡ after-with (Moves 0) (unnamedState (setup-with 2 1 1 3 7) (ranked 2 20 21 1 ∷ replicate 63 unused)) (1 ∷ 3 ∷ 9 ∷ [])
 unfolding uncheckedCallDefinitions
 freed-at-case = refl
 
