@@ -10,7 +10,7 @@ use Rattle.heap.specs.declared.Superblock.{Superblock}
 use Rattle.heap.specs.declared.Setup.{Setup}
 use Rattle.heap.specs.declared.State.{State}
 use Rattle.heap.specs.Table.{unused}
-use Rattle.heap.proofs.TableCases.{of}
+use Rattle.heap.proofs.TableCases.{of, ranked}
 use Rattle.heap.proofs.CaseStates.{unnamedState}
 use Rattle.checkrules.specs.Check.{totalsValid}
 use Rattle.calls.specs.declared.Call.{Call}
@@ -29,6 +29,10 @@ pub record SuperblockAndPlaces : Type 0 where
 
 abbrev pub owned-with : ℕ → ℕ → ℕ → List ℕ → SuperblockAndPlaces
 owned-with h c marks places = record { superblock = of h c marks; places = places }
+
+-- one of rank r
+abbrev pub ranked-with : ℕ → ℕ → ℕ → ℕ → List ℕ → SuperblockAndPlaces
+ranked-with h c marks r places = record { superblock = ranked h c marks r; places = places }
 
 abbrev pub unused-with : List ℕ → SuperblockAndPlaces
 unused-with places = record { superblock = unused; places = places }
@@ -101,6 +105,18 @@ from-place-1 =
           owned-with 0 20 10 (0 ∷ 4 ∷ 2 ∷ []) ∷ owned-with 1 20 21 (1 ∷ 3 ∷ []) ∷ owned-with 2 20 15 (4 ∷ 31 ∷ []) ∷ owned-with 1 20 31 (2 ∷ 32 ∷ []) ∷ owned-with 1 20 30 (0 ∷ 33 ∷ []) ∷ [];
     }
 
+-- place 1 with the two fullest ranked: the one last freed into, though it has the higher number; every rank stays
+abbrev pub last-freed-into-from-place-1 : CallCase
+last-freed-into-from-place-1 =
+    record {
+      before =
+          owned-with 0 20 10 (0 ∷ 4 ∷ 2 ∷ []) ∷ ranked-with 1 20 21 1 (1 ∷ 3 ∷ []) ∷ owned-with 2 20 15 (4 ∷ 31 ∷ []) ∷ ranked-with 1 20 27 3 (2 ∷ 32 ∷ []) ∷ ranked-with 1 20 30 2 (0 ∷ 33 ∷ []) ∷ [];
+      call = Take 1 700;
+      outcome = Address 16384;
+      after =
+          owned-with 0 20 10 (0 ∷ 4 ∷ 2 ∷ []) ∷ ranked-with 1 20 21 1 (1 ∷ 3 ∷ []) ∷ owned-with 2 20 15 (4 ∷ 31 ∷ []) ∷ ranked-with 1 20 27 3 (2 ∷ 32 ∷ []) ∷ ranked-with 1 20 31 2 (0 ∷ 33 ∷ []) ∷ [];
+    }
+
 -- place 1 for processor 2, whose heap's superblock has block 4 free
 abbrev pub from-own-heap : CallCase
 from-own-heap =
@@ -112,44 +128,55 @@ from-own-heap =
           owned-with 0 20 10 (0 ∷ 4 ∷ 2 ∷ []) ∷ owned-with 1 20 21 (1 ∷ 3 ∷ []) ∷ owned-with 2 20 31 (4 ∷ 31 ∷ []) ∷ owned-with 1 20 27 (2 ∷ 32 ∷ []) ∷ owned-with 1 20 30 (0 ∷ 33 ∷ []) ∷ [];
     }
 
--- place 1 with nothing live: not renewed, so that the last filled place has block 1, and not block 0
+-- place 1 with nothing live: not renewed, so that the last filled place has block 1, and not block 0, and its rank stays
 abbrev pub empty-from-place-1 : CallCase
 empty-from-place-1 =
     record {
-      before = owned-with 0 25 2 (0 ∷ []) ∷ owned-with 2 25 0 (0 ∷ 1 ∷ []) ∷ unused-with [] ∷ unused-with [] ∷ unused-with [] ∷ [];
+      before = owned-with 0 25 2 (0 ∷ []) ∷ ranked-with 2 25 0 1 (0 ∷ 1 ∷ []) ∷ unused-with [] ∷ unused-with [] ∷ unused-with [] ∷ [];
       call = Take 2 1792;
       outcome = Address 5888;
-      after = owned-with 0 25 2 (0 ∷ []) ∷ owned-with 2 25 2 (0 ∷ 1 ∷ []) ∷ unused-with [] ∷ unused-with [] ∷ unused-with [] ∷ [];
+      after = owned-with 0 25 2 (0 ∷ []) ∷ ranked-with 2 25 2 1 (0 ∷ 1 ∷ []) ∷ unused-with [] ∷ unused-with [] ∷ unused-with [] ∷ [];
     }
 
--- place 2 with block 1 live: owned by heap 2, not renewed, though place 3 has superblock 0 and place 4 superblock 2
+-- place 2 with block 1 live: owned by heap 2, not renewed and of the rank that it had, though place 3 has superblock 0 and place 4 superblock 2
 abbrev pub from-place-2 : CallCase
 from-place-2 =
     record {
-      before = owned-with 0 24 0 (0 ∷ 1 ∷ []) ∷ owned-with 2 23 7 [] ∷ unused-with (5 ∷ 6 ∷ []) ∷ owned-with 0 23 2 (0 ∷ 2 ∷ []) ∷ owned-with 1 23 3 (2 ∷ []) ∷ [];
+      before = owned-with 0 24 0 (0 ∷ 1 ∷ []) ∷ owned-with 2 23 7 [] ∷ unused-with (5 ∷ 6 ∷ []) ∷ ranked-with 0 23 2 2 (0 ∷ 2 ∷ []) ∷ ranked-with 1 23 3 1 (2 ∷ []) ∷ [];
       call = Take 2 1200;
       outcome = Address 14848;
-      after = owned-with 0 24 0 (0 ∷ 1 ∷ []) ∷ owned-with 2 23 7 [] ∷ unused-with (5 ∷ 6 ∷ []) ∷ owned-with 2 23 6 (0 ∷ 2 ∷ []) ∷ owned-with 1 23 3 (2 ∷ []) ∷ [];
+      after = owned-with 0 24 0 (0 ∷ 1 ∷ []) ∷ owned-with 2 23 7 [] ∷ unused-with (5 ∷ 6 ∷ []) ∷ ranked-with 2 23 6 2 (0 ∷ 2 ∷ []) ∷ ranked-with 1 23 3 1 (2 ∷ []) ∷ [];
     }
 
--- place 2 with nothing live: renewed, so that its places hold 1, 0 where they held 0, 1, and block 0 is taken
+-- place 2 with two equally full: the one that was freed into, though it has the higher number
+abbrev pub last-freed-into-from-place-2 : CallCase
+last-freed-into-from-place-2 =
+    record {
+      before = owned-with 0 23 4 (0 ∷ 1 ∷ []) ∷ ranked-with 0 23 2 1 (0 ∷ 2 ∷ []) ∷ unused-with [] ∷ unused-with [] ∷ unused-with [] ∷ [];
+      call = Take 2 1200;
+      outcome = Address 6656;
+      after = owned-with 0 23 4 (0 ∷ 1 ∷ []) ∷ ranked-with 2 23 6 1 (0 ∷ 2 ∷ []) ∷ unused-with [] ∷ unused-with [] ∷ unused-with [] ∷ [];
+    }
+
+-- place 2 with nothing live: renewed, so that its places hold 1, 0 where they held 0, 1, and block 0 is taken; it was the last freed into and has no rank now
 abbrev pub empty-from-place-2 : CallCase
 empty-from-place-2 =
     record {
-      before = owned-with 0 23 0 (1 ∷ 0 ∷ 2 ∷ []) ∷ unused-with [] ∷ owned-with 0 24 0 (0 ∷ 1 ∷ 88 ∷ []) ∷ owned-with 2 24 1 (1 ∷ []) ∷ owned-with 1 24 3 [] ∷ [];
+      before = owned-with 0 23 0 (1 ∷ 0 ∷ 2 ∷ []) ∷ unused-with [] ∷ ranked-with 0 24 0 1 (0 ∷ 1 ∷ 88 ∷ []) ∷ ranked-with 2 24 1 2 (1 ∷ []) ∷ owned-with 1 24 3 [] ∷ [];
       call = Take 1 1536;
       outcome = Address 8192;
-      after = owned-with 0 23 0 (1 ∷ 0 ∷ 2 ∷ []) ∷ unused-with [] ∷ owned-with 1 24 1 (1 ∷ 0 ∷ 88 ∷ []) ∷ owned-with 2 24 1 (1 ∷ []) ∷ owned-with 1 24 3 [] ∷ [];
+      after = owned-with 0 23 0 (1 ∷ 0 ∷ 2 ∷ []) ∷ unused-with [] ∷ owned-with 1 24 1 (1 ∷ 0 ∷ 88 ∷ []) ∷ ranked-with 2 24 1 1 (1 ∷ []) ∷ owned-with 1 24 3 [] ∷ [];
     }
 
--- place 3: heap 0's lowest empty superblock, of another class, before place 4's superblock 0; renewed for class 22, with 4 blocks
+-- place 3: heap 0's lowest empty superblock, of another class, before place 4's superblock 0; renewed for class 22, with 4 blocks. Of
+-- three ranked ones it leaves the ranking, and the gap closes; the last freed into, which is empty too, has a higher number
 abbrev pub from-place-3 : CallCase
 from-place-3 =
     record {
-      before = unused-with (3 ∷ 4 ∷ []) ∷ owned-with 2 22 0 (3 ∷ 1 ∷ 0 ∷ 2 ∷ []) ∷ owned-with 0 24 2 (0 ∷ []) ∷ owned-with 0 24 0 (0 ∷ 1 ∷ 41 ∷ 42 ∷ 43 ∷ []) ∷ owned-with 0 26 0 (1 ∷ 0 ∷ []) ∷ [];
+      before = unused-with (3 ∷ 4 ∷ []) ∷ owned-with 2 22 0 (3 ∷ 1 ∷ 0 ∷ 2 ∷ []) ∷ ranked-with 0 24 2 3 (0 ∷ []) ∷ ranked-with 0 24 0 2 (0 ∷ 1 ∷ 41 ∷ 42 ∷ 43 ∷ []) ∷ ranked-with 0 26 0 1 (1 ∷ 0 ∷ []) ∷ [];
       call = Take 1 1000;
       outcome = Address 12288;
-      after = unused-with (3 ∷ 4 ∷ []) ∷ owned-with 2 22 0 (3 ∷ 1 ∷ 0 ∷ 2 ∷ []) ∷ owned-with 0 24 2 (0 ∷ []) ∷ owned-with 1 22 1 (3 ∷ 2 ∷ 1 ∷ 0 ∷ 43 ∷ []) ∷ owned-with 0 26 0 (1 ∷ 0 ∷ []) ∷ [];
+      after = unused-with (3 ∷ 4 ∷ []) ∷ owned-with 2 22 0 (3 ∷ 1 ∷ 0 ∷ 2 ∷ []) ∷ ranked-with 0 24 2 2 (0 ∷ []) ∷ owned-with 1 22 1 (3 ∷ 2 ∷ 1 ∷ 0 ∷ 43 ∷ []) ∷ ranked-with 0 26 0 1 (1 ∷ 0 ∷ []) ∷ [];
     }
 
 -- place 4: the lowest unused superblock, renewed for class 20; "Places above n - 1 keep what they had"
@@ -169,44 +196,46 @@ eighteen-superblocks h = replicate 17 (unused-with []) ++ h ∷ []
 abbrev pub from-superblock-17 : CallCase
 from-superblock-17 = record { before = eighteen-superblocks (owned-with 2 21 5 (1 ∷ 3 ∷ [])); call = Take 2 896; outcome = Address 72320; after = eighteen-superblocks (owned-with 2 21 13 (1 ∷ 3 ∷ [])) }
 
--- ---- frees. Processor 1 frees block 2 of heap 2's superblock 3: it goes in place 2, and the superblock stays heap 2's
+-- ---- frees. Processor 1 frees block 2 of heap 2's superblock 3: it goes in place 2, and the superblock stays heap 2's. It was not
+-- ranked and goes to the front
 abbrev pub freed-for-owner : CallCase
 freed-for-owner =
     record {
-      before = owned-with 1 26 3 [] ∷ unused-with [] ∷ owned-with 2 26 1 (1 ∷ []) ∷ owned-with 2 20 13 (4 ∷ 1 ∷ 88 ∷ 89 ∷ []) ∷ owned-with 1 20 7 (3 ∷ 4 ∷ []) ∷ [];
+      before = ranked-with 1 26 3 1 [] ∷ unused-with [] ∷ owned-with 2 26 1 (1 ∷ []) ∷ owned-with 2 20 13 (4 ∷ 1 ∷ 88 ∷ 89 ∷ []) ∷ ranked-with 1 20 7 2 (3 ∷ 4 ∷ []) ∷ [];
       call = Free 1 13824;
       outcome = Moves 0;
-      after = owned-with 1 26 3 [] ∷ unused-with [] ∷ owned-with 2 26 1 (1 ∷ []) ∷ owned-with 2 20 9 (4 ∷ 1 ∷ 2 ∷ 89 ∷ []) ∷ owned-with 1 20 7 (3 ∷ 4 ∷ []) ∷ [];
+      after = ranked-with 1 26 3 2 [] ∷ unused-with [] ∷ owned-with 2 26 1 (1 ∷ []) ∷ ranked-with 2 20 9 1 (4 ∷ 1 ∷ 2 ∷ 89 ∷ []) ∷ ranked-with 1 20 7 3 (3 ∷ 4 ∷ []) ∷ [];
     }
 
 -- heap 2 with 1, 2, 1, 1, 1 live: once block 0 of superblock 1 is freed, u + K × n < a and q × u < (q - p) × a as 5 + 2 < 10 and 35 < 40, then
--- 4 + 2 < 8 and 28 < 32, then 3 + 2 < 6 and 21 < 24, and then 2 + 2 is not below 4: three moves, of the lowest numbers
+-- 4 + 2 < 8 and 28 < 32, then 3 + 2 < 6 and 21 < 24, and then 2 + 2 is not below 4: three moves, of the lowest numbers,
+-- whatever their ranks, which they keep. Superblock 1 was the third in the ranking
 abbrev pub three-moves : CallCase
 three-moves =
     record {
-      before = owned-with 2 26 2 (0 ∷ []) ∷ owned-with 2 26 3 (55 ∷ 56 ∷ []) ∷ owned-with 2 26 1 (1 ∷ []) ∷ owned-with 2 26 2 (0 ∷ []) ∷ owned-with 2 26 1 (1 ∷ []) ∷ [];
+      before = ranked-with 2 26 2 2 (0 ∷ []) ∷ ranked-with 2 26 3 3 (55 ∷ 56 ∷ []) ∷ owned-with 2 26 1 (1 ∷ []) ∷ ranked-with 2 26 2 4 (0 ∷ []) ∷ ranked-with 2 26 1 1 (1 ∷ []) ∷ [];
       call = Free 1 4096;
       outcome = Moves 3;
-      after = owned-with 0 26 2 (0 ∷ []) ∷ owned-with 0 26 2 (0 ∷ 56 ∷ []) ∷ owned-with 0 26 1 (1 ∷ []) ∷ owned-with 2 26 2 (0 ∷ []) ∷ owned-with 2 26 1 (1 ∷ []) ∷ [];
+      after = ranked-with 0 26 2 3 (0 ∷ []) ∷ ranked-with 0 26 2 1 (0 ∷ 56 ∷ []) ∷ owned-with 0 26 1 (1 ∷ []) ∷ ranked-with 2 26 2 4 (0 ∷ []) ∷ ranked-with 2 26 1 2 (1 ∷ []) ∷ [];
     }
 
--- "If the owner is heap 0 the call ends", though its superblocks would meet both conditions, and whatever heap the processor has
+-- "If the owner is heap 0 the call ends", though its superblocks would meet both conditions, and whatever heap the processor has. The superblock is ranked there too
 abbrev pub freed-in-heap-0 : CallCase
 freed-in-heap-0 =
     record {
       before = owned-with 0 26 1 (1 ∷ []) ∷ owned-with 0 26 2 (0 ∷ 57 ∷ []) ∷ owned-with 0 26 2 (0 ∷ []) ∷ owned-with 2 26 2 (0 ∷ []) ∷ unused-with [] ∷ [];
       call = Free 2 6144;
       outcome = Moves 0;
-      after = owned-with 0 26 1 (1 ∷ []) ∷ owned-with 0 26 0 (0 ∷ 1 ∷ []) ∷ owned-with 0 26 2 (0 ∷ []) ∷ owned-with 2 26 2 (0 ∷ []) ∷ unused-with [] ∷ [];
+      after = owned-with 0 26 1 (1 ∷ []) ∷ ranked-with 0 26 0 1 (0 ∷ 1 ∷ []) ∷ owned-with 0 26 2 (0 ∷ []) ∷ owned-with 2 26 2 (0 ∷ []) ∷ unused-with [] ∷ [];
     }
 
 abbrev pub freed-in-superblock-17 : CallCase
-freed-in-superblock-17 = record { before = eighteen-superblocks (owned-with 2 21 13 (1 ∷ 58 ∷ [])); call = Free 1 72320; outcome = Moves 0; after = eighteen-superblocks (owned-with 2 21 5 (1 ∷ 3 ∷ [])) }
+freed-in-superblock-17 = record { before = eighteen-superblocks (owned-with 2 21 13 (1 ∷ 58 ∷ [])); call = Free 1 72320; outcome = Moves 0; after = eighteen-superblocks (ranked-with 2 21 5 1 (1 ∷ 3 ∷ [])) }
 
 -- ---- refused calls, each with the earlier of two refusals that it meets. Nothing is offered for class 26: heap 1's and heap 0's are full or of another class, and
 -- superblocks from N on are none of the places'
 abbrev pub nothing-offered : List SuperblockAndPlaces
-nothing-offered = owned-with 2 26 1 (1 ∷ []) ∷ owned-with 1 26 3 [] ∷ owned-with 0 25 1 (1 ∷ []) ∷ owned-with 1 25 0 (1 ∷ 0 ∷ []) ∷ owned-with 2 24 0 (0 ∷ 1 ∷ []) ∷ []
+nothing-offered = owned-with 2 26 1 (1 ∷ []) ∷ ranked-with 1 26 3 2 [] ∷ ranked-with 0 25 1 1 (1 ∷ []) ∷ owned-with 1 25 0 (1 ∷ 0 ∷ []) ∷ owned-with 2 24 0 (0 ∷ 1 ∷ []) ∷ []
 
 abbrev pub refused-case : Call → ℕ → CallCase
 refused-case call r = record { before = nothing-offered; call = call; outcome = Refused r; after = nothing-offered }
@@ -220,11 +249,18 @@ abbrev pub refused-frees : List CallCase
 refused-frees = refused-case (Free 0 20480) 2 ∷ refused-case (Free 1 20481) 5 ∷ refused-case (Free 1 1) 6 ∷ refused-case (Free 1 2048) 7 ∷ []
 
 -- ---- the rules leave what is expected
-abbrev pub whole-calls : List CallCase
-whole-calls =
-    from-place-1 ∷ from-own-heap ∷ empty-from-place-1 ∷ from-place-2 ∷ empty-from-place-2 ∷ from-place-3 ∷ from-place-4 ∷ from-superblock-17
-    ∷ freed-for-owner ∷ three-moves ∷ freed-in-heap-0 ∷ freed-in-superblock-17 ∷ refused-takes ++ refused-frees
+abbrev pub whole-takes : List CallCase
+whole-takes =
+    from-place-1 ∷ last-freed-into-from-place-1 ∷ from-own-heap ∷ empty-from-place-1 ∷ from-place-2 ∷ last-freed-into-from-place-2 ∷ empty-from-place-2 ∷ from-place-3 ∷ from-place-4 ∷ from-superblock-17
+    ∷ refused-takes
 
-pub whole-call-cases : map result-of whole-calls ≡ map expected-of whole-calls
+pub whole-take-cases : map result-of whole-takes ≡ map expected-of whole-takes
 unfolding callDefinitions
-whole-call-cases = refl
+whole-take-cases = refl
+
+abbrev pub whole-frees : List CallCase
+whole-frees = freed-for-owner ∷ three-moves ∷ freed-in-heap-0 ∷ freed-in-superblock-17 ∷ refused-frees
+
+pub whole-free-cases : map result-of whole-frees ≡ map expected-of whole-frees
+unfolding callDefinitions
+whole-free-cases = refl

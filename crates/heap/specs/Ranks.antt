@@ -32,13 +32,17 @@ rankAfterRenewal k table m = pick (eqb m k) 0 (getD table m blank .rank - one (i
 abbrev pub withRanks : (ℕ → ℕ) → List Superblock → List Superblock
 withRanks rank table = listed (λ m. withRank (rank m) (getD table m blank)) 64
 
+-- and the state: totals and names take no notice of ranks
+abbrev pub reranked : (ℕ → ℕ) → State → State
+reranked rank s = record { setup = s .setup; table = withRanks rank (s .table); names = s .names; totals = s .totals }
+
 -- superblock k was freed into: it is the latest of the ranking
 unfoldable pub rankedLatest : ℕ → State → State
-rankedLatest k s = record { setup = s .setup; table = withRanks (rankAfterFree k (s .table)) (s .table); names = s .names; totals = s .totals }
+rankedLatest k s = reranked (rankAfterFree k (s .table)) s
 
 -- superblock k leaves the ranking
 unfoldable pub unranked : ℕ → State → State
-unranked k s = record { setup = s .setup; table = withRanks (rankAfterRenewal k (s .table)) (s .table); names = s .names; totals = s .totals }
+unranked k s = reranked (rankAfterRenewal k (s .table)) s
 
 -- no rank is above the number of superblocks
 abbrev pub RanksFit : State → Type 0

@@ -16,7 +16,7 @@ use Rattle.filledplaces.proofs.StorageLengthLaws.{places-valid-cong-if-in-stora
 use Rattle.heap.specs.declared.Superblock.{Superblock}
 use Rattle.heap.specs.declared.State.{State}
 use Rattle.heap.specs.Table.{superblockAt, isUnused}
-use Rattle.checkrules.specs.Check.{superblockValid, unusedFrom, emptinessInvariant, sparseIfGlobal, namesValid, totalsValid, restValid}
+use Rattle.checkrules.specs.Check.{superblockValid, unusedFrom, emptinessInvariant, sparseIfGlobal, namesValid, totalsValid, ranksValid, restValid}
 
 module _ (s : State) (x y : List ℕ) (h : SameFirst (s .setup .superblocks * 256) x y) where
   superblock-valid-same-first : (k : ℕ) (b : Superblock) → T (unusedFrom (s .setup .superblocks) k b) → superblockValid (s .setup) x k b ≡ superblockValid (s .setup) y k b
@@ -37,7 +37,7 @@ module _ (s : State) (x y : List ℕ) (h : SameFirst (s .setup .superblocks * 25
   rest-valid-reads-only-first-places = go (allBelow (λ k. unusedFrom (s .setup .superblocks) k (superblockAt s k)) 64) refl
     where
       rest : Bool
-      rest = both (emptinessInvariant s) (both (allBelow (λ k. sparseIfGlobal (s .setup) (superblockAt s k)) 64) (both (namesValid s) (totalsValid s)))
+      rest = both (emptinessInvariant s) (both (allBelow (λ k. sparseIfGlobal (s .setup) (superblockAt s k)) 64) (both (namesValid s) (both (totalsValid s) (ranksValid s))))
 
       good : List ℕ → Bool
       good order = allBelow (λ k. superblockValid (s .setup) order k (superblockAt s k)) 64

@@ -1,17 +1,18 @@
 -- What a choice finds, in the page's words. Assumes nothing.
 use mathlib.Core.Path.{_≡_, refl, sym, ap, _∙_, subst}
-use mathlib.Core.Bool.{Bool, true, false}
+use mathlib.Core.Bool.{Bool, true, false, not}
 use mathlib.Core.Logic.{_⊎_, inl, inr}
 use mathlib.Core.List.{List}
 use Prim.Native.Nat.{ℕ, zero, suc, _≤_, _<_}
-use native.Mathlib.Nat.{eq-or-lt-of-le, le-of-suc-le-suc, lt-suc-self, lt-irrefl}
-use native.Mathlib.Decide.{decLt}
+use native.Mathlib.Nat.{eq-or-lt-of-le, le-of-suc-le-suc, lt-suc-self, lt-irrefl, pos-of-ne-zero}
+use native.Mathlib.Decide.{ℕ-discrete, decLt}
 use native.Mathlib.Omega.{arith}
-use borrow.Author.Tests.{eq-eqb}
+use borrow.Author.Tests.{eq-eqb, le-ltb, ltb-false}
 use lib.ListN.{getD}
 use lib.Dec.{T, eqb, ltb, ltb→lt, lt→ltb, nltb→le, eqb→eq, not-T}
-use Rattle.laws.specs.Sums.{pick}
-use Rattle.laws.proofs.TestLaws.{T-of-true, not-T-of-false, false-of-not-T, both-left, both-right, both-make, pick-false}
+use Rattle.laws.specs.Sums.{pick, both, either}
+use Rattle.laws.proofs.Inequalities.{le-of-not-below}
+use Rattle.laws.proofs.TestLaws.{T-of-true, not-T-of-false, false-of-not-T, both-left, both-right, both-make, either-left, either-right, pick-false}
 use Rattle.classes.specs.Classes.{blocksOf}
 use Rattle.heap.specs.declared.Superblock.{Superblock}
 use Rattle.heap.specs.declared.State.{State}
@@ -19,7 +20,8 @@ use Rattle.heap.specs.declared.Found.{Found}
 use Rattle.heap.specs.declared.Found.the-variants.{At, Nothing}
 use Rattle.heap.specs.Table.{blank, superblockAt, liveIn, isUnused}
 use Rattle.heap.specs.Counts.{belongs}
-use Rattle.choicerules.specs.Choice.{prefer, chosenBelow, moreLive, fewerLive, neverPreferred, hasFree, emptyInGlobal, fullest, lowestEmpty, lowestUnused, emptiest}
+use Rattle.heap.specs.Ranks.{isRanked, isMoreRecent}
+use Rattle.choicerules.specs.Choice.{prefer, chosenBelow, moreLive, fullerOrMoreRecent, fewerLive, neverPreferred, hasFree, emptyInGlobal, fullest, lowestEmpty, lowestUnused, emptiest}
 use Rattle.heaplaws.proofs.StateFacts.{StrictWeakOrder, IsBest}
 use Rattle.heaplaws.proofs.CountLaws.{owner-and-class-of-belongs, belongs-of-owner-and-class}
 
@@ -33,13 +35,96 @@ ltb-irreflexive x t = lt-irrefl x (ltb→lt x x t)
 ltb-transitive : (x y z : ℕ) → T (ltb x y) → T (ltb y z) → T (ltb x z)
 ltb-transitive x y z t u = lt→ltb x z (omega (arith, ltb→lt x y t, ltb→lt y z u))
 
-pub more-live-is-strict-weak-order : StrictWeakOrder moreLive
-unfolding moreLive
-more-live-is-strict-weak-order = record {
-  is-irreflexive = λ b. ltb-irreflexive (liveIn b);
-  is-transitive = λ a b d t u. ltb-transitive (liveIn d) (liveIn b) (liveIn a) u t;
-  is-negatively-transitive = λ a b d t f. lt→ltb (liveIn b) (liveIn a) (omega (arith, ltb→lt (liveIn d) (liveIn a) t, le-of-not-ltb (liveIn d) (liveIn b) f));
+-- b was freed into more recently than d: it is ranked, and d is not or is ranked behind it
+abbrev pub MoreRecent : Superblock → Superblock → Type 0
+MoreRecent b d = (0 < b .rank) × ((d .rank ≡ 0) ⊎ (b .rank < d .rank))
+
+pub facts-of-more-recent : (b d : Superblock) → T (isMoreRecent b d) → MoreRecent b d
+unfolding isMoreRecent isRanked
+facts-of-more-recent b d t = (ltb→lt 0 (b .rank) (both-left (ltb 0 (b .rank)) _ t), go (ltb 0 (d .rank)) refl (both-right (ltb 0 (b .rank)) _ t))
+  where
+    go : (x : Bool) → ltb 0 (d .rank) ≡ x → T (either (not x) (ltb (b .rank) (d .rank))) → (d .rank ≡ 0) ⊎ (b .rank < d .rank)
+    go true e u = inr (ltb→lt (b .rank) (d .rank) u)
+    go false e u = inl (let l = ltb-false 0 (d .rank) e in omega arith)
+
+pub more-recent-of-facts : (b d : Superblock) → MoreRecent b d → T (isMoreRecent b d)
+unfolding isMoreRecent isRanked
+more-recent-of-facts b d h = both-make (ltb 0 (b .rank)) _ (lt→ltb 0 (b .rank) (h .0)) (go (h .1))
+  where
+    go : (d .rank ≡ 0) ⊎ (b .rank < d .rank) → T (either (not (ltb 0 (d .rank))) (ltb (b .rank) (d .rank)))
+    go (inl e) = either-left (not (ltb 0 (d .rank))) _ (T-of-true _ (ap not (le-ltb 0 (d .rank) (omega arith))))
+    go (inr l) = either-right (not (ltb 0 (d .rank))) _ (lt→ltb (b .rank) (d .rank) l)
+
+-- b is fuller than d, or as full and freed into more recently
+abbrev pub FullerOrMoreRecent : Superblock → Superblock → Type 0
+FullerOrMoreRecent b d = (liveIn d < liveIn b) ⊎ ((liveIn b ≡ liveIn d) × MoreRecent b d)
+
+pub facts-of-fuller-or-more-recent : (b d : Superblock) → T (fullerOrMoreRecent b d) → FullerOrMoreRecent b d
+unfolding fullerOrMoreRecent moreLive
+facts-of-fuller-or-more-recent b d t = go (ltb (liveIn d) (liveIn b)) refl t
+  where
+    go : (x : Bool) → ltb (liveIn d) (liveIn b) ≡ x → T (either x (both (eqb (liveIn b) (liveIn d)) (isMoreRecent b d))) → FullerOrMoreRecent b d
+    go true e u = inl (ltb→lt (liveIn d) (liveIn b) (T-of-true _ e))
+    go false e u = inr (eqb→eq (liveIn b) (liveIn d) (both-left (eqb (liveIn b) (liveIn d)) _ u), facts-of-more-recent b d (both-right (eqb (liveIn b) (liveIn d)) _ u))
+
+pub fuller-or-more-recent-of-facts : (b d : Superblock) → FullerOrMoreRecent b d → T (fullerOrMoreRecent b d)
+unfolding fullerOrMoreRecent moreLive
+fuller-or-more-recent-of-facts b d (inl l) = either-left (ltb (liveIn d) (liveIn b)) _ (lt→ltb (liveIn d) (liveIn b) l)
+fuller-or-more-recent-of-facts b d (inr (e, h)) = either-right (ltb (liveIn d) (liveIn b)) _ (both-make (eqb (liveIn b) (liveIn d)) _ (T-of-true _ (eq-eqb (liveIn b) (liveIn d) e)) (more-recent-of-facts b d h))
+
+more-recent-transitive : (a b d : Superblock) → MoreRecent a b → MoreRecent b d → MoreRecent a d
+more-recent-transitive a b d (ranked, first) (also, second) = (ranked, go first second)
+  where
+    go : (b .rank ≡ 0) ⊎ (a .rank < b .rank) → (d .rank ≡ 0) ⊎ (b .rank < d .rank) → (d .rank ≡ 0) ⊎ (a .rank < d .rank)
+    go (inl z) y = absurd (let q : ⊥ = omega arith in q)
+    go (inr l) (inl z) = inl z
+    go (inr l) (inr m) = inr (omega arith)
+
+more-recent-negatively-transitive : (a b d : Superblock) → MoreRecent a d → (MoreRecent b d → ⊥) → MoreRecent a b
+more-recent-negatively-transitive a b d (ranked, first) f = (ranked, go (ℕ-discrete (b .rank) 0) first)
+  where
+    go : Dec (b .rank ≡ 0) → (d .rank ≡ 0) ⊎ (a .rank < d .rank) → (b .rank ≡ 0) ⊎ (a .rank < b .rank)
+    go (yes z) x = inl z
+    go (no n) (inl z) = absurd (f (pos-of-ne-zero n, inl z))
+    go (no n) (inr l) = inr (behind (decLt (b .rank) (d .rank)))
+      where
+        behind : Dec (b .rank < d .rank) → a .rank < b .rank
+        behind (yes m) = absurd (f (pos-of-ne-zero n, inr m))
+        behind (no g) = let m = le-of-not-below g in omega arith
+
+fuller-or-more-recent-transitive : (a b d : Superblock) → FullerOrMoreRecent a b → FullerOrMoreRecent b d → FullerOrMoreRecent a d
+fuller-or-more-recent-transitive a b d (inl l) (inl m) = inl (omega arith)
+fuller-or-more-recent-transitive a b d (inl l) (inr (e, h)) = inl (omega arith)
+fuller-or-more-recent-transitive a b d (inr (e, h)) (inl m) = inl (omega arith)
+fuller-or-more-recent-transitive a b d (inr (e, h)) (inr (g, k)) = inr (e ∙ g, more-recent-transitive a b d h k)
+
+fuller-or-more-recent-negatively-transitive : (a b d : Superblock) → FullerOrMoreRecent a d → (FullerOrMoreRecent b d → ⊥) → FullerOrMoreRecent a b
+fuller-or-more-recent-negatively-transitive a b d h f = go (decLt (liveIn b) (liveIn a)) h
+  where
+    not-fuller : liveIn b ≤ liveIn d
+    not-fuller = le-of-not-below (λ l. f (inl l))
+
+    go : Dec (liveIn b < liveIn a) → FullerOrMoreRecent a d → FullerOrMoreRecent a b
+    go (yes l) x = inl l
+    go (no g) (inl m) = let n = le-of-not-below g in let o = not-fuller in inl (omega arith)
+    go (no g) (inr (e, k)) =
+        let n = le-of-not-below g in
+        let o = not-fuller in
+        let same : liveIn b ≡ liveIn d = omega arith in
+        inr (e ∙ sym same, more-recent-negatively-transitive a b d k (λ r. f (inr (same, r))))
+
+pub fuller-or-more-recent-is-strict-weak-order : StrictWeakOrder fullerOrMoreRecent
+fuller-or-more-recent-is-strict-weak-order = record {
+  is-irreflexive = λ b t. irreflexive b (facts-of-fuller-or-more-recent b b t);
+  is-transitive = λ a b d t u. fuller-or-more-recent-of-facts a d (fuller-or-more-recent-transitive a b d (facts-of-fuller-or-more-recent a b t) (facts-of-fuller-or-more-recent b d u));
+  is-negatively-transitive = λ a b d t f.
+      fuller-or-more-recent-of-facts a b (fuller-or-more-recent-negatively-transitive a b d (facts-of-fuller-or-more-recent a d t) (λ h. f (fuller-or-more-recent-of-facts b d h)));
 }
+  where
+    irreflexive : (b : Superblock) → FullerOrMoreRecent b b → ⊥
+    irreflexive b (inl l) = omega arith
+    irreflexive b (inr (e, (ranked, inl z))) = omega arith
+    irreflexive b (inr (e, (ranked, inr l))) = omega arith
 
 pub fewer-live-is-strict-weak-order : StrictWeakOrder fewerLive
 unfolding fewerLive
@@ -194,26 +279,36 @@ unfolding emptyInGlobal
 empty-in-global-of-facts b p q = both-make (eqb (b .owner) 0) _ (T-of-true _ (eq-eqb (b .owner) 0 p)) (T-of-true _ (eq-eqb (liveIn b) 0 q))
 
 -- ---- the page's words for each choice
-pub best-of-fullest : (h c : ℕ) (s : State) (k : ℕ) → fullest h c s ≡ At k → IsBest (hasFree h c) moreLive (s .table) 64 k
+pub best-of-fullest : (h c : ℕ) (s : State) (k : ℕ) → fullest h c s ≡ At k → IsBest (hasFree h c) fullerOrMoreRecent (s .table) 64 k
 unfolding fullest
-best-of-fullest h c s k e = best-of-chosen (hasFree h c) moreLive (s .table) more-live-is-strict-weak-order 64 k e
+best-of-fullest h c s k e = best-of-chosen (hasFree h c) fullerOrMoreRecent (s .table) fuller-or-more-recent-is-strict-weak-order 64 k e
 
--- an offered superblock such that none offered has more live, nor as many with a lower number
+-- an offered superblock such that none offered has more live ..
 pub fullest-has-most-live : (h c : ℕ) (s : State) (k m : ℕ) → fullest h c s ≡ At k → m < 64 → T (hasFree h c (superblockAt s m)) → liveIn (superblockAt s m) ≤ liveIn (superblockAt s k)
-unfolding moreLive
-fullest-has-most-live h c s k m e l t = le-of-not-ltb (liveIn (superblockAt s k)) (liveIn (superblockAt s m)) (best-of-fullest h c s k e .none-preferred m l t)
+fullest-has-most-live h c s k m e l t = le-of-not-below (λ more. best-of-fullest h c s k e .none-preferred m l t (fuller-or-more-recent-of-facts (superblockAt s m) (superblockAt s k) (inl more)))
 
-pub fullest-lowest-among-equals : (h c : ℕ) (s : State) (k m : ℕ) → fullest h c s ≡ At k → m < k → T (hasFree h c (superblockAt s m)) → liveIn (superblockAt s m) < liveIn (superblockAt s k)
-unfolding moreLive
-fullest-lowest-among-equals h c s k m e l t = ltb→lt (liveIn (superblockAt s m)) (liveIn (superblockAt s k)) (best-of-fullest h c s k e .preferred-to-earlier m l t)
+-- .. nor as many and was freed into more recently: "the one freed into most recently since it was last renewed comes first" ..
+pub fullest-is-most-recent-among-equals : (h c : ℕ) (s : State) (k m : ℕ) → fullest h c s ≡ At k → m < 64 → T (hasFree h c (superblockAt s m)) → liveIn (superblockAt s m) ≡ liveIn (superblockAt s k)
+    → MoreRecent (superblockAt s m) (superblockAt s k) → ⊥
+fullest-is-most-recent-among-equals h c s k m e l t same recent =
+    best-of-fullest h c s k e .none-preferred m l t (fuller-or-more-recent-of-facts (superblockAt s m) (superblockAt s k) (inr (same, recent)))
+
+-- .. nor as many, with no rank either and a lower number: "Those not freed into since then follow, lower number first"
+pub fullest-is-lowest-among-unranked : (h c : ℕ) (s : State) (k m : ℕ) → fullest h c s ≡ At k → m < k → T (hasFree h c (superblockAt s m)) → liveIn (superblockAt s m) ≡ liveIn (superblockAt s k)
+    → superblockAt s m .rank ≡ 0 → superblockAt s k .rank ≡ 0 → ⊥
+fullest-is-lowest-among-unranked h c s k m e l t same none also = go (facts-of-fuller-or-more-recent (superblockAt s k) (superblockAt s m) (best-of-fullest h c s k e .preferred-to-earlier m l t))
+  where
+    go : FullerOrMoreRecent (superblockAt s k) (superblockAt s m) → ⊥
+    go (inl more) = omega arith
+    go (inr (equal, (ranked, x))) = omega arith
 
 pub none-free-of-fullest-nothing : (h c : ℕ) (s : State) → fullest h c s ≡ Nothing → (m : ℕ) → m < 64 → T (hasFree h c (superblockAt s m)) → ⊥
 unfolding fullest
-none-free-of-fullest-nothing h c s e m l t = none-meets-of-chosen-nothing (hasFree h c) moreLive (s .table) 64 e m l t
+none-free-of-fullest-nothing h c s e m l t = none-meets-of-chosen-nothing (hasFree h c) fullerOrMoreRecent (s .table) 64 e m l t
 
 pub fullest-of-has-free : (h c : ℕ) (s : State) (m : ℕ) → m < 64 → T (hasFree h c (superblockAt s m)) → (k : ℕ) × (fullest h c s ≡ At k)
 unfolding fullest
-fullest-of-has-free h c s m l t = chosen-of-meets (hasFree h c) moreLive (s .table) 64 m l t
+fullest-of-has-free h c s m l t = chosen-of-meets (hasFree h c) fullerOrMoreRecent (s .table) 64 m l t
 
 pub best-of-lowest-empty : (s : State) (k : ℕ) → lowestEmpty s ≡ At k → IsBest emptyInGlobal neverPreferred (s .table) 64 k
 unfolding lowestEmpty

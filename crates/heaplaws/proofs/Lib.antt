@@ -6,3 +6,4 @@ pub mod StateCheckLaws
 pub mod MoveLaws
 pub mod ShapeLaws
 pub mod CheckReadsLaws
+pub mod RerankedLaws

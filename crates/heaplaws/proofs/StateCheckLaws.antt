@@ -26,7 +26,7 @@ use Rattle.heap.specs.Table.{blank, unused, superblockAt, liveIn, isUnused, isL
 use Rattle.heap.specs.States.{withSuperblock, withNames, newState}
 use Rattle.heap.specs.Counts.{superblocksOf, liveOf, blocksIn, belongs}
 use Rattle.moverules.specs.Moves.{bothConditions, mustMove}
-use Rattle.checkrules.specs.Check.{within, withinLimits, superblockValid, unusedFrom, emptinessInvariant, sparseIfGlobal, namesValid, restValid, passes}
+use Rattle.checkrules.specs.Check.{within, withinLimits, superblockValid, unusedFrom, emptinessInvariant, sparseIfGlobal, namesValid, ranksValid, restValid, passes}
 use Rattle.checkrules.proofs.ClauseLaws.{clauses-of-rest, rest-of-clauses, limits-of-passes, rest-of-passes, passes-of-limits-and-rest}
 use Rattle.heaplaws.proofs.StateFacts.{Shape, WithinLimits, Unused, Owned, Sparse, Sound, NamesSound}
 use Rattle.heap.specs.Totals.{TotalsKept}
@@ -197,8 +197,11 @@ pub names-valid-of-sound : (s : State) → NamesSound s → T (namesValid s)
 unfolding namesValid
 names-valid-of-sound s h = both-make (eachHeld (isLiveBlock s) (s .names)) _ (each-held-of-blocks-named (isLiveBlock s) (s .names) (h .live)) (no-two-of-same-name (s .names) (h .distinct))
 
-pub rest-valid-of-sound : (s : State) (order : List ℕ) → Sound s order → T (namesValid s) → TotalsKept s → T (restValid s order)
-rest-valid-of-sound s order h names totals =
+pub ranks-valid-of-rest : (s : State) (order : List ℕ) → T (restValid s order) → T (ranksValid s)
+ranks-valid-of-rest s order b = clauses-of-rest s order b .ranks
+
+pub rest-valid-of-sound : (s : State) (order : List ℕ) → Sound s order → T (namesValid s) → TotalsKept s → T (ranksValid s) → T (restValid s order)
+rest-valid-of-sound s order h names totals ranks =
     rest-of-clauses s order
     (record {
       superblocks = all-of-each (λ k. superblockValid (s .setup) order k (superblockAt s k)) 64 (λ k l. good k (h .each k l));
@@ -207,6 +210,7 @@ rest-valid-of-sound s order h names totals =
       global-heap = all-of-each (λ k. sparseIfGlobal (s .setup) (superblockAt s k)) 64 (λ k l. sparse-if-global-of-sparse (s .setup) (superblockAt s k) (h .sparse k l));
       names = names;
       totals = totals-valid-of-kept s totals;
+      ranks = ranks;
     })
   where
     good : (k : ℕ) → Unused (superblockAt s k) ⊎ Owned (s .setup) order k (superblockAt s k) → T (superblockValid (s .setup) order k (superblockAt s k))
@@ -219,8 +223,8 @@ sound-of-passes s order t = sound-of-limits-and-rest s order (limits-of-passes s
 pub totals-kept-of-passes : (s : State) (order : List ℕ) → T (passes s order) → TotalsKept s
 totals-kept-of-passes s order t = totals-kept-of-rest s order (rest-of-passes s order t)
 
-pub passes-of-sound : (s : State) (order : List ℕ) → Sound s order → T (namesValid s) → TotalsKept s → T (passes s order)
-passes-of-sound s order h names totals = passes-of-limits-and-rest s order (within-limits-of-facts (s .setup) (h .numbers)) (rest-valid-of-sound s order h names totals)
+pub passes-of-sound : (s : State) (order : List ℕ) → Sound s order → T (namesValid s) → TotalsKept s → T (ranksValid s) → T (passes s order)
+passes-of-sound s order h names totals ranks = passes-of-limits-and-rest s order (within-limits-of-facts (s .setup) (h .numbers)) (rest-valid-of-sound s order h names totals ranks)
 
 -- ---- a new state
 pub superblock-at-new-state-unused : (u : Setup) (k : ℕ) → k < 64 → superblockAt (newState u) k ≡ unused

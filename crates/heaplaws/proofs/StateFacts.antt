@@ -16,6 +16,7 @@ use Rattle.heap.specs.Table.{blank, superblockAt, liveIn, withOwner, isLiveBloc
 use Rattle.heap.specs.Counts.{belongs, superblocksOf, liveOf, superblocksOfClass, liveOfClass}
 use Rattle.heap.specs.Totals.{TotalsKept}
 use Rattle.moverules.specs.Moves.{mustMove}
+use Rattle.checkrules.specs.Check.{rankedCount}
 
 -- a way to compare superblocks, by which some are preferred and the others equal
 pub record StrictWeakOrder (preferred : Superblock → Superblock → Bool) : Type 0 where
@@ -67,7 +68,7 @@ pub record Owned (u : Setup) (order : List ℕ) (k : ℕ) (b : Superblock) : Typ
 abbrev pub Sparse : Setup → Superblock → Type 0
 Sparse u b = u .q * liveIn b < (u .q - u .p) * blocksOf (b .class)
 
--- the whole check, but for names and totals
+-- the whole check, but for names, totals and ranks
 pub record Sound (s : State) (order : List ℕ) : Type 0 where
   pub numbers : WithinLimits (s .setup)
   pub each : (k : ℕ) → k < 64 → Unused (superblockAt s k) ⊎ Owned (s .setup) order k (superblockAt s k)
@@ -79,6 +80,15 @@ pub record Sound (s : State) (order : List ℕ) : Type 0 where
 pub record NamesSound (s : State) : Type 0 where
   pub live : (m : ℕ) → (blockNamed (s .names) m ≡ notHeld → ⊥) → T (isLiveBlock s (blockNamed (s .names) m))
   pub distinct : (l m : ℕ) → (blockNamed (s .names) l ≡ notHeld → ⊥) → blockNamed (s .names) l ≡ blockNamed (s .names) m → l ≡ m
+
+-- the ranking's part of the check (document 02, item 4)
+pub record RanksSound (s : State) : Type 0 where
+  -- "without a gap": none is above the number of those ranked
+  pub bounded : (k : ℕ) → k < 64 → superblockAt s k .rank ≤ rankedCount s
+  -- "each once"
+  pub distinct : (k m : ℕ) → k < 64 → m < 64 → 0 < superblockAt s k .rank → superblockAt s k .rank ≡ superblockAt s m .rank → k ≡ m
+  -- "the rest 0, unused ones too"
+  pub unused-unranked : (k : ℕ) → k < 64 → Unused (superblockAt s k) → superblockAt s k .rank ≡ 0
 
 -- what the moves of heap h and class c, from state s, have come to: t is s with some superblocks of (h, c) passed to heap 0
 pub record TransferredFrom (h c : ℕ) (s t : State) : Type 0 where
