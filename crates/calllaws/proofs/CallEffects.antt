@@ -10,12 +10,12 @@ use Rattle.classes.specs.Classes.{blocksOf, classOf}
 use Rattle.marks.specs.Marks.{markBit}
 use Rattle.names.specs.Names.{isHeld}
 use Rattle.heap.specs.declared.State.{State}
-use Rattle.heap.specs.Table.{superblockAt, liveIn}
+use Rattle.heap.specs.Table.{superblockAt, liveIn, withRank}
 use Rattle.heap.specs.Counts.{superblocksOf, superblocksOfClass, liveOfClass, ownersChanged}
 use Rattle.heap.specs.declared.Found.the-variants.{At, Nothing}
 use Rattle.choicerules.specs.Choice.{fullest}
 use Rattle.checkrules.specs.Check.{namesValid}
-use Rattle.heaplaws.proofs.StateFacts.{Sound}
+use Rattle.heaplaws.proofs.StateFacts.{Sound, RanksSound}
 use Rattle.heap.specs.Totals.{TotalsKept}
 use Rattle.calls.specs.Take.{otherPlaces, takenFrom, takenFromOther, takeOf}
 use Rattle.calls.specs.Free.{isUnmapped, isMisaligned, isLiveAt, freedAt, freeOf}
@@ -27,6 +27,8 @@ pub record Passed (s : State) (order : List ℕ) : Type 0 where
   pub names : T (namesValid s)
   -- "equal to the recount" (document 02, item 3)
   pub totals : TotalsKept s
+  -- "each once without a gap" (item 4)
+  pub ranks : RanksSound s
   pub room : s .setup .superblocks * 256 ≤ length order
 
 -- an accepted take: the state passes, the processor is in range, the size is at most 2048, and
@@ -59,14 +61,15 @@ pub record NamedFreeAccepted (s : State) (order : List ℕ) (i m : ℕ) : Type 0
   pub freed : FreeAccepted s order i (heldAddress s m)
   pub result-is : namedFreeOf s order i m ≡ freeOf s order i (heldAddress s m)
 
--- Heap i takes block j of superblock k, for class c; s is the state before and t after. Names are no part of it: they are told apart.
+-- Heap i takes block j of superblock k, for class c; s is the state before and t after. Names and ranks are no part of it: they are told apart.
 -- "an accepted take answers the address of a block that was not marked, in a superblock of the size's class, marks exactly it, and changes at most one owner"
 pub record TakeEffect (i c k j : ℕ) (s t : State) : Type 0 where
   pub below : k < s .setup .superblocks
   pub class-lt-27 : c < 27
   pub block : j < blocksOf c
   pub setup : t .setup ≡ s .setup
-  pub others : (m : ℕ) → (m ≡ k → ⊥) → superblockAt t m ≡ superblockAt s m
+  -- the others keep all but their ranks
+  pub others : (m : ℕ) → (m ≡ k → ⊥) → superblockAt t m ≡ withRank (superblockAt t m .rank) (superblockAt s m)
   pub owner : superblockAt t k .owner ≡ i
   pub class : superblockAt t k .class ≡ c
   pub before : (liveIn (superblockAt s k) ≡ 0) ⊎ ((superblockAt s k .class ≡ c) × (superblockAt s k .owner ≡ 255 → ⊥))

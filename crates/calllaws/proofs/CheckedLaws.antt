@@ -11,7 +11,8 @@ use Rattle.laws.specs.Sums.{pick, both}
 use Rattle.laws.proofs.TestLaws.{T-of-true, true-of-T, both-left, both-right}
 use Rattle.heap.specs.declared.State.{State}
 use Rattle.checkrules.specs.Check.{withinLimits, restValid, passes}
-use Rattle.heaplaws.proofs.StateCheckLaws.{passes-of-sound, sound-of-limits-and-rest, names-valid-of-rest, totals-kept-of-rest}
+use Rattle.heaplaws.proofs.StateCheckLaws.{passes-of-sound, sound-of-limits-and-rest, names-valid-of-rest, totals-kept-of-rest, ranks-valid-of-rest}
+use Rattle.heaplaws.proofs.RankLaws.{ranks-sound-of-valid, ranks-valid-of-sound}
 use Rattle.calllaws.proofs.CallEffects.{Passed}
 use Rattle.calls.specs.Answers.{After, refused, checked, isProcessor}
 
@@ -20,7 +21,7 @@ checked-by-tests : (s : State) (order : List ℕ) (next : After) (a b c : Bool) 
     → ((r : ℕ) × (pick a (pick b (pick c next (refused 13 s order)) (refused 12 s order)) (refused 13 s order) ≡ refused r s order))
     ⊎ (Passed s order × (pick a (pick b (pick c next (refused 13 s order)) (refused 12 s order)) (refused 13 s order) ≡ next))
 checked-by-tests s order next true true true e f g =
-    inr (record { sound = sound-of-limits-and-rest s order (T-of-true (withinLimits (s .setup)) e) (T-of-true (restValid s order) g); names = names-valid-of-rest s order (T-of-true (restValid s order) g); totals = totals-kept-of-rest s order (T-of-true (restValid s order) g); room = leb-true (s .setup .superblocks * 256) (length order) f }, refl)
+    inr (record { sound = sound-of-limits-and-rest s order (T-of-true (withinLimits (s .setup)) e) (T-of-true (restValid s order) g); names = names-valid-of-rest s order (T-of-true (restValid s order) g); totals = totals-kept-of-rest s order (T-of-true (restValid s order) g); ranks = ranks-sound-of-valid s (ranks-valid-of-rest s order (T-of-true (restValid s order) g)); room = leb-true (s .setup .superblocks * 256) (length order) f }, refl)
 checked-by-tests s order next true true false e f g = inl (13, refl)
 checked-by-tests s order next true false c e f g = inl (12, refl)
 checked-by-tests s order next false b c e f g = inl (13, refl)
@@ -33,7 +34,7 @@ checked-refused-or-passed s order next = checked-by-tests s order next (withinLi
 pub checked-is-next-of-passed : (s : State) (order : List ℕ) (next : After) → Passed s order → checked s order next ≡ next
 unfolding checked passes
 checked-is-next-of-passed s order next p =
-    let t : T (both (withinLimits (s .setup)) (restValid s order)) = passes-of-sound s order (p .sound) (p .names) (p .totals) in
+    let t : T (both (withinLimits (s .setup)) (restValid s order)) = passes-of-sound s order (p .sound) (p .names) (p .totals) (ranks-valid-of-sound s (p .ranks)) in
     simp (
       true-of-T (withinLimits (s .setup)) (both-left (withinLimits (s .setup)) (restValid s order) t),
       le-leb (s .setup .superblocks * 256) (length order) (p .room),

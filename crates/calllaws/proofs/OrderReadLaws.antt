@@ -24,7 +24,8 @@ use Rattle.heap.specs.Table.{superblockAt, liveIn, withMarkAt}
 use Rattle.heap.specs.States.{withSuperblock}
 use Rattle.choicerules.specs.Choice.{fullest}
 use Rattle.checkrules.specs.Check.{withinLimits, restValid}
-use Rattle.heaplaws.proofs.StateCheckLaws.{sound-of-limits-and-rest, names-valid-of-rest, totals-kept-of-rest}
+use Rattle.heaplaws.proofs.StateCheckLaws.{sound-of-limits-and-rest, names-valid-of-rest, totals-kept-of-rest, ranks-valid-of-rest}
+use Rattle.heaplaws.proofs.RankLaws.{ranks-sound-of-valid}
 use Rattle.heaplaws.proofs.CheckReadsLaws.{rest-valid-reads-only-first-places}
 use Rattle.calls.specs.declared.Call.{Call}
 use Rattle.calls.specs.declared.Call.the-variants.{Take, Free, NamedTake, NamedFree}
@@ -96,7 +97,7 @@ module _ (s : State) (x y : List ℕ) (h : SameFirst (s .setup .superblocks * 25
   checked-agree a b f =
       rw (le-leb n (length x) (h .first-covers), le-leb n (length y) (h .second-covers), ← (rest-valid-reads-only-first-places s x y h))
       (agree-pick n (withinLimits (s .setup))
-      (λ l. agree-pick n (restValid s x) (λ g. f (record { sound = sound-of-limits-and-rest s x (T-of-true (withinLimits (s .setup)) l) (T-of-true (restValid s x) g); names = names-valid-of-rest s x (T-of-true (restValid s x) g); totals = totals-kept-of-rest s x (T-of-true (restValid s x) g); room = h .first-covers })) (λ g. same-refusal 13))
+      (λ l. agree-pick n (restValid s x) (λ g. f (record { sound = sound-of-limits-and-rest s x (T-of-true (withinLimits (s .setup)) l) (T-of-true (restValid s x) g); names = names-valid-of-rest s x (T-of-true (restValid s x) g); totals = totals-kept-of-rest s x (T-of-true (restValid s x) g); ranks = ranks-sound-of-valid s (ranks-valid-of-rest s x (T-of-true (restValid s x) g)); room = h .first-covers })) (λ g. same-refusal 13))
       (λ l. same-refusal 13))
 
   -- a take

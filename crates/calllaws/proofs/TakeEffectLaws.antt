@@ -7,6 +7,7 @@ use Prim.Native.Nat.{ℕ, suc, _+_, _-_, _*_, _≤_, _<_}
 use native.Mathlib.Nat.{mul-le-mul-left, mul-le-mul-right}
 use native.Mathlib.Decide.{ℕ-discrete}
 use native.Mathlib.Omega.{arith}
+use lib.ListN.{length}
 use lib.Seq.{getD-set-same, getD-set-other}
 use lib.Dec.{T}
 use Rattle.laws.specs.Sums.{pick, one}
@@ -20,19 +21,26 @@ use Rattle.filledplaces.proofs.PlacesValidLaws.{last-filled-below-n, last-fille
 use Rattle.filledplaces.proofs.OwnPlacesOnly.{places-valid-cong}
 use Rattle.heap.specs.declared.Superblock.{Superblock}
 use Rattle.heap.specs.declared.State.{State}
-use Rattle.heap.specs.Table.{blank, superblockAt, liveIn, withMarkAt}
+use Rattle.heap.specs.Table.{blank, superblockAt, liveIn, withMarkAt, withRank}
 use Rattle.heap.specs.States.{withSuperblock}
 use Rattle.heap.specs.Counts.{total, oneIfBelongs, liveIfBelongs, isOwnedOfClass, superblocksOf, blocksIn, liveOf, superblocksOfClass, liveOfClass}
 use Rattle.moverules.specs.Moves.{bothConditions, mustMove}
-use Rattle.heaplaws.proofs.StateFacts.{Shape, Unused, Owned, Sparse, Sound}
+use Rattle.heaplaws.proofs.StateFacts.{Shape, Unused, Owned, Sparse, Sound, RanksSound}
 use Rattle.heaplaws.proofs.CountLaws.{total-with-superblock, one-if-belongs-is-1, one-if-belongs-other-owner, one-if-belongs-other-class, live-if-belongs-is-live-in, live-if-belongs-other-owner, live-if-belongs-other-class}
 use Rattle.heaplaws.proofs.StateCheckLaws.{shape-with-superblock}
 use Rattle.heaplaws.proofs.TotalsLaws.{totals-kept-with-superblock}
+use Rattle.heaplaws.proofs.RankLaws.{ranks-sound-of-same-ranks}
+use Rattle.heaplaws.proofs.RerankedLaws.{superblock-keeps-all-but-rank, reranked-owner, reranked-class, reranked-live, reranked-superblocks-of-class, reranked-live-of-class, reranked-owners-changed}
+use Rattle.heap.specs.Ranks.{reranked}
 use Rattle.heaplaws.proofs.MoveLaws.{conditions-of-must-move, must-move-of-conditions}
 use Rattle.calllaws.proofs.CallEffects.{Passed, TakeEffect}
 use Rattle.calllaws.proofs.NamesKeptLaws.{names-valid-after-take}
 use Rattle.calllaws.proofs.SuperblockLaws.{owned-of-class-true, owned-of-class-false, no-live-adds-nothing, owners-changed-with-superblock-le-1}
 use Rattle.calllaws.proofs.TakeSourceLaws.{lastBlockOf, TakeSource}
+
+-- a superblock that is as it was keeps all but its rank
+all-but-rank-of-same : (b d : Superblock) → b ≡ d → b ≡ withRank (b .rank) d
+all-but-rank-of-same b d e = e ∙ ap (λ (r : ℕ). withRank r d) (sym (ap (λ (x : Superblock). x .rank) e))
 
 -- What an accepted take leaves: t is the state and places the order places after it.
 pub record TakeResult (i c k j : ℕ) (s t : State) (places : List ℕ) : Type 0 where
@@ -248,7 +256,7 @@ module _ (s : State) (order : List ℕ) (i c k : ℕ) (b : Superblock) (places :
     class-lt-27 = known;
     block = subst (λ (d : ℕ). j < blocksOf d) (gives .class) in-class;
     setup = refl;
-    others = after-at-others;
+    others = λ m f. all-but-rank-of-same (superblockAt after m) (superblockAt s m) (after-at-others m f);
     owner = ap (λ (x : Superblock). x .owner) after-at-superblock ∙ gives .owner;
     class = ap (λ (x : Superblock). x .class) after-at-superblock ∙ gives .class;
     before = gives .before;
@@ -263,8 +271,52 @@ module _ (s : State) (order : List ℕ) (i c k : ℕ) (b : Superblock) (places :
     live-of-others = live-others-after;
   }
 
+  -- ---- the ranks
+  pub ranks-same : (m : ℕ) → superblockAt after m .rank ≡ superblockAt s m .rank
+  ranks-same m = go (ℕ-discrete m k)
+    where
+      go : Dec (m ≡ k) → superblockAt after m .rank ≡ superblockAt s m .rank
+      go (yes e) = ap (λ (x : ℕ). superblockAt after x .rank) e ∙ ap (λ (x : Superblock). x .rank) after-at-superblock ∙ gives .rank ∙ ap (λ (x : ℕ). superblockAt s x .rank) (sym e)
+      go (no f) = ap (λ (x : Superblock). x .rank) (after-at-others m f)
+
+  ranks-after : RanksSound after
+  ranks-after = ranks-sound-of-same-ranks s after (λ m l. ranks-same m) (λ m l u. was-unused m u (ℕ-discrete m k)) (passed .ranks)
+    where
+      was-unused : (m : ℕ) → Unused (superblockAt after m) → Dec (m ≡ k) → Unused (superblockAt s m)
+      was-unused m u (yes e) = absurd (new-owner-not-255 (sym (ap (λ (x : Superblock). x .owner) after-at-superblock) ∙ ap (λ (x : ℕ). superblockAt after x .owner) (sym e) ∙ u .owner))
+      was-unused m u (no f) = subst Unused (after-at-others m f) u
+
   passed-after : Passed after places
-  passed-after = record { sound = sound-after; names = names-valid-after-take i c k j s after in-marks effect refl (passed .names); totals = totals-kept-with-superblock s k new; room = omega (arith, passed .room, gives .length-is) }
+  passed-after = record { sound = sound-after; names = names-valid-after-take i c k j s after in-marks effect refl (passed .names); totals = totals-kept-with-superblock s k new; ranks = ranks-after; room = omega (arith, passed .room, gives .length-is) }
 
   pub take-result-of-source : TakeResult i c k j s after places
   take-result-of-source = record { effect = effect; shape = shape-after; passed = passed-after }
+
+-- a take from the state with other ranks is one from the state: ranks are no part of its effect
+pub take-effect-of-reranked : (i c k j : ℕ) (rank : ℕ → ℕ) (s t : State) → length (s .table) ≡ 64 → TakeEffect i c k j (reranked rank s) t → TakeEffect i c k j s t
+take-effect-of-reranked i c k j rank s t long e =
+    record {
+      below = e .below;
+      class-lt-27 = e .class-lt-27;
+      block = e .block;
+      setup = e .setup;
+      others = λ m f. e .others m f ∙ ap (withRank (superblockAt t m .rank)) (superblock-keeps-all-but-rank rank s long m);
+      owner = e .owner;
+      class = e .class;
+      before = ⊎-elim (λ z. inl (sym (live-in k) ∙ z)) (λ h. inr (sym (reranked-class rank s long k) ∙ h .0, λ q. h .1 (reranked-owner rank s long k ∙ q))) (e .before);
+      not-marked = sym (bits j) ∙ e .not-marked;
+      is-marked = e .is-marked;
+      marks = λ m l f. e .marks m l f ∙ bits m;
+      live = e .live ∙ ap suc (live-in k);
+      one-owner-changed = subst (λ (n : ℕ). n ≤ 1) (reranked-owners-changed rank s long t) (e .one-owner-changed);
+      owned-of-others = λ d f. subst (λ (n : ℕ). superblocksOfClass d t ≤ n) (reranked-superblocks-of-class rank s long d) (e .owned-of-others d f);
+      owned-of-class = ⊎-elim (λ l. inl (subst (λ (n : ℕ). superblocksOfClass c t ≤ n) (reranked-superblocks-of-class rank s long c) l)) inr (e .owned-of-class);
+      live-of-class = e .live-of-class ∙ ap suc (reranked-live-of-class rank s long c);
+      live-of-others = λ d f. e .live-of-others d f ∙ reranked-live-of-class rank s long d;
+    }
+  where
+    live-in : (m : ℕ) → liveIn (superblockAt (reranked rank s) m) ≡ liveIn (superblockAt s m)
+    live-in m = ap liveCount (reranked-live rank s long m)
+
+    bits : (m : ℕ) → markBit (superblockAt (reranked rank s) k .live) m ≡ markBit (superblockAt s k .live) m
+    bits m = ap (λ (l : List ℕ). markBit l m) (reranked-live rank s long k)

@@ -1,7 +1,7 @@
 -- The superblock that a take takes its block from: as it was (place 1), or acquired (places 2 to 4), and what holds of it then. Assumes nothing.
 use mathlib.Core.Path.{_≡_, refl, sym, ap, _∙_, subst}
 use mathlib.Core.Bool.{Bool, true, false}
-use mathlib.Core.Logic.{_⊎_, inl, inr}
+use mathlib.Core.Logic.{_⊎_, inl, inr, ⊎-elim}
 use mathlib.Core.List.{List}
 use Prim.Native.Nat.{ℕ, _+_, _-_, _*_, _≤_, _<_}
 use native.Mathlib.Omega.{arith}
@@ -11,9 +11,11 @@ use lib.Seq.{getD-set-same, set-set}
 use lib.Dec.{T, eqb}
 use Rattle.laws.specs.Sums.{pick}
 use Rattle.laws.proofs.Inequalities.{le-of-not-below}
+use Rattle.laws.proofs.TestLaws.{pick-elim}
+use Rattle.laws.proofs.ListedLaws.{length-listed}
 use Rattle.classes.specs.Classes.{blocksOf}
 use Rattle.classes.proofs.ClassTableLaws.{blocks-of-le-256, blocks-of-pos}
-use Rattle.marks.specs.Marks.{markBit}
+use Rattle.marks.specs.Marks.{markBit, liveCount}
 use Rattle.marklaws.proofs.MarkLaws.{marks-clear-of-live-count-zero, mark-bit-of-no-marks, live-count-of-no-marks}
 use Rattle.order.specs.Order.{place, lastFilled, renewed}
 use Rattle.orderlaws.proofs.OrderLaws.{length-renewed, renewed-other-superblock}
@@ -27,14 +29,17 @@ use Rattle.heap.specs.Table.{blank, superblockAt, liveIn, withOwner, withMarkAt
 use Rattle.heap.specs.States.{withSuperblock}
 use Rattle.heap.specs.Counts.{superblocksOf, liveOf}
 use Rattle.heap.specs.Totals.{recounted}
+use Rattle.heap.specs.Ranks.{rankAfterRenewal, unranked}
 use Rattle.choicerules.specs.Choice.{fullest, lowestEmpty, lowestUnused, orElse}
 use Rattle.heaplaws.proofs.StateFacts.{Shape}
 use Rattle.calls.specs.Answers.{After}
 use Rattle.calls.specs.declared.Outcome.the-variants.{Address}
-use Rattle.calls.specs.Take.{otherPlaces, renewedFor, acquired, acquiredOrder, nextBlock, addressOf, takenFrom, takenFromOther}
+use Rattle.calls.specs.Take.{otherPlaces, renewedFor, acquired, acquiredOrder, unrankedIfEmpty, nextBlock, addressOf, takenFrom, takenFromOther}
 use Rattle.heaplaws.proofs.ChoiceLaws.{best-of-fullest, none-free-of-fullest-nothing, facts-of-has-free, has-free-of-facts, facts-of-empty-in-global, best-of-lowest-empty, best-of-lowest-unused}
 use Rattle.heaplaws.proofs.CountLaws.{owner-and-class-of-belongs, superblocks-zero-of-none-belongs, live-of-at-least-each}
 use Rattle.heaplaws.proofs.StateCheckLaws.{facts-of-is-unused, owned-below-superblocks, owned-of-owner, free-block-in-global}
+use Rattle.heaplaws.proofs.RankLaws.{superblock-at-unranked, rank-after-renewal-of-superblock}
+use Rattle.heaplaws.proofs.RerankedLaws.{reranked-owner, reranked-class, reranked-live, reranked-superblocks-of, reranked-live-of}
 use Rattle.calllaws.proofs.CallEffects.{Passed}
 
 -- the block in the last filled place of superblock k, where it is b
@@ -53,15 +58,22 @@ pub taken-from-is-taken-with : (k : ℕ) (s : State) (order : List ℕ) → take
 unfolding takenFrom nextBlock lastBlockOf
 taken-from-is-taken-with k s order = refl
 
-pub taken-from-other-is-taken-with : (i c k : ℕ) (s : State) (order : List ℕ) → k < length (s .table)
-    → takenFromOther i c k s order ≡ takenWith k s (acquired i c (superblockAt s k)) (acquiredOrder c k (superblockAt s k) order)
+length-unranked-if-empty : (k : ℕ) (s : State) → length (s .table) ≡ 64 → length (unrankedIfEmpty k s .table) ≡ 64
+unfolding unrankedIfEmpty unranked
+length-unranked-if-empty k s long = pick-elim (λ (t : State). length (t .table) ≡ 64) (eqb (liveIn (superblockAt s k)) 0) _ _ (λ e. length-listed _ 64) (λ e. long)
+
+pub taken-from-other-is-taken-with : (i c k : ℕ) (s : State) (order : List ℕ) → k < 64 → length (s .table) ≡ 64
+    → takenFromOther i c k s order ≡ takenWith k (unrankedIfEmpty k s) (acquired i c (superblockAt s k)) (acquiredOrder c k (superblockAt s k) order)
 unfolding takenFromOther
-taken-from-other-is-taken-with i c k s order l =
-    taken-from-is-taken-with k (withSuperblock s k b) places
-    ∙ ap (λ (x : Superblock). takenWith k (withSuperblock s k b) x places) (getD-set-same (s .table) k b blank l)
-    ∙ ap (λ (x : List Superblock). record { answer = record { outcome = Address (addressOf k (b .class) (lastBlockOf places k b)); state = record { setup = s .setup; table = x; names = s .names; totals = recounted x } }; order = places })
-    (set-set (s .table) k b (withMarkAt b (lastBlockOf places k b)))
+taken-from-other-is-taken-with i c k s order l long =
+    taken-from-is-taken-with k (withSuperblock t k b) places
+    ∙ ap (λ (x : Superblock). takenWith k (withSuperblock t k b) x places) (getD-set-same (t .table) k b blank (omega (arith, length-unranked-if-empty k s long)))
+    ∙ ap (λ (x : List Superblock). record { answer = record { outcome = Address (addressOf k (b .class) (lastBlockOf places k b)); state = record { setup = t .setup; table = x; names = t .names; totals = recounted x } }; order = places })
+    (set-set (t .table) k b (withMarkAt b (lastBlockOf places k b)))
   where
+    t : State
+    t = unrankedIfEmpty k s
+
     b : Superblock
     b = acquired i c (superblockAt s k)
 
@@ -76,6 +88,7 @@ pub record TakeSource (s : State) (order : List ℕ) (i c k : ℕ) (b : Superblo
   pub room : liveIn b < blocksOf (b .class)
   pub marks-length : length (b .live) ≡ 4
   pub places-valid : T (placesValid places (b .live) k (blocksOf (b .class)))
+  pub rank : b .rank ≡ superblockAt s k .rank
   -- nothing is marked or cleared yet
   pub marks : (m : ℕ) → m < 256 → markBit (b .live) m ≡ markBit (superblockAt s k .live) m
   -- no other superblock's places are touched
@@ -110,6 +123,7 @@ module _ (s : State) (order : List ℕ) (shape : Shape s) (passed : Passed s ord
         room = subst (λ (d : ℕ). liveIn (superblockAt s k) < blocksOf d) (sym (h .1)) (h .2);
         marks-length = shape .marks-length k (best .below);
         places-valid = owned-of-owner s order (passed .sound) k (best .below) (owner-not-255 k i l (h .0)) .places;
+        rank = refl;
         marks = λ m lm. refl;
         length-is = refl;
         others = λ m p f lp. refl;
@@ -172,8 +186,9 @@ module _ (s : State) (order : List ℕ) (shape : Shape s) (passed : Passed s ord
     places-fit : k * 256 + blocksOf c ≤ length order
     places-fit = omega (arith, offered .below, passed .room, blocks-of-le-256 c)
 
-    -- nothing live: renewed
-    source-of-renewed : liveIn (superblockAt s k) ≡ 0 → TakeSource s order i c k (renewedFor i c) (renewed order k (blocksOf c))
+    -- nothing live: renewed, and out of the ranking
+    source-of-renewed : liveIn (superblockAt s k) ≡ 0 → TakeSource (unranked k s) order i c k (renewedFor i c) (renewed order k (blocksOf c))
+    unfolding unranked
     source-of-renewed e = record {
       below = offered .below;
       owner = refl;
@@ -181,13 +196,23 @@ module _ (s : State) (order : List ℕ) (shape : Shape s) (passed : Passed s ord
       room = omega (arith, live-count-of-no-marks, blocks-of-pos c known);
       marks-length = refl;
       places-valid = places-valid-after-renewal order k (blocksOf c) (blocks-of-le-256 c) places-fit;
-      marks = λ m l. mark-bit-of-no-marks m ∙ sym (marks-clear-of-live-count-zero (superblockAt s k .live) e m l);
+      rank = sym (ap (λ (b : Superblock). b .rank) (superblock-at-unranked k s k in-table) ∙ rank-after-renewal-of-superblock k (s .table));
+      marks = λ m l. mark-bit-of-no-marks m ∙ sym (ap (λ (x : List ℕ). markBit x m) (reranked-live rank s long k) ∙ marks-clear-of-live-count-zero (superblockAt s k .live) e m l);
       length-is = length-renewed order k (blocksOf c);
       others = λ m p f l. renewed-other-superblock order k (blocksOf c) m p f l;
-      before = inl e;
-      source = inr (offered .owner, heap-full-of-fullest-nothing i c none);
-      supply = offered .supply;
+      before = inl (ap liveCount (reranked-live rank s long k) ∙ e);
+      source = inr (⊎-elim (λ z. inl (reranked-owner rank s long k ∙ z)) (λ z. inr (reranked-owner rank s long k ∙ z)) (offered .owner), full-after);
+      supply = ⊎-elim (λ h. inl (λ q. h .0 (sym (reranked-owner rank s long k) ∙ q), reranked-class rank s long k ∙ h .1)) (λ z. inr (reranked-superblocks-of rank s long 0 c ∙ z)) (offered .supply);
     }
+      where
+        rank : ℕ → ℕ
+        rank = rankAfterRenewal k (s .table)
+
+        long : length (s .table) ≡ 64
+        long = shape .length-is
+
+        full-after : superblocksOf i c (unranked k s) * blocksOf c ≤ liveOf i c (unranked k s)
+        full-after = rw (reranked-superblocks-of rank s long i c, reranked-live-of rank s long i c) (heap-full-of-fullest-nothing i c none)
 
     -- else from place 2, with the class
     source-of-acquired : (superblockAt s k .owner ≡ 0) × (superblockAt s k .class ≡ c) × (liveIn (superblockAt s k) < blocksOf (superblockAt s k .class)) → TakeSource s order i c k (withOwner i (superblockAt s k)) order
@@ -198,6 +223,7 @@ module _ (s : State) (order : List ℕ) (shape : Shape s) (passed : Passed s ord
       room = h .2;
       marks-length = shape .marks-length k in-table;
       places-valid = owned-of-owner s order (passed .sound) k in-table somebody .places;
+      rank = refl;
       marks = λ m l. refl;
       length-is = refl;
       others = λ m p f l. refl;
@@ -209,13 +235,13 @@ module _ (s : State) (order : List ℕ) (shape : Shape s) (passed : Passed s ord
         somebody : superblockAt s k .owner ≡ 255 → ⊥
         somebody q = omega (arith, h .0)
 
-    pub source-of-other-places : TakeSource s order i c k (acquired i c (superblockAt s k)) (acquiredOrder c k (superblockAt s k) order)
-    unfolding acquired acquiredOrder
+    pub source-of-other-places : TakeSource (unrankedIfEmpty k s) order i c k (acquired i c (superblockAt s k)) (acquiredOrder c k (superblockAt s k) order)
+    unfolding acquired acquiredOrder unrankedIfEmpty
     source-of-other-places = go (eqb (liveIn (superblockAt s k)) 0) refl (offered .live)
       where
         go : (t : Bool) → eqb (liveIn (superblockAt s k)) 0 ≡ t
             → (liveIn (superblockAt s k) ≡ 0) ⊎ ((superblockAt s k .owner ≡ 0) × (superblockAt s k .class ≡ c) × (liveIn (superblockAt s k) < blocksOf (superblockAt s k .class)))
-            → TakeSource s order i c k (pick t (renewedFor i c) (withOwner i (superblockAt s k))) (pick t (renewed order k (blocksOf c)) order)
+            → TakeSource (pick t (unranked k s) s) order i c k (pick t (renewedFor i c) (withOwner i (superblockAt s k))) (pick t (renewed order k (blocksOf c)) order)
         go true e h = source-of-renewed (eqb-true (liveIn (superblockAt s k)) 0 e)
         go false e (inl z) = absurd (eqb-false (liveIn (superblockAt s k)) 0 e z)
         go false e (inr h) = source-of-acquired h

@@ -7,3 +7,4 @@ pub mod MoveLaws
 pub mod ShapeLaws
 pub mod CheckReadsLaws
 pub mod RerankedLaws
+pub mod RankLaws

@@ -8,3 +8,4 @@ pub mod Decides
 pub mod FieldArrays
 pub mod ListedLaws
 pub mod NumberLists
+pub mod Pigeonhole

@@ -1,0 +1,380 @@
+-- The ranking: the check's clause says that no two ranked superblocks have one rank and none is above the number of those ranked, which a free
+-- into a superblock and a renewal keep. Assumes nothing.
+use mathlib.Core.Path.{_≡_, refl, sym, ap, _∙_, subst}
+use mathlib.Core.Bool.{Bool, true, false, not}
+use mathlib.Core.Logic.{_⊎_, inl, inr}
+use mathlib.Core.List.{List}
+use Prim.Native.Nat.{ℕ, zero, suc, _+_, _-_, _≤_, _<_}
+use native.Mathlib.Decide.{ℕ-discrete, decLt}
+use native.Mathlib.Omega.{arith}
+use borrow.Author.Tests.{eq-eqb, ne-eqb, eqb-true}
+use lib.ListN.{getD, getD-replicate}
+use lib.Dec.{T, eqb, ltb, eqb→eq, ltb→lt, lt→ltb, T-not, not-T}
+use Rattle.laws.specs.Sums.{both, either, one, allBelow}
+use Rattle.laws.proofs.TestLaws.{T-of-true, true-of-T, false-of-not-T, not-T-of-false, equal-of-iff, both-left, both-right, both-make, either-left, either-right, either-right-of-left-false, pick-true, pick-false, one-le-one}
+use Rattle.laws.proofs.SumLaws.{sum-cong, term-le-sum, pos-term-of-pos-sum, all-at, all-of-each}
+use Rattle.laws.proofs.Counting.{sum-le-of-terms-le-one}
+use Rattle.laws.proofs.ListedLaws.{getD-listed}
+use Rattle.heap.specs.declared.Superblock.{Superblock}
+use Rattle.heap.specs.declared.Setup.{Setup}
+use Rattle.heap.specs.declared.State.{State}
+use Rattle.heap.specs.Table.{blank, unused, superblockAt, liveIn, withRank, isUnused}
+use Rattle.heap.specs.States.{newState}
+use Rattle.heap.specs.Counts.{total}
+use Rattle.heap.specs.Ranks.{isRanked, isMoreRecent, rankAfterFree, rankAfterRenewal, rankedLatest, unranked, RanksFit}
+use Rattle.checkrules.specs.Check.{rankedCount, carrying, ranksValid}
+use Rattle.heaplaws.proofs.StateFacts.{Unused, RanksSound}
+use Rattle.heaplaws.proofs.StateCheckLaws.{facts-of-is-unused, is-unused-of-facts}
+use Rattle.laws.proofs.Pigeonhole.{countAbove, le-count-of-each-once, same-of-each-once, each-once-of-distinct, same-of-order-kept, count-kept, count-one-more, count-one-less}
+
+-- ---- the check's clause
+-- superblock k's rank
+abbrev pub rankAt : State → ℕ → ℕ
+rankAt s k = superblockAt s k .rank
+
+ranked-of-rank : (b : Superblock) → 0 < b .rank → T (isRanked b)
+unfolding isRanked
+ranked-of-rank b h = lt→ltb 0 (b .rank) h
+
+rank-of-ranked : (b : Superblock) → T (isRanked b) → 0 < b .rank
+unfolding isRanked
+rank-of-ranked b t = ltb→lt 0 (b .rank) t
+
+zero-of-not-positive : (n : ℕ) → (0 < n → ⊥) → n ≡ 0
+zero-of-not-positive zero f = refl
+zero-of-not-positive (suc n) f = absurd (f (omega arith))
+
+module _ (s : State) where
+  carried-once-of-valid : T (ranksValid s) → (r : ℕ) → r < rankedCount s → carrying (suc r) s ≡ 1
+  unfolding ranksValid
+  carried-once-of-valid t r l =
+      eqb→eq (carrying (suc r) s) 1 (all-at (λ r. eqb (carrying (suc r) s) 1) (rankedCount s) (both-left (allBelow (λ r. eqb (carrying (suc r) s) 1) (rankedCount s)) _ t) r l)
+
+  unused-unranked-of-valid : T (ranksValid s) → (k : ℕ) → k < 64 → Unused (superblockAt s k) → rankAt s k ≡ 0
+  unfolding ranksValid
+  unused-unranked-of-valid t k l u =
+      zero-of-not-positive (rankAt s k)
+      (λ h.
+      T-not (both (isUnused (superblockAt s k)) (isRanked (superblockAt s k)))
+      (all-at (λ k. not (both (isUnused (superblockAt s k)) (isRanked (superblockAt s k)))) 64 (both-right (allBelow (λ r. eqb (carrying (suc r) s) 1) (rankedCount s)) _ t) k l)
+      (both-make (isUnused (superblockAt s k)) _ (is-unused-of-facts _ u) (ranked-of-rank _ h)))
+
+  -- the clause as facts of the ranks, and back
+  pub ranks-sound-of-valid : T (ranksValid s) → RanksSound s
+  unfolding rankedCount carrying total isRanked
+  ranks-sound-of-valid t =
+      record {
+        bounded = le-count-of-each-once (rankAt s) 64 (carried-once-of-valid t);
+        distinct = same-of-each-once (rankAt s) 64 (carried-once-of-valid t);
+        unused-unranked = unused-unranked-of-valid t;
+      }
+
+  carried-once-of-sound : RanksSound s → (r : ℕ) → r < rankedCount s → carrying (suc r) s ≡ 1
+  unfolding rankedCount carrying total isRanked
+  carried-once-of-sound h = each-once-of-distinct (rankAt s) 64 (h .bounded) (h .distinct)
+
+  pub ranks-valid-of-sound : RanksSound s → T (ranksValid s)
+  unfolding ranksValid
+  ranks-valid-of-sound h =
+      both-make (allBelow (λ r. eqb (carrying (suc r) s) 1) (rankedCount s)) _
+      (all-of-each (λ r. eqb (carrying (suc r) s) 1) (rankedCount s) (λ r l. T-of-true _ (eq-eqb (carrying (suc r) s) 1 (carried-once-of-sound h r l))))
+      (all-of-each (λ k. not (both (isUnused (superblockAt s k)) (isRanked (superblockAt s k)))) 64 (λ k l. not-T (both (isUnused (superblockAt s k)) (isRanked (superblockAt s k))) (not-both k l)))
+    where
+      not-both : (k : ℕ) → k < 64 → T (both (isUnused (superblockAt s k)) (isRanked (superblockAt s k))) → ⊥
+      not-both k l t =
+          let u = facts-of-is-unused (superblockAt s k) (both-left (isUnused (superblockAt s k)) _ t) in
+          let r = rank-of-ranked (superblockAt s k) (both-right (isUnused (superblockAt s k)) _ t) in
+          omega (arith, h .unused-unranked k l u)
+
+  -- no rank is above the number of superblocks
+  pub ranks-fit-of-sound : RanksSound s → RanksFit s
+  unfolding rankedCount total
+  ranks-fit-of-sound h m l = omega (arith, h .bounded m l, sum-le-of-terms-le-one (λ k. one (isRanked (superblockAt s k))) 64 (λ k lk. one-le-one (isRanked (superblockAt s k))))
+
+  -- "the ranked ones carry 1 (latest) upwards, each once without a gap"
+  pub each-rank-is-carried : T (ranksValid s) → (r : ℕ) → 1 ≤ r → r ≤ rankedCount s → (k : ℕ) × (k < 64) × (superblockAt s k .rank ≡ r)
+  unfolding carrying total
+  each-rank-is-carried t zero low high = absurd (let z : ⊥ = omega arith in z)
+  each-rank-is-carried t (suc r) low high =
+      let found = pos-term-of-pos-sum (λ k. one (eqb (rankAt s k) (suc r))) 64 (omega (arith, carried-once-of-valid t r high)) in
+      (found .0, found .1, carried (found .0) (eqb (rankAt s (found .0)) (suc r)) refl (found .2))
+    where
+      carried : (k : ℕ) (b : Bool) → eqb (rankAt s k) (suc r) ≡ b → 0 < one (eqb (rankAt s k) (suc r)) → rankAt s k ≡ suc r
+      carried k true e h = eqb-true (rankAt s k) (suc r) e
+      carried k false e h = absurd (let z : ⊥ = omega (arith, ap one e) in z)
+
+-- ---- states with given ranks
+-- the facts of the ranks, from those of a function that gives them
+ranks-sound-of-ranks : (t : State) (g : ℕ → ℕ) → ((m : ℕ) → m < 64 → rankAt t m ≡ g m) → ((m : ℕ) → m < 64 → g m ≤ countAbove g 64 0)
+    → ((k m : ℕ) → k < 64 → m < 64 → 0 < g k → g k ≡ g m → k ≡ m) → ((m : ℕ) → m < 64 → Unused (superblockAt t m) → g m ≡ 0) → RanksSound t
+unfolding rankedCount total isRanked
+ranks-sound-of-ranks t g same bounded distinct unused-zero =
+    record {
+      bounded = λ k l. omega (arith, same k l, bounded k l, sum-cong (λ k. one (ltb 0 (rankAt t k))) (λ k. one (ltb 0 (g k))) 64 (λ k l. ap (λ (x : ℕ). one (ltb 0 x)) (same k l)));
+      distinct = λ k m lk lm h e. distinct k m lk lm (omega (arith, same k lk)) (sym (same k lk) ∙ e ∙ same m lm);
+      unused-unranked = λ k l u. same k l ∙ unused-zero k l u;
+    }
+
+-- a state with the same ranks, in which no more superblocks are unused
+pub ranks-sound-of-same-ranks : (s t : State) → ((k : ℕ) → k < 64 → superblockAt t k .rank ≡ superblockAt s k .rank) → ((k : ℕ) → k < 64 → Unused (superblockAt t k) → Unused (superblockAt s k))
+    → RanksSound s → RanksSound t
+unfolding rankedCount total isRanked
+ranks-sound-of-same-ranks s t same kept h = ranks-sound-of-ranks t (rankAt s) same (h .bounded) (h .distinct) (λ m l u. h .unused-unranked m l (kept m l u))
+
+-- a new state has none ranked
+pub rank-in-new-state : (u : Setup) (k : ℕ) → k < 64 → superblockAt (newState u) k .rank ≡ 0
+rank-in-new-state u k l = ap (λ (b : Superblock). b .rank) (getD-replicate 64 k unused blank l)
+
+pub new-state-ranks-sound : (u : Setup) → RanksSound (newState u)
+new-state-ranks-sound u = ranks-sound-of-ranks (newState u) (λ m. 0) (rank-in-new-state u) (λ m l. omega arith) (λ k m lk lm h e. absurd (let z : ⊥ = omega arith in z)) (λ m l e. refl)
+
+-- ---- which of two superblocks was freed into more recently
+module _ (b d : Superblock) where
+  pub more-recent-of-ranks : 0 < b .rank → (d .rank ≡ 0) ⊎ (b .rank < d .rank) → T (isMoreRecent b d)
+  unfolding isMoreRecent
+  more-recent-of-ranks h c = both-make (isRanked b) _ (ranked-of-rank b h) (go c)
+    where
+      go : (d .rank ≡ 0) ⊎ (b .rank < d .rank) → T (either (not (isRanked d)) (ltb (b .rank) (d .rank)))
+      go (inl e) = either-left (not (isRanked d)) _ (not-T (isRanked d) (λ t. let r = rank-of-ranked d t in omega arith))
+      go (inr l) = either-right (not (isRanked d)) _ (lt→ltb (b .rank) (d .rank) l)
+
+  pub ranked-of-more-recent : T (isMoreRecent b d) → 0 < b .rank
+  unfolding isMoreRecent
+  ranked-of-more-recent t = rank-of-ranked b (both-left (isRanked b) _ t)
+
+  pub lower-of-more-recent : T (isMoreRecent b d) → 0 < d .rank → b .rank < d .rank
+  unfolding isMoreRecent
+  lower-of-more-recent t h =
+      ltb→lt (b .rank) (d .rank) (either-right-of-left-false (not (isRanked d)) _ (both-right (isRanked b) _ t) (false-of-not-T _ (λ n. T-not (isRanked d) n (ranked-of-rank d h))))
+
+  -- the other of two of which one is ranked
+  pub ranks-of-not-more-recent : (T (isMoreRecent b d) → ⊥) → 0 < b .rank → (0 < d .rank) × (d .rank ≤ b .rank)
+  ranks-of-not-more-recent n h = go (d .rank) refl (decLt (b .rank) (d .rank))
+    where
+      go : (r : ℕ) → d .rank ≡ r → Dec (b .rank < d .rank) → (0 < d .rank) × (d .rank ≤ b .rank)
+      go r e (yes l) = absurd (n (more-recent-of-ranks h (inr l)))
+      go zero e (no f) = absurd (n (more-recent-of-ranks h (inl e)))
+      go (suc r) e (no f) = (omega arith, omega arith)
+
+-- ---- the two rules, in the page's words
+same-test-of-positive : (x y : ℕ) → (0 < x → 0 < y) → (0 < y → 0 < x) → ltb 0 x ≡ ltb 0 y
+same-test-of-positive x y f g = equal-of-iff (ltb 0 x) (ltb 0 y) (λ t. lt→ltb 0 y (f (ltb→lt 0 x t))) (λ t. lt→ltb 0 x (g (ltb→lt 0 y t)))
+
+module _ (k : ℕ) (table : List Superblock) where
+  -- the superblock freed into is the latest, and a renewed one has no rank
+  pub rank-after-free-of-superblock : rankAfterFree k table k ≡ 1
+  unfolding rankAfterFree
+  rank-after-free-of-superblock = pick-true _ _ _ (eq-eqb k k refl)
+
+  pub rank-after-renewal-of-superblock : rankAfterRenewal k table k ≡ 0
+  unfolding rankAfterRenewal
+  rank-after-renewal-of-superblock = pick-true _ _ _ (eq-eqb k k refl)
+
+  -- the others
+  module _ (m : ℕ) (other : m ≡ k → ⊥) where
+    rank-after-free-of-other : rankAfterFree k table m ≡ getD table m blank .rank + one (isMoreRecent (getD table m blank) (getD table k blank))
+    unfolding rankAfterFree
+    rank-after-free-of-other = pick-false _ _ _ (ne-eqb m k other)
+
+    rank-after-renewal-of-other : rankAfterRenewal k table m ≡ getD table m blank .rank - one (isMoreRecent (getD table k blank) (getD table m blank))
+    unfolding rankAfterRenewal
+    rank-after-renewal-of-other = pick-false _ _ _ (ne-eqb m k other)
+
+    -- a free into k: each that was ahead of k goes one back, and what was not stays
+    pub rank-after-free-ahead : T (isMoreRecent (getD table m blank) (getD table k blank)) → rankAfterFree k table m ≡ suc (getD table m blank .rank)
+    rank-after-free-ahead t = omega (arith, rank-after-free-of-other, ap one (true-of-T (isMoreRecent (getD table m blank) (getD table k blank)) t))
+
+    pub rank-after-free-behind : (T (isMoreRecent (getD table m blank) (getD table k blank)) → ⊥) → rankAfterFree k table m ≡ getD table m blank .rank
+    rank-after-free-behind n = omega (arith, rank-after-free-of-other, ap one (false-of-not-T (isMoreRecent (getD table m blank) (getD table k blank)) n))
+
+    -- a renewal of k: each that was behind k goes one ahead, and what was not stays
+    pub rank-after-renewal-behind : 0 < getD table k blank .rank → getD table k blank .rank < getD table m blank .rank → rankAfterRenewal k table m ≡ getD table m blank .rank - 1
+    rank-after-renewal-behind h l =
+        let t = more-recent-of-ranks (getD table k blank) (getD table m blank) h (inr l) in
+        omega (arith, rank-after-renewal-of-other, ap one (true-of-T (isMoreRecent (getD table k blank) (getD table m blank)) t))
+
+    pub rank-after-renewal-ahead : (0 < getD table k blank .rank → getD table k blank .rank < getD table m blank .rank → ⊥) → rankAfterRenewal k table m ≡ getD table m blank .rank
+    rank-after-renewal-ahead n = go (isMoreRecent (getD table k blank) (getD table m blank)) refl (getD table m blank .rank) refl
+      where
+        go : (t : Bool) → isMoreRecent (getD table k blank) (getD table m blank) ≡ t → (r : ℕ) → getD table m blank .rank ≡ r → rankAfterRenewal k table m ≡ getD table m blank .rank
+        go t e zero q = omega (arith, rank-after-renewal-of-other)
+        go true e (suc r) q =
+            absurd (n (ranked-of-more-recent _ _ (T-of-true _ e)) (lower-of-more-recent (getD table k blank) (getD table m blank) (T-of-true _ e) (omega arith)))
+        go false e (suc r) q = omega (arith, rank-after-renewal-of-other, ap one e)
+
+    -- the others stay ranked or unranked
+    ranked-of-ranked-after-free : 0 < rankAfterFree k table m → 0 < getD table m blank .rank
+    ranked-of-ranked-after-free h = go (isMoreRecent (getD table m blank) (getD table k blank)) refl
+      where
+        go : (t : Bool) → isMoreRecent (getD table m blank) (getD table k blank) ≡ t → 0 < getD table m blank .rank
+        go true e = ranked-of-more-recent _ _ (T-of-true _ e)
+        go false e = omega (arith, rank-after-free-of-other, ap one e)
+
+    pub ranked-after-free : ltb 0 (rankAfterFree k table m) ≡ ltb 0 (getD table m blank .rank)
+    ranked-after-free = same-test-of-positive _ _ ranked-of-ranked-after-free (λ h. omega (arith, rank-after-free-of-other))
+
+    ranked-of-ranked-after-renewal : 0 < rankAfterRenewal k table m → 0 < getD table m blank .rank
+    ranked-of-ranked-after-renewal h = omega (arith, rank-after-renewal-of-other)
+
+    ranked-after-renewal-of-ranked : 0 < getD table m blank .rank → 0 < rankAfterRenewal k table m
+    ranked-after-renewal-of-ranked h = go (isMoreRecent (getD table k blank) (getD table m blank)) refl
+      where
+        go : (t : Bool) → isMoreRecent (getD table k blank) (getD table m blank) ≡ t → 0 < rankAfterRenewal k table m
+        go true e =
+            omega (arith, rank-after-renewal-of-other, ap one e, ranked-of-more-recent _ _ (T-of-true _ e), lower-of-more-recent (getD table k blank) (getD table m blank) (T-of-true _ e) h)
+        go false e = omega (arith, rank-after-renewal-of-other, ap one e)
+
+    pub ranked-after-renewal : ltb 0 (rankAfterRenewal k table m) ≡ ltb 0 (getD table m blank .rank)
+    ranked-after-renewal = same-test-of-positive _ _ ranked-of-ranked-after-renewal ranked-after-renewal-of-ranked
+
+-- ---- the order of the others is kept
+module _ (k : ℕ) (s : State) (below : k < 64) (sound : RanksSound s) where
+  module _ (i j : ℕ) (li : i < 64) (lj : j < 64) (other-i : i ≡ k → ⊥) (other-j : j ≡ k → ⊥) where
+    pub order-kept-by-free : superblockAt s i .rank < superblockAt s j .rank → rankAfterFree k (s .table) i < rankAfterFree k (s .table) j
+    order-kept-by-free h =
+        rw (rank-after-free-of-other k (s .table) i other-i, rank-after-free-of-other k (s .table) j other-j)
+        (go (isMoreRecent (superblockAt s i) (superblockAt s k)) (isMoreRecent (superblockAt s j) (superblockAt s k)) refl refl)
+      where
+        go : (t u : Bool) → isMoreRecent (superblockAt s i) (superblockAt s k) ≡ t → isMoreRecent (superblockAt s j) (superblockAt s k) ≡ u → rankAt s i + one t < rankAt s j + one u
+        go false u e f = omega arith
+        go true true e f = omega arith
+        -- i goes back to just ahead of where k was, and j is behind that
+        go true false e f =
+            let r = ranks-of-not-more-recent (superblockAt s j) (superblockAt s k) (not-T-of-false _ f) (omega arith) in
+            let l = lower-of-more-recent (superblockAt s i) (superblockAt s k) (T-of-true _ e) (r .0) in
+            let apart : rankAt s j ≡ rankAt s k → ⊥ = λ q. other-j (sound .distinct j k lj below (omega arith) q) in
+            omega arith
+
+    pub order-kept-by-renewal : 0 < superblockAt s i .rank → superblockAt s i .rank < superblockAt s j .rank → rankAfterRenewal k (s .table) i < rankAfterRenewal k (s .table) j
+    order-kept-by-renewal p h =
+        rw (rank-after-renewal-of-other k (s .table) i other-i, rank-after-renewal-of-other k (s .table) j other-j)
+        (go (isMoreRecent (superblockAt s k) (superblockAt s i)) (isMoreRecent (superblockAt s k) (superblockAt s j)) refl refl)
+      where
+        go : (t u : Bool) → isMoreRecent (superblockAt s k) (superblockAt s i) ≡ t → isMoreRecent (superblockAt s k) (superblockAt s j) ≡ u → rankAt s i - one t < rankAt s j - one u
+        go t false e f = omega arith
+        go true true e f = omega arith
+        -- j comes to just behind where k was, and i is ahead of that
+        go false true e f =
+            let r = ranks-of-not-more-recent (superblockAt s k) (superblockAt s i) (not-T-of-false _ e) (ranked-of-more-recent _ _ (T-of-true _ f)) in
+            let l = lower-of-more-recent (superblockAt s k) (superblockAt s j) (T-of-true _ f) (omega arith) in
+            let apart : rankAt s i ≡ rankAt s k → ⊥ = λ q. other-i (sound .distinct i k li below p q) in
+            omega arith
+
+  -- the superblock freed into is ahead of each other that is ranked
+  pub latest-after-free : (m : ℕ) → m < 64 → (m ≡ k → ⊥) → 0 < superblockAt s m .rank → 1 < rankAfterFree k (s .table) m
+  latest-after-free m l other h = rw (rank-after-free-of-other k (s .table) m other) (go (isMoreRecent (superblockAt s m) (superblockAt s k)) refl)
+    where
+      go : (t : Bool) → isMoreRecent (superblockAt s m) (superblockAt s k) ≡ t → 1 < rankAt s m + one t
+      go true e = omega arith
+      go false e =
+          let r = ranks-of-not-more-recent (superblockAt s m) (superblockAt s k) (not-T-of-false _ e) h in
+          let apart : rankAt s m ≡ rankAt s k → ⊥ = λ q. other (sound .distinct m k l below h q) in
+          omega arith
+
+  -- no two are alike
+  distinct-after-free : (i j : ℕ) → i < 64 → j < 64 → 0 < rankAfterFree k (s .table) i → rankAfterFree k (s .table) i ≡ rankAfterFree k (s .table) j → i ≡ j
+  distinct-after-free =
+      same-of-order-kept (rankAt s) (rankAfterFree k (s .table)) 64 k (sound .distinct) (λ i a. ranked-of-ranked-after-free k (s .table) i a) (λ i j li lj a b p. order-kept-by-free i j li lj a b)
+      (λ i l a p e. let z : ⊥ = omega (arith, e, rank-after-free-of-superblock k (s .table), latest-after-free i l a (ranked-of-ranked-after-free k (s .table) i a p)) in z)
+
+  distinct-after-renewal : (i j : ℕ) → i < 64 → j < 64 → 0 < rankAfterRenewal k (s .table) i → rankAfterRenewal k (s .table) i ≡ rankAfterRenewal k (s .table) j → i ≡ j
+  distinct-after-renewal =
+      same-of-order-kept (rankAt s) (rankAfterRenewal k (s .table)) 64 k (sound .distinct) (λ i a. ranked-of-ranked-after-renewal k (s .table) i a) order-kept-by-renewal
+      (λ i l a p e. let z : ⊥ = omega (arith, e, rank-after-renewal-of-superblock k (s .table)) in z)
+
+  -- none is above their number, which grows by one where k was not ranked
+  bounded-after-free : (m : ℕ) → m < 64 → rankAfterFree k (s .table) m ≤ countAbove (rankAfterFree k (s .table)) 64 0
+  unfolding rankedCount total isRanked
+  bounded-after-free m l = go (ℕ-discrete m k)
+    where
+      after : ℕ → ℕ
+      after = rankAfterFree k (s .table)
+
+      still : (i : ℕ) → (i ≡ k → ⊥) → ltb 0 (after i) ≡ ltb 0 (rankAt s i)
+      still = ranked-after-free k (s .table)
+
+      first : after k ≡ 1
+      first = rank-after-free-of-superblock k (s .table)
+
+      others : (r : ℕ) → rankAt s k ≡ r → (t : Bool) → isMoreRecent (superblockAt s m) (superblockAt s k) ≡ t → rankAt s m + one t ≤ countAbove after 64 0
+      others zero e t f = omega (arith, one-le-one t, sound .bounded m l, count-one-more (rankAt s) after 64 k still below e (omega (arith, first)))
+      others (suc r) e t f = omega (arith, fewer t f, count-kept (rankAt s) after 64 k still (same-test-of-positive (after k) (rankAt s k) (λ p. omega arith) (λ p. omega (arith, first))))
+        where
+          fewer : (t : Bool) → isMoreRecent (superblockAt s m) (superblockAt s k) ≡ t → rankAt s m + one t ≤ rankedCount s
+          fewer true f = omega (arith, sound .bounded k below, lower-of-more-recent (superblockAt s m) (superblockAt s k) (T-of-true _ f) (omega arith))
+          fewer false f = omega (arith, sound .bounded m l)
+
+      go : Dec (m ≡ k) → after m ≤ countAbove after 64 0
+      go (yes q) = omega (arith, first, ap after q, ap (λ (x : ℕ). one (ltb 0 x)) first, term-le-sum (λ i. one (ltb 0 (after i))) 64 k below)
+      go (no a) = rw (rank-after-free-of-other k (s .table) m a) (others (rankAt s k) refl _ refl)
+
+  -- and falls by one where k was ranked
+  bounded-after-renewal : (m : ℕ) → m < 64 → rankAfterRenewal k (s .table) m ≤ countAbove (rankAfterRenewal k (s .table)) 64 0
+  unfolding rankedCount total isRanked
+  bounded-after-renewal m l = go (ℕ-discrete m k)
+    where
+      after : ℕ → ℕ
+      after = rankAfterRenewal k (s .table)
+
+      still : (i : ℕ) → (i ≡ k → ⊥) → ltb 0 (after i) ≡ ltb 0 (rankAt s i)
+      still = ranked-after-renewal k (s .table)
+
+      none : after k ≡ 0
+      none = rank-after-renewal-of-superblock k (s .table)
+
+      others : (m ≡ k → ⊥) → (r : ℕ) → rankAt s k ≡ r → (t : Bool) → isMoreRecent (superblockAt s k) (superblockAt s m) ≡ t → rankAt s m - one t ≤ countAbove after 64 0
+      others a zero e t f = omega (arith, sound .bounded m l, count-kept (rankAt s) after 64 k still (same-test-of-positive (after k) (rankAt s k) (λ p. omega (arith, none)) (λ p. omega arith)))
+      others a (suc r) e t f = fewer t f (rankAt s m) refl
+        where
+          count : rankedCount s ≡ suc (countAbove after 64 0)
+          count = count-one-less (rankAt s) after 64 k still below (omega arith) none
+
+          fewer : (t : Bool) → isMoreRecent (superblockAt s k) (superblockAt s m) ≡ t → (x : ℕ) → rankAt s m ≡ x → rankAt s m - one t ≤ countAbove after 64 0
+          fewer true f x q = omega (arith, sound .bounded m l, count)
+          fewer false f zero q = omega arith
+          fewer false f (suc x) q =
+              let b = ranks-of-not-more-recent (superblockAt s k) (superblockAt s m) (not-T-of-false _ f) (omega arith) in
+              let apart : rankAt s m ≡ rankAt s k → ⊥ = λ z. a (sound .distinct m k l below (omega arith) z) in
+              omega (arith, sound .bounded k below, count)
+
+      go : Dec (m ≡ k) → after m ≤ countAbove after 64 0
+      go (yes q) = omega (arith, ap after q, none)
+      go (no a) = rw (rank-after-renewal-of-other k (s .table) m a) (others a (rankAt s k) refl _ refl)
+
+-- ---- the states after a free and after a renewal
+module _ (k : ℕ) (s : State) (m : ℕ) (l : m < 64) where
+  pub superblock-at-ranked-latest : superblockAt (rankedLatest k s) m ≡ withRank (rankAfterFree k (s .table) m) (superblockAt s m)
+  unfolding rankedLatest
+  superblock-at-ranked-latest = getD-listed (λ i. withRank (rankAfterFree k (s .table) i) (superblockAt s i)) 64 m blank l
+
+  pub superblock-at-unranked : superblockAt (unranked k s) m ≡ withRank (rankAfterRenewal k (s .table) m) (superblockAt s m)
+  unfolding unranked
+  superblock-at-unranked = getD-listed (λ i. withRank (rankAfterRenewal k (s .table) i) (superblockAt s i)) 64 m blank l
+
+-- another rank makes no superblock unused
+unused-with-rank : (r : ℕ) (b d : Superblock) → d ≡ withRank r b → Unused d → Unused b
+unused-with-rank r b d e h =
+    record {
+      owner = ap (λ (x : Superblock). x .owner) (sym e) ∙ h .owner;
+      class = ap (λ (x : Superblock). x .class) (sym e) ∙ h .class;
+      live = ap (λ (x : Superblock). liveIn x) (sym e) ∙ h .live;
+    }
+
+-- a free into a superblock that is not unused, and a renewal, keep the ranking's facts
+pub ranked-latest-ranks-sound : (k : ℕ) (s : State) → k < 64 → (Unused (superblockAt s k) → ⊥) → RanksSound s → RanksSound (rankedLatest k s)
+ranked-latest-ranks-sound k s below in-use sound =
+    ranks-sound-of-ranks (rankedLatest k s) (rankAfterFree k (s .table)) (λ m l. ap (λ (b : Superblock). b .rank) (superblock-at-ranked-latest k s m l)) (bounded-after-free k s below sound)
+    (distinct-after-free k s below sound) (λ m l u. unused-zero m l (unused-with-rank _ (superblockAt s m) _ (superblock-at-ranked-latest k s m l) u) (ℕ-discrete m k))
+  where
+    unused-zero : (m : ℕ) → m < 64 → Unused (superblockAt s m) → Dec (m ≡ k) → rankAfterFree k (s .table) m ≡ 0
+    unused-zero m l u (yes q) = absurd (in-use (subst (λ (i : ℕ). Unused (superblockAt s i)) q u))
+    unused-zero m l u (no a) = zero-of-not-positive _ (λ h. let r = ranked-of-ranked-after-free k (s .table) m a h in omega (arith, sound .unused-unranked m l u))
+
+pub unranked-ranks-sound : (k : ℕ) (s : State) → k < 64 → RanksSound s → RanksSound (unranked k s)
+unranked-ranks-sound k s below sound =
+    ranks-sound-of-ranks (unranked k s) (rankAfterRenewal k (s .table)) (λ m l. ap (λ (b : Superblock). b .rank) (superblock-at-unranked k s m l)) (bounded-after-renewal k s below sound)
+    (distinct-after-renewal k s below sound) (λ m l u. unused-zero m l (unused-with-rank _ (superblockAt s m) _ (superblock-at-unranked k s m l) u) (ℕ-discrete m k))
+  where
+    unused-zero : (m : ℕ) → m < 64 → Unused (superblockAt s m) → Dec (m ≡ k) → rankAfterRenewal k (s .table) m ≡ 0
+    unused-zero m l u (yes q) = ap (rankAfterRenewal k (s .table)) q ∙ rank-after-renewal-of-superblock k (s .table)
+    unused-zero m l u (no a) = zero-of-not-positive _ (λ h. let r = ranked-of-ranked-after-renewal k (s .table) m a h in omega (arith, sound .unused-unranked m l u))
