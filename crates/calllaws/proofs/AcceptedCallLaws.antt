@@ -21,6 +21,7 @@ use Rattle.choicerules.specs.Choice.{fullest}
 use Rattle.checkrules.specs.Check.{withinLimits, restValid, passes}
 use Rattle.heaplaws.proofs.StateFacts.{Shape}
 use Rattle.heaplaws.proofs.StateCheckLaws.{passes-of-sound, new-state-sound, new-state-names-valid}
+use Rattle.heaplaws.proofs.RankLaws.{ranks-valid-of-sound, new-state-ranks-sound}
 use Rattle.heaplaws.proofs.TotalsLaws.{new-state-totals-kept}
 use Rattle.calls.specs.declared.Outcome.the-variants.{Address, Moves, Refused}
 use Rattle.calls.specs.declared.Call.{Call}
@@ -107,7 +108,7 @@ unfolding numberOf
 refused-passes-if-accepted x r s order e n z = absurd (n (ap (λ (y : After). y .answer .outcome) e ∙ ap Refused (sym (ap (λ (y : After). numberOf (y .answer .outcome)) e) ∙ z)))
 
 passes-true-of-passed : (s : State) (order : List ℕ) → Passed s order → passes s order ≡ true
-passes-true-of-passed s order p = true-of-T (passes s order) (passes-of-sound s order (p .sound) (p .names) (p .totals))
+passes-true-of-passed s order p = true-of-T (passes s order) (passes-of-sound s order (p .sound) (p .names) (p .totals) (ranks-valid-of-sound s (p .ranks)))
 
 -- ---- the calls
 -- a call that is refused, or leaves a state that passes
@@ -137,6 +138,6 @@ unfolding setupOf numberOf
 setup-passes-if-accepted u order = go (withinLimits u) (leb (u .superblocks * 256) (length order)) refl
   where
     go : (a b : Bool) → withinLimits u ≡ a → PassesIfAccepted (setupByTests u order a b .answer .outcome) (setupByTests u order a b .answer .state) (setupByTests u order a b .order)
-    go true true e z = true-of-T (passes (newState u) (cleared order (u .superblocks * 256))) (passes-of-sound (newState u) _ (new-state-sound u _ (T-of-true (withinLimits u) e)) (new-state-names-valid u) (new-state-totals-kept u))
+    go true true e z = true-of-T (passes (newState u) (cleared order (u .superblocks * 256))) (passes-of-sound (newState u) _ (new-state-sound u _ (T-of-true (withinLimits u) e)) (new-state-names-valid u) (new-state-totals-kept u) (ranks-valid-of-sound (newState u) (new-state-ranks-sound u)))
     go true false e z = absurd (omega (arith, z))
     go false b e z = absurd (omega (arith, z))

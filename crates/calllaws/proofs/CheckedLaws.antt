@@ -12,6 +12,9 @@ use Rattle.laws.proofs.TestLaws.{T-of-true, true-of-T, both-left, both-right}
 use Rattle.heap.specs.declared.State.{State}
 use Rattle.checkrules.specs.Check.{withinLimits, restValid, passes}
 use Rattle.heaplaws.proofs.StateCheckLaws.{passes-of-sound, sound-of-limits-and-rest, names-valid-of-rest, totals-kept-of-rest, ranks-valid-of-rest}
+use Rattle.heap.specs.Ranks.{reranked}
+use Rattle.heaplaws.proofs.StateFacts.{RanksSound}
+use Rattle.heaplaws.proofs.RerankedLaws.{reranked-sound, reranked-names-valid, reranked-totals-kept}
 use Rattle.heaplaws.proofs.RankLaws.{ranks-sound-of-valid, ranks-valid-of-sound}
 use Rattle.calllaws.proofs.CallEffects.{Passed}
 use Rattle.calls.specs.Answers.{After, refused, checked, isProcessor}
@@ -57,3 +60,8 @@ checked-refuses-13-of-rest s order next e l f = rw (e, le-leb (s .setup .superbl
 pub bounds-of-is-processor : (s : State) (i : ℕ) → T (isProcessor s i) → (1 ≤ i) × (i ≤ s .setup .processors)
 unfolding isProcessor
 bounds-of-is-processor s i t = (leb→le 1 i (both-left (leb 1 i) (leb i (s .setup .processors)) t), leb→le i (s .setup .processors) (both-right (leb 1 i) (leb i (s .setup .processors)) t))
+
+-- the state with other ranks passes, where these are a ranking
+pub reranked-passed : (rank : ℕ → ℕ) (s : State) (order : List ℕ) → length (s .table) ≡ 64 → Passed s order → RanksSound (reranked rank s) → Passed (reranked rank s) order
+reranked-passed rank s order long p ranks =
+    record { sound = reranked-sound rank s long order (p .sound); names = reranked-names-valid rank s long (p .names); totals = reranked-totals-kept rank s long (p .totals); ranks = ranks; room = p .room }

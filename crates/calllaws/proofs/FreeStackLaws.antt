@@ -4,7 +4,7 @@ use mathlib.Core.Path.{_≡_, refl, sym, ap, ap₂, _∙_, subst}
 use mathlib.Core.Bool.{Bool, true, false}
 use mathlib.Core.Logic.{_⊎_, inl, inr}
 use mathlib.Core.List.{List, [], _∷_}
-use Prim.Native.Nat.{ℕ, zero, suc, _+_, _-_, _*_, _≤_, _<_}
+use Prim.Native.Nat.{ℕ, zero, suc, _+_, _-_, _*_, _/_, _≤_, _<_}
 use native.Mathlib.Decide.{ℕ-discrete, decLt}
 use native.Mathlib.Omega.{arith}
 use borrow.Author.Tests.{eqb-true, eqb-false, eq-eqb}
@@ -12,10 +12,10 @@ use lib.ListN.{length, getD}
 use lib.Seq.{getD-set-same, getD-set-other, set-out}
 use lib.Dec.{eqb}
 use Rattle.laws.specs.Sums.{pick}
-use Rattle.classes.specs.Classes.{blocksOf, classOf}
+use Rattle.classes.specs.Classes.{sizeOf, blocksOf, classOf}
 use Rattle.classes.proofs.ClassTableLaws.{blocks-of-le-256, blocks-of-pos}
 use Rattle.classes.proofs.ClassLaws.{class-of-lt-27}
-use Rattle.marks.specs.Marks.{liveCount}
+use Rattle.marks.specs.Marks.{liveCount, withoutMark}
 use Rattle.marklaws.proofs.MarkLaws.{live-count-without-mark, live-count-of-no-marks}
 use Rattle.order.specs.Order.{place, lastFilled, withPlace, renewed}
 use Rattle.orderlaws.proofs.OrderLaws.{last-filled-is-place, renewed-place, renewed-other-superblock, with-place-same, with-place-other-place, with-place-other-superblock}
@@ -25,6 +25,9 @@ use Rattle.heap.specs.declared.State.{State}
 use Rattle.heap.specs.declared.Found.{Found}
 use Rattle.heap.specs.declared.Found.the-variants.{At, Nothing}
 use Rattle.heap.specs.Table.{blank, superblockAt, liveIn, withOwner, withoutMarkAt}
+use Rattle.heap.specs.Ranks.{rankAfterFree, reranked, rankedLatest, unranked}
+use Rattle.laws.proofs.ListedLaws.{length-listed}
+use Rattle.heaplaws.proofs.RerankedLaws.{reranked-class, reranked-live, reranked-keeps}
 use Rattle.heap.specs.States.{withSuperblock}
 use Rattle.choicerules.specs.Choice.{fullest, emptiest}
 use Rattle.moverules.specs.Moves.{mustMove, transferred, foundTransferred, transfersUpTo, excessTransferred, invariantRestored}
@@ -36,8 +39,8 @@ use Rattle.calls.specs.declared.Call.{Call}
 use Rattle.calls.specs.declared.Call.the-variants.{Take, Free, NamedTake, NamedFree}
 use Rattle.calls.specs.declared.Outcome.the-variants.{Address}
 use Rattle.calls.specs.Answers.{After, refused}
-use Rattle.calls.specs.Take.{otherPlaces, renewedFor, acquired, acquiredOrder, addressOf, takenFrom, takenFromOther, takeOf}
-use Rattle.calls.specs.Free.{superblockIndex, superblockHolding, blockOf, markCleared, orderPushed, blockFreed, freedAt, freeOf}
+use Rattle.calls.specs.Take.{otherPlaces, renewedFor, acquired, acquiredOrder, unrankedIfEmpty, addressOf, takenFrom, takenFromOther, takeOf}
+use Rattle.calls.specs.Free.{superblockIndex, offsetOf, superblockHolding, blockOf, markCleared, orderPushed, blockFreed, freedAt, freeOf}
 use Rattle.calls.specs.Named.{namedTakeOf, heldAddress, namedFreeOf}
 use Rattle.calls.specs.Calls.{callOf}
 use Rattle.calllaws.proofs.NamedCallLaws.{named-take-refused-or-accepted, named-take-state, named-take-order, named-take-shape, named-free-refused-or-accepted}
@@ -176,12 +179,43 @@ module _ (s : State) (order : List ℕ) (i a : ℕ) (shape : Shape s) (acc : Fre
   home-lt-64 : home < 64
   home-lt-64 = omega (arith, free-effect s order i a shape acc .below, acc .passed .sound .numbers .superblocks-high)
 
+  -- ranks fill and empty no place
+  filled-whatever-the-ranks : (m : ℕ) → filledIn (superblockAt (blockFreed s a) m) ≡ filledIn (superblockAt (markCleared s a) m)
+  unfolding blockFreed markCleared rankedLatest blockOf
+  filled-whatever-the-ranks m = go (ℕ-discrete m home)
+    where
+      rank : ℕ → ℕ
+      rank = rankAfterFree home (s .table)
+
+      class-same : superblockAt (reranked rank s) home .class ≡ superblockAt s home .class
+      class-same = reranked-class rank s (shape .length-is) home
+
+      now : Superblock
+      now = withoutMarkAt (superblockAt (reranked rank s) home) (blockOf (reranked rank s) a)
+
+      was : Superblock
+      was = withoutMarkAt (superblockHolding s a) (blockOf s a)
+
+      same : filledIn now ≡ filledIn was
+      same =
+          ap₂ (λ (c : ℕ) (l : List ℕ). blocksOf c - liveCount l) class-same
+          (ap₂ (λ (l : List ℕ) (c : ℕ). withoutMark l (offsetOf a / sizeOf c)) (reranked-live rank s (shape .length-is) home) class-same)
+
+      go : Dec (m ≡ home) → filledIn (superblockAt (withSuperblock (reranked rank s) home now) m) ≡ filledIn (superblockAt (withSuperblock s home was) m)
+      go (yes e) =
+          ap (λ (j : ℕ). filledIn (superblockAt (withSuperblock (reranked rank s) home now) j)) e
+          ∙ ap filledIn (superblock-at-replaced (reranked rank s) home now (length-listed _ 64) home-lt-64) ∙ same ∙ sym (ap filledIn (superblock-at-replaced s home was (shape .length-is) home-lt-64))
+          ∙ ap (λ (j : ℕ). filledIn (superblockAt (withSuperblock s home was) j)) (sym e)
+      go (no f) =
+          ap filledIn (superblock-at-others (reranked rank s) home now m f) ∙ reranked-keeps rank s (shape .length-is) filledIn (λ r b. refl) m ∙ sym (ap filledIn (superblock-at-others s home was m f))
+
   -- the stacks after the free, by the state before the moves
   stack-after : (m : ℕ) → stackOf (freeOf s order i a .answer .state) (freeOf s order i a .order) m ≡ stackOf (markCleared s a) (orderPushed s order a) m
-  unfolding freedAt blockFreed stackOf
+  unfolding freedAt
   stack-after m =
       ap (λ (x : After). stackOf (x .answer .state) (x .order) m) (acc .result-is)
       ∙ invariant-restored-keeps-stacks (superblockHolding s a .owner) (superblockHolding s a .class) (blockFreed s a) (orderPushed s order a) m
+      ∙ stack-cong (markCleared s a) (blockFreed s a) (orderPushed s order a) (orderPushed s order a) m (filled-whatever-the-ranks m) (λ p l. refl)
 
   mark-cleared-at-home : superblockAt (markCleared s a) home ≡ withoutMarkAt (superblockHolding s a) (blockOf s a)
   unfolding markCleared
@@ -255,11 +289,11 @@ module _ (s : State) (order : List ℕ) (i size k : ℕ) (shape : Shape s) (acc 
     last : takeOf s order i size .answer .outcome ≡ Address (addressOf k (superblockAt s k .class) (lastFilled order k (filledIn (superblockAt s k))))
 
   taken-without-renewal : (RenewedByTake s i size k → ⊥) → TakenWithoutRenewal
-  unfolding acquired acquiredOrder lastBlockOf
+  unfolding acquired acquiredOrder unrankedIfEmpty lastBlockOf
   taken-without-renewal not-renewed = go (acc .place)
     where
       by-live : fullest i (classOf size) s ≡ Nothing → (t : Bool) → eqb (liveIn (superblockAt s k)) 0 ≡ t
-          → takeOf s order i size ≡ takenWith k s (pick t (renewedFor i (classOf size)) (withOwner i (superblockAt s k))) (pick t (renewed order k blocks) order) → TakenWithoutRenewal
+          → takeOf s order i size ≡ takenWith k (pick t (unranked k s) s) (pick t (renewedFor i (classOf size)) (withOwner i (superblockAt s k))) (pick t (renewed order k blocks) order) → TakenWithoutRenewal
       by-live none true q e = absurd (not-renewed (record { not-own = none; empty = eqb-true (liveIn (superblockAt s k)) 0 q }))
       by-live none false q e =
           record { class = was-class (take-effect s order i size k shape acc .before); stays = ap (λ (x : After). x .order) e; last = ap (λ (x : After). x .answer .outcome) e }
@@ -277,7 +311,7 @@ module _ (s : State) (order : List ℕ) (i size k : ℕ) (shape : Shape s) (acc 
             stays = ap (λ (x : After). x .order) e2;
             last = ap (λ (x : After). x .answer .outcome) e2;
           }
-      go (inr (f, g, e)) = by-live f (eqb (liveIn (superblockAt s k)) 0) refl (e ∙ taken-from-other-is-taken-with i (classOf size) k s order (omega (arith, taken-superblock-lt-64, shape .length-is)))
+      go (inr (f, g, e)) = by-live f (eqb (liveIn (superblockAt s k)) 0) refl (e ∙ taken-from-other-is-taken-with i (classOf size) k s order taken-superblock-lt-64 (shape .length-is))
 
   module _ (not-renewed : RenewedByTake s i size k → ⊥) where
     abbrev places-left : ℕ
@@ -308,20 +342,20 @@ module _ (s : State) (order : List ℕ) (i size k : ℕ) (shape : Shape s) (acc 
     )
 
   module _ (renewing : RenewedByTake s i size k) where
-    renewed-result : takeOf s order i size ≡ takenWith k s (renewedFor i (classOf size)) (renewed order k blocks)
-    unfolding acquired acquiredOrder
+    renewed-result : takeOf s order i size ≡ takenWith k (unranked k s) (renewedFor i (classOf size)) (renewed order k blocks)
+    unfolding acquired acquiredOrder unrankedIfEmpty
     renewed-result = go (acc .place)
       where
         go : ((fullest i (classOf size) s ≡ At k) × (takeOf s order i size ≡ takenFrom k s order))
             ⊎ ((fullest i (classOf size) s ≡ Nothing) × (otherPlaces (classOf size) s ≡ At k) × (takeOf s order i size ≡ takenFromOther i (classOf size) k s order))
-            → takeOf s order i size ≡ takenWith k s (renewedFor i (classOf size)) (renewed order k blocks)
+            → takeOf s order i size ≡ takenWith k (unranked k s) (renewedFor i (classOf size)) (renewed order k blocks)
         go (inl (f, e)) = absurd (found-one (sym f ∙ renewing .not-own))
           where
             found-one : At k ≡ Nothing → ⊥
             found-one q = let z : _≡_ {A = ℕ} 0 1 = cc in omega arith
         go (inr (f, g, e)) =
-            e ∙ taken-from-other-is-taken-with i (classOf size) k s order (omega (arith, taken-superblock-lt-64, shape .length-is))
-            ∙ ap (λ (t : Bool). takenWith k s (pick t (renewedFor i (classOf size)) (withOwner i (superblockAt s k))) (pick t (renewed order k blocks) order))
+            e ∙ taken-from-other-is-taken-with i (classOf size) k s order taken-superblock-lt-64 (shape .length-is)
+            ∙ ap (λ (t : Bool). takenWith k (pick t (unranked k s) s) (pick t (renewedFor i (classOf size)) (withOwner i (superblockAt s k))) (pick t (renewed order k blocks) order))
             (eq-eqb (liveIn (superblockAt s k)) 0 (renewing .empty))
 
     fits : k * 256 + blocks ≤ length order

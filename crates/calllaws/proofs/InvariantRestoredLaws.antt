@@ -1,7 +1,7 @@
 -- A live block freed and the move rule followed to its end: what becomes of the state. Assumes nothing.
 use mathlib.Core.Path.{_≡_, refl, sym, ap, _∙_, subst}
 use mathlib.Core.Bool.{Bool, true, false}
-use mathlib.Core.Logic.{_⊎_, inl, inr}
+use mathlib.Core.Logic.{_⊎_, inl, inr, ⊎-elim}
 use mathlib.Core.List.{List}
 use Prim.Native.Nat.{ℕ, suc, _+_, _-_, _*_, _≤_, _<_, zero-le}
 use native.Mathlib.Nat.{mul-one, le-refl, pos-of-ne-zero}
@@ -11,19 +11,20 @@ use lib.ListN.{length}
 use lib.Dec.{T, eqb}
 use Rattle.laws.specs.Sums.{pick}
 use Rattle.classes.specs.Classes.{blocksOf}
-use Rattle.marks.specs.Marks.{markBit}
+use Rattle.marks.specs.Marks.{markBit, liveCount}
 use Rattle.heap.specs.declared.State.{State}
 use Rattle.heap.specs.declared.Moved.{Moved}
 use Rattle.heap.specs.Table.{superblockAt, withoutMarkAt}
 use Rattle.heap.specs.Counts.{blocksIn, liveOf, ownersChanged}
 use Rattle.moverules.specs.Moves.{mustMove, excessTransferred}
-use Rattle.heaplaws.proofs.StateFacts.{Shape, WithinLimits, Sound, TransferredFrom}
+use Rattle.heaplaws.proofs.StateFacts.{Shape, WithinLimits, Unused, Sound, RanksSound, TransferredFrom}
 use Rattle.heap.specs.Totals.{TotalsKept}
+use Rattle.heaplaws.proofs.RankLaws.{ranks-sound-of-same-ranks}
 use Rattle.heaplaws.proofs.TotalsLaws.{totals-kept-with-superblock}
 use Rattle.heaplaws.proofs.MoveLaws.{transferred-from-self, owners-changed-self, excess-transferred-from, moves-le-q-times-freed, owners-changed-is-moves, not-must-move-after-excess-transferred}
 use Rattle.calllaws.proofs.CallEffects.{FreeEffect}
-use Rattle.calllaws.proofs.TransferredLaws.{transferred-live, transferred-class, transferred-owner, transferred-shape, sound-after-transfers}
-use Rattle.calllaws.proofs.MarkClearedLaws.{LiveBlock, withMarkCleared, withBlockPushed, ownerAt, classAt, live-block-superblock-lt-64, live-block-superblock-owned, mark-cleared-shape, mark-cleared-class, mark-cleared-owner, mark-cleared-bit, mark-cleared-other-bits, mark-cleared-owned-of, mark-cleared-live-of-class, mark-cleared-live-of-other-classes, mark-cleared-owners-changed, mark-cleared-sound-except, mark-cleared-condition-fails}
+use Rattle.calllaws.proofs.TransferredLaws.{transferred-live, transferred-class, transferred-rank, transferred-owner, transferred-shape, sound-after-transfers}
+use Rattle.calllaws.proofs.MarkClearedLaws.{LiveBlock, withMarkCleared, withBlockPushed, ownerAt, classAt, live-block-superblock-lt-64, live-block-superblock-owned, mark-cleared-shape, mark-cleared-class, mark-cleared-owner, mark-cleared-rank, unused-of-mark-cleared-unused, mark-cleared-bit, mark-cleared-other-bits, mark-cleared-owned-of, mark-cleared-live-of-class, mark-cleared-live-of-other-classes, mark-cleared-owners-changed, mark-cleared-sound-except, mark-cleared-condition-fails}
 use Rattle.moverules.specs.Moves.{invariantRestored}
 
 -- the move rule followed to its end, for heap h and class c, from state s
@@ -80,6 +81,22 @@ module _ (s : State) (order : List ℕ) (k j : ℕ) (live : LiveBlock s order k 
 
     pub invariant-restored-totals-kept : TotalsKept (m .state)
     invariant-restored-totals-kept = done .from .totals cleared-totals-kept
+
+    -- the moves keep the ranks: "passing between heaps keeps the rank"
+    pub invariant-restored-ranks : (i : ℕ) → i < 64 → superblockAt (m .state) i .rank ≡ superblockAt s i .rank
+    invariant-restored-ranks i l = transferred-rank (ownerAt s k) (classAt s k) (withMarkCleared s k j) (m .state) (done .from) i l ∙ mark-cleared-rank s order k j live i l
+
+    pub invariant-restored-ranks-sound : RanksSound (m .state)
+    invariant-restored-ranks-sound = ranks-sound-of-same-ranks s (m .state) invariant-restored-ranks was-unused (live .passed .ranks)
+      where
+        was-unused : (i : ℕ) → i < 64 → Unused (superblockAt (m .state) i) → Unused (superblockAt s i)
+        was-unused i l u =
+            unused-of-mark-cleared-unused s order k j live i l
+            (record {
+              owner = ⊎-elim (λ e. sym e ∙ u .owner) (λ h. absurd (let z : ⊥ = omega (arith, h .1, u .owner) in z)) (transferred-owner (ownerAt s k) (classAt s k) (withMarkCleared s k j) (m .state) (done .from) i l);
+              class = sym (transferred-class (ownerAt s k) (classAt s k) (withMarkCleared s k j) (m .state) (done .from) i l) ∙ u .class;
+              live = sym (ap liveCount (transferred-live (ownerAt s k) (classAt s k) (withMarkCleared s k j) (m .state) (done .from) i l)) ∙ u .live;
+            })
 
     restored-mark-bits-same : (i : ℕ) → i < 64 → (b : ℕ) → markBit (superblockAt (m .state) i .live) b ≡ markBit (superblockAt (withMarkCleared s k j) i .live) b
     restored-mark-bits-same i l b = ap (λ (x : List ℕ). markBit x b) (transferred-live (ownerAt s k) (classAt s k) (withMarkCleared s k j) (m .state) (done .from) i l)

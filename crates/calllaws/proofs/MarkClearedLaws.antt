@@ -117,6 +117,13 @@ module _ (s : State) (order : List ℕ) (k j : ℕ) (live : LiveBlock s order k 
   pub mark-cleared-owner : (m : ℕ) → m < 64 → superblockAt (withMarkCleared s k j) m .owner ≡ superblockAt s m .owner
   mark-cleared-owner = mark-cleared-each (λ m b. b .owner ≡ superblockAt s m .owner) refl (λ m l f. refl)
 
+  pub mark-cleared-rank : (m : ℕ) → m < 64 → superblockAt (withMarkCleared s k j) m .rank ≡ superblockAt s m .rank
+  mark-cleared-rank = mark-cleared-each (λ m b. b .rank ≡ superblockAt s m .rank) refl (λ m l f. refl)
+
+  -- no more superblocks are unused
+  pub unused-of-mark-cleared-unused : (m : ℕ) → m < 64 → Unused (superblockAt (withMarkCleared s k j) m) → Unused (superblockAt s m)
+  unused-of-mark-cleared-unused = mark-cleared-each (λ m b. Unused b → Unused (superblockAt s m)) (λ u. absurd (live .owned (u .owner))) (λ m l f u. u)
+
   pub mark-cleared-bit : markBit (superblockAt (withMarkCleared s k j) k .live) j ≡ 0
   mark-cleared-bit = ap (λ (b : Superblock). markBit (b .live) j) mark-cleared-at-superblock ∙ without-mark-same (superblockAt s k .live) j
 

@@ -34,6 +34,7 @@ use Rattle.calls.specs.Answers.{After, refused, isProcessor}
 use Rattle.calls.specs.Take.{addressOf, takeUnchecked, takeOf}
 use Rattle.calls.specs.Free.{superblockIndex, superblockHolding, blockOf, isUnmapped, isMisaligned, isLiveAt, freeUnchecked, freeOf}
 use Rattle.calls.specs.Named.{isUnavailable, nameBound, boundBy, withNameBound, namedTakeUnchecked, namedTakeOf, heldAddress, namedFreeUnchecked, namedFreeOf}
+use Rattle.heaplaws.proofs.RankLaws.{ranks-sound-of-same-ranks}
 use Rattle.calllaws.proofs.CallEffects.{Passed, TakeAccepted, FreeAccepted, NamedTakeAccepted, NamedFreeAccepted, TakeEffect}
 use Rattle.calllaws.proofs.CheckedLaws.{checked-refused-or-passed, checked-is-next-of-passed, bounds-of-is-processor}
 use Rattle.calllaws.proofs.NamesKeptLaws.{mark-of-live-block, live-block-in-table, names-valid-after-named-take}
@@ -177,6 +178,7 @@ module _ (s : State) (order : List ℕ) (i m size k : ℕ) (shape : Shape s) (ac
         sound = sound-with-names (plain .answer .state) (withName (s .names) m (blockNumber k named-taken-block)) (plain .order) (passed .sound);
         names = names-valid-after-named-take i (classOf size) k named-taken-block s (plain .answer .state) block effect m below (take-names s order i size k shape (acc .taken)) (acc .taken .passed .names);
         totals = passed .totals;
+        ranks = ranks-sound-of-same-ranks (plain .answer .state) (withNames (plain .answer .state) (withName (s .names) m (blockNumber k named-taken-block))) (λ j l. refl) (λ j l u. u) (passed .ranks);
         room = passed .room;
       }))
 

@@ -8,7 +8,7 @@ use Rattle.heap.specs.declared.Superblock.{Superblock}
 use Rattle.heap.specs.declared.State.{State}
 use Rattle.heap.specs.declared.Found.the-variants.{Nothing}
 use Rattle.heap.specs.Table.{superblockAt, liveIn, isUnused}
-use Rattle.choicerules.specs.Choice.{moreLive, neverPreferred, hasFree, emptyInGlobal, fullest, lowestEmpty, lowestUnused}
+use Rattle.choicerules.specs.Choice.{fullerOrMoreRecent, neverPreferred, hasFree, emptyInGlobal, fullest, lowestEmpty, lowestUnused}
 use Rattle.heaplaws.proofs.StateFacts.{Unused}
 use Rattle.heaplaws.proofs.StateCheckLaws.{facts-of-is-unused, is-unused-of-facts}
 use Rattle.heaplaws.proofs.ChoiceLaws.{chosen-nothing-of-none-meets, facts-of-has-free, has-free-of-facts, facts-of-empty-in-global, empty-in-global-of-facts, none-free-of-fullest-nothing, none-empty-of-lowest-empty-nothing, none-unused-of-lowest-unused-nothing}
@@ -50,7 +50,7 @@ module _ (s : State) (i c : ℕ) (few : s .setup .superblocks ≤ 64) where
   fullest-nothing-of-none-free : (h : ℕ) → ((k : ℕ) → k < 64 → HasFree h c (superblockAt s k) → ⊥) → fullest h c s ≡ Nothing
   unfolding fullest
   fullest-nothing-of-none-free h f =
-      chosen-nothing-of-none-meets (hasFree h c) moreLive (s .table) 64 (λ k l t.
+      chosen-nothing-of-none-meets (hasFree h c) fullerOrMoreRecent (s .table) 64 (λ k l t.
       let w = facts-of-has-free h c (superblockAt s k) t in
       f k l (record { owner = w .0; class = w .1; free = w .2 }))
 

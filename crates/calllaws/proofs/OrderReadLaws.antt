@@ -33,7 +33,7 @@ use Rattle.calls.specs.declared.Answer.{Answer}
 use Rattle.calls.specs.declared.Outcome.the-variants.{Address}
 use Rattle.calls.specs.Answers.{After, refused, checked, isProcessor}
 use Rattle.calls.specs.Setup.{setupOf}
-use Rattle.calls.specs.Take.{otherPlaces, acquired, acquiredOrder, nextBlock, addressOf, takenFrom, takenFromOther, takenAt, takeUnchecked}
+use Rattle.calls.specs.Take.{otherPlaces, acquired, acquiredOrder, unrankedIfEmpty, nextBlock, addressOf, takenFrom, takenFromOther, takenAt, takeUnchecked}
 use Rattle.calls.specs.Free.{superblockIndex, superblockHolding, blockOf, isUnmapped, isMisaligned, isLiveAt, orderPushed, freedAt, freeUnchecked}
 use Rattle.calls.specs.Named.{isUnavailable, boundBy, withNameBound, heldAddress, namedTakeUnchecked, namedFreeUnchecked}
 use Rattle.calls.specs.Calls.{callOf, callUnchecked}
@@ -113,7 +113,7 @@ module _ (s : State) (x y : List ℕ) (h : SameFirst (s .setup .superblocks * 25
           taken-from-agrees n k s x y h (omega (arith, fullest-below-superblocks s x passed i (classOf size) k (bounds-of-is-processor s i (T-of-true (isProcessor s i) ep) .1) eo))
       go true false Nothing (At k) ep eo et passed =
           let l : k * 256 + 256 ≤ n = omega (arith, other-places-below-superblocks s x passed (classOf size) k et) in
-          taken-from-agrees n k (withSuperblock s k (acquired i (classOf size) (superblockAt s k))) (acquiredOrder (classOf size) k (superblockAt s k) x) (acquiredOrder (classOf size) k (superblockAt s k) y)
+          taken-from-agrees n k (withSuperblock (unrankedIfEmpty k s) k (acquired i (classOf size) (superblockAt s k))) (acquiredOrder (classOf size) k (superblockAt s k) x) (acquiredOrder (classOf size) k (superblockAt s k) y)
           (acquired-order-agrees n (classOf size) k (superblockAt s k) x y h l) l
       go true false Nothing Nothing ep eo et passed = same-refusal 4
 

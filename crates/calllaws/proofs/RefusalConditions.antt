@@ -23,9 +23,10 @@ use Rattle.heap.specs.Table.{isUnused}
 use Rattle.heap.specs.States.{noState}
 use Rattle.choicerules.specs.Choice.{fullest}
 use Rattle.checkrules.specs.Check.{withinLimits, restValid}
-use Rattle.heaplaws.proofs.StateFacts.{WithinLimits, Unused, Sound, NamesSound}
+use Rattle.heaplaws.proofs.StateFacts.{WithinLimits, Unused, Sound, NamesSound, RanksSound}
 use Rattle.heap.specs.Totals.{TotalsKept}
-use Rattle.heaplaws.proofs.StateCheckLaws.{facts-of-within-limits, within-limits-of-facts, sound-of-limits-and-rest, names-valid-of-rest, totals-kept-of-rest, names-sound-of-valid, names-valid-of-sound, rest-valid-of-sound, facts-of-is-unused, is-unused-of-facts}
+use Rattle.heaplaws.proofs.StateCheckLaws.{facts-of-within-limits, within-limits-of-facts, sound-of-limits-and-rest, names-valid-of-rest, totals-kept-of-rest, ranks-valid-of-rest, names-sound-of-valid, names-valid-of-sound, rest-valid-of-sound, facts-of-is-unused, is-unused-of-facts}
+use Rattle.heaplaws.proofs.RankLaws.{ranks-sound-of-valid, ranks-valid-of-sound}
 use Rattle.calls.specs.declared.Outcome.the-variants.{Ready, Address, Moves, Refused}
 use Rattle.calls.specs.Answers.{After, refused, checked, isProcessor}
 use Rattle.calls.specs.Setup.{acceptedSetup, setupOf}
@@ -39,11 +40,15 @@ use Rattle.calllaws.proofs.TakeLaws.{takenByTests, nothing-offered-of-r
 use Rattle.calllaws.proofs.NothingOfferedLaws.{NotOffered, nothing-found-iff-not-offered}
 
 -- ---- the conditions
--- 13, "the state fails its check": first its setup numbers, then, with the places lent, the rest: its superblocks, its names, and its totals, which are
--- the recount (heap by heap and class by class: TotalsKeptLaws · totals-kept-iff-counted)
+-- what the check asks beside the setup numbers: of the superblocks, of the names, of the totals, which are the recount (heap by heap and class by class: TotalsKeptLaws ·
+-- totals-kept-iff-counted), and of the ranks
+abbrev pub RestSound : State → List ℕ → Type 0
+RestSound s order = Sound s order × NamesSound s × TotalsKept s × RanksSound s
+
+-- 13, "the state fails its check": first its setup numbers, then, with the places lent, the rest
 pub data CheckFails (s : State) (order : List ℕ) : Type 0 where
   limits-fail : (WithinLimits (s .setup) → ⊥) → CheckFails s order
-  rest-fails : WithinLimits (s .setup) → s .setup .superblocks * 256 ≤ length order → (Sound s order × NamesSound s × TotalsKept s → ⊥) → CheckFails s order
+  rest-fails : WithinLimits (s .setup) → s .setup .superblocks * 256 ≤ length order → (RestSound s order → ⊥) → CheckFails s order
 
 -- 12: "fewer than N × 256 order places lent"
 pub record StorageShort (s : State) (order : List ℕ) : Type 0 where
@@ -165,11 +170,11 @@ module _ (s : State) (order : List ℕ) (i : ℕ) where
   decides-processor = decides-as (λ h. record { low = h .0; high = h .1 }, λ h. (h .low, h .high)) (λ h. h, λ h. h) (decides-both (leb 1 i) (leb i (s .setup .processors)) (decides-nonzero i) (decides-le i (s .setup .processors)))
 
   -- ---- the check
-  decides-rest-valid : WithinLimits (s .setup) → Decides (restValid s order) (Sound s order × NamesSound s × TotalsKept s) (Sound s order × NamesSound s × TotalsKept s → ⊥)
+  decides-rest-valid : WithinLimits (s .setup) → Decides (restValid s order) (RestSound s order) (RestSound s order → ⊥)
   decides-rest-valid l =
       decides-fact (restValid s order)
-      (λ t. (sound-of-limits-and-rest s order (within-limits-of-facts (s .setup) l) t, names-sound-of-valid s (names-valid-of-rest s order t), totals-kept-of-rest s order t))
-      (λ h. rest-valid-of-sound s order (h .0) (names-valid-of-sound s (h .1)) (h .2))
+      (λ t. (sound-of-limits-and-rest s order (within-limits-of-facts (s .setup) l) t, names-sound-of-valid s (names-valid-of-rest s order t), totals-kept-of-rest s order t, ranks-sound-of-valid s (ranks-valid-of-rest s order t)))
+      (λ h. rest-valid-of-sound s order (h .0) (names-valid-of-sound s (h .1)) (h .2) (ranks-valid-of-sound s (h .3)))
 
   -- what the check refuses, or what it goes on with
   pub checked-refused : (next : After) (listed : List (ℕ × Type 0)) (r : ℕ) → (CheckFails s order → ConditionOf listed 13) → (StorageShort s order → ConditionOf listed 12)
@@ -179,12 +184,12 @@ module _ (s : State) (order : List ℕ) (i : ℕ) where
       (decides-within-limits (s .setup)) (decides-le (s .setup .superblocks * 256) (length order)) decides-rest-valid
     where
       go : (x y z : Bool) → Decides x (WithinLimits (s .setup)) (WithinLimits (s .setup) → ⊥) → Decides y (s .setup .superblocks * 256 ≤ length order) (length order < s .setup .superblocks * 256)
-          → (WithinLimits (s .setup) → Decides z (Sound s order × NamesSound s × TotalsKept s) (Sound s order × NamesSound s × TotalsKept s → ⊥))
+          → (WithinLimits (s .setup) → Decides z (RestSound s order) (RestSound s order → ⊥))
           → pick x (pick y (pick z next (refused 13 s order)) (refused 12 s order)) (refused 13 s order) .answer .outcome ≡ Refused r → ConditionOf listed r
       go false y z l m d e = condition-at-number listed 13 r e (f (limits-fail (l .says)))
       go true false z l m d e = condition-at-number listed 12 r e (g (record { numbers = l .says; short = m .says }))
       go true true false l m d e = condition-at-number listed 13 r e (f (rest-fails (l .says) (m .says) (d (l .says) .says)))
-      go true true true l m d e = let q = d (l .says) .says in h (record { sound = q .0; names = names-valid-of-sound s (q .1); totals = q .2; room = m .says }) e
+      go true true true l m d e = let q = d (l .says) .says in h (record { sound = q .0; names = names-valid-of-sound s (q .1); totals = q .2; ranks = q .3; room = m .says }) e
 
   pub check-fails-refused-13 : (next : After) → CheckFails s order → checked s order next ≡ refused 13 s order
   check-fails-refused-13 next (limits-fail f) = checked-refuses-13-of-limits s order next (false-of-decides (decides-within-limits (s .setup)) f)

@@ -47,6 +47,7 @@ pub record TakeResult (i c k j : ℕ) (s t : State) (places : List ℕ) : Type 0
   pub effect : TakeEffect i c k j s t
   pub shape : Shape t
   pub passed : Passed t places
+  pub ranks : (m : ℕ) → superblockAt t m .rank ≡ superblockAt s m .rank
 
 module _ (s : State) (order : List ℕ) (i c k : ℕ) (b : Superblock) (places : List ℕ)
     (shape : Shape s) (passed : Passed s order) (low : 1 ≤ i) (high : i ≤ s .setup .processors) (known : c < 27) (gives : TakeSource s order i c k b places) where
@@ -272,7 +273,7 @@ module _ (s : State) (order : List ℕ) (i c k : ℕ) (b : Superblock) (places :
   }
 
   -- ---- the ranks
-  pub ranks-same : (m : ℕ) → superblockAt after m .rank ≡ superblockAt s m .rank
+  ranks-same : (m : ℕ) → superblockAt after m .rank ≡ superblockAt s m .rank
   ranks-same m = go (ℕ-discrete m k)
     where
       go : Dec (m ≡ k) → superblockAt after m .rank ≡ superblockAt s m .rank
@@ -290,7 +291,7 @@ module _ (s : State) (order : List ℕ) (i c k : ℕ) (b : Superblock) (places :
   passed-after = record { sound = sound-after; names = names-valid-after-take i c k j s after in-marks effect refl (passed .names); totals = totals-kept-with-superblock s k new; ranks = ranks-after; room = omega (arith, passed .room, gives .length-is) }
 
   pub take-result-of-source : TakeResult i c k j s after places
-  take-result-of-source = record { effect = effect; shape = shape-after; passed = passed-after }
+  take-result-of-source = record { effect = effect; shape = shape-after; passed = passed-after; ranks = ranks-same }
 
 -- a take from the state with other ranks is one from the state: ranks are no part of its effect
 pub take-effect-of-reranked : (i c k j : ℕ) (rank : ℕ → ℕ) (s t : State) → length (s .table) ≡ 64 → TakeEffect i c k j (reranked rank s) t → TakeEffect i c k j s t

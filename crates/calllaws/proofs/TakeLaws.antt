@@ -5,29 +5,34 @@ use mathlib.Core.Logic.{_⊎_, inl, inr, ⊎-elim}
 use mathlib.Core.List.{List}
 use Prim.Native.Nat.{ℕ, _*_, _≤_, _<_}
 use native.Mathlib.Omega.{arith}
-use borrow.Author.Tests.{le-leb}
+use borrow.Author.Tests.{le-leb, eqb-true, eqb-false}
 use lib.ListN.{length}
-use lib.Dec.{leb}
+use lib.Dec.{eqb, leb}
 use Rattle.laws.specs.Sums.{pick}
 use Rattle.laws.proofs.TestLaws.{T-of-true}
 use Rattle.laws.proofs.Decides.{false-of-decides}
 use Rattle.classes.specs.Classes.{classOf, isTooLarge}
 use Rattle.classes.proofs.ClassLaws.{class-of-lt-27, decides-too-large, le-2048-of-not-too-large}
 use Rattle.heap.specs.declared.Superblock.{Superblock}
+use Rattle.heap.specs.declared.Setup.{Setup}
 use Rattle.heap.specs.declared.State.{State}
 use Rattle.heap.specs.declared.Found.{Found}
 use Rattle.heap.specs.declared.Found.the-variants.{At, Nothing}
-use Rattle.heap.specs.Table.{superblockAt}
+use Rattle.heap.specs.Table.{superblockAt, liveIn}
+use Rattle.heap.specs.Ranks.{rankAfterRenewal, unranked}
 use Rattle.choicerules.specs.Choice.{fullest, lowestEmpty, lowestUnused, orElse}
 use Rattle.checkrules.specs.Check.{withinLimits, restValid}
 use Rattle.heaplaws.proofs.StateFacts.{Shape}
+use Rattle.heaplaws.proofs.RankLaws.{superblock-at-unranked, unranked-ranks-sound}
+use Rattle.heaplaws.proofs.RerankedLaws.{reranked-shape}
 use Rattle.calls.specs.declared.Outcome.the-variants.{Address}
 use Rattle.calls.specs.Answers.{After, numberOf, refused, checked, isProcessor}
-use Rattle.calls.specs.Take.{otherPlaces, acquired, acquiredOrder, addressOf, takenFrom, takenFromOther, takenAt, takeUnchecked, takeOf}
+use Rattle.calls.specs.Take.{otherPlaces, acquired, acquiredOrder, unrankedIfEmpty, addressOf, takenFrom, takenFromOther, takenAt, takeUnchecked, takeOf}
 use Rattle.calllaws.proofs.CheckedLaws.{checked-refused-or-passed, checked-is-next-of-passed, bounds-of-is-processor}
 use Rattle.calllaws.proofs.CallEffects.{Passed, TakeAccepted, TakeEffect}
 use Rattle.calllaws.proofs.TakeSourceLaws.{lastBlockOf, takenWith, taken-from-is-taken-with, taken-from-other-is-taken-with, TakeSource, source-of-own-heap, offered-of-other-places, source-of-other-places}
-use Rattle.calllaws.proofs.TakeEffectLaws.{TakeResult, take-result-of-source}
+use Rattle.calllaws.proofs.TakeEffectLaws.{TakeResult, take-result-of-source, take-effect-of-reranked}
+use Rattle.calllaws.proofs.CheckedLaws.{reranked-passed}
 
 -- ---- refusals
 -- a take past the check, by its two tests and by what place 1 and the other places offer
@@ -118,33 +123,67 @@ refused-4-of-nothing-offered s order i size p h₁ h₂ h₃ a b c d =
     ∙ simp (le-leb 1 i h₁, le-leb i (s .setup .processors) h₂, false-of-decides (decides-too-large size) h₃, a, b, c, d)
 
 -- ---- an accepted take
--- the superblock that gives the block, and all order places, as they are then
+-- a take from superblock k renews it: it was not heap i's, and nothing was live. "A superblock with nothing live is renewed for c when it comes from place 2, 3 or 4;
+-- from place 1 it is not."
+pub record Renews (s : State) (i k : ℕ) : Type 0 where
+  pub not-own : superblockAt s k .owner ≡ i → ⊥
+  pub empty : liveIn (superblockAt s k) ≡ 0
+
+-- it does not
+abbrev pub RenewsNot : State → ℕ → ℕ → Type 0
+RenewsNot s i k = (superblockAt s k .owner ≡ i) ⊎ (liveIn (superblockAt s k) ≡ 0 → ⊥)
+
+-- the state with superblock k out of the ranking where it is renewed, then the superblock that gives the block, and all order places, as they are then
 record TakeSourceAndResult (s : State) (order : List ℕ) (i c k : ℕ) (result : After) : Type 0 where
+  ranked : State
   home : Superblock
   places : List ℕ
-  source : TakeSource s order i c k home places
-  result-is : result ≡ takenWith k s home places
+  below-64 : k < 64
+  ranked-is : (Renews s i k × (ranked ≡ unranked k s)) ⊎ (RenewsNot s i k × (ranked ≡ s))
+  source : TakeSource ranked order i c k home places
+  result-is : result ≡ takenWith k ranked home places
+
+-- what is so of the state, and of it with other ranks, is so of that state
+of-ranked : (P : State → Type 0) (s t : State) (i k : ℕ) → (Renews s i k × (t ≡ unranked k s)) ⊎ (RenewsNot s i k × (t ≡ s)) → P (unranked k s) → P s → P t
+of-ranked P s t i k (inl h) x y = subst P (sym (h .1)) x
+of-ranked P s t i k (inr h) x y = subst P (sym (h .1)) y
 
 module _ (s : State) (order : List ℕ) (i size k : ℕ) (shape : Shape s) (acc : TakeAccepted s order i size k) where
   class-lt-27 : classOf size < 27
   class-lt-27 = class-of-lt-27 size (acc .size-le-2048)
 
+  unranked-if-empty-is : (superblockAt s k .owner ≡ i → ⊥) → (Renews s i k × (unrankedIfEmpty k s ≡ unranked k s)) ⊎ (RenewsNot s i k × (unrankedIfEmpty k s ≡ s))
+  unfolding unrankedIfEmpty
+  unranked-if-empty-is other = go (eqb (liveIn (superblockAt s k)) 0) refl
+    where
+      go : (t : Bool) → eqb (liveIn (superblockAt s k)) 0 ≡ t → (Renews s i k × (pick t (unranked k s) s ≡ unranked k s)) ⊎ (RenewsNot s i k × (pick t (unranked k s) s ≡ s))
+      go true e = inl (record { not-own = other; empty = eqb-true (liveIn (superblockAt s k)) 0 e }, refl)
+      go false e = inr (inr (eqb-false (liveIn (superblockAt s k)) 0 e), refl)
+
   source-and-result : TakeSourceAndResult s order i (classOf size) k (takeOf s order i size)
   source-and-result =
       ⊎-elim
-      (λ h. record {
+      (λ h.
+      let source = source-of-own-heap s order shape (acc .passed) i (classOf size) k (acc .processor .1) (h .0) in
+      record {
+        ranked = s;
         home = superblockAt s k;
         places = order;
-        source = source-of-own-heap s order shape (acc .passed) i (classOf size) k (acc .processor .1) (h .0);
+        below-64 = omega (arith, source .below, acc .passed .sound .numbers .superblocks-high);
+        ranked-is = inr (inl (source .owner), refl);
+        source = source;
         result-is = h .1 ∙ taken-from-is-taken-with k s order;
       })
       (λ h.
       let offered = offered-of-other-places s order shape (acc .passed) (classOf size) k (h .1) in
       record {
+        ranked = unrankedIfEmpty k s;
+        below-64 = omega (arith, offered .below, acc .passed .sound .numbers .superblocks-high);
         home = acquired i (classOf size) (superblockAt s k);
+        ranked-is = unranked-if-empty-is (⊎-elim (λ z q. omega (arith, acc .processor .0)) (λ z q. omega (arith, acc .processor .1, acc .passed .sound .numbers .processors-high)) (offered .owner));
         places = acquiredOrder (classOf size) k (superblockAt s k) order;
         source = source-of-other-places s order shape (acc .passed) i (classOf size) k class-lt-27 (h .0) offered;
-        result-is = h .2 ∙ taken-from-other-is-taken-with i (classOf size) k s order (omega (arith, offered .below, shape .length-is, acc .passed .sound .numbers .superblocks-high));
+        result-is = h .2 ∙ taken-from-other-is-taken-with i (classOf size) k s order (omega (arith, offered .below, acc .passed .sound .numbers .superblocks-high)) (shape .length-is);
       })
       (acc .place)
 
@@ -152,26 +191,54 @@ module _ (s : State) (order : List ℕ) (i size k : ℕ) (shape : Shape s) (acc 
   pub taken-block : ℕ
   taken-block = lastBlockOf (source-and-result .places) k (source-and-result .home)
 
-  take-result : TakeResult i (classOf size) k taken-block s (takeOf s order i size .answer .state) (takeOf s order i size .order)
+  -- the state with the ranks as they are then: as before it has its lists' lengths, its setup and its names, and passes
+  abbrev ranked : State
+  ranked = source-and-result .ranked
+
+  shape-and-passed : Shape ranked × Passed ranked order × (ranked .setup ≡ s .setup) × (ranked .names ≡ s .names)
+  unfolding unranked
+  shape-and-passed =
+      of-ranked (λ (t : State). Shape t × Passed t order × (t .setup ≡ s .setup) × (t .names ≡ s .names)) s ranked i k (source-and-result .ranked-is)
+      (reranked-shape (rankAfterRenewal k (s .table)) s (shape .length-is) shape,
+      reranked-passed (rankAfterRenewal k (s .table)) s order (shape .length-is) (acc .passed) (unranked-ranks-sound k s (source-and-result .below-64) (acc .passed .ranks)), refl, refl)
+      (shape, acc .passed, refl, refl)
+
+  ranked-result : TakeResult i (classOf size) k taken-block ranked (takeOf s order i size .answer .state) (takeOf s order i size .order)
   unfolding taken-block
-  take-result =
-      subst (λ (x : After). TakeResult i (classOf size) k taken-block s (x .answer .state) (x .order)) (sym (source-and-result .result-is))
-      (take-result-of-source s order i (classOf size) k (source-and-result .home) (source-and-result .places) shape (acc .passed) (acc .processor .0) (acc .processor .1) class-lt-27 (source-and-result .source))
+  ranked-result =
+      let high : i ≤ ranked .setup .processors = subst (λ (u : Setup). i ≤ u .processors) (sym (shape-and-passed .2)) (acc .processor .1) in
+      subst (λ (x : After). TakeResult i (classOf size) k taken-block ranked (x .answer .state) (x .order)) (sym (source-and-result .result-is))
+      (take-result-of-source ranked order i (classOf size) k (source-and-result .home) (source-and-result .places) (shape-and-passed .0) (shape-and-passed .1) (acc .processor .0) high class-lt-27 (source-and-result .source))
+
+  effect-from-ranked : (t : State) → TakeEffect i (classOf size) k taken-block ranked t → TakeEffect i (classOf size) k taken-block s t
+  unfolding unranked
+  effect-from-ranked t =
+      of-ranked (λ (r : State). TakeEffect i (classOf size) k taken-block r t → TakeEffect i (classOf size) k taken-block s t) s ranked i k (source-and-result .ranked-is)
+      (take-effect-of-reranked i (classOf size) k taken-block (rankAfterRenewal k (s .table)) s t (shape .length-is)) (λ e. e)
 
   pub take-address : takeOf s order i size .answer .outcome ≡ Address (addressOf k (classOf size) taken-block)
   unfolding taken-block
   take-address = ap (λ (x : After). x .answer .outcome) (source-and-result .result-is) ∙ ap (λ (d : ℕ). Address (addressOf k d taken-block)) (source-and-result .source .class)
 
   pub take-effect : TakeEffect i (classOf size) k taken-block s (takeOf s order i size .answer .state)
-  take-effect = take-result .effect
+  take-effect = effect-from-ranked (takeOf s order i size .answer .state) (ranked-result .effect)
 
   -- a plain take keeps the names
   pub take-names : takeOf s order i size .answer .state .names ≡ s .names
-  take-names = ap (λ (x : After). x .answer .state .names) (source-and-result .result-is)
+  take-names = ap (λ (x : After). x .answer .state .names) (source-and-result .result-is) ∙ shape-and-passed .3
 
   pub take-shape : Shape (takeOf s order i size .answer .state)
-  take-shape = take-result .shape
+  take-shape = ranked-result .shape
 
   -- an accepted take yields a state that passes
   pub take-passed : Passed (takeOf s order i size .answer .state) (takeOf s order i size .order)
-  take-passed = take-result .passed
+  take-passed = ranked-result .passed
+
+  -- ---- the ranks: a renewed superblock leaves the ranking, and else every rank stays
+  pub take-ranks : (Renews s i k × ((m : ℕ) → m < 64 → superblockAt (takeOf s order i size .answer .state) m .rank ≡ rankAfterRenewal k (s .table) m))
+      ⊎ (RenewsNot s i k × ((m : ℕ) → m < 64 → superblockAt (takeOf s order i size .answer .state) m .rank ≡ superblockAt s m .rank))
+  take-ranks =
+      ⊎-elim
+      (λ h. inl (h .0, λ m l. ranked-result .ranks m ∙ ap (λ (t : State). superblockAt t m .rank) (h .1) ∙ ap (λ (b : Superblock). b .rank) (superblock-at-unranked k s m l)))
+      (λ h. inr (h .0, λ m l. ranked-result .ranks m ∙ ap (λ (t : State). superblockAt t m .rank) (h .1)))
+      (source-and-result .ranked-is)

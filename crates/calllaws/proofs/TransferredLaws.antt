@@ -53,6 +53,9 @@ module _ (h c : ℕ) (s t : State) (m : TransferredFrom h c s t) (k : ℕ) (l : 
   pub transferred-class : superblockAt t k .class ≡ superblockAt s k .class
   transferred-class = transferred-keeps (λ b. b .class) refl
 
+  pub transferred-rank : superblockAt t k .rank ≡ superblockAt s k .rank
+  transferred-rank = transferred-keeps (λ b. b .rank) refl
+
   -- an owner stays, or was h and is 0
   pub transferred-owner : (superblockAt t k .owner ≡ superblockAt s k .owner) ⊎ ((superblockAt s k .owner ≡ h) × (superblockAt t k .owner ≡ 0))
   transferred-owner = go (m .each k l)
