@@ -22,6 +22,7 @@ use Rattle.bound.specs.Ledger.{Entry, ledgerAfter}
 use Rattle.bound.specs.Claim.{Step, Linked, Bounded, Claims, peakWith}
 use Rattle.calllaws.proofs.SetupLaws.{accepted-setup-of-ready, setup-refused-12-of-storage}
 use Rattle.heaplaws.proofs.StateCheckLaws.{new-state-names-valid}
+use Rattle.heaplaws.proofs.RankLaws.{new-state-ranks-sound}
 use Rattle.heaplaws.proofs.TotalsLaws.{new-state-totals-kept}
 use Rattle.heaplaws.proofs.CountLaws.{owned-of-new-state, live-of-class-of-new-state}
 use Rattle.boundlaws.proofs.LedgerLaws.{entries-at-empty, entries-of-empty}
@@ -61,7 +62,7 @@ list-invariant-after-setup u order start e started =
     let room : u .superblocks * 256 ≤ length (cleared order (u .superblocks * 256)) = subst (λ (n : ℕ). u .superblocks * 256 ≤ n) (sym (length-cleared order (u .superblocks * 256))) (storage-of-ready-setup u order (h .0) ready) in
     subst (λ (x : After). ListInvariant u (x .answer .state) (x .order) [] (λ c. 0)) (sym (e ∙ h .1))
     (record {
-      passed = record { sound = h .2; names = new-state-names-valid u; totals = new-state-totals-kept u; room = room };
+      passed = record { sound = h .2; names = new-state-names-valid u; totals = new-state-totals-kept u; ranks = new-state-ranks-sound u; room = room };
       shape = h .3;
       setup = refl;
       listed = ledger-of-new-state u;

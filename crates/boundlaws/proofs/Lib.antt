@@ -8,3 +8,4 @@ pub mod NamesAgree
 pub mod TotalsOverLists
 pub mod CallListLaws
 pub mod CallListCases
+pub mod EventLaws

@@ -183,6 +183,7 @@ module _ (i c k j : ℕ) (s t : State) (below : k < 64) (owner : i ≡ 255 → �
   block-in = let b = blocks-of-le-256 c in let h = e .block in omega arith
 
   live-for-others-of-take : (d m b : ℕ) → b < 256 → ((d ≡ c) × (m ≡ k) × (b ≡ j) → ⊥) → liveFor d (superblockAt t m) b ≡ liveFor d (superblockAt s m) b
+  unfolding liveFor isOwnedOfClass
   live-for-others-of-take d m b l f = go (ℕ-discrete m k) (ℕ-discrete d c)
     where
       go : Dec (m ≡ k) → Dec (d ≡ c) → liveFor d (superblockAt t m) b ≡ liveFor d (superblockAt s m) b

@@ -5,33 +5,37 @@ use mathlib.Core.Bool.{Bool, true, false, not}
 use mathlib.Core.Logic.{_⊎_, inl, inr}
 use mathlib.Core.List.{List}
 use Prim.Native.Nat.{ℕ, zero, suc, _+_, _-_, _≤_, _<_}
-use native.Mathlib.Decide.{ℕ-discrete, decLt}
+use native.Mathlib.Nat.{pos-of-ne-zero}
+use native.Mathlib.Decide.{ℕ-discrete}
 use native.Mathlib.Omega.{arith}
 use borrow.Author.Tests.{eq-eqb, ne-eqb, eqb-true}
-use lib.ListN.{getD, getD-replicate}
+use lib.ListN.{getD}
 use lib.Dec.{T, eqb, ltb, eqb→eq, ltb→lt, lt→ltb, T-not, not-T}
-use Rattle.laws.specs.Sums.{both, either, one, allBelow}
-use Rattle.laws.proofs.TestLaws.{T-of-true, true-of-T, false-of-not-T, not-T-of-false, equal-of-iff, both-left, both-right, both-make, either-left, either-right, either-right-of-left-false, pick-true, pick-false, one-le-one}
+use Rattle.laws.specs.Sums.{both, one, allBelow}
+use Rattle.laws.proofs.TestLaws.{T-of-true, true-of-T, false-of-not-T, not-T-of-false, equal-of-iff, both-left, both-right, both-make, pick-true, pick-false, one-le-one}
+use Rattle.laws.proofs.Inequalities.{le-of-not-below}
 use Rattle.laws.proofs.SumLaws.{sum-cong, term-le-sum, pos-term-of-pos-sum, all-at, all-of-each}
 use Rattle.laws.proofs.Counting.{sum-le-of-terms-le-one}
-use Rattle.laws.proofs.ListedLaws.{getD-listed}
 use Rattle.heap.specs.declared.Superblock.{Superblock}
 use Rattle.heap.specs.declared.Setup.{Setup}
 use Rattle.heap.specs.declared.State.{State}
-use Rattle.heap.specs.Table.{blank, unused, superblockAt, liveIn, withRank, isUnused}
+use Rattle.heap.specs.Table.{blank, superblockAt, liveIn, withRank, isUnused}
 use Rattle.heap.specs.States.{newState}
 use Rattle.heap.specs.Counts.{total}
-use Rattle.heap.specs.Ranks.{isRanked, isMoreRecent, rankAfterFree, rankAfterRenewal, rankedLatest, unranked, RanksFit}
+use Rattle.heap.specs.Ranks.{isRanked, isMoreRecent, rankAfterFree, rankAfterRenewal, reranked, rankedLatest, unranked, RanksFit}
 use Rattle.checkrules.specs.Check.{rankedCount, carrying, ranksValid}
 use Rattle.heaplaws.proofs.StateFacts.{Unused, RanksSound}
-use Rattle.heaplaws.proofs.StateCheckLaws.{facts-of-is-unused, is-unused-of-facts}
+use Rattle.heaplaws.proofs.StateCheckLaws.{facts-of-is-unused, is-unused-of-facts, superblock-at-new-state-unused}
+use Rattle.heaplaws.proofs.ChoiceLaws.{MoreRecent, facts-of-more-recent, more-recent-of-facts}
+use Rattle.heaplaws.proofs.RerankedLaws.{superblock-at-reranked}
 use Rattle.laws.proofs.Pigeonhole.{countAbove, le-count-of-each-once, same-of-each-once, each-once-of-distinct, same-of-order-kept, count-kept, count-one-more, count-one-less}
 
 -- ---- the check's clause
 -- superblock k's rank
-abbrev pub rankAt : State → ℕ → ℕ
+abbrev rankAt : State → ℕ → ℕ
 rankAt s k = superblockAt s k .rank
 
+-- ranked: a rank that is not 0
 ranked-of-rank : (b : Superblock) → 0 < b .rank → T (isRanked b)
 unfolding isRanked
 ranked-of-rank b h = lt→ltb 0 (b .rank) h
@@ -45,6 +49,7 @@ zero-of-not-positive zero f = refl
 zero-of-not-positive (suc n) f = absurd (f (omega arith))
 
 module _ (s : State) where
+  -- its two parts: each of the ranks once, and none of an unused one
   carried-once-of-valid : T (ranksValid s) → (r : ℕ) → r < rankedCount s → carrying (suc r) s ≡ 1
   unfolding ranksValid
   carried-once-of-valid t r l =
@@ -78,7 +83,8 @@ module _ (s : State) where
   ranks-valid-of-sound h =
       both-make (allBelow (λ r. eqb (carrying (suc r) s) 1) (rankedCount s)) _
       (all-of-each (λ r. eqb (carrying (suc r) s) 1) (rankedCount s) (λ r l. T-of-true _ (eq-eqb (carrying (suc r) s) 1 (carried-once-of-sound h r l))))
-      (all-of-each (λ k. not (both (isUnused (superblockAt s k)) (isRanked (superblockAt s k)))) 64 (λ k l. not-T (both (isUnused (superblockAt s k)) (isRanked (superblockAt s k))) (not-both k l)))
+      (all-of-each (λ k. not (both (isUnused (superblockAt s k)) (isRanked (superblockAt s k)))) 64
+      (λ k l. not-T (both (isUnused (superblockAt s k)) (isRanked (superblockAt s k))) (not-both k l)))
     where
       not-both : (k : ℕ) → k < 64 → T (both (isUnused (superblockAt s k)) (isRanked (superblockAt s k))) → ⊥
       not-both k l t =
@@ -116,47 +122,37 @@ ranks-sound-of-ranks t g same bounded distinct unused-zero =
     }
 
 -- a state with the same ranks, in which no more superblocks are unused
-pub ranks-sound-of-same-ranks : (s t : State) → ((k : ℕ) → k < 64 → superblockAt t k .rank ≡ superblockAt s k .rank) → ((k : ℕ) → k < 64 → Unused (superblockAt t k) → Unused (superblockAt s k))
-    → RanksSound s → RanksSound t
+pub ranks-sound-of-same-ranks : (s t : State) → ((k : ℕ) → k < 64 → superblockAt t k .rank ≡ superblockAt s k .rank)
+    → ((k : ℕ) → k < 64 → Unused (superblockAt t k) → Unused (superblockAt s k)) → RanksSound s → RanksSound t
 unfolding rankedCount total isRanked
 ranks-sound-of-same-ranks s t same kept h = ranks-sound-of-ranks t (rankAt s) same (h .bounded) (h .distinct) (λ m l u. h .unused-unranked m l (kept m l u))
 
 -- a new state has none ranked
 pub rank-in-new-state : (u : Setup) (k : ℕ) → k < 64 → superblockAt (newState u) k .rank ≡ 0
-rank-in-new-state u k l = ap (λ (b : Superblock). b .rank) (getD-replicate 64 k unused blank l)
+rank-in-new-state u k l = ap (λ (b : Superblock). b .rank) (superblock-at-new-state-unused u k l)
 
 pub new-state-ranks-sound : (u : Setup) → RanksSound (newState u)
 new-state-ranks-sound u = ranks-sound-of-ranks (newState u) (λ m. 0) (rank-in-new-state u) (λ m l. omega arith) (λ k m lk lm h e. absurd (let z : ⊥ = omega arith in z)) (λ m l e. refl)
 
 -- ---- which of two superblocks was freed into more recently
 module _ (b d : Superblock) where
-  pub more-recent-of-ranks : 0 < b .rank → (d .rank ≡ 0) ⊎ (b .rank < d .rank) → T (isMoreRecent b d)
-  unfolding isMoreRecent
-  more-recent-of-ranks h c = both-make (isRanked b) _ (ranked-of-rank b h) (go c)
+  -- it is ranked, and ahead of the other where that is ranked too
+  ranked-of-more-recent : T (isMoreRecent b d) → 0 < b .rank
+  ranked-of-more-recent t = facts-of-more-recent b d t .0
+
+  lower-of-more-recent : T (isMoreRecent b d) → 0 < d .rank → b .rank < d .rank
+  lower-of-more-recent t h = go (facts-of-more-recent b d t .1)
     where
-      go : (d .rank ≡ 0) ⊎ (b .rank < d .rank) → T (either (not (isRanked d)) (ltb (b .rank) (d .rank)))
-      go (inl e) = either-left (not (isRanked d)) _ (not-T (isRanked d) (λ t. let r = rank-of-ranked d t in omega arith))
-      go (inr l) = either-right (not (isRanked d)) _ (lt→ltb (b .rank) (d .rank) l)
+      go : (d .rank ≡ 0) ⊎ (b .rank < d .rank) → b .rank < d .rank
+      go (inl e) = absurd (let z : ⊥ = omega arith in z)
+      go (inr l) = l
 
-  pub ranked-of-more-recent : T (isMoreRecent b d) → 0 < b .rank
-  unfolding isMoreRecent
-  ranked-of-more-recent t = rank-of-ranked b (both-left (isRanked b) _ t)
-
-  pub lower-of-more-recent : T (isMoreRecent b d) → 0 < d .rank → b .rank < d .rank
-  unfolding isMoreRecent
-  lower-of-more-recent t h =
-      ltb→lt (b .rank) (d .rank) (either-right-of-left-false (not (isRanked d)) _ (both-right (isRanked b) _ t) (false-of-not-T _ (λ n. T-not (isRanked d) n (ranked-of-rank d h))))
-
-  -- the other of two of which one is ranked
-  pub ranks-of-not-more-recent : (T (isMoreRecent b d) → ⊥) → 0 < b .rank → (0 < d .rank) × (d .rank ≤ b .rank)
-  ranks-of-not-more-recent n h = go (d .rank) refl (decLt (b .rank) (d .rank))
-    where
-      go : (r : ℕ) → d .rank ≡ r → Dec (b .rank < d .rank) → (0 < d .rank) × (d .rank ≤ b .rank)
-      go r e (yes l) = absurd (n (more-recent-of-ranks h (inr l)))
-      go zero e (no f) = absurd (n (more-recent-of-ranks h (inl e)))
-      go (suc r) e (no f) = (omega arith, omega arith)
+  -- a ranked one that was not is behind the other
+  ranks-of-not-more-recent : (T (isMoreRecent b d) → ⊥) → 0 < b .rank → (0 < d .rank) × (d .rank ≤ b .rank)
+  ranks-of-not-more-recent n h = (pos-of-ne-zero (λ e. n (more-recent-of-facts b d (h, inl e))), le-of-not-below (λ l. n (more-recent-of-facts b d (h, inr l))))
 
 -- ---- the two rules, in the page's words
+-- two numbers that are not 0 together
 same-test-of-positive : (x y : ℕ) → (0 < x → 0 < y) → (0 < y → 0 < x) → ltb 0 x ≡ ltb 0 y
 same-test-of-positive x y f g = equal-of-iff (ltb 0 x) (ltb 0 y) (λ t. lt→ltb 0 y (f (ltb→lt 0 x t))) (λ t. lt→ltb 0 x (g (ltb→lt 0 y t)))
 
@@ -172,6 +168,7 @@ module _ (k : ℕ) (table : List Superblock) where
 
   -- the others
   module _ (m : ℕ) (other : m ≡ k → ⊥) where
+    -- the rule itself
     rank-after-free-of-other : rankAfterFree k table m ≡ getD table m blank .rank + one (isMoreRecent (getD table m blank) (getD table k blank))
     unfolding rankAfterFree
     rank-after-free-of-other = pick-false _ _ _ (ne-eqb m k other)
@@ -181,17 +178,17 @@ module _ (k : ℕ) (table : List Superblock) where
     rank-after-renewal-of-other = pick-false _ _ _ (ne-eqb m k other)
 
     -- a free into k: each that was ahead of k goes one back, and what was not stays
-    pub rank-after-free-ahead : T (isMoreRecent (getD table m blank) (getD table k blank)) → rankAfterFree k table m ≡ suc (getD table m blank .rank)
-    rank-after-free-ahead t = omega (arith, rank-after-free-of-other, ap one (true-of-T (isMoreRecent (getD table m blank) (getD table k blank)) t))
+    pub rank-after-free-ahead : MoreRecent (getD table m blank) (getD table k blank) → rankAfterFree k table m ≡ suc (getD table m blank .rank)
+    rank-after-free-ahead h = omega (arith, rank-after-free-of-other, ap one (true-of-T (isMoreRecent (getD table m blank) (getD table k blank)) (more-recent-of-facts _ _ h)))
 
-    pub rank-after-free-behind : (T (isMoreRecent (getD table m blank) (getD table k blank)) → ⊥) → rankAfterFree k table m ≡ getD table m blank .rank
-    rank-after-free-behind n = omega (arith, rank-after-free-of-other, ap one (false-of-not-T (isMoreRecent (getD table m blank) (getD table k blank)) n))
+    pub rank-after-free-behind : (MoreRecent (getD table m blank) (getD table k blank) → ⊥) → rankAfterFree k table m ≡ getD table m blank .rank
+    rank-after-free-behind n =
+        omega (arith, rank-after-free-of-other, ap one (false-of-not-T (isMoreRecent (getD table m blank) (getD table k blank)) (λ t. n (facts-of-more-recent _ _ t))))
 
     -- a renewal of k: each that was behind k goes one ahead, and what was not stays
     pub rank-after-renewal-behind : 0 < getD table k blank .rank → getD table k blank .rank < getD table m blank .rank → rankAfterRenewal k table m ≡ getD table m blank .rank - 1
     rank-after-renewal-behind h l =
-        let t = more-recent-of-ranks (getD table k blank) (getD table m blank) h (inr l) in
-        omega (arith, rank-after-renewal-of-other, ap one (true-of-T (isMoreRecent (getD table k blank) (getD table m blank)) t))
+        omega (arith, rank-after-renewal-of-other, ap one (true-of-T (isMoreRecent (getD table k blank) (getD table m blank)) (more-recent-of-facts _ _ (h, inr l))))
 
     pub rank-after-renewal-ahead : (0 < getD table k blank .rank → getD table k blank .rank < getD table m blank .rank → ⊥) → rankAfterRenewal k table m ≡ getD table m blank .rank
     rank-after-renewal-ahead n = go (isMoreRecent (getD table k blank) (getD table m blank)) refl (getD table m blank .rank) refl
@@ -203,33 +200,32 @@ module _ (k : ℕ) (table : List Superblock) where
         go false e (suc r) q = omega (arith, rank-after-renewal-of-other, ap one e)
 
     -- the others stay ranked or unranked
-    ranked-of-ranked-after-free : 0 < rankAfterFree k table m → 0 < getD table m blank .rank
+    pub ranked-of-ranked-after-free : 0 < rankAfterFree k table m → 0 < getD table m blank .rank
     ranked-of-ranked-after-free h = go (isMoreRecent (getD table m blank) (getD table k blank)) refl
       where
         go : (t : Bool) → isMoreRecent (getD table m blank) (getD table k blank) ≡ t → 0 < getD table m blank .rank
         go true e = ranked-of-more-recent _ _ (T-of-true _ e)
         go false e = omega (arith, rank-after-free-of-other, ap one e)
 
-    pub ranked-after-free : ltb 0 (rankAfterFree k table m) ≡ ltb 0 (getD table m blank .rank)
-    ranked-after-free = same-test-of-positive _ _ ranked-of-ranked-after-free (λ h. omega (arith, rank-after-free-of-other))
+    pub ranked-after-free-of-ranked : 0 < getD table m blank .rank → 0 < rankAfterFree k table m
+    ranked-after-free-of-ranked h = omega (arith, rank-after-free-of-other)
 
-    ranked-of-ranked-after-renewal : 0 < rankAfterRenewal k table m → 0 < getD table m blank .rank
+    pub ranked-of-ranked-after-renewal : 0 < rankAfterRenewal k table m → 0 < getD table m blank .rank
     ranked-of-ranked-after-renewal h = omega (arith, rank-after-renewal-of-other)
 
-    ranked-after-renewal-of-ranked : 0 < getD table m blank .rank → 0 < rankAfterRenewal k table m
+    pub ranked-after-renewal-of-ranked : 0 < getD table m blank .rank → 0 < rankAfterRenewal k table m
     ranked-after-renewal-of-ranked h = go (isMoreRecent (getD table k blank) (getD table m blank)) refl
       where
         go : (t : Bool) → isMoreRecent (getD table k blank) (getD table m blank) ≡ t → 0 < rankAfterRenewal k table m
         go true e =
-            omega (arith, rank-after-renewal-of-other, ap one e, ranked-of-more-recent _ _ (T-of-true _ e), lower-of-more-recent (getD table k blank) (getD table m blank) (T-of-true _ e) h)
+            let l = lower-of-more-recent (getD table k blank) (getD table m blank) (T-of-true _ e) h in
+            omega (arith, rank-after-renewal-of-other, ap one e, ranked-of-more-recent _ _ (T-of-true _ e))
         go false e = omega (arith, rank-after-renewal-of-other, ap one e)
-
-    pub ranked-after-renewal : ltb 0 (rankAfterRenewal k table m) ≡ ltb 0 (getD table m blank .rank)
-    ranked-after-renewal = same-test-of-positive _ _ ranked-of-ranked-after-renewal ranked-after-renewal-of-ranked
 
 -- ---- the order of the others is kept
 module _ (k : ℕ) (s : State) (below : k < 64) (sound : RanksSound s) where
   module _ (i j : ℕ) (li : i < 64) (lj : j < 64) (other-i : i ≡ k → ⊥) (other-j : j ≡ k → ⊥) where
+    -- among two others the one ahead stays ahead
     pub order-kept-by-free : superblockAt s i .rank < superblockAt s j .rank → rankAfterFree k (s .table) i < rankAfterFree k (s .table) j
     order-kept-by-free h =
         rw (rank-after-free-of-other k (s .table) i other-i, rank-after-free-of-other k (s .table) j other-j)
@@ -274,12 +270,12 @@ module _ (k : ℕ) (s : State) (below : k < 64) (sound : RanksSound s) where
   -- no two are alike
   distinct-after-free : (i j : ℕ) → i < 64 → j < 64 → 0 < rankAfterFree k (s .table) i → rankAfterFree k (s .table) i ≡ rankAfterFree k (s .table) j → i ≡ j
   distinct-after-free =
-      same-of-order-kept (rankAt s) (rankAfterFree k (s .table)) 64 k (sound .distinct) (λ i a. ranked-of-ranked-after-free k (s .table) i a) (λ i j li lj a b p. order-kept-by-free i j li lj a b)
+      same-of-order-kept (rankAt s) (rankAfterFree k (s .table)) 64 k (sound .distinct) (ranked-of-ranked-after-free k (s .table)) (λ i j li lj a b p. order-kept-by-free i j li lj a b)
       (λ i l a p e. let z : ⊥ = omega (arith, e, rank-after-free-of-superblock k (s .table), latest-after-free i l a (ranked-of-ranked-after-free k (s .table) i a p)) in z)
 
   distinct-after-renewal : (i j : ℕ) → i < 64 → j < 64 → 0 < rankAfterRenewal k (s .table) i → rankAfterRenewal k (s .table) i ≡ rankAfterRenewal k (s .table) j → i ≡ j
   distinct-after-renewal =
-      same-of-order-kept (rankAt s) (rankAfterRenewal k (s .table)) 64 k (sound .distinct) (λ i a. ranked-of-ranked-after-renewal k (s .table) i a) order-kept-by-renewal
+      same-of-order-kept (rankAt s) (rankAfterRenewal k (s .table)) 64 k (sound .distinct) (ranked-of-ranked-after-renewal k (s .table)) order-kept-by-renewal
       (λ i l a p e. let z : ⊥ = omega (arith, e, rank-after-renewal-of-superblock k (s .table)) in z)
 
   -- none is above their number, which grows by one where k was not ranked
@@ -291,14 +287,16 @@ module _ (k : ℕ) (s : State) (below : k < 64) (sound : RanksSound s) where
       after = rankAfterFree k (s .table)
 
       still : (i : ℕ) → (i ≡ k → ⊥) → ltb 0 (after i) ≡ ltb 0 (rankAt s i)
-      still = ranked-after-free k (s .table)
+      still i a = same-test-of-positive (after i) (rankAt s i) (ranked-of-ranked-after-free k (s .table) i a) (ranked-after-free-of-ranked k (s .table) i a)
 
       first : after k ≡ 1
       first = rank-after-free-of-superblock k (s .table)
 
       others : (r : ℕ) → rankAt s k ≡ r → (t : Bool) → isMoreRecent (superblockAt s m) (superblockAt s k) ≡ t → rankAt s m + one t ≤ countAbove after 64 0
       others zero e t f = omega (arith, one-le-one t, sound .bounded m l, count-one-more (rankAt s) after 64 k still below e (omega (arith, first)))
-      others (suc r) e t f = omega (arith, fewer t f, count-kept (rankAt s) after 64 k still (same-test-of-positive (after k) (rankAt s k) (λ p. omega arith) (λ p. omega (arith, first))))
+      others (suc r) e t f =
+          let kept = count-kept (rankAt s) after 64 k still (same-test-of-positive (after k) (rankAt s k) (λ p. omega arith) (λ p. omega (arith, first))) in
+          omega (arith, fewer t f)
         where
           fewer : (t : Bool) → isMoreRecent (superblockAt s m) (superblockAt s k) ≡ t → rankAt s m + one t ≤ rankedCount s
           fewer true f = omega (arith, sound .bounded k below, lower-of-more-recent (superblockAt s m) (superblockAt s k) (T-of-true _ f) (omega arith))
@@ -317,13 +315,15 @@ module _ (k : ℕ) (s : State) (below : k < 64) (sound : RanksSound s) where
       after = rankAfterRenewal k (s .table)
 
       still : (i : ℕ) → (i ≡ k → ⊥) → ltb 0 (after i) ≡ ltb 0 (rankAt s i)
-      still = ranked-after-renewal k (s .table)
+      still i a = same-test-of-positive (after i) (rankAt s i) (ranked-of-ranked-after-renewal k (s .table) i a) (ranked-after-renewal-of-ranked k (s .table) i a)
 
       none : after k ≡ 0
       none = rank-after-renewal-of-superblock k (s .table)
 
       others : (m ≡ k → ⊥) → (r : ℕ) → rankAt s k ≡ r → (t : Bool) → isMoreRecent (superblockAt s k) (superblockAt s m) ≡ t → rankAt s m - one t ≤ countAbove after 64 0
-      others a zero e t f = omega (arith, sound .bounded m l, count-kept (rankAt s) after 64 k still (same-test-of-positive (after k) (rankAt s k) (λ p. omega (arith, none)) (λ p. omega arith)))
+      others a zero e t f =
+          let kept = count-kept (rankAt s) after 64 k still (same-test-of-positive (after k) (rankAt s k) (λ p. omega (arith, none)) (λ p. omega arith)) in
+          omega (arith, sound .bounded m l)
       others a (suc r) e t f = fewer t f (rankAt s m) refl
         where
           count : rankedCount s ≡ suc (countAbove after 64 0)
@@ -345,11 +345,11 @@ module _ (k : ℕ) (s : State) (below : k < 64) (sound : RanksSound s) where
 module _ (k : ℕ) (s : State) (m : ℕ) (l : m < 64) where
   pub superblock-at-ranked-latest : superblockAt (rankedLatest k s) m ≡ withRank (rankAfterFree k (s .table) m) (superblockAt s m)
   unfolding rankedLatest
-  superblock-at-ranked-latest = getD-listed (λ i. withRank (rankAfterFree k (s .table) i) (superblockAt s i)) 64 m blank l
+  superblock-at-ranked-latest = superblock-at-reranked (rankAfterFree k (s .table)) s m l
 
   pub superblock-at-unranked : superblockAt (unranked k s) m ≡ withRank (rankAfterRenewal k (s .table) m) (superblockAt s m)
   unfolding unranked
-  superblock-at-unranked = getD-listed (λ i. withRank (rankAfterRenewal k (s .table) i) (superblockAt s i)) 64 m blank l
+  superblock-at-unranked = superblock-at-reranked (rankAfterRenewal k (s .table)) s m l
 
 -- another rank makes no superblock unused
 unused-with-rank : (r : ℕ) (b d : Superblock) → d ≡ withRank r b → Unused d → Unused b
@@ -360,20 +360,26 @@ unused-with-rank r b d e h =
       live = ap (λ (x : Superblock). liveIn x) (sym e) ∙ h .live;
     }
 
+reranked-ranks-sound : (rank : ℕ → ℕ) (s : State) → ((m : ℕ) → m < 64 → rank m ≤ countAbove rank 64 0) → ((k m : ℕ) → k < 64 → m < 64 → 0 < rank k → rank k ≡ rank m → k ≡ m)
+    → ((m : ℕ) → m < 64 → Unused (superblockAt s m) → rank m ≡ 0) → RanksSound (reranked rank s)
+reranked-ranks-sound rank s bounded distinct unused-zero =
+    ranks-sound-of-ranks (reranked rank s) rank (λ m l. ap (λ (b : Superblock). b .rank) (superblock-at-reranked rank s m l)) bounded distinct
+    (λ m l u. unused-zero m l (unused-with-rank (rank m) (superblockAt s m) _ (superblock-at-reranked rank s m l) u))
+
 -- a free into a superblock that is not unused, and a renewal, keep the ranking's facts
 pub ranked-latest-ranks-sound : (k : ℕ) (s : State) → k < 64 → (Unused (superblockAt s k) → ⊥) → RanksSound s → RanksSound (rankedLatest k s)
+unfolding rankedLatest
 ranked-latest-ranks-sound k s below in-use sound =
-    ranks-sound-of-ranks (rankedLatest k s) (rankAfterFree k (s .table)) (λ m l. ap (λ (b : Superblock). b .rank) (superblock-at-ranked-latest k s m l)) (bounded-after-free k s below sound)
-    (distinct-after-free k s below sound) (λ m l u. unused-zero m l (unused-with-rank _ (superblockAt s m) _ (superblock-at-ranked-latest k s m l) u) (ℕ-discrete m k))
+    reranked-ranks-sound (rankAfterFree k (s .table)) s (bounded-after-free k s below sound) (distinct-after-free k s below sound) (λ m l u. unused-zero m l u (ℕ-discrete m k))
   where
     unused-zero : (m : ℕ) → m < 64 → Unused (superblockAt s m) → Dec (m ≡ k) → rankAfterFree k (s .table) m ≡ 0
     unused-zero m l u (yes q) = absurd (in-use (subst (λ (i : ℕ). Unused (superblockAt s i)) q u))
     unused-zero m l u (no a) = zero-of-not-positive _ (λ h. let r = ranked-of-ranked-after-free k (s .table) m a h in omega (arith, sound .unused-unranked m l u))
 
 pub unranked-ranks-sound : (k : ℕ) (s : State) → k < 64 → RanksSound s → RanksSound (unranked k s)
+unfolding unranked
 unranked-ranks-sound k s below sound =
-    ranks-sound-of-ranks (unranked k s) (rankAfterRenewal k (s .table)) (λ m l. ap (λ (b : Superblock). b .rank) (superblock-at-unranked k s m l)) (bounded-after-renewal k s below sound)
-    (distinct-after-renewal k s below sound) (λ m l u. unused-zero m l (unused-with-rank _ (superblockAt s m) _ (superblock-at-unranked k s m l) u) (ℕ-discrete m k))
+    reranked-ranks-sound (rankAfterRenewal k (s .table)) s (bounded-after-renewal k s below sound) (distinct-after-renewal k s below sound) (λ m l u. unused-zero m l u (ℕ-discrete m k))
   where
     unused-zero : (m : ℕ) → m < 64 → Unused (superblockAt s m) → Dec (m ≡ k) → rankAfterRenewal k (s .table) m ≡ 0
     unused-zero m l u (yes q) = ap (rankAfterRenewal k (s .table)) q ∙ rank-after-renewal-of-superblock k (s .table)

@@ -21,6 +21,7 @@ use Rattle.heap.specs.States.{noState}
 use Rattle.checkrules.specs.Check.{withinLimits}
 use Rattle.heaplaws.proofs.StateFacts.{Shape}
 use Rattle.heaplaws.proofs.StateCheckLaws.{new-state-sound, new-state-names-valid, new-state-shape}
+use Rattle.heaplaws.proofs.RankLaws.{new-state-ranks-sound}
 use Rattle.heaplaws.proofs.TotalsLaws.{new-state-totals-kept}
 use Rattle.calls.specs.declared.Call.{Call}
 use Rattle.calls.specs.declared.Call.the-variants.{Take}
@@ -190,7 +191,7 @@ module _ (u : Setup) (row : List Superblock) (order : List ℕ) where
             s,
             ap asAfter s ∙ sym (state-setup-accepts u order (true-of-T (withinLimits u) t) l),
             ap (λ (x : RowAfter). length (x .row)) s ∙ length-replicate 64 unused,
-            subst (λ (x : RowAfter). Passed (stateOf (x .control) (x .row)) (x .order)) (sym s) (record { sound = new-state-sound u places t; names = new-state-names-valid u; totals = new-state-totals-kept u; room = room }),
+            subst (λ (x : RowAfter). Passed (stateOf (x .control) (x .row)) (x .order)) (sym s) (record { sound = new-state-sound u places t; names = new-state-names-valid u; totals = new-state-totals-kept u; ranks = new-state-ranks-sound u; room = room }),
             subst (λ (x : RowAfter). Shape (stateOf (x .control) (x .row))) (sym s) (new-state-shape u),
           )
 
