@@ -5,7 +5,7 @@ ghost use Rattle.heap.specs.Totals.{TotalsKept};
 ghost use Rattle.heap.specs.Table.{superblockAt};
 ghost use Rattle.heap.specs.States.{withSuperblock};
 ghost use Rattle.calls.specs.Answers.{HasNumberAndValuesOf};
-ghost use Rattle.calls.specs.Take.{acquired, acquiredOrder, takenFromOther};
+ghost use Rattle.calls.specs.Take.{acquired, acquiredOrder, unrankedIfEmpty, takenFromOther};
 use calls::Answer;
 use heap::State;
 use heap::Superblock;
@@ -31,14 +31,26 @@ fn acquire(b: Superblock, heap: u8, class: u8) -> Superblock
     }
 }
 
+// The state with superblock k, which is b, out of the ranking where nothing is live.
+fn unrank_if_empty(s: State, b: Superblock, k: usize) -> State
+    requires { ⌜ (k < 64) × (b ≡ superblockAt s k) ⌝ }
+    ensures { λ r. ⌜ r ≡ unrankedIfEmpty k s ⌝ }
+{
+    if predicates::live_in(b) == 0 {
+        return ranks::unrank(s, k);
+    }
+    s
+}
+
 // The state once the heap has acquired superblock k.
 fn acquire_at(s: State, heap: u8, class: u8, k: usize) -> State
     requires { ⌜ (k < 64) × TotalsKept s ⌝ }
-    ensures { λ r. ⌜ r ≡ withSuperblock s k (acquired heap class (superblockAt s k)) ⌝ }
+    ensures { λ r. ⌜ r ≡ withSuperblock (unrankedIfEmpty k s) k (acquired heap class (superblockAt s k)) ⌝ }
 {
     let b = s.table[k];
+    let ranked = unrank_if_empty(s, b, k);
     let acquired = acquire(b, heap, class);
-    table::replace(s, k, acquired)
+    table::replace(ranked, k, acquired)
 }
 
 // The order places of superblock k, which was b, once a heap has acquired it: renewed for the class where nothing is live.

@@ -17,11 +17,11 @@ use rowrules::RecordsAnswer;
 use rowrules::RowAnswer;
 use stream::Input;
 
-// The longest input that the program takes has 38970 bytes: a free or a named take on a lent row, with 17000 places
-// (2 + 11 + 64 × 34 + 1024 × 2 + 243 × 3 + 4 + 2 × 17000). The buffer has one byte more, so that an input that it truncates is bad in
+// The longest input that the program takes has 39034 bytes: a free or a named take on a lent row, with 17000 places
+// (2 + 11 + 64 × 35 + 1024 × 2 + 243 × 3 + 4 + 2 × 17000). The buffer has one byte more, so that an input that it truncates is bad in
 // any case.
 fn main() {
-    let mut input = [0u8; 38971];
+    let mut input = [0u8; 39035];
     let read = stream::read_input(b"call", &mut input);
     let Input::Bytes(n) = read else {
         return;
@@ -187,6 +187,7 @@ fn other_records() -> [Superblock; 65] {
         owner: 9,
         class: 9,
         live: [9u64; 4],
+        rank: 9,
     };
     [b; 65]
 }
@@ -241,7 +242,7 @@ fn print_row(length: usize, l: RecordsAnswer) -> bool
     print_totals(totals)
 }
 
-// Each of the first records that differs from an unused one.
+// Each of the first records that is not unused and unranked.
 fn print_records(length: usize, records: [Superblock; 65]) -> bool
     requires { ⌜ length ≤ 65 ⌝ }
 {
@@ -348,16 +349,19 @@ fn put_fraction(out: &mut [u8], at: usize, p: u8, q: u8) -> usize
 }
 
 fn print_superblock(k: usize, b: Superblock) -> bool {
-    if predicates::is_unused(b) {
-        return true;
+    if b.rank == 0 {
+        if predicates::is_unused(b) {
+            return true;
+        }
     }
     let live = b.live;
-    let mut line = [0u8; 192];
+    let mut line = [0u8; 224];
     let number = put_field(&mut line, 0, b"superblock ", k as u64);
     let owner = put_field(&mut line, number, b" owner ", b.owner as u64);
     let class = put_field(&mut line, owner, b" class ", b.class as u64);
     let marks = put_marks(&mut line, class, live);
-    let end = put_end(&mut line, marks);
+    let rank = put_field(&mut line, marks, b" rank ", b.rank as u64);
+    let end = put_end(&mut line, rank);
     write(&line[..end])
 }
 

@@ -74,15 +74,15 @@ pub fn table_offset(bytes: &[u8]) -> usize
 
 // ---- the order places
 
-// Where they begin: in all but a setup 64 superblocks of 34 bytes, 1024 names of two bytes, 243 totals of one byte, 243 of two and the
+// Where they begin: in all but a setup 64 superblocks of 35 bytes, 1024 names of two bytes, 243 totals of one byte, 243 of two and the
 // four bytes of L come before.
 pub fn places_offset(bytes: &[u8]) -> usize
-    ensures { λ r. ⌜ (r ≡ placesOffset (now (bytes .entry))) × (r ≤ 4968) ⌝ }
+    ensures { λ r. ⌜ (r ≡ placesOffset (now (bytes .entry))) × (r ≤ 5032) ⌝ }
 {
     if byte_at(bytes, 0) == 0 {
         return 10;
     }
-    table_offset(bytes) + 4957
+    table_offset(bytes) + 5021
 }
 
 // How many are lent: the four bytes before them.
@@ -94,7 +94,7 @@ pub fn place_count(bytes: &[u8]) -> usize
         return lent as usize;
     }
     let at = table_offset(bytes);
-    let lent = four_at(bytes, at + 4953);
+    let lent = four_at(bytes, at + 5017);
     lent as usize
 }
 

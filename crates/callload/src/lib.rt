@@ -23,10 +23,12 @@ fn superblock_in(bytes: &[u8], at: usize) -> Superblock
     let b = eight_at(bytes, at + 10);
     let c = eight_at(bytes, at + 18);
     let d = eight_at(bytes, at + 26);
+    let rank = byte_at(bytes, at + 34);
     Superblock {
         owner,
         class,
         live: [a, b, c, d],
+        rank,
     }
 }
 
@@ -69,16 +71,17 @@ pub fn state_at(bytes: &[u8], at: usize) -> State
         owner: 0,
         class: 0,
         live: [0u64; 4],
+        rank: 0,
     };
     let mut table = [none; 64];
     let mut k = 0;
     while k < 64 {
-        let b = superblock_in(bytes, position_after(bytes, at, 34 * k));
+        let b = superblock_in(bytes, position_after(bytes, at, 35 * k));
         table[k] = b;
         k += 1;
     }
-    let names = names_at(bytes, position_after(bytes, at, 2176));
-    let totals = totals_at(bytes, position_after(bytes, at, 4224));
+    let names = names_at(bytes, position_after(bytes, at, 2240));
+    let totals = totals_at(bytes, position_after(bytes, at, 4288));
     let setup = callform::setup_in(bytes);
     State {
         setup,

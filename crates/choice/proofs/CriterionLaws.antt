@@ -1,14 +1,15 @@
 -- What a choice looks for and prefers, by the way the code goes. Assumes nothing.
 use mathlib.Core.Path.{_≡_}
 use mathlib.Core.Bool.{Bool, true, false}
-use Prim.Native.Nat.{ℕ}
-use borrow.Author.Tests.{eq-eqb, ne-eqb}
+use Prim.Native.Nat.{ℕ, _≤_, _<_}
+use borrow.Author.Tests.{eq-eqb, ne-eqb, lt-ltb, le-ltb}
 use lib.Dec.{eqb, ltb}
 use Rattle.classes.specs.Classes.{blocksOf}
 use Rattle.heap.specs.declared.Superblock.{Superblock}
 use Rattle.heap.specs.Table.{liveIn, isUnused}
 use Rattle.heap.specs.Counts.{belongs}
-use Rattle.choicerules.specs.Choice.{moreLive, fewerLive, neverPreferred, hasFree, emptyInGlobal}
+use Rattle.heap.specs.Ranks.{isMoreRecent}
+use Rattle.choicerules.specs.Choice.{moreLive, fullerOrMoreRecent, fewerLive, neverPreferred, hasFree, emptyInGlobal}
 use Rattle.choice.specs.declared.Criterion.{Criterion}
 use Rattle.choice.specs.declared.Criterion.the-variants.{HasFree, Belongs, Empty, Unused}
 use Rattle.choice.specs.Criteria.{meetsCriterion, preferredBy}
@@ -42,11 +43,20 @@ meets-unused w b t e g = rw (e, g)
 -- how a proof finds its arm
 pub ruleset criterion-rules = (meets-has-free, not-has-free-of-other, meets-belongs, meets-empty, not-empty-of-other-owner, meets-unused)
 
-module _ (w : Criterion) (b d : Superblock) where
-  pub preferred-more-live : (h c m n : ℕ) → w ≡ HasFree h c → m ≡ liveIn d → n ≡ liveIn b → ltb m n ≡ preferredBy w b d
-  unfolding preferredBy moreLive
-  preferred-more-live h c m n e p q = rw (e, p, q)
+module _ (w : Criterion) (b d : Superblock) (h c m n : ℕ) (e : w ≡ HasFree h c) (p : n ≡ liveIn b) (q : m ≡ liveIn d) where
+  pub preferred-fuller : m < n → ltb m n ≡ preferredBy w b d
+  unfolding preferredBy fullerOrMoreRecent moreLive
+  preferred-fuller l = rw (e, ← p, ← q, lt-ltb m n l)
 
+  pub preferred-more-recent : (t : Bool) → n ≤ m → n ≡ m → t ≡ isMoreRecent b d → t ≡ preferredBy w b d
+  unfolding preferredBy fullerOrMoreRecent moreLive
+  preferred-more-recent t l f g = rw (e, ← p, ← q, le-ltb m n l, eq-eqb n m f, g)
+
+  pub not-preferred-emptier : n ≤ m → (n ≡ m → ⊥) → eqb n m ≡ preferredBy w b d
+  unfolding preferredBy fullerOrMoreRecent moreLive
+  not-preferred-emptier l f = rw (e, ← p, ← q, le-ltb m n l, ne-eqb n m f)
+
+module _ (w : Criterion) (b d : Superblock) where
   pub preferred-fewer-live : (h c m n : ℕ) → w ≡ Belongs h c → m ≡ liveIn b → n ≡ liveIn d → ltb m n ≡ preferredBy w b d
   unfolding preferredBy fewerLive
   preferred-fewer-live h c m n e p q = rw (e, p, q)
@@ -59,4 +69,4 @@ module _ (w : Criterion) (b d : Superblock) where
   unfolding preferredBy neverPreferred
   none-preferred-of-unused e = rw e
 
-pub ruleset preferred-rules = (preferred-more-live, preferred-fewer-live, none-preferred-of-empty, none-preferred-of-unused)
+pub ruleset preferred-rules = (preferred-fuller, preferred-more-recent, not-preferred-emptier, preferred-fewer-live, none-preferred-of-empty, none-preferred-of-unused)

@@ -7,7 +7,7 @@ use Rattle.heap.specs.declared.Found.{Found}
 use Rattle.heap.specs.declared.Found.the-variants.{At, Nothing}
 use Rattle.heap.specs.Table.{isUnused}
 use Rattle.heap.specs.Counts.{belongs}
-use Rattle.choicerules.specs.Choice.{moreLive, fewerLive, neverPreferred, hasFree, emptyInGlobal}
+use Rattle.choicerules.specs.Choice.{fullerOrMoreRecent, fewerLive, neverPreferred, hasFree, emptyInGlobal}
 use Rattle.choice.specs.declared.Criterion.{Criterion}
 use Rattle.choice.specs.declared.Criterion.the-variants.{HasFree, Belongs, Empty, Unused}
 use Rattle.choice.specs.declared.Best.{Best}
@@ -19,9 +19,10 @@ meetsCriterion (Belongs h c) = belongs h c
 meetsCriterion Empty = emptyInGlobal
 meetsCriterion Unused = isUnused
 
--- "most live first"; "with the fewest live"; "the lowest-numbered"
+-- "most live first", and "Among equally full superblocks .. the one freed into most recently" (document 02, item 4); "with the fewest live"; "the
+-- lowest-numbered"
 unfoldable pub preferredBy : Criterion → Superblock → Superblock → Bool
-preferredBy (HasFree h c) = moreLive
+preferredBy (HasFree h c) = fullerOrMoreRecent
 preferredBy (Belongs h c) = fewerLive
 preferredBy Empty = neverPreferred
 preferredBy Unused = neverPreferred

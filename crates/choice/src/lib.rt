@@ -43,7 +43,11 @@ fn preferred(w: Criterion, b: Superblock, d: Superblock) -> bool
     ensures { λ r. ⌜ r ≡ preferredBy w b d ⌝ }
 {
     match w {
-        Criterion::HasFree(heap, class) => predicates::live_in(d) < predicates::live_in(b),
+        Criterion::HasFree(heap, class) => {
+            let of_b = predicates::live_in(b);
+            let of_d = predicates::live_in(d);
+            of_d < of_b || of_b == of_d && predicates::more_recent(b, d)
+        }
         Criterion::Belongs(heap, class) => predicates::live_in(b) < predicates::live_in(d),
         Criterion::Empty => false,
         Criterion::Unused => false,
@@ -100,7 +104,7 @@ fn scan(table: [Superblock; 64], w: Criterion, n: usize) -> Found
     best.found
 }
 
-// The heap's superblock of the class with a free block that has the most live.
+// The heap's superblock of the class with a free block that has the most live, among these the one last freed into.
 pub fn fullest(s: State, heap: u8, class: u8) -> Found
     ensures { λ r. ⌜ r ≡ fullestOf heap class s ⌝ }
 {

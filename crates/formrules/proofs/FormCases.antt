@@ -2,7 +2,7 @@
 use mathlib.Core.Path.{_≡_, refl}
 use mathlib.Core.Bool.{true, false}
 use mathlib.Core.List.{List, [], _∷_, _++_}
-use Prim.Native.Nat.{ℕ}
+use Prim.Native.Nat.{ℕ, _+_}
 use lib.ListN.{getD, length, replicate, take}
 use Rattle.heap.specs.Table.{blank}
 use Rattle.formrules.specs.declared.Request.the-variants.{Setup, Take, Free, NamedTake, NamedFree}
@@ -34,21 +34,29 @@ totals-of-live-blocks-in-cases : (take 3 (totalsIn totals-bytes 1 .live) ≡ 179
 unfolding totalsIn listed
 totals-of-live-blocks-in-cases = (refl, refl)
 
--- ---- the state: superblocks from byte 3 on, 7 the last byte of the last of them, then name 0
+-- ---- the state: superblocks from byte 3 on, 7 the last byte of the last of them, its rank, then name 0
 abbrev state-bytes : List ℕ
-state-bytes = replicate 2178 255 ++ (7 ∷ 1 ∷ 2 ∷ [])
+state-bytes = replicate 2242 255 ++ (7 ∷ 1 ∷ 2 ∷ [])
 
 names-after-superblocks : getD (stateIn state-bytes 3 .names) 0 0 ≡ 513
 unfolding stateIn namesIn listed
 names-after-superblocks = refl
 
-superblocks-before-names : getD (stateIn state-bytes 3 .table) 63 blank ≡ record { owner = 255; class = 255; live = 18446744073709551615 ∷ 18446744073709551615 ∷ 18446744073709551615 ∷ 576460752303423487 ∷ []; rank = 0 }
+superblocks-before-names : getD (stateIn state-bytes 3 .table) 63 blank ≡ record { owner = 255; class = 255; live = 18446744073709551615 ∷ 18446744073709551615 ∷ 18446744073709551615 ∷ 18446744073709551615 ∷ []; rank = 7 }
 unfolding stateIn superblockIn listed
 superblocks-before-names = refl
 
+-- superblock 0 has the bytes 1 to 35 and superblock 63 the bytes 41 to 75: owner, class, marks and rank each from its own
+abbrev distinct-superblock-bytes : List ℕ
+distinct-superblock-bytes = replicate 3 255 ++ (listed (λ k. 1 + k) 35 ++ (replicate 2170 255 ++ (listed (λ k. 41 + k) 35 ++ (255 ∷ []))))
+
+superblock-fields-in-order : (getD (stateIn distinct-superblock-bytes 3 .table) 0 blank ≡ record { owner = 1; class = 2; live = 723118041428460547 ∷ 1301839424133073931 ∷ 1880560806837687315 ∷ 2459282189542300699 ∷ []; rank = 35 }) × (getD (stateIn distinct-superblock-bytes 3 .table) 63 blank ≡ record { owner = 41; class = 42; live = 3616724954951527467 ∷ 4195446337656140851 ∷ 4774167720360754235 ∷ 5352889103065367619 ∷ []; rank = 75 })
+unfolding stateIn superblockIn listed
+superblock-fields-in-order = (refl, refl)
+
 -- 1 and 2 the last name, then the totals
 abbrev names-then-totals : List ℕ
-names-then-totals = replicate 4225 255 ++ (1 ∷ 2 ∷ 3 ∷ 4 ∷ [])
+names-then-totals = replicate 4289 255 ++ (1 ∷ 2 ∷ 3 ∷ 4 ∷ [])
 
 totals-after-names : (getD (stateIn names-then-totals 3 .names) 1023 0 ≡ 513) × (take 3 (stateIn names-then-totals 3 .totals .superblocks) ≡ 3 ∷ 4 ∷ 0 ∷ [])
 unfolding stateIn namesIn totalsIn listed
@@ -59,34 +67,34 @@ table-offset-cases : (tableOffset (1 ∷ []) ≡ 9) × (tableOffset (2 ∷ []) �
 unfolding tableOffset
 table-offset-cases = (refl, refl, refl, refl)
 
-places-offset-cases : (placesOffset (0 ∷ []) ≡ 10) × (placesOffset (1 ∷ []) ≡ 4966) × (placesOffset (2 ∷ []) ≡ 4968) × (placesOffset (3 ∷ []) ≡ 4968) × (placesOffset (4 ∷ []) ≡ 4966)
+places-offset-cases : (placesOffset (0 ∷ []) ≡ 10) × (placesOffset (1 ∷ []) ≡ 5030) × (placesOffset (2 ∷ []) ≡ 5032) × (placesOffset (3 ∷ []) ≡ 5032) × (placesOffset (4 ∷ []) ≡ 5030)
 unfolding placesOffset tableOffset
 places-offset-cases = (refl, refl, refl, refl, refl)
 
 -- ---- L: of a setup behind its numbers, of a call on a state behind the totals
 abbrev totals-then-length : List ℕ
-totals-then-length = replicate 4961 255 ++ (1 ∷ 2 ∷ 3 ∷ 4 ∷ 5 ∷ 6 ∷ [])
+totals-then-length = replicate 5025 255 ++ (1 ∷ 2 ∷ 3 ∷ 4 ∷ 5 ∷ 6 ∷ [])
 
 place-count-cases : (placeCount (0 ∷ distinct-bytes) ≡ 151521030) × (placeCount (3 ∷ totals-then-length) ≡ 100992003) × (placeCount (4 ∷ totals-then-length) ≡ 67305985)
 unfolding placeCount tableOffset
 place-count-cases = (refl, refl, refl)
 
 -- ---- the whole form: named calls without a place; a byte missing or left over; the length of the other; one place; 5 is no call
-well-formed-named-take : (wellFormed (3 ∷ replicate 4967 0) ≡ true) × (wellFormed (3 ∷ replicate 4966 0) ≡ false) × (wellFormed (3 ∷ replicate 4968 0) ≡ false) × (wellFormed (3 ∷ replicate 4965 0) ≡ false)
+well-formed-named-take : (wellFormed (3 ∷ replicate 5031 0) ≡ true) × (wellFormed (3 ∷ replicate 5030 0) ≡ false) × (wellFormed (3 ∷ replicate 5032 0) ≡ false) × (wellFormed (3 ∷ replicate 5029 0) ≡ false)
 unfolding wellFormed placesOffset placeCount tableOffset
 well-formed-named-take = (refl, refl, refl, refl)
 
-well-formed-named-free : (wellFormed (4 ∷ replicate 4965 0) ≡ true) × (wellFormed (4 ∷ replicate 4964 0) ≡ false) × (wellFormed (4 ∷ replicate 4966 0) ≡ false) × (wellFormed (4 ∷ replicate 4967 0) ≡ false)
+well-formed-named-free : (wellFormed (4 ∷ replicate 5029 0) ≡ true) × (wellFormed (4 ∷ replicate 5028 0) ≡ false) × (wellFormed (4 ∷ replicate 5030 0) ≡ false) × (wellFormed (4 ∷ replicate 5031 0) ≡ false)
 unfolding wellFormed placesOffset placeCount tableOffset
 well-formed-named-free = (refl, refl, refl, refl)
 
 abbrev one-place-lent : List ℕ
-one-place-lent = 4 ∷ (replicate 4961 0 ++ (1 ∷ 0 ∷ 0 ∷ 0 ∷ []))
+one-place-lent = 4 ∷ (replicate 5025 0 ++ (1 ∷ 0 ∷ 0 ∷ 0 ∷ []))
 
 well-formed-with-place : (wellFormed (one-place-lent ++ (8 ∷ 9 ∷ [])) ≡ true) × (wellFormed (one-place-lent ++ (8 ∷ [])) ≡ false) × (wellFormed one-place-lent ≡ false)
 unfolding wellFormed placesOffset placeCount tableOffset
 well-formed-with-place = (refl, refl, refl)
 
-unknown-call-not-well-formed : (wellFormed (5 ∷ replicate 4967 0) ≡ false) × (wellFormed (5 ∷ replicate 4965 0) ≡ false)
+unknown-call-not-well-formed : (wellFormed (5 ∷ replicate 5031 0) ≡ false) × (wellFormed (5 ∷ replicate 5029 0) ≡ false)
 unfolding wellFormed placesOffset placeCount tableOffset
 unknown-call-not-well-formed = (refl, refl)

@@ -92,14 +92,14 @@ unfolding lineDefinitions
 named-line-limit-cases = (refl, refl)
 
 -- ---- the lines at the end: P = 2, heap 0 too, two classes of heap 1, one of them with nothing live; the superblocks stand in another order,
--- others are unused, and owner 3 is no heap where P is 2
-abbrev superblock : ℕ → ℕ → ℕ → Superblock
-superblock owner class marks = record { owner = owner; class = class; live = marks ∷ 0 ∷ 0 ∷ 0 ∷ []; rank = 0 }
+-- others are unused, owner 3 is no heap where P is 2, and some are ranked, which no line shows
+abbrev superblock : ℕ → ℕ → ℕ → ℕ → Superblock
+superblock owner class marks rank = record { owner = owner; class = class; live = marks ∷ 0 ∷ 0 ∷ 0 ∷ []; rank = rank }
 
 abbrev several-superblocks : State
 several-superblocks =
-    unnamedState (record { processors = 2; superblocks = 63; spare = 15; p = 3; q = 8 }) (superblock 2 26 3 ∷ superblock 1 11 0 ∷ superblock 1 0 15 ∷ superblock 3 8 1 ∷ superblock 2 26 3 ∷ unused ∷ superblock 1 11 0 ∷ superblock 0 9 31
-    ∷ superblock 2 26 1 ∷ superblock 1 0 3 ∷ superblock 2 26 3 ∷ superblock 1 11 0 ∷ replicate 52 unused)
+    unnamedState (record { processors = 2; superblocks = 63; spare = 15; p = 3; q = 8 }) (superblock 2 26 3 5 ∷ superblock 1 11 0 0 ∷ superblock 1 0 15 3 ∷ superblock 3 8 1 8 ∷ superblock 2 26 3 2 ∷ unused ∷ superblock 1 11 0 0 ∷ superblock 0 9 31 1
+    ∷ superblock 2 26 1 7 ∷ superblock 1 0 3 0 ∷ superblock 2 26 3 4 ∷ superblock 1 11 0 6 ∷ replicate 52 unused)
 
 -- superblocks with nothing live have a line, and a class without a superblock has none
 heap-line-if-of-nothing-live-case : heapLineIf 1 11 several-superblocks ≡ letters "heap 1 class 11 superblocks 3 live 0\n"
@@ -120,7 +120,7 @@ unfolding lineDefinitions
 final-lines-case = refl
 
 -- the whole case's own: block 0 of class 0 is live in superblock 0, block 0 of class 26 in superblock 1
-final-lines-of-whole-case : finalLines (unnamedState (record { processors = 1; superblocks = 2; spare = 1; p = 1; q = 4 }) (superblock 1 0 1 ∷ superblock 1 26 1 ∷ replicate 62 unused))
+final-lines-of-whole-case : finalLines (unnamedState (record { processors = 1; superblocks = 2; spare = 1; p = 1; q = 4 }) (superblock 1 0 1 0 ∷ superblock 1 26 1 0 ∷ replicate 62 unused))
     ≡ letters "heap 1 class 0 superblocks 1 live 1\nheap 1 class 26 superblocks 1 live 1\nend\n"
 unfolding lineDefinitions
 final-lines-of-whole-case = refl

@@ -3,6 +3,7 @@ ghost use mathlib.Core.Path.{_≡_};
 ghost use Prim.Native.Nat.{_≤_};
 ghost use Rattle.heap.specs.Table.{liveIn, isUnused};
 ghost use Rattle.heap.specs.Counts.{belongs as belongsTo};
+ghost use Rattle.heap.specs.Ranks.{isMoreRecent};
 use heap::Superblock;
 
 // How many of its blocks are live.
@@ -26,6 +27,16 @@ pub fn is_unused(b: Superblock) -> bool
 {
     if b.owner == 255 {
         return b.class == 0 && live_in(b) == 0;
+    }
+    false
+}
+
+// b was freed into more recently than d: a ranked one comes before those that are not ranked.
+pub fn more_recent(b: Superblock, d: Superblock) -> bool
+    ensures { λ r. ⌜ r ≡ isMoreRecent b d ⌝ }
+{
+    if 0 < b.rank {
+        return d.rank == 0 || b.rank < d.rank;
     }
     false
 }

@@ -2,6 +2,7 @@
 ghost use mathlib.Core.Path.{_≡_};
 ghost use Prim.Native.Nat.{_<_};
 ghost use Rattle.heap.specs.Totals.{TotalsKept};
+ghost use Rattle.heap.specs.Ranks.{RanksFit};
 ghost use Rattle.calls.specs.Free.{superblockIndex, markCleared, orderPushed, blockFreed};
 use heap::State;
 use heap::Superblock;
@@ -25,15 +26,17 @@ fn clear_mark(s: State, address: u32) -> State
     table::replace(s, k, cleared)
 }
 
-// The state with that, and with no name that points at the block.
+// The state with that, with its superblock the last freed into, and with no name that points at the block.
 pub fn free_block(s: State, address: u32) -> State
-    requires { ⌜ (superblockIndex address < 64) × TotalsKept s ⌝ }
+    requires { ⌜ (superblockIndex address < 64) × TotalsKept s × RanksFit s ⌝ }
     ensures { λ r. ⌜ r ≡ blockFreed s address ⌝ }
 {
+    let k = (address / 4096) as usize;
     let block = addresses::block_number_at(s, address);
     let held = s.names;
     let names = nametable::release_block(held, block);
-    let mut t = clear_mark(s, address);
+    let ranked = ranks::rank_latest(s, k);
+    let mut t = clear_mark(ranked, address);
     t.names = names;
     t
 }

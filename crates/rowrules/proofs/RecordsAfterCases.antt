@@ -1,7 +1,7 @@
 -- A case of records the first two of which are lent: what the call left in the row comes first, and then the record that was not lent. Assumes nothing.
 use mathlib.Core.Path.{_≡_, refl}
 use mathlib.Core.List.{[], _∷_}
-use Prim.Native.Nat.{ℕ}
+use Prim.Native.Nat.{ℕ, _+_}
 use Rattle.heap.specs.declared.Superblock.{Superblock}
 use Rattle.calls.specs.declared.Outcome.the-variants.{Address}
 use Rattle.rowrules.specs.declared.Control.{Control}
@@ -9,7 +9,7 @@ use Rattle.rowrules.specs.Row.{RowAfter}
 use Rattle.rowrules.specs.Borrowed.{recordsAfter}
 
 abbrev pub numbered : ℕ → Superblock
-numbered k = record { owner = k; class = 9; live = []; rank = 0 }
+numbered k = record { owner = k; class = 9; live = []; rank = k + 20 }
 
 abbrev pub example-control : Control
 example-control = record { setup = record { processors = 2; superblocks = 1; spare = 3; p = 4; q = 5 }; names = 10 ∷ 11 ∷ []; totals = record { superblocks = 14 ∷ []; live = 15 ∷ 16 ∷ [] } }

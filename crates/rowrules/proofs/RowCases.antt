@@ -55,12 +55,15 @@ example-control = control-with example-setup name-6-held example-totals
 abbrev pub control-with-p-equal-q : Control
 control-with-p-equal-q = control-with setup-with-p-equal-q name-6-held example-totals
 
--- an unused superblock, and a record that no check passes
+-- an unused superblock, the same with a rank, and a record that no check passes
 abbrev pub unused-superblock : Superblock
 unused-superblock = record { owner = 255; class = 0; live = 0 ∷ 0 ∷ 0 ∷ 0 ∷ []; rank = 0 }
 
+abbrev pub ranked-superblock : Superblock
+ranked-superblock = record { owner = 255; class = 0; live = 0 ∷ 0 ∷ 0 ∷ 0 ∷ []; rank = 16 }
+
 abbrev pub invalid-superblock : Superblock
-invalid-superblock = record { owner = 99; class = 33; live = 11 ∷ 12 ∷ 13 ∷ 14 ∷ []; rank = 0 }
+invalid-superblock = record { owner = 99; class = 33; live = 11 ∷ 12 ∷ 13 ∷ 14 ∷ []; rank = 15 }
 
 -- storage in which something stands: two places more than are needed, and one too few
 abbrev pub storage-of-258 : List ℕ
@@ -110,9 +113,9 @@ call-refused-case r control row order call = record { control = control; row = r
 -- "13 for setup numbers, 12, the rest of 13", in which is the row's length
 abbrev pub row-call-cases : List CallCase
 row-call-cases =
-    call-refused-case 13 control-with-p-equal-q (replicate 63 unused-superblock) storage-of-255 (Take 2 2048) ∷ call-refused-case 12 example-control (replicate 63 unused-superblock) storage-of-255 (Take 2 2048) ∷ call-refused-case 13 example-control (replicate 63 unused-superblock) storage-of-258 (Take 2 2048)
-    ∷ call-refused-case 13 example-control (replicate 65 unused-superblock) storage-of-258 (Free 2 0) ∷ call-refused-case 13 example-control (replicate 64 invalid-superblock) storage-of-258 (Take 2 2048)
-    ∷ call-refused-case 12 example-control (replicate 65 unused-superblock) storage-of-255 (NamedTake 2 10 2048) ∷ call-refused-case 13 example-control (replicate 63 unused-superblock) storage-of-258 (NamedFree 2 6) ∷ []
+    call-refused-case 13 control-with-p-equal-q (replicate 63 ranked-superblock) storage-of-255 (Take 2 2048) ∷ call-refused-case 12 example-control (replicate 63 ranked-superblock) storage-of-255 (Take 2 2048) ∷ call-refused-case 13 example-control (replicate 63 ranked-superblock) storage-of-258 (Take 2 2048)
+    ∷ call-refused-case 13 example-control (replicate 65 ranked-superblock) storage-of-258 (Free 2 0) ∷ call-refused-case 13 example-control (replicate 64 invalid-superblock) storage-of-258 (Take 2 2048)
+    ∷ call-refused-case 12 example-control (replicate 65 ranked-superblock) storage-of-255 (NamedTake 2 10 2048) ∷ call-refused-case 13 example-control (replicate 63 ranked-superblock) storage-of-258 (NamedFree 2 6) ∷ []
 
 pub row-call-cases-are-computed : map (λ (k : CallCase). rowCall (k .control) (k .row) (k .order) (k .call)) row-call-cases ≡ map (λ (k : CallCase). k .after) row-call-cases
 unfolding callOn callOf takeOf checked withinLimits restValid superblockValid isUnused allBelow
@@ -127,13 +130,13 @@ call-on-64-is-computed names totals row call = refl
 
 -- ---- lists
 abbrev pub refused-before : RowAfter
-refused-before = row-after (Refused 13) example-control (replicate 63 unused-superblock) storage-of-258
+refused-before = row-after (Refused 13) example-control (replicate 63 ranked-superblock) storage-of-258
 
 abbrev pub refused-step : Call → Control → List Superblock → RowStep
 refused-step call control row = record { call = call; after = row-after (Refused 13) control row storage-of-258 }
 
 -- each call gets the setup numbers, the names, the totals and the row that the one before it left
-pub refused-calls-linked : RowLinked refused-before (refused-step (Take 2 2048) example-control (replicate 63 unused-superblock) ∷ refused-step (Free 1 0) example-control (replicate 63 unused-superblock) ∷ [])
+pub refused-calls-linked : RowLinked refused-before (refused-step (Take 2 2048) example-control (replicate 63 ranked-superblock) ∷ refused-step (Free 1 0) example-control (replicate 63 ranked-superblock) ∷ [])
 unfolding RowLinked callOn withinLimits
 refused-calls-linked = (refl, (refl, tt))
 
@@ -144,15 +147,22 @@ another-row-not-linked linked =
     let z : _≡_ {A = ℕ} 99 255 = ap (λ (x : RowAfter). getD (x .row) 0 unused-superblock .owner) (linked .0) in
     absurd (omega (arith, z))
 
--- nor is one that got other names
-pub other-names-not-linked : RowLinked refused-before (refused-step (Take 2 2048) (control-with example-setup no-name-held example-totals) (replicate 63 unused-superblock) ∷ []) → ⊥
+-- nor is one that got other ranks
+pub other-ranks-not-linked : RowLinked refused-before (refused-step (Take 2 2048) example-control (replicate 63 unused-superblock) ∷ []) → ⊥
+unfolding RowLinked callOn withinLimits
+other-ranks-not-linked linked =
+    let z : _≡_ {A = ℕ} 0 16 = ap (λ (x : RowAfter). getD (x .row) 0 invalid-superblock .rank) (linked .0) in
+    absurd (omega (arith, z))
+
+-- nor one that got other names
+pub other-names-not-linked : RowLinked refused-before (refused-step (Take 2 2048) (control-with example-setup no-name-held example-totals) (replicate 63 ranked-superblock) ∷ []) → ⊥
 unfolding RowLinked callOn withinLimits
 other-names-not-linked linked =
     let z : _≡_ {A = ℕ} 65535 0 = ap (λ (x : RowAfter). getD (x .control .names) 6 1) (linked .0) in
     absurd (omega (arith, z))
 
 -- nor one that got other totals
-pub other-totals-not-linked : RowLinked refused-before (refused-step (Take 2 2048) (control-with example-setup name-6-held zero-totals) (replicate 63 unused-superblock) ∷ []) → ⊥
+pub other-totals-not-linked : RowLinked refused-before (refused-step (Take 2 2048) (control-with example-setup name-6-held zero-totals) (replicate 63 ranked-superblock) ∷ []) → ⊥
 unfolding RowLinked callOn withinLimits
 other-totals-not-linked linked =
     let z : _≡_ {A = ℕ} 0 22 = ap (λ (x : RowAfter). getD (x .control .totals .superblocks) 242 1) (linked .0) in

@@ -37,6 +37,12 @@ add-eight-at-4 c = search needs
 eight-at-requires-4 : tie.Need-eight-at-requires-4
 eight-at-requires-4 c κs = search needs
 
+add-byte-at-2 : tie.Need-add-byte-at-2
+add-byte-at-2 c = search needs
+
+byte-at-requires-3 : tie.Need-byte-at-requires-3
+byte-at-requires-3 c κs = search needs
+
 returns : tie.Need-returns
 unfolding superblockIn
 returns c = cc
@@ -56,4 +62,6 @@ superblock-in-spec =
     eight-at-requires-3
     add-eight-at-4
     eight-at-requires-4
+    add-byte-at-2
+    byte-at-requires-3
     returns)

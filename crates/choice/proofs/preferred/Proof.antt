@@ -1,5 +1,5 @@
 -- `choice::preferred` meets its contract: each arm is one preference, or none. Assumes nothing.
-use Rattle.choice.proofs.CriterionLaws.{preferred-more-live, preferred-fewer-live, none-preferred-of-empty, none-preferred-of-unused}
+use Rattle.choice.proofs.CriterionLaws.{preferred-fuller, preferred-more-recent, not-preferred-emptier, preferred-fewer-live, none-preferred-of-empty, none-preferred-of-unused}
 use borrow.Author.Needs.{needs}
 use Rattle.choice.proofs.preferred.Statement.{statement}
 use Rattle.choice.proofs.preferred.Tie as tie
@@ -12,6 +12,9 @@ live-in-requires c κs = search needs
 
 live-in-requires-2 : tie.Need-live-in-requires-2
 live-in-requires-2 c κs = search needs
+
+more-recent-requires : tie.Need-more-recent-requires
+more-recent-requires c κs = search needs
 
 enum-known-w-2 : tie.Need-enum-known-w-2
 enum-known-w-2 c = search needs
@@ -29,16 +32,22 @@ enum-told-2 : tie.Need-enum-told-2
 enum-told-2 c = search needs
 
 returns : tie.Need-returns
-returns c = search preferred-more-live
+returns c = search preferred-fuller
 
 returns-2 : tie.Need-returns-2
-returns-2 c = search preferred-fewer-live
+returns-2 c = search preferred-more-recent
 
 returns-3 : tie.Need-returns-3
-returns-3 c = search none-preferred-of-empty
+returns-3 c = search not-preferred-emptier
 
 returns-4 : tie.Need-returns-4
-returns-4 c = search none-preferred-of-unused
+returns-4 c = search preferred-fewer-live
+
+returns-5 : tie.Need-returns-5
+returns-5 c = search none-preferred-of-empty
+
+returns-6 : tie.Need-returns-6
+returns-6 c = search none-preferred-of-unused
 
 pub preferred-spec : {M : Type 1} → statement M
 preferred-spec =
@@ -47,6 +56,7 @@ preferred-spec =
     enum-known-w
     live-in-requires
     live-in-requires-2
+    more-recent-requires
     enum-known-w-2
     live-in-requires-3
     live-in-requires-4
@@ -55,4 +65,6 @@ preferred-spec =
     returns
     returns-2
     returns-3
-    returns-4)
+    returns-4
+    returns-5
+    returns-6)
