@@ -1,8 +1,10 @@
 -- A superblock acquired and a block taken from it, step by step as the code goes. Assumes nothing.
-use mathlib.Core.Path.{_≡_, ap, ap₂, _∙_}
+use mathlib.Core.Path.{_≡_, sym, ap, ap₂, _∙_, subst}
 use mathlib.Core.List.{List}
 use Prim.Native.Nat.{ℕ}
 use borrow.Author.Tests.{eq-eqb, ne-eqb}
+use lib.Dec.{eqb}
+use Rattle.laws.proofs.TestLaws.{pick-true, pick-false, pick-elim}
 use Rattle.classes.specs.Classes.{blocksOf}
 use Rattle.order.specs.Order.{renewed}
 use Rattle.heap.specs.declared.Superblock.{Superblock}
@@ -10,10 +12,12 @@ use Rattle.heap.specs.declared.State.{State}
 use Rattle.heap.specs.Table.{superblockAt, liveIn, withOwner}
 use Rattle.heap.specs.Totals.{TotalsKept}
 use Rattle.heap.specs.States.{withSuperblock}
+use Rattle.heap.specs.Ranks.{rankAfterRenewal, unranked}
+use Rattle.heaplaws.proofs.RerankedLaws.{reranked-totals-kept}
 use Rattle.heaplaws.proofs.TotalsLaws.{totals-kept-with-superblock}
 use Rattle.calls.specs.declared.Answer.{Answer}
 use Rattle.calls.specs.Answers.{After, HasNumberAndValuesOf}
-use Rattle.calls.specs.Take.{renewedFor, acquired, acquiredOrder, takenFrom, takenFromOther}
+use Rattle.calls.specs.Take.{renewedFor, acquired, acquiredOrder, unrankedIfEmpty, takenFrom, takenFromOther}
 use Rattle.calls.proofs.AnswerLaws.{number-and-values-by-rules}
 
 -- a superblock that a heap acquires, with and without anything live
@@ -26,6 +30,21 @@ module _ (heap class : ℕ) (b : Superblock) (live : ℕ) (el : live ≡ liveIn 
   unfolding acquired
   acquired-of-live f = rw (← el, ne-eqb live 0 f)
 
+-- the ranks then
+module _ (s : State) (k : ℕ) (b : Superblock) (live : ℕ) (eb : b ≡ superblockAt s k) (el : live ≡ liveIn b) where
+  pub unranked-if-empty-of-empty : (t : State) → live ≡ 0 → t ≡ unranked k s → t ≡ unrankedIfEmpty k s
+  unfolding unrankedIfEmpty
+  unranked-if-empty-of-empty t e et = et ∙ sym (pick-true (eqb (liveIn (superblockAt s k)) 0) (unranked k s) s (eq-eqb (liveIn (superblockAt s k)) 0 (ap liveIn (sym eb) ∙ sym el ∙ e)))
+
+  pub unranked-if-empty-of-live : (live ≡ 0 → ⊥) → s ≡ unrankedIfEmpty k s
+  unfolding unrankedIfEmpty
+  unranked-if-empty-of-live f = sym (pick-false (eqb (liveIn (superblockAt s k)) 0) (unranked k s) s (ne-eqb (liveIn (superblockAt s k)) 0 (λ e. f (el ∙ ap liveIn eb ∙ e))))
+
+pub unranked-if-empty-keeps-totals : (s t : State) (k : ℕ) → TotalsKept s → t ≡ unrankedIfEmpty k s → TotalsKept t
+unfolding unrankedIfEmpty unranked
+unranked-if-empty-keeps-totals s t k kept e =
+    subst TotalsKept (sym e) (pick-elim TotalsKept (eqb (liveIn (superblockAt s k)) 0) (unranked k s) s (λ q. reranked-totals-kept (rankAfterRenewal k (s .table)) s kept) (λ q. kept))
+
 -- and its order places
 module _ (order : List ℕ) (class k : ℕ) (b : Superblock) (live : ℕ) (el : live ≡ liveIn b) where
   pub acquired-order-of-empty : (n : ℕ) (left : List ℕ) → live ≡ 0 → n ≡ blocksOf class → left ≡ renewed order k n → left ≡ acquiredOrder class k b order
@@ -37,15 +56,16 @@ module _ (order : List ℕ) (class k : ℕ) (b : Superblock) (live : ℕ) (el : 
   acquired-order-of-live f = rw (← el, ne-eqb live 0 f)
 
 -- the state once a heap acquired superblock k
-pub acquired-at-by-steps : (heap class k : ℕ) (s : State) (b : Superblock) (t : State) → b ≡ acquired heap class (superblockAt s k) → t ≡ withSuperblock s k b → t ≡ withSuperblock s k (acquired heap class (superblockAt s k))
-acquired-at-by-steps heap class k s b t eb et = et ∙ ap (withSuperblock s k) eb
+pub acquired-at-by-steps : (heap class k : ℕ) (s ranked : State) (b : Superblock) (t : State) → ranked ≡ unrankedIfEmpty k s → b ≡ acquired heap class (superblockAt s k) → t ≡ withSuperblock ranked k b
+    → t ≡ withSuperblock (unrankedIfEmpty k s) k (acquired heap class (superblockAt s k))
+acquired-at-by-steps heap class k s ranked b t er eb et = et ∙ ap₂ (λ (x : State) (y : Superblock). withSuperblock x k y) er eb
 
-pub acquired-at-keeps-totals : (heap class k : ℕ) (s t : State) → t ≡ withSuperblock s k (acquired heap class (superblockAt s k)) → TotalsKept t
-acquired-at-keeps-totals heap class k s t et = rw et (totals-kept-with-superblock s k (acquired heap class (superblockAt s k)))
+pub acquired-at-keeps-totals : (heap class k : ℕ) (s t : State) → t ≡ withSuperblock (unrankedIfEmpty k s) k (acquired heap class (superblockAt s k)) → TotalsKept t
+acquired-at-keeps-totals heap class k s t et = rw et (totals-kept-with-superblock (unrankedIfEmpty k s) k (acquired heap class (superblockAt s k)))
 
 -- what is taken from superblock k once a heap acquired it
 module _ (heap class k : ℕ) (s : State) (order left : List ℕ) (t : State) (r : Answer) (eo : left ≡ acquiredOrder class k (superblockAt s k) order)
-    (et : t ≡ withSuperblock s k (acquired heap class (superblockAt s k))) (e : _≡_ {A = After} (record { answer = r; order = left }) (takenFrom k t left)) where
+    (et : t ≡ withSuperblock (unrankedIfEmpty k s) k (acquired heap class (superblockAt s k))) (e : _≡_ {A = After} (record { answer = r; order = left }) (takenFrom k t left)) where
   pub taken-from-other-by-steps : _≡_ {A = After} (record { answer = r; order = left }) (takenFromOther heap class k s order)
   unfolding takenFromOther
   taken-from-other-by-steps = e ∙ ap₂ (takenFrom k) et eo

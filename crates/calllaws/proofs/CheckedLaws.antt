@@ -64,4 +64,4 @@ bounds-of-is-processor s i t = (leb→le 1 i (both-left (leb 1 i) (leb i (s .set
 -- the state with other ranks passes, where these are a ranking
 pub reranked-passed : (rank : ℕ → ℕ) (s : State) (order : List ℕ) → length (s .table) ≡ 64 → Passed s order → RanksSound (reranked rank s) → Passed (reranked rank s) order
 reranked-passed rank s order long p ranks =
-    record { sound = reranked-sound rank s long order (p .sound); names = reranked-names-valid rank s long (p .names); totals = reranked-totals-kept rank s long (p .totals); ranks = ranks; room = p .room }
+    record { sound = reranked-sound rank s long order (p .sound); names = reranked-names-valid rank s long (p .names); totals = reranked-totals-kept rank s (p .totals); ranks = ranks; room = p .room }

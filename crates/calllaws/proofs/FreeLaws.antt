@@ -159,7 +159,7 @@ module _ (s : State) (order : List ℕ) (i a : ℕ) (shape : Shape s) (acc : Fre
   ready-passed = record {
     sound = sound-with-names (reranked rank s) letGo order (reranked-sound rank s (shape .length-is) order (acc .passed .sound));
     names = names-valid-without-block (reranked rank s) (blockNumberAt s a) (reranked-names-valid rank s (shape .length-is) (acc .passed .names));
-    totals = reranked-totals-kept rank s (shape .length-is) (acc .passed .totals);
+    totals = reranked-totals-kept rank s (acc .passed .totals);
     ranks = ready-ranks-sound;
     room = acc .passed .room;
   }

@@ -20,6 +20,7 @@ pub mod RefusalConditions
 pub mod NamedRefusalConditions
 pub mod NameLifetime
 pub mod TotalsKeptLaws
+pub mod CallRankLaws
 pub mod OrderWriteLaws
 pub mod OrderReadLaws
 pub mod FreeStackLaws

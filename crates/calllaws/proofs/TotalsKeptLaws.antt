@@ -165,9 +165,12 @@ module _ (s : State) (order : List ℕ) where
     pub accepted-call-keeps-totals : numberOf (callOf s order call .answer .outcome) ≡ 0 → TotalsCounted (callOf s order call .answer .state)
     accepted-call-keeps-totals accepted = totals-counted-of-kept _ (accepted-call-recounts accepted)
 
-    -- .. a refused call has those handed in ..
+    -- .. a refused call hands back the state that it was given, and so those in it ..
+    pub refused-call-keeps-state : (r : ℕ) → callOf s order call .answer .outcome ≡ Refused r → callOf s order call .answer .state ≡ s
+    refused-call-keeps-state r e = ⊎-elim (λ h. ap (λ (x : After). x .answer .state) (h .2)) (λ h. absurd (h .0 r e)) refused-or-recounted
+
     pub refused-call-keeps-totals : (r : ℕ) → callOf s order call .answer .outcome ≡ Refused r → callOf s order call .answer .state .totals ≡ s .totals
-    refused-call-keeps-totals r e = ⊎-elim (λ h. ap (λ (x : After). x .answer .state .totals) (h .2)) (λ h. absurd (h .0 r e)) refused-or-recounted
+    refused-call-keeps-totals r e = ap (λ (t : State). t .totals) (refused-call-keeps-state r e)
 
     -- .. so that after any call they are the recount if they were it before
     pub call-keeps-totals : TotalsKept s → TotalsKept (callOf s order call .answer .state)
@@ -180,7 +183,7 @@ module _ (s : State) (order : List ℕ) where
 
 -- ---- a setup
 -- accepted or refused, it hands back a new state
-setup-state-is-new : (u : Setup) (order : List ℕ) → (v : Setup) × (setupOf u order .answer .state ≡ newState v)
+pub setup-state-is-new : (u : Setup) (order : List ℕ) → (v : Setup) × (setupOf u order .answer .state ≡ newState v)
 unfolding setupOf
 setup-state-is-new u order = go (withinLimits u) (leb (u .superblocks * 256) (length order))
   where

@@ -10,10 +10,12 @@ use Rattle.heap.specs.declared.State.{State}
 use Rattle.heap.specs.declared.Moved.{Moved}
 use Rattle.heap.specs.Table.{superblockAt}
 use Rattle.heap.specs.Totals.{TotalsKept}
+use Rattle.heap.specs.Ranks.{RanksFit}
 use Rattle.moverules.specs.Moves.{invariantRestored}
 use Rattle.checkrules.specs.Check.{passes}
 use Rattle.heaplaws.proofs.StateFacts.{Sound}
 use Rattle.heaplaws.proofs.StateCheckLaws.{sound-of-passes, totals-kept-of-passes}
+use Rattle.heaplaws.proofs.RankLaws.{ranks-fit-of-passes}
 use Rattle.calls.specs.declared.Answer.{Answer}
 use Rattle.calls.specs.declared.Outcome.the-variants.{Moves, Refused}
 use Rattle.calls.specs.Answers.{After, HasNumberAndValuesOf, isProcessor}
@@ -59,10 +61,10 @@ module _ (s : State) (order : List ℕ) (a : ℕ) (p : passes s order ≡ true) 
   sound : Sound s order
   sound = sound-of-passes s order (T-of-true _ p)
 
-  pub freed-superblock : (superblockIndex a < 64) × (superblockHolding s a .owner < 9) × (superblockHolding s a .class < 27) × TotalsKept s
+  pub freed-superblock : (superblockIndex a < 64) × (superblockHolding s a .owner < 9) × (superblockHolding s a .class < 27) × TotalsKept s × RanksFit s
   freed-superblock =
       let o = mapped-is-owned s order a sound (sym g ∙ k) in
-      (mapped-below-64 s order a sound (sym g ∙ k), omega (arith, o .owner, sound .numbers .processors-high), o .class, totals-kept-of-passes s order (T-of-true _ p))
+      (mapped-below-64 s order a sound (sym g ∙ k), omega (arith, o .owner, sound .numbers .processors-high), o .class, totals-kept-of-passes s order (T-of-true _ p), ranks-fit-of-passes s order (T-of-true _ p))
 
 -- so, of its owner and class as the code reads them
 pub freed-owner : (s : State) (a owner : ℕ) → owner ≡ superblockAt s (a / 4096) .owner → superblockHolding s a .owner < 9 → owner < 9

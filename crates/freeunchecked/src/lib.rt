@@ -4,6 +4,7 @@ ghost use mathlib.Core.Bool.{true};
 ghost use Prim.Native.Nat.{_<_};
 ghost use Rattle.checkrules.specs.Check.{passes};
 ghost use Rattle.heap.specs.Totals.{TotalsKept};
+ghost use Rattle.heap.specs.Ranks.{RanksFit};
 ghost use Rattle.calls.specs.Answers.{After, HasNumberAndValuesOf};
 ghost use Rattle.calls.specs.Free.{superblockIndex, superblockHolding, freedAt, freeUnchecked};
 use calls::Answer;
@@ -31,10 +32,10 @@ pub fn free(s: State, order: &mut [u16], processor: u8, address: u32) -> Answer
     free_at(s, order, address)
 }
 
-// The mark is cleared and the name let go, the number goes in the next place, and the emptiness invariant of the owner's heap and class is
-// restored.
+// The superblock is the last freed into, the mark is cleared and the name let go, the number goes in the next place, and the emptiness
+// invariant of the owner's heap and class is restored.
 fn free_at(s: State, order: &mut [u16], address: u32) -> Answer
-    requires { ⌜ (superblockIndex address < 64) × (superblockHolding s address .owner < 9) × (superblockHolding s address .class < 27) × TotalsKept s ⌝ }
+    requires { ⌜ (superblockIndex address < 64) × (superblockHolding s address .owner < 9) × (superblockHolding s address .class < 27) × TotalsKept s × RanksFit s ⌝ }
     ensures { λ r. ⌜ record { answer = r; order = now (order .exit) } ≡ freedAt s (now (order .entry)) address ⌝ }
 {
     let k = (address / 4096) as usize;

@@ -23,9 +23,10 @@ use Rattle.heap.specs.Table.{blank, superblockAt, liveIn, withRank, isUnused}
 use Rattle.heap.specs.States.{newState}
 use Rattle.heap.specs.Counts.{total}
 use Rattle.heap.specs.Ranks.{isRanked, isMoreRecent, rankAfterFree, rankAfterRenewal, reranked, rankedLatest, unranked, RanksFit}
-use Rattle.checkrules.specs.Check.{rankedCount, carrying, ranksValid}
+use Rattle.checkrules.specs.Check.{rankedCount, carrying, ranksValid, passes}
 use Rattle.heaplaws.proofs.StateFacts.{Unused, RanksSound}
-use Rattle.heaplaws.proofs.StateCheckLaws.{facts-of-is-unused, is-unused-of-facts, superblock-at-new-state-unused}
+use Rattle.heaplaws.proofs.StateCheckLaws.{ranks-valid-of-rest, facts-of-is-unused, is-unused-of-facts, superblock-at-new-state-unused}
+use Rattle.checkrules.proofs.ClauseLaws.{rest-of-passes}
 use Rattle.heaplaws.proofs.ChoiceLaws.{MoreRecent, facts-of-more-recent, more-recent-of-facts}
 use Rattle.heaplaws.proofs.RerankedLaws.{superblock-at-reranked}
 use Rattle.laws.proofs.Pigeonhole.{countAbove, le-count-of-each-once, same-of-each-once, each-once-of-distinct, same-of-order-kept, count-kept, count-one-more, count-one-less}
@@ -96,6 +97,9 @@ module _ (s : State) where
   pub ranks-fit-of-sound : RanksSound s → RanksFit s
   unfolding rankedCount total
   ranks-fit-of-sound h m l = omega (arith, h .bounded m l, sum-le-of-terms-le-one (λ k. one (isRanked (superblockAt s k))) 64 (λ k lk. one-le-one (isRanked (superblockAt s k))))
+
+  pub ranks-fit-of-passes : (order : List ℕ) → T (passes s order) → RanksFit s
+  ranks-fit-of-passes order t = ranks-fit-of-sound (ranks-sound-of-valid (ranks-valid-of-rest s order (rest-of-passes s order t)))
 
   -- "the ranked ones carry 1 (latest) upwards, each once without a gap"
   pub each-rank-is-carried : T (ranksValid s) → (r : ℕ) → 1 ≤ r → r ≤ rankedCount s → (k : ℕ) × (k < 64) × (superblockAt s k .rank ≡ r)

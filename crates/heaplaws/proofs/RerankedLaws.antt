@@ -4,6 +4,7 @@ use mathlib.Core.Bool.{Bool, not}
 use mathlib.Core.Logic.{_⊎_, inl, inr}
 use mathlib.Core.List.{List}
 use Prim.Native.Nat.{ℕ, zero, suc, _*_, _≤_, _<_}
+use native.Mathlib.Nat.{le-refl}
 use native.Mathlib.Decide.{decLt}
 use native.Mathlib.Omega.{arith}
 use lib.ListN.{length, List·getD-eq-default}
@@ -29,11 +30,35 @@ use Rattle.checkrules.specs.Check.{namesValid}
 use Rattle.heaplaws.proofs.StateFacts.{Shape, Unused, Owned, Sparse, Sound}
 
 module _ (rank : ℕ → ℕ) (s : State) where
-  -- each superblock is as it was but for its rank, past the table's end too
+  -- each superblock is as it was but for its rank ..
   pub superblock-at-reranked : (k : ℕ) → k < 64 → superblockAt (reranked rank s) k ≡ withRank (rank k) (superblockAt s k)
   superblock-at-reranked k l = getD-listed (λ m. withRank (rank m) (superblockAt s m)) 64 k blank l
 
+  reranked-keeps-below : {A : Type 0} (f : Superblock → A) → ((r : ℕ) (b : Superblock) → f (withRank r b) ≡ f b) → (k : ℕ) → k < 64 → f (superblockAt (reranked rank s) k) ≡ f (superblockAt s k)
+  reranked-keeps-below f blind k l = ap f (superblock-at-reranked k l) ∙ blind (rank k) (superblockAt s k)
+
+  -- ---- the totals
+  counted-without-rank : (f : Superblock → ℕ) → ((r : ℕ) (b : Superblock) → f (withRank r b) ≡ f b) → (l : List ℕ) (r : ℕ) (b : Superblock) → withCounted f (withRank r b) l ≡ withCounted f b l
+  unfolding withCounted isCounted
+  counted-without-rank f blind l r b = ap (λ (n : ℕ). pick (isCounted b) (increased (totalIndex (b .owner) (b .class)) n l) l) (blind r b)
+
+  reranked-counted : (f : Superblock → ℕ) → ((r : ℕ) (b : Superblock) → f (withRank r b) ≡ f b) → (n : ℕ) → n ≤ 64 → countedBelow f (reranked rank s .table) n ≡ countedBelow f (s .table) n
+  unfolding countedBelow
+  reranked-counted f blind zero h = refl
+  reranked-counted f blind (suc n) h =
+      reranked-keeps-below (λ b. withCounted f b (countedBelow f (reranked rank s .table) n)) (counted-without-rank f blind (countedBelow f (reranked rank s .table) n)) n h
+      ∙ ap (withCounted f (superblockAt s n)) (reranked-counted f blind n (omega arith))
+
+  pub reranked-recounted : recounted (reranked rank s .table) ≡ recounted (s .table)
+  unfolding recounted
+  reranked-recounted =
+      ap₂ (λ (a b : List ℕ). record { superblocks = a; live = b }) (reranked-counted (λ b. 1) (λ r b. refl) 64 (le-refl 64)) (reranked-counted liveIn (λ r b. refl) 64 (le-refl 64))
+
+  pub reranked-totals-kept : TotalsKept s → TotalsKept (reranked rank s)
+  reranked-totals-kept kept = kept ∙ sym reranked-recounted
+
   module _ (long : length (s .table) ≡ 64) where
+    -- .. past the table's end too
     pub superblock-keeps-all-but-rank : (k : ℕ) → superblockAt (reranked rank s) k ≡ withRank (superblockAt (reranked rank s) k .rank) (superblockAt s k)
     superblock-keeps-all-but-rank k = go (decLt k 64)
       where
@@ -87,25 +112,6 @@ module _ (rank : ℕ → ℕ) (s : State) where
     reranked-owners-changed t =
         sum-cong (λ k. one (not (eqb (superblockAt (reranked rank s) k .owner) (superblockAt t k .owner)))) (λ k. one (not (eqb (superblockAt s k .owner) (superblockAt t k .owner)))) 64
         (λ k l. ap (λ (x : ℕ). one (not (eqb x (superblockAt t k .owner)))) (reranked-owner k))
-
-    -- ---- the totals
-    counted-without-rank : (f : Superblock → ℕ) → ((r : ℕ) (b : Superblock) → f (withRank r b) ≡ f b) → (l : List ℕ) (r : ℕ) (b : Superblock) → withCounted f (withRank r b) l ≡ withCounted f b l
-    unfolding withCounted isCounted
-    counted-without-rank f blind l r b = ap (λ (n : ℕ). pick (isCounted b) (increased (totalIndex (b .owner) (b .class)) n l) l) (blind r b)
-
-    reranked-counted : (f : Superblock → ℕ) → ((r : ℕ) (b : Superblock) → f (withRank r b) ≡ f b) → (n : ℕ) → countedBelow f (reranked rank s .table) n ≡ countedBelow f (s .table) n
-    unfolding countedBelow
-    reranked-counted f blind zero = refl
-    reranked-counted f blind (suc n) =
-        reranked-keeps (λ b. withCounted f b (countedBelow f (reranked rank s .table) n)) (counted-without-rank f blind (countedBelow f (reranked rank s .table) n)) n
-        ∙ ap (withCounted f (superblockAt s n)) (reranked-counted f blind n)
-
-    pub reranked-recounted : recounted (reranked rank s .table) ≡ recounted (s .table)
-    unfolding recounted
-    reranked-recounted = ap₂ (λ (a b : List ℕ). record { superblocks = a; live = b }) (reranked-counted (λ b. 1) (λ r b. refl) 64) (reranked-counted liveIn (λ r b. refl) 64)
-
-    pub reranked-totals-kept : TotalsKept s → TotalsKept (reranked rank s)
-    reranked-totals-kept kept = kept ∙ sym reranked-recounted
 
     -- ---- the check
     pub reranked-shape : Shape s → Shape (reranked rank s)

@@ -1,5 +1,5 @@
 -- A free, step by step as the code goes. Assumes nothing.
-use mathlib.Core.Path.{_≡_}
+use mathlib.Core.Path.{_≡_, sym, subst}
 use mathlib.Core.List.{List}
 use Prim.Native.Nat.{ℕ, _-_, _/_}
 use Rattle.classes.specs.Classes.{blocksOf}
@@ -9,6 +9,9 @@ use Rattle.order.specs.Order.{withPlace}
 use Rattle.heap.specs.declared.State.{State}
 use Rattle.heap.specs.Table.{superblockAt, liveIn}
 use Rattle.heap.specs.States.{withSuperblock, withNames}
+use Rattle.heap.specs.Totals.{TotalsKept}
+use Rattle.heap.specs.Ranks.{rankAfterFree, rankedLatest}
+use Rattle.heaplaws.proofs.RerankedLaws.{reranked-totals-kept}
 use Rattle.calls.specs.Free.{blockOf, markCleared, orderPushed, blockNumberAt, blockFreed}
 
 -- the freed block's number put in the next place
@@ -24,7 +27,13 @@ module _ (s : State) (a j : ℕ) (ej : j ≡ blockOf s a) where
   unfolding markCleared
   mark-cleared-by-steps live t e f = rw (f, e, ej)
 
--- and its name let go
-pub block-freed-by-steps : (s t : State) (a block : ℕ) (names : List ℕ) → block ≡ blockNumberAt s a → names ≡ withoutBlock (s .names) block → t ≡ markCleared s a → withNames t names ≡ blockFreed s a
+-- the superblock in front of the ranking
+pub ranked-latest-keeps-totals : (k : ℕ) (s t : State) → TotalsKept s → t ≡ rankedLatest k s → TotalsKept t
+unfolding rankedLatest
+ranked-latest-keeps-totals k s t kept e = subst TotalsKept (sym e) (reranked-totals-kept (rankAfterFree k (s .table)) s kept)
+
+-- and the block's name let go
+pub block-freed-by-steps : (s ranked t : State) (a block : ℕ) (names : List ℕ) → block ≡ blockNumberAt s a → names ≡ withoutBlock (s .names) block → ranked ≡ rankedLatest (a / 4096) s → t ≡ markCleared ranked a
+    → withNames t names ≡ blockFreed s a
 unfolding blockFreed
-block-freed-by-steps s t a block names eb en et = rw (et, en, eb)
+block-freed-by-steps s ranked t a block names eb en er et = rw (et, er, en, eb)
