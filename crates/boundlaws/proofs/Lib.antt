@@ -9,3 +9,4 @@ pub mod TotalsOverLists
 pub mod CallListLaws
 pub mod CallListCases
 pub mod EventLaws
+pub mod RanksOverLists
