@@ -58,7 +58,7 @@ pub taken-from-is-taken-with : (k : ℕ) (s : State) (order : List ℕ) → take
 unfolding takenFrom nextBlock lastBlockOf
 taken-from-is-taken-with k s order = refl
 
-length-unranked-if-empty : (k : ℕ) (s : State) → length (s .table) ≡ 64 → length (unrankedIfEmpty k s .table) ≡ 64
+pub length-unranked-if-empty : (k : ℕ) (s : State) → length (s .table) ≡ 64 → length (unrankedIfEmpty k s .table) ≡ 64
 unfolding unrankedIfEmpty unranked
 length-unranked-if-empty k s long = pick-elim (λ (t : State). length (t .table) ≡ 64) (eqb (liveIn (superblockAt s k)) 0) _ _ (λ e. length-listed _ 64) (λ e. long)
 

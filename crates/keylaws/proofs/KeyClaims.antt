@@ -23,6 +23,8 @@ use Rattle.bound.specs.Claim.{Step, Linked, Claims}
 use Rattle.boundlaws.proofs.Demand3.{demand-3}
 use Rattle.boundlaws.proofs.NamesAgree.{lastAfter}
 use Rattle.boundlaws.proofs.TotalsOverLists.{TotalsCountedOver, totals-kept-over-list, LiveTotalsAgreeOver, live-totals-agree-with-ledger}
+use Rattle.bound.specs.History.{RankedByLastFreeOver}
+use Rattle.boundlaws.proofs.RanksOverLists.{ranked-by-last-free-over-list}
 use Rattle.boundlaws.proofs.CallListLaws.{stepsBy, steps-linked}
 use Rattle.commands.specs.declared.Command.{Command}
 use Rattle.commands.specs.declared.Command.the-variants as command
@@ -226,3 +228,9 @@ key-totals-kept r order u commands h = totals-kept-over-list u order (setupOf u 
 pub key-live-totals-agree-with-ledger : (r order : List ℕ) (u : Setup) (commands : List Command) → KeyClaims r order u commands
     → LiveTotalsAgreeOver u (setupOf u order) [] (stepsIn (setupOf u order) commands)
 key-live-totals-agree-with-ledger r order u commands h = live-totals-agree-with-ledger u order (setupOf u order) refl (h .ready) (stepsIn (setupOf u order) commands) (h .linked)
+
+-- Document 02, item 4: after its setup and after each of its calls the ranked superblocks are those freed into since they were last renewed, in the order of their last
+-- frees, the latest first
+pub key-ranked-by-last-free : (r order : List ℕ) (u : Setup) (commands : List Command) → KeyClaims r order u commands
+    → RankedByLastFreeOver (setupOf u order) [] (stepsIn (setupOf u order) commands)
+key-ranked-by-last-free r order u commands h = ranked-by-last-free-over-list u order (setupOf u order) refl (h .ready) (stepsIn (setupOf u order) commands) (h .linked)

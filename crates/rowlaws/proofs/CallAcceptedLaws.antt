@@ -21,7 +21,10 @@ use Rattle.calls.specs.declared.Call.the-variants.{Take, Free, NamedTake, Named
 use Rattle.calls.specs.declared.Outcome.{Outcome}
 use Rattle.calls.specs.declared.Outcome.the-variants.{Ready, Address, Moves, Refused}
 use Rattle.calls.specs.Answers.{After, refused}
-use Rattle.calls.specs.Take.{acquired, nextBlock, takenFrom, takenFromOther, takeOf}
+use Rattle.laws.proofs.ListedLaws.{length-listed}
+use Rattle.heap.specs.Ranks.{rankedLatest}
+use Rattle.calllaws.proofs.TakeSourceLaws.{length-unranked-if-empty}
+use Rattle.calls.specs.Take.{acquired, unrankedIfEmpty, nextBlock, takenFrom, takenFromOther, takeOf}
 use Rattle.calls.specs.Free.{superblockIndex, superblockHolding, blockOf, markCleared, blockFreed, freedAt, freeOf}
 use Rattle.calls.specs.Named.{nameBound, boundBy, withNameBound, namedTakeOf, heldAddress, namedFreeOf}
 use Rattle.calls.specs.Calls.{callOf}
@@ -54,15 +57,18 @@ length-of-taken-from : (k : ℕ) (s : State) (order : List ℕ) → length (take
 unfolding takenFrom
 length-of-taken-from k s order = length-set (s .table) k (withMarkAt (superblockAt s k) (nextBlock s order k))
 
-length-of-taken-from-other : (i c k : ℕ) (s : State) (order : List ℕ) → length (takenFromOther i c k s order .answer .state .table) ≡ length (s .table)
+length-of-taken-from-other : (i c k : ℕ) (s : State) (order : List ℕ) → length (s .table) ≡ 64 → length (takenFromOther i c k s order .answer .state .table) ≡ 64
 unfolding takenFromOther
-length-of-taken-from-other i c k s order =
-    length-of-taken-from k (withSuperblock s k (acquired i c (superblockAt s k))) _ ∙ length-set (s .table) k (acquired i c (superblockAt s k))
+length-of-taken-from-other i c k s order long =
+    length-of-taken-from k (withSuperblock (unrankedIfEmpty k s) k (acquired i c (superblockAt s k))) _
+    ∙ length-set (unrankedIfEmpty k s .table) k (acquired i c (superblockAt s k)) ∙ length-unranked-if-empty k s long
 
-length-of-freed-at : (s : State) (order : List ℕ) (a : ℕ) → length (freedAt s order a .answer .state .table) ≡ length (s .table)
-unfolding freedAt blockFreed markCleared
+-- ranking a superblock makes a table of 64
+length-of-freed-at : (s : State) (order : List ℕ) (a : ℕ) → length (freedAt s order a .answer .state .table) ≡ 64
+unfolding freedAt blockFreed markCleared rankedLatest
 length-of-freed-at s order a =
-    length-of-invariant-restored (superblockHolding s a .owner) (superblockHolding s a .class) (blockFreed s a) ∙ length-set (s .table) (superblockIndex a) (withoutMarkAt (superblockHolding s a) (blockOf s a))
+    length-of-invariant-restored (superblockHolding s a .owner) (superblockHolding s a .class) (blockFreed s a)
+    ∙ length-set (rankedLatest (superblockIndex a) s .table) (superblockIndex a) (withoutMarkAt (superblockHolding (rankedLatest (superblockIndex a) s) a) (blockOf (rankedLatest (superblockIndex a) s) a)) ∙ length-listed _ 64
 
 -- a name that is bound changes no superblock
 table-of-bound-by : (o : Outcome) (m : ℕ) (s : State) → boundBy o m s .table ≡ s .table
@@ -79,20 +85,20 @@ isRefusal (Address a) = 0
 isRefusal (Moves m) = 0
 isRefusal (Refused r) = 1
 
--- ---- an accepted call: the state passes, and so does the one after it; the table keeps its length
+-- ---- an accepted call: the state passes, and so does the one after it; the table still has 64 superblocks
 pub record CallAccepted (s : State) (order : List ℕ) (result : After) : Type 0 where
   pub passed : Passed s order
-  pub length-is : length (result .answer .state .table) ≡ length (s .table)
+  pub length-is : length (s .table) ≡ 64 → length (result .answer .state .table) ≡ 64
   pub not-refused : (r : ℕ) → result .answer .outcome ≡ Refused r → ⊥
   pub passes : Shape s → Passed (result .answer .state) (result .order) × Shape (result .answer .state)
 
-call-accepted-of-result : (s : State) (order : List ℕ) (result x : After) → result ≡ x → Passed s order → length (x .answer .state .table) ≡ length (s .table) → isRefusal (x .answer .outcome) ≡ 0
+call-accepted-of-result : (s : State) (order : List ℕ) (result x : After) → result ≡ x → Passed s order → (length (s .table) ≡ 64 → length (x .answer .state .table) ≡ 64) → isRefusal (x .answer .outcome) ≡ 0
     → (Shape s → Passed (result .answer .state) (result .order) × Shape (result .answer .state)) → CallAccepted s order result
 unfolding isRefusal
 call-accepted-of-result s order result x e p l n after =
     record {
       passed = p;
-      length-is = ap (λ (y : After). length (y .answer .state .table)) e ∙ l;
+      length-is = λ long. ap (λ (y : After). length (y .answer .state .table)) e ∙ l long;
       not-refused = λ r f. let z : _≡_ {A = ℕ} 1 0 = sym (ap isRefusal f) ∙ ap (λ (y : After). isRefusal (y .answer .outcome)) e ∙ n in omega arith;
       passes = after;
     }
@@ -100,7 +106,7 @@ call-accepted-of-result s order result x e p l n after =
 call-accepted-of-take : (s : State) (order : List ℕ) (i size k : ℕ) → TakeAccepted s order i size k → CallAccepted s order (takeOf s order i size)
 unfolding isRefusal takenFrom takenFromOther
 call-accepted-of-take s order i size k acc =
-    ⊎-elim (λ h. call-accepted-of-result s order (takeOf s order i size) (takenFrom k s order) (h .1) (acc .passed) (length-of-taken-from k s order) refl after)
+    ⊎-elim (λ h. call-accepted-of-result s order (takeOf s order i size) (takenFrom k s order) (h .1) (acc .passed) (λ long. length-of-taken-from k s order ∙ long) refl after)
     (λ h. call-accepted-of-result s order (takeOf s order i size) (takenFromOther i (classOf size) k s order) (h .2) (acc .passed) (length-of-taken-from-other i (classOf size) k s order) refl after)
     (acc .place)
   where
@@ -110,7 +116,7 @@ call-accepted-of-take s order i size k acc =
 call-accepted-of-free : (s : State) (order : List ℕ) (i a : ℕ) → FreeAccepted s order i a → CallAccepted s order (freeOf s order i a)
 unfolding isRefusal freedAt
 call-accepted-of-free s order i a acc =
-    call-accepted-of-result s order (freeOf s order i a) (freedAt s order a) (acc .result-is) (acc .passed) (length-of-freed-at s order a) refl
+    call-accepted-of-result s order (freeOf s order i a) (freedAt s order a) (acc .result-is) (acc .passed) (λ long. length-of-freed-at s order a) refl
     (λ shape. (free-passed s order i a shape acc, free-shape s order i a shape acc))
 
 -- a named take is the plain one with the name bound, and a named free the free of the held address
@@ -121,7 +127,7 @@ call-accepted-of-named-take s order i m size k acc =
     let result = takeOf s order i size .answer in
     record {
       passed = plain .passed;
-      length-is = ap (λ (y : After). length (y .answer .state .table)) (acc .result-is) ∙ ap length (table-of-bound-by (result .outcome) m (result .state)) ∙ plain .length-is;
+      length-is = λ long. ap (λ (y : After). length (y .answer .state .table)) (acc .result-is) ∙ ap length (table-of-bound-by (result .outcome) m (result .state)) ∙ plain .length-is long;
       not-refused = λ r f. plain .not-refused r (sym (ap (λ (y : After). y .answer .outcome) (acc .result-is)) ∙ f);
       passes = λ shape. (named-take-passed s order i m size k shape acc, named-take-shape s order i m size k shape acc);
     }

@@ -3,4 +3,5 @@ pub mod RowLaws
 pub mod RowNameLaws
 pub mod RowDemand3
 pub mod RowTotalsLaws
+pub mod RowRankLaws
 pub mod RowCallCases

@@ -6,6 +6,7 @@ use native.Mathlib.Omega.{arith}
 use lib.ListN.{getD, replicate}
 use Rattle.heap.specs.declared.Superblock.{Superblock}
 use Rattle.heap.specs.declared.Totals.{Totals}
+use Rattle.heap.specs.Table.{withRank}
 use Rattle.calls.specs.declared.Call.{Call}
 use Rattle.calls.specs.declared.Call.the-variants.{Take, Free, NamedTake, NamedFree}
 use Rattle.calls.specs.declared.Outcome.the-variants.{Ready, Address, Moves}
@@ -16,12 +17,12 @@ use Rattle.rowrules.specs.Row.{RowAfter, callOn, rowCall}
 use Rattle.rowrules.specs.RowClaim.{RowStep, RowLinked}
 use Rattle.rowrules.proofs.RowCases.{CallCase, call-refused-case, row-after, control-with, example-setup, name-6-held, no-name-held, example-totals, zero-totals, unused-superblock, storage-of-258}
 
--- superblock 0 with its first 2048 bytes live, and then with nothing live
+-- superblock 0 with its first 2048 bytes live, and then, freed into, with nothing live
 abbrev pub first-block-live : Superblock
 first-block-live = record { owner = 2; class = 26; live = 1 ∷ 0 ∷ 0 ∷ 0 ∷ []; rank = 0 }
 
 abbrev pub no-block-live : Superblock
-no-block-live = record { owner = 2; class = 26; live = 0 ∷ 0 ∷ 0 ∷ 0 ∷ []; rank = 0 }
+no-block-live = record { owner = 2; class = 26; live = 0 ∷ 0 ∷ 0 ∷ 0 ∷ []; rank = 1 }
 
 -- the totals with superblock 0 in use: heap 2 and class 26 have one superblock and so many live blocks
 abbrev pub totals-with-live : ℕ → Totals
@@ -83,6 +84,16 @@ wrong-totals-cases =
 pub wrong-totals-cases-are-computed : map (λ (k : CallCase). rowCall (k .control) (k .row) (k .order) (k .call)) wrong-totals-cases ≡ map (λ (k : CallCase). k .after) wrong-totals-cases
 unfolding callOn callDefinitions
 wrong-totals-cases-are-computed = refl
+
+-- Ranks: a row with a rank of 2 alone, or with an unused record ranked, fails the check, 13, and keeps them
+abbrev pub wrong-ranks-cases : List CallCase
+wrong-ranks-cases =
+    call-refused-case 13 (row-after-free .control) (withRank 2 no-block-live ∷ replicate 63 unused-superblock) (row-after-free .order) (Take 2 2048)
+    ∷ call-refused-case 13 unnamed-control (withRank 1 unused-superblock ∷ replicate 63 unused-superblock) storage-of-258 (Take 2 2048) ∷ []
+
+pub wrong-ranks-cases-are-computed : map (λ (k : CallCase). rowCall (k .control) (k .row) (k .order) (k .call)) wrong-ranks-cases ≡ map (λ (k : CallCase). k .after) wrong-ranks-cases
+unfolding callOn callDefinitions
+wrong-ranks-cases-are-computed = refl
 
 -- ---- lists
 abbrev pub row-after-setup : RowAfter

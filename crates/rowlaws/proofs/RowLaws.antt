@@ -241,7 +241,7 @@ module _ (control : Control) (row : List Superblock) (order : List ℕ) (call : 
 
   -- no call changes the row's length, and an accepted one leaves 64 records
   pub length-of-row-call : length (rowCall control row order call .row) ≡ length row
-  length-of-row-call = ⊎-elim (λ h. ap (λ (x : RowAfter). length (x .row)) (h .1)) (λ h. ap (λ (x : RowAfter). length (x .row)) (h .2) ∙ h .1 .length-is) row-call-refused-or-accepted
+  length-of-row-call = ⊎-elim (λ h. ap (λ (x : RowAfter). length (x .row)) (h .1)) (λ h. ap (λ (x : RowAfter). length (x .row)) (h .2) ∙ h .1 .length-is (h .0) ∙ sym (h .0)) row-call-refused-or-accepted
 
   module _ (goes : (r : ℕ) → rowCall control row order call .outcome ≡ Refused r → ⊥) where
     row-call-accepted : RowCallAccepted

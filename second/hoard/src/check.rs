@@ -3,6 +3,7 @@
 use crate::engine::over_emptiness_threshold;
 use crate::names::NOT_HELD;
 use crate::outcome::Refusal;
+use crate::ranking::ranks_are_sound;
 use crate::size_class::SIZE_CLASSES;
 use crate::state::{Setup, State, Superblock, GLOBAL_HEAP, ORDER_PLACES};
 use crate::totals::Totals;
@@ -47,18 +48,23 @@ fn check_storage(setup: &Setup, order: &[u16]) -> Result<(), Refusal> {
 /// refusals: setup numbers, length of the storage, then the rest of the state.
 pub fn check_handed_in(state: &State, order: &[u16]) -> Result<(), Refusal> {
     check_numbers_and_storage(&state.control.setup, order)?;
-    if !superblocks_are_sound(state, order) || !names_are_sound(state) {
+    let is_sound = superblocks_are_sound(state, order)
+        && ranks_are_sound(&state.superblocks)
+        && names_are_sound(state);
+    if !is_sound {
         return Err(Refusal::State);
     }
     Ok(())
 }
 
-/// The check of the superblocks and of the totals, which are counted anew on the
-/// way. Those handed in may be any numbers: they are read once they are right.
+/// The check of the superblocks, all but the ranking, and of the totals, which are
+/// counted anew on the way. Those handed in may be any numbers: they are read once
+/// they are right.
 fn superblocks_are_sound(state: &State, order: &[u16]) -> bool {
     let setup = &state.control.setup;
     let mut recount = Totals::NONE;
     for (number, superblock) in state.superblocks.iter().enumerate() {
+        // One that has a mark, a class or a rank all the same fails by its owner.
         if *superblock == Superblock::UNUSED {
             continue;
         }

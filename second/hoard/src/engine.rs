@@ -3,6 +3,7 @@
 use crate::check::{check_handed_in, check_setup};
 use crate::names::BlockId;
 use crate::outcome::{Answer, Outcome, Refusal};
+use crate::ranking::{rank_latest, take_out};
 use crate::record::Command;
 use crate::size_class::{class_of_size, SizeClass, SIZE_CLASSES, SUPERBLOCK_BYTES};
 use crate::state::{Setup, State, Superblock, GLOBAL_HEAP, ORDER_PLACES, UNUSED_OWNER};
@@ -125,7 +126,7 @@ fn take_block(
 }
 
 /// Gives a superblock of the global heap, or an unused one, to a processor's heap,
-/// renewed for the class if nothing in it is live.
+/// renewed for the class and out of the ranking if nothing in it is live.
 fn acquire(state: &mut State, number: usize, processor: u8, class: u8, places: &mut [u16]) {
     let superblock = &mut state.superblocks[number];
     let totals = &mut state.control.totals;
@@ -134,10 +135,11 @@ fn acquire(state: &mut State, number: usize, processor: u8, class: u8, places: &
         totals.remove(GLOBAL_HEAP, superblock.class, live);
     }
     superblock.owner = processor;
+    totals.add(processor, class, live);
     if live == 0 {
         renew(superblock, class, places);
+        take_out(&mut state.superblocks, number);
     }
-    totals.add(processor, class, live);
 }
 
 /// The free itself, of a live block in a state that has passed. Returns the number
@@ -147,9 +149,9 @@ fn free_block(state: &mut State, freed: BlockId, order: &mut [u16]) -> u32 {
     let next_place = superblock.free_count();
     superblock.unmark(freed.block);
     places_of(order, freed.superblock)[next_place as usize] = freed.block as u16;
-    state.control.names.release(freed);
-
     let (owner, class) = (superblock.owner, superblock.class);
+    rank_latest(&mut state.superblocks, freed.superblock);
+    state.control.names.release(freed);
     state.control.totals.remove_live(owner, class);
     if owner == GLOBAL_HEAP {
         return 0;
@@ -182,16 +184,19 @@ fn find_superblock(state: &State, processor: u8, class: u8) -> Option<Offer> {
 }
 
 /// Places 1 and 2: of the heap's superblocks of the class with a free block, the
-/// one with most live, the lower number among equals.
+/// one with most live; among equals the one freed into last since it was renewed,
+/// or where none was, the lower number.
 fn fullest_with_free(state: &State, heap: u8, class: u8) -> Option<usize> {
-    let mut best: Option<(usize, u32)> = None;
+    let blocks = SIZE_CLASSES[usize::from(class)].blocks;
+    let mut best: Option<(usize, (u32, u8))> = None;
     for (number, superblock) in state.superblocks.iter().enumerate() {
-        if superblock.owner != heap || superblock.class != class || superblock.free_count() == 0 {
+        if superblock.owner != heap || superblock.class != class {
             continue;
         }
         let live = superblock.live_count();
-        if best.is_none_or(|(_, most)| live > most) {
-            best = Some((number, live));
+        let precedence = (live, superblock.recency());
+        if live < blocks && best.is_none_or(|(_, first)| precedence > first) {
+            best = Some((number, precedence));
         }
     }
     best.map(|(number, _)| number)

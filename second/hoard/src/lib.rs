@@ -4,7 +4,8 @@
 //! heaps 1 to P belong to processors. Each superblock holds blocks of one size
 //! class and has a free list, kept in the lent order storage. A take may give its
 //! block a name, by which it may be freed. The state has the totals of each heap and
-//! class: its superblocks and live blocks. [`setup`], [`take`], [`free`],
+//! class: its superblocks and live blocks. Superblocks carry a rank by when they were
+//! last freed into, which decides among equally full ones. [`setup`], [`take`], [`free`],
 //! [`take_named`] and [`free_named`] are the calls, [`run`] makes the one that a
 //! command asks for; those on superblocks lent as a row end in `_row`; [`key`]
 //! answers a whole record.
@@ -17,6 +18,7 @@ mod engine;
 mod key;
 mod names;
 mod outcome;
+mod ranking;
 mod record;
 mod row;
 mod size_class;

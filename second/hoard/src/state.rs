@@ -59,12 +59,15 @@ impl Setup {
     }
 }
 
-/// One superblock: its owner, size class and live marks, one bit a block.
+/// One superblock: its owner, size class, live marks, one bit a block, and rank.
 #[derive(Clone, Copy, Debug, PartialEq, Eq)]
 pub struct Superblock {
     pub owner: u8,
     pub class: u8,
     pub live: [u64; 4],
+    /// Place among the superblocks freed into since they were last renewed, 1 for
+    /// the latest; 0 for the others.
+    pub rank: u8,
 }
 
 impl Superblock {
@@ -73,6 +76,7 @@ impl Superblock {
         owner: UNUSED_OWNER,
         class: 0,
         live: [0; 4],
+        rank: 0,
     };
 
     /// Number of live blocks.
@@ -98,6 +102,11 @@ impl Superblock {
     /// The size class; the class number must be below 27.
     pub fn size_class(&self) -> SizeClass {
         SIZE_CLASSES[usize::from(self.class)]
+    }
+
+    /// How late it was freed into: higher is later, 0 is not since it was renewed.
+    pub fn recency(&self) -> u8 {
+        self.rank.wrapping_neg()
     }
 
     /// Blocks that are not live; the superblock must have passed its check.

@@ -127,6 +127,7 @@ fn a_name_is_used_again() {
         assert_eq!(held(&freed.state), [5, 1023]);
         let taken = take_named(&freed.state, 1, 0, 17, &mut order);
         assert_eq!(taken.outcome, Outcome::At(168 * 24));
+        state.superblocks[0].rank = 1;
         assert_eq!(taken.state, state);
         state = taken.state;
     }

@@ -11,6 +11,7 @@ const ODD: Superblock = Superblock {
     owner: 9,
     class: 9,
     live: [9; 4],
+    rank: 9,
 };
 
 const FIRST_BLOCK: BlockId = BlockId {

@@ -151,6 +151,7 @@ fn recount_leaves_out_what_no_heap_or_class_has() {
         owner,
         class,
         live: [u64::MAX; 4],
+        rank: 0,
     };
     let mut superblocks = [odd(9, 0); SUPERBLOCKS];
     superblocks[0] = odd(8, 27);

@@ -50,8 +50,8 @@ pub fn run_call(input: &CallInput, order: &mut [u16]) -> Answer {
     hoard::run(&input.call, &input.state, order)
 }
 
-/// The lines of an answer: outcome, setup, superblocks in use, held names, totals,
-/// changed places.
+/// The lines of an answer: outcome, setup, superblocks in use or ranked, held names,
+/// totals, changed places.
 pub(crate) fn print_answer(
     outcome: &Outcome,
     control: &Control,
@@ -64,11 +64,15 @@ pub(crate) fn print_answer(
         if *superblock == Superblock::UNUSED {
             continue;
         }
-        let Superblock { owner, class, live } = superblock;
-        let [w0, w1, w2, w3] = live;
+        let Superblock {
+            owner,
+            class,
+            live: [w0, w1, w2, w3],
+            rank,
+        } = superblock;
         writeln!(
             text,
-            "superblock {number} owner {owner} class {class} live {w0} {w1} {w2} {w3}"
+            "superblock {number} owner {owner} class {class} live {w0} {w1} {w2} {w3} rank {rank}"
         )
         .expect("writing to a string does not fail");
     }
@@ -154,7 +158,13 @@ fn read_superblock(bytes: &mut Bytes) -> Option<Superblock> {
     for marks in &mut live {
         *marks = u64::from_le_bytes(bytes.read()?);
     }
-    Some(Superblock { owner, class, live })
+    let [rank] = bytes.read()?;
+    Some(Superblock {
+        owner,
+        class,
+        live,
+        rank,
+    })
 }
 
 /// The order places, if the bytes are just as many.
@@ -193,6 +203,7 @@ fn write_superblocks(bytes: &mut Vec<u8>, superblocks: &[Superblock]) {
     for superblock in superblocks {
         bytes.extend([superblock.owner, superblock.class]);
         bytes.extend(superblock.live.iter().flat_map(|marks| marks.to_le_bytes()));
+        bytes.push(superblock.rank);
     }
 }
 

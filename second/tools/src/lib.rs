@@ -6,6 +6,7 @@ pub mod make_record;
 pub mod make_state;
 pub mod naming;
 pub mod paper;
+pub mod rank_faults;
 pub mod row_form;
 pub mod run;
 pub mod table;

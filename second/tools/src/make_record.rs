@@ -1,8 +1,8 @@
 //! Random records, the same on every run for a kind, seed and length.
 
 use hoard::{
-    read_command, write_command, Command, Outcome, Setup, LONGEST_RECORD, NAMED_FREE_BYTE,
-    SIZE_CLASSES, SUPERBLOCK_BYTES,
+    read_command, write_command, Command, Outcome, Setup, Superblock, LONGEST_RECORD,
+    NAMED_FREE_BYTE, SIZE_CLASSES, SUPERBLOCK_BYTES,
 };
 
 use crate::naming::{
@@ -39,10 +39,12 @@ pub enum Kind {
     Names,
     /// Eight processors and all classes, with several hundred names held.
     ManyNamed,
+    /// Many superblocks of a class equally full, freed into in a mixed order.
+    Equals,
 }
 
 /// Every kind with its name.
-pub const KINDS: [(&str, Kind); 11] = [
+pub const KINDS: [(&str, Kind); 12] = [
     ("uniform", Kind::Uniform),
     ("threshold", Kind::Threshold),
     ("small", Kind::Small),
@@ -54,6 +56,7 @@ pub const KINDS: [(&str, Kind); 11] = [
     ("zero", Kind::Zero),
     ("names", Kind::Names),
     ("many-named", Kind::ManyNamed),
+    ("equals", Kind::Equals),
 ];
 
 /// The kind of a name.
@@ -76,6 +79,7 @@ pub fn make_record(kind: Kind, seed: u64, length: usize) -> Vec<u8> {
         Kind::Zero => zero(random, length).record,
         Kind::Names => names(random, length).record,
         Kind::ManyNamed => many(random, length, &MOSTLY_NAMED).record,
+        Kind::Equals => equals(random, length).record,
     }
 }
 
@@ -708,4 +712,141 @@ fn names_free(random: &mut Xorshift, run: &mut Run, processor: u8, recent: u16) 
     };
     run.free(processor, address);
     name.unwrap_or(recent)
+}
+
+/// Superblocks of two classes filled, freed into in a mixed order until many are
+/// equally full, in a heap and in heap 0, and taken from again.
+pub fn equals(random: &mut Xorshift, length: usize) -> Run {
+    let most_superblocks = random.pick(&[12, 24, 64]);
+    let mut setup = setup_with_early_moves(random, 4, most_superblocks);
+    setup.superblocks = setup.superblocks.max(6);
+    if random.chance(2, 5) {
+        // Hardly any superblock moves, so that a heap has many.
+        setup.spare = 16;
+    }
+    let mut run = Run::new(setup);
+    run.keeps_ranks = true;
+    run.named = random.pick(&[0, 60, 90]);
+    let classes = [random.byte_between(15, 26), random.byte_between(20, 26)];
+    while run.calls < length && run.has_room() {
+        let mut heaps: Vec<u8> = (1..=setup.processors).collect();
+        random.shuffle(&mut heaps);
+        let class = random.pick(&classes);
+        match random.below(4) {
+            // Fresh heaps have none that would pass before it.
+            0 | 1 if run.calls == 0 => pass_unranked(random, &mut run, &heaps, class, length),
+            0 => fill(random, &mut run, heaps[0], class, 8, length),
+            1 => pass_unranked(random, &mut run, &heaps, class, length),
+            _ => level_off(random, &mut run, class, length),
+        }
+        random.shuffle(&mut heaps);
+        for heap in heaps {
+            take_from_equals(random, &mut run, heap, class, length);
+        }
+    }
+    run
+}
+
+/// For each heap begins to fill a superblock, then for each frees from fuller ones
+/// until it is the emptiest and passes to heap 0: it gets there unranked.
+fn pass_unranked(random: &mut Xorshift, run: &mut Run, heaps: &[u8], class: u8, length: usize) {
+    let mut begun = Vec::new();
+    for &heap in heaps {
+        fill(random, run, heap, class, 1, length);
+        begun.extend(begin_superblock(random, run, heap, class, length));
+    }
+    for number in begun {
+        free_from_fuller(random, run, number, length);
+    }
+}
+
+/// Takes until a superblock begins to fill.
+fn begin_superblock(
+    random: &mut Xorshift,
+    run: &mut Run,
+    heap: u8,
+    class: u8,
+    length: usize,
+) -> Option<usize> {
+    while run.calls < length && run.has_room() {
+        let size = size_of_class(random, class);
+        let Outcome::At(address) = run.take(heap, size) else {
+            return None;
+        };
+        let number = (address / SUPERBLOCK_BYTES) as usize;
+        let superblock = &run.state.superblocks[number];
+        if superblock.live_count() == 1 && superblock.rank == 0 {
+            return Some(number);
+        }
+    }
+    None
+}
+
+/// Frees from the fullest superblock of its heap and class until it passes to heap 0
+/// or is the fullest itself.
+fn free_from_fuller(random: &mut Xorshift, run: &mut Run, begun: usize, length: usize) {
+    let Superblock {
+        owner: heap, class, ..
+    } = run.state.superblocks[begun];
+    while run.state.superblocks[begun].owner == heap {
+        let address = run.live_of(heap, class, PickFrom::Fullest, random);
+        let address = address.filter(|address| address / SUPERBLOCK_BYTES != begun as u32);
+        let Some(address) = address.filter(|_| run.calls < length && run.has_room()) else {
+            return;
+        };
+        run.free_either_way(random, heap, address);
+    }
+}
+
+/// Frees blocks of a class, whichever heaps own them, until no superblock has more
+/// than so many live: one superblock after the other, or in any order.
+fn level_off(random: &mut Xorshift, run: &mut Run, class: u8, length: usize) {
+    let blocks = SIZE_CLASSES[usize::from(class)].blocks;
+    let any = random.below(blocks);
+    let level = random.pick(&[blocks - 1, any]);
+    let mut numbers: Vec<usize> = (0..run.state.superblocks.len()).collect();
+    random.shuffle(&mut numbers);
+    let mut frees = Vec::new();
+    for number in numbers {
+        let superblock = &run.state.superblocks[number];
+        if superblock.class == class {
+            let above = superblock.live_count().saturating_sub(level);
+            frees.extend((0..above).map(|_| number));
+        }
+    }
+    if random.chance(1, 2) {
+        random.shuffle(&mut frees);
+    }
+    for number in frees {
+        if run.calls < length && run.has_room() {
+            let processor = random.byte_between(1, run.state.control.setup.processors);
+            let address = run.live_in(number, random);
+            run.free_either_way(random, processor, address);
+        }
+    }
+}
+
+/// A few takes for one heap, which often has equals of its own or gets those of heap
+/// 0, with a free, a take of any class or an odd call now and then.
+fn take_from_equals(random: &mut Xorshift, run: &mut Run, heap: u8, class: u8, length: usize) {
+    for _ in 0..random.between(2, 12) {
+        if run.calls >= length || !run.has_room() {
+            return;
+        }
+        match (random.below(12), run.any_live(random)) {
+            (0, _) => odd_call(random, run),
+            (1 | 2, Some(address)) => {
+                run.free_either_way(random, heap, address);
+            }
+            (3, _) => {
+                let class = random.byte_between(0, 26);
+                let size = size_or_zero(random, class);
+                run.take_either_way(random, heap, size);
+            }
+            _ => {
+                let size = size_of_class(random, class);
+                run.take_either_way(random, heap, size);
+            }
+        }
+    }
 }

@@ -9,9 +9,11 @@ use hoard::{
 
 use crate::call_form::{run_call, write_input, CallInput, MOST_PLACES};
 use crate::make_record::{
-    any_processor, any_run, edge_setup, setup_in_limits, size_of_class, zero_or_beside,
+    any_processor, any_run, edge_setup, equals as equals_run, setup_in_limits, size_of_class,
+    zero_or_beside,
 };
 use crate::naming::{available_name, free_of_live, held_name};
+use crate::rank_faults::{break_ranks, loosen_ranks, owned_numbers, rank_any, RANK_FAULTS};
 use crate::row_form::{write_row_input, RowInput, MOST_RECORDS};
 use crate::table::{live_addresses, most_live_of_global, named_call, owned_blocks, Table};
 use crate::total_faults::{
@@ -87,6 +89,18 @@ pub enum Kind {
     TotalWide,
     /// Totals that an accepted call changed, some or all as they were before it.
     TotalStale,
+    /// A rank left out, before the last or instead of it.
+    RankGap,
+    /// A rank given twice.
+    RankTwice,
+    /// An unused superblock that is ranked.
+    RankUnused,
+    /// A rank above 64.
+    RankRange,
+    /// The last rank one too high.
+    RankOneMore,
+    /// All 64 superblocks owned and ranked: sound.
+    RankAll,
     /// One order place fewer than N x 256.
     StorageShort,
     /// Just N x 256 order places.
@@ -106,6 +120,8 @@ pub enum Kind {
     ZeroDamaged,
     /// A take or free by name on a sound state with many names.
     Named,
+    /// Mostly a take on a sound state in which many superblocks are equally full.
+    Equals,
     /// A sound state, or a setup, on a lent row that is mostly 64 long.
     Row,
     /// A state or setup of any other kind on a lent row of any length, with
@@ -114,7 +130,7 @@ pub enum Kind {
 }
 
 /// Every kind with its name.
-pub const KINDS: [(&str, Kind); 43] = [
+pub const KINDS: [(&str, Kind); 50] = [
     ("replayed", Kind::Replayed),
     ("built", Kind::Built),
     ("loose", Kind::Loose),
@@ -147,6 +163,12 @@ pub const KINDS: [(&str, Kind); 43] = [
     ("total-live-only", Kind::TotalLiveOnly),
     ("total-wide", Kind::TotalWide),
     ("total-stale", Kind::TotalStale),
+    ("rank-gap", Kind::RankGap),
+    ("rank-twice", Kind::RankTwice),
+    ("rank-unused", Kind::RankUnused),
+    ("rank-range", Kind::RankRange),
+    ("rank-one-more", Kind::RankOneMore),
+    ("rank-all", Kind::RankAll),
     ("storage-short", Kind::StorageShort),
     ("storage-exact", Kind::StorageExact),
     ("storage-long", Kind::StorageLong),
@@ -156,20 +178,23 @@ pub const KINDS: [(&str, Kind); 43] = [
     ("zero", Kind::Zero),
     ("zero-damaged", Kind::ZeroDamaged),
     ("named", Kind::Named),
+    ("equals", Kind::Equals),
     ("row", Kind::Row),
     ("row-damaged", Kind::RowDamaged),
 ];
 
 /// Kinds whose states pass the check and whose storage is enough.
-pub const SOUND_KINDS: [Kind; 8] = [
+pub const SOUND_KINDS: [Kind; 10] = [
     Kind::Replayed,
     Kind::Built,
     Kind::MoveRuleLimit,
     Kind::GlobalLimit,
+    Kind::RankAll,
     Kind::StorageExact,
     Kind::StorageLong,
     Kind::Zero,
     Kind::Named,
+    Kind::Equals,
 ];
 
 /// Kinds with a fault of names.
@@ -212,7 +237,8 @@ fn row(random: &mut Xorshift) -> RowInput {
     let kind = match random.below(6) {
         0 => Kind::SetupCall,
         1 => Kind::Zero,
-        2 | 3 => Kind::Named,
+        2 => Kind::Named,
+        3 => Kind::Equals,
         _ => random.pick(&SOUND_KINDS),
     };
     let mut input = make_input(kind, random);
@@ -227,10 +253,11 @@ fn row(random: &mut Xorshift) -> RowInput {
 /// A call of any other kind on a row of any length. Setup numbers are at times
 /// broken on top, storage is at times short, one in sixteen is no call at all.
 fn row_damaged(random: &mut Xorshift) -> Vec<u8> {
-    let kind = match random.below(8) {
-        0..=2 => Kind::SetupCall,
-        3 => Kind::ZeroDamaged,
-        4 => random.pick(&TOTAL_FAULTS),
+    let kind = match random.below(10) {
+        0..=3 => Kind::SetupCall,
+        4 => Kind::ZeroDamaged,
+        5 => random.pick(&TOTAL_FAULTS),
+        6 => random.pick(&RANK_FAULTS),
         _ => random.pick(&KINDS[..KINDS.len() - 2]).1,
     };
     let mut input = make_input(kind, random);
@@ -285,22 +312,24 @@ fn make_input(kind: Kind, random: &mut Xorshift) -> CallInput {
             with_storage(kind, random)
         }
         Kind::TotalStale => stale_totals(random),
+        Kind::RankAll => all_ranked(random).with_call(random),
         Kind::TwoFaults => two_faults(random),
         Kind::Zero => zero(random),
         Kind::ZeroDamaged => zero_damaged(random),
         Kind::Named => named(random),
+        Kind::Equals => equals(random),
+        kind if RANK_FAULTS.contains(&kind) => wrong_ranks(kind, random),
         _ => damaged(kind, random),
     }
 }
 
 fn replayed(random: &mut Xorshift) -> CallInput {
     let length = random.between(1, 400) as usize;
-    let run = any_run(random, length);
-    let table = Table {
-        state: run.state,
-        order: run.order,
+    let run = match random.below(4) {
+        0 => equals_run(random, length),
+        _ => any_run(random, length),
     };
-    table.with_call(random)
+    Table::after(&run.record).with_call(random)
 }
 
 /// Gives the first `count` superblocks to heaps at random, of few classes so that
@@ -334,6 +363,7 @@ fn built(random: &mut Xorshift) -> CallInput {
     let mut table = scatter(random, setup, setup.superblocks);
     table.restore_invariants();
     table.name_some_blocks(random);
+    table.rank_some_superblocks(random);
     table.with_call(random)
 }
 
@@ -341,8 +371,10 @@ fn loose(random: &mut Xorshift) -> CallInput {
     let setup = setup_in_limits(random, 8, 64);
     let mut table = scatter(random, setup, setup.superblocks);
     table.name_some_blocks(random);
+    table.rank_some_superblocks(random);
     let mut input = table.with_call(random);
     loosen_totals(random, &mut input.state.control.totals);
+    loosen_ranks(random, &mut input.state);
     input
 }
 
@@ -404,6 +436,7 @@ fn owned_and_unused(random: &mut Xorshift, most_processors: u8) -> Table {
     table.own(0, owner, class, live, random);
     table.restore_invariants();
     table.name_some_blocks(random);
+    table.rank_some_superblocks(random);
     table
 }
 
@@ -469,6 +502,7 @@ fn take_from_many_global(random: &mut Xorshift) -> CallInput {
     }
     table.restore_invariants();
     table.name_some_blocks(random);
+    table.rank_some_superblocks(random);
     let global = table.state.superblocks.iter();
     let global = global.filter(|superblock| superblock.owner == GLOBAL_HEAP);
     let mut classes: Vec<u8> = global.map(|superblock| superblock.class).collect();
@@ -619,6 +653,7 @@ fn around_threshold(random: &mut Xorshift, more: u32) -> CallInput {
         table.own(number, heap, class, live, random);
     }
     table.name_some_blocks(random);
+    table.rank_some_superblocks(random);
     let mut input = table.with_call(random);
     if live > 0 && random.chance(3, 4) {
         let processor = random.byte_between(1, setup.processors);
@@ -714,10 +749,10 @@ fn two_faults(random: &mut Xorshift) -> CallInput {
             table.order.truncate(short);
         }
         1 => {
-            break_owner_name_or_total(random, &mut table);
+            break_part(random, &mut table);
             table.order.truncate(short);
         }
-        2 | 3 => break_owner_name_or_total(random, &mut table),
+        2 | 3 => break_part(random, &mut table),
         4 | 5 => {
             leave_superblock_0(&mut table.state);
             table.recount_totals();
@@ -732,9 +767,9 @@ fn two_faults(random: &mut Xorshift) -> CallInput {
     }
 }
 
-/// Breaks the owner of a superblock or, more often, a name or a total.
-fn break_owner_name_or_total(random: &mut Xorshift, table: &mut Table) {
-    match random.below(6) {
+/// Breaks the owner of a superblock or, more often, a name, a total or a rank.
+fn break_part(random: &mut Xorshift, table: &mut Table) {
+    match random.below(8) {
         0 => {
             break_unused(Kind::Owner, random, table);
             table.recount_totals();
@@ -742,6 +777,10 @@ fn break_owner_name_or_total(random: &mut Xorshift, table: &mut Table) {
         1 | 2 => {
             let kind = random.pick(&[Kind::TotalMore, Kind::TotalLess, Kind::TotalCancel]);
             break_totals(kind, random, &mut table.state);
+        }
+        3 | 4 => {
+            let kind = random.pick(&[Kind::RankGap, Kind::RankUnused, Kind::RankRange]);
+            break_ranks(kind, random, &mut table.state);
         }
         _ => {
             let kind = random.pick(&NAME_FAULTS);
@@ -816,10 +855,11 @@ fn taken_name(random: &mut Xorshift, names: &Names) -> u16 {
 }
 
 /// Leaves superblock 0 alone, which is partly live and not of class 0, and its
-/// names: no place offers another class a superblock.
+/// names and rank: no place offers another class a superblock.
 fn leave_superblock_0(state: &mut State) {
     state.control.setup.superblocks = 1;
     state.superblocks[1..].fill(Superblock::UNUSED);
+    state.superblocks[0].rank = state.superblocks[0].rank.min(1);
     for number in &mut state.control.names.0 {
         if usize::from(*number) >= ORDER_PLACES {
             *number = NOT_HELD;
@@ -853,6 +893,7 @@ fn zero(random: &mut Xorshift) -> CallInput {
     }
     table.restore_invariants();
     table.name_some_blocks(random);
+    table.rank_some_superblocks(random);
     let mut input = table.with_call(random);
     input.call = take_of_zero(random, &setup);
     input
@@ -890,6 +931,7 @@ fn named(random: &mut Xorshift) -> CallInput {
     table.restore_invariants();
     let most = random.pick(&[30, NAMES, NAMES]);
     table.name_blocks(most, random);
+    table.rank_some_superblocks(random);
     let mut input = table.with_call(random);
     input.call = named_call(random, &input.state, 6);
     input
@@ -908,6 +950,101 @@ fn crowded(random: &mut Xorshift) -> Table {
         table.own(number, owner, class, live, random);
     }
     table
+}
+
+/// Gives most of the superblocks of a setup to heaps, of two classes and mostly with
+/// the same number of blocks live for each. Few or many are of the global heap.
+fn equal_superblocks(random: &mut Xorshift, setup: Setup, owned_of_ten: u32) -> Table {
+    let mut table = Table::new(setup, random);
+    let levels = [0, 0].map(|_| {
+        let class = random.byte_between(0, 26);
+        let blocks = SIZE_CLASSES[usize::from(class)].blocks;
+        let of_global = random.below(most_live_of_global(&setup, class) + 1);
+        (class, random.pick(&[0, of_global, of_global, blocks - 1]))
+    });
+    let global_of_ten = random.pick(&[1, 5, 9]);
+    let other_of_ten = random.pick(&[0, 1, 3]);
+    for number in 0..usize::from(setup.superblocks) {
+        if !random.chance(owned_of_ten, 10) {
+            continue;
+        }
+        let (class, level) = random.pick(&levels);
+        let live = match random.chance(other_of_ten, 10) {
+            true => random.below(SIZE_CLASSES[usize::from(class)].blocks + 1),
+            false => level,
+        };
+        let owner = match random.chance(global_of_ten, 10) {
+            true => GLOBAL_HEAP,
+            false => random.byte_between(1, setup.processors),
+        };
+        table.own(number, owner, class, live, random);
+    }
+    table.restore_invariants();
+    table.name_some_blocks(random);
+    table
+}
+
+/// A call on a sound state with many equals, four in five a take of a class that it
+/// has, half of these by name.
+fn equals(random: &mut Xorshift) -> CallInput {
+    let most_superblocks = random.pick(&[8, 24, 64]);
+    let setup = Setup {
+        spare: random.pick(&[1, 3, 16]),
+        ..setup_in_limits(random, 3, most_superblocks)
+    };
+    let mut table = equal_superblocks(random, setup, 9);
+    table.rank_some_superblocks(random);
+    let owned = owned_numbers(&table.state);
+    let mut input = table.with_call(random);
+    if owned.is_empty() || random.chance(1, 5) {
+        return input;
+    }
+    let class = input.state.superblocks[random.pick(&owned)].class;
+    let processor = random.byte_between(1, setup.processors);
+    let size = size_of_class(random, class);
+    input.call = match available_name(random, &input.state.control.names) {
+        Some(name) if random.chance(1, 2) => Command::NamedTake {
+            processor,
+            name,
+            size,
+        },
+        _ => Command::Take { processor, size },
+    };
+    input
+}
+
+/// A sound state with all 64 superblocks owned and ranked.
+fn all_ranked(random: &mut Xorshift) -> Table {
+    let setup = Setup {
+        superblocks: SUPERBLOCKS as u8,
+        ..setup_in_limits(random, 8, 64)
+    };
+    let mut table = equal_superblocks(random, setup, 10);
+    rank_any(random, &mut table.state, SUPERBLOCKS);
+    table
+}
+
+/// A sound state but for its ranks, which may be of all 64 superblocks where none has
+/// to be unused.
+fn wrong_ranks(kind: Kind, random: &mut Xorshift) -> CallInput {
+    let table = match kind {
+        Kind::RankUnused => owned_and_unused(random, 8),
+        _ if random.chance(1, 3) => all_ranked(random),
+        _ => with_three_owned(random),
+    };
+    let mut input = table.with_call(random);
+    break_ranks(kind, random, &mut input.state);
+    input
+}
+
+/// A sound state with three owned superblocks or more.
+fn with_three_owned(random: &mut Xorshift) -> Table {
+    loop {
+        let table = owned_and_unused(random, 8);
+        if owned_numbers(&table.state).len() >= 3 {
+            return table;
+        }
+    }
 }
 
 /// Cuts the bytes, adds to them, or changes the call kind or the number of places.

@@ -16,6 +16,7 @@ pub const FILLER: Superblock = Superblock {
     owner: 9,
     class: 9,
     live: [9; 4],
+    rank: 9,
 };
 
 /// A call and the length of the row that it is lent.

@@ -19,6 +19,10 @@ pub struct Run {
     /// Whether size 0 is refused here, as it once was: its takes are written and
     /// the record goes on as if they had not been made.
     pub refuses_zero: bool,
+    /// Whether equals go by the ranking. If not, ranks are forgotten after each call
+    /// and the lower number comes first, as it once did: so the records made then
+    /// keep their bytes.
+    pub keeps_ranks: bool,
     /// Of 100 calls that may be by name, how many are.
     pub named: u32,
 }
@@ -45,6 +49,7 @@ impl Run {
             live: Vec::new(),
             calls: 0,
             refuses_zero: false,
+            keeps_ranks: false,
             named: 0,
         }
     }
@@ -69,6 +74,10 @@ impl Run {
             _ => {}
         }
         self.state = answer.state;
+        if !self.keeps_ranks {
+            let superblocks = self.state.superblocks.iter_mut();
+            superblocks.for_each(|superblock| superblock.rank = 0);
+        }
         answer.outcome
     }
 
@@ -180,10 +189,15 @@ impl Run {
             PickFrom::Fullest => *live_counts.iter().max()?,
             PickFrom::Any => random.pick(&live_counts),
         };
+        Some(self.live_in(number, random))
+    }
+
+    /// A live address of a superblock, which has one.
+    pub fn live_in(&self, number: usize, random: &mut Xorshift) -> u32 {
         let first = number as u32 * SUPERBLOCK_BYTES;
         let addresses = first..first + SUPERBLOCK_BYTES;
         let here = |address: &u32| addresses.contains(address);
         let candidates: Vec<u32> = self.live.iter().copied().filter(here).collect();
-        Some(random.pick(&candidates))
+        random.pick(&candidates)
     }
 }

@@ -1,13 +1,14 @@
 //! A state and its order storage, built superblock by superblock.
 
 use hoard::{
-    over_emptiness_threshold, BlockId, Command, Setup, State, Superblock, Totals, GLOBAL_HEAP,
-    NAMES, ORDER_PLACES, SIZE_CLASSES, SUPERBLOCKS, SUPERBLOCK_BYTES, UNUSED_OWNER,
+    decode, over_emptiness_threshold, run, BlockId, Command, Setup, State, Superblock, Totals,
+    GLOBAL_HEAP, NAMES, ORDER_PLACES, SIZE_CLASSES, SUPERBLOCKS, SUPERBLOCK_BYTES, UNUSED_OWNER,
 };
 
 use crate::call_form::CallInput;
 use crate::make_record::{any_processor, size_or_zero, zero_or_beside};
 use crate::naming::{name_to_bind, name_to_free};
+use crate::rank_faults::rank_any;
 use crate::xorshift::Xorshift;
 
 /// A state and its order storage.
@@ -26,6 +27,20 @@ impl Table {
         }
     }
 
+    /// The state and storage at the end of a record.
+    pub fn after(record: &[u8]) -> Table {
+        let mut table = Table {
+            state: State::new(Setup::default()),
+            order: vec![0; SUPERBLOCKS * ORDER_PLACES],
+        };
+        let mut offset = 0;
+        while let Ok((command, next_offset)) = decode(record, offset) {
+            table.state = run(&command, &table.state, &mut table.order).state;
+            offset = next_offset;
+        }
+        table
+    }
+
     /// Makes superblock `number` one of `owner` and `class`, any `live` of its
     /// blocks live and the others in its order in any order.
     pub fn own(&mut self, number: usize, owner: u8, class: u8, live: u32, random: &mut Xorshift) {
@@ -36,6 +51,7 @@ impl Table {
             owner,
             class,
             live: [0; 4],
+            rank: 0,
         };
         marked
             .iter()
@@ -96,6 +112,12 @@ impl Table {
     pub fn name_some_blocks(&mut self, random: &mut Xorshift) {
         let most = random.pick(&[0, 4, 40, NAMES]);
         self.name_blocks(most, random);
+    }
+
+    /// Ranks none, some or all of the owned superblocks, in any order.
+    pub fn rank_some_superblocks(&mut self, random: &mut Xorshift) {
+        let most = random.pick(&[0, 4, SUPERBLOCKS, SUPERBLOCKS]);
+        rank_any(random, &mut self.state, most);
     }
 
     /// Puts the totals right for the superblocks as they are, sound or not.

@@ -47,6 +47,7 @@ fn other_records_stay_within_60000_bytes() {
         Kind::Edges,
         Kind::Zero,
         Kind::Names,
+        Kind::Equals,
     ] {
         let length = make_record(kind, 1, 20_000).len();
         assert!((59_990..=60_000).contains(&length), "{length}");
@@ -221,6 +222,7 @@ fn bound_moves_and_state_hold_after_every_call() {
         Kind::Zero,
         Kind::Names,
         Kind::ManyNamed,
+        Kind::Equals,
     ] {
         for seed in 100..110 {
             check_run(&make_record(kind, seed, 500));

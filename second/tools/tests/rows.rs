@@ -14,7 +14,7 @@ use call_bytes::on_unused;
 const KINDS: [Kind; 2] = [Kind::Row, Kind::RowDamaged];
 const SEEDS: std::ops::Range<u64> = 0..400;
 /// Seeds of each kind that `compare` takes.
-const COMPARED: std::ops::RangeInclusive<u64> = 1..=200;
+const COMPARED: std::ops::RangeInclusive<u64> = 1..=240;
 
 /// A setup within limits on a row, with 256 places of which the last is 5.
 fn setup_bytes(length: u8) -> Vec<u8> {
@@ -31,7 +31,7 @@ fn take_bytes(length: u8) -> Vec<u8> {
 }
 
 fn filler_lines(numbers: std::ops::Range<u8>) -> String {
-    let line = |number| format!("superblock {number} owner 9 class 9 live 9 9 9 9\n");
+    let line = |number| format!("superblock {number} owner 9 class 9 live 9 9 9 9 rank 9\n");
     numbers.map(line).collect()
 }
 
@@ -61,7 +61,7 @@ fn printed_form_of_a_setup() {
 fn printed_form_of_a_take() {
     assert_eq!(
         answer_bytes(&take_bytes(64)),
-        "at 0\nsetup 1 1 1 1 2\nsuperblock 0 owner 1 class 26 live 1 0 0 0\n\
+        "at 0\nsetup 1 1 1 1 2\nsuperblock 0 owner 1 class 26 live 1 0 0 0 rank 0\n\
             total heap 1 class 26 superblocks 1 live 1\nplace 0 1\nend\n"
     );
     for length in [0, 1, 63] {

@@ -49,6 +49,11 @@ fn broken_states_are_refused_with_13() {
         Kind::TotalLiveOnly,
         Kind::TotalWide,
         Kind::TotalStale,
+        Kind::RankGap,
+        Kind::RankTwice,
+        Kind::RankUnused,
+        Kind::RankRange,
+        Kind::RankOneMore,
     ];
     for kind in broken {
         for seed in SEEDS {
@@ -260,7 +265,7 @@ fn printed_form() {
     assert_eq!(answer_bytes(&bytes), "refused 1\nsetup 0 0 0 0 0\nend\n");
 
     let bytes = on_unused(&[1, 1, 1, 1, 1, 2, 1, 0, 8]);
-    let taken = "at 0\nsetup 1 1 1 1 2\nsuperblock 0 owner 1 class 26 live 1 0 0 0\n\
+    let taken = "at 0\nsetup 1 1 1 1 2\nsuperblock 0 owner 1 class 26 live 1 0 0 0 rank 0\n\
         total heap 1 class 26 superblocks 1 live 1\nplace 0 1\nend\n";
     assert_eq!(answer_bytes(&bytes), taken);
 }
@@ -270,8 +275,8 @@ fn printed_form_of_names() {
     let mut bytes = on_unused(&[4, 1, 1, 1, 1, 2, 1, 0, 4]);
     assert_eq!(answer_bytes(&bytes), "refused 15\nsetup 1 1 1 1 2\nend\n");
     // Held, but at no block: the first name and the last.
-    bytes[2185..2187].copy_from_slice(&[0, 0]);
-    bytes[4231..4233].copy_from_slice(&[254, 255]);
+    bytes[2249..2251].copy_from_slice(&[0, 0]);
+    bytes[4295..4297].copy_from_slice(&[254, 255]);
     let refused = "refused 13\nsetup 1 1 1 1 2\nname 0 superblock 0 block 0\n\
         name 1023 superblock 255 block 254\nend\n";
     assert_eq!(answer_bytes(&bytes), refused);
@@ -283,7 +288,7 @@ fn printed_form_of_totals() {
     assert_eq!(answer_bytes(&bytes), "refused 2\nsetup 7 1 1 1 2\nend\n");
     // Superblocks of heap 0 and class 0 and of heap 8 and class 26, live blocks of
     // heap 0 and class 1 and of heap 8 and class 26.
-    let superblocks = 11 + 64 * 34 + 2048;
+    let superblocks = 11 + 64 * 35 + 2048;
     let live = superblocks + 243;
     bytes[superblocks] = 255;
     bytes[superblocks + 242] = 1;

@@ -1,0 +1,209 @@
+-- The ranks of a table met superblock by superblock, as the code goes: what they say of the ranking. Assumes nothing.
+use mathlib.Core.Path.{_≡_, refl, sym, ap, _∙_}
+use mathlib.Core.Bool.{Bool, true, false}
+use mathlib.Core.Logic.{_⊎_, inl, inr}
+use mathlib.Core.List.{List}
+use Prim.Native.Nat.{ℕ, _+_, _≤_, _<_}
+use native.Mathlib.Decide.{ℕ-discrete, decLt}
+use native.Mathlib.Omega.{arith}
+use lib.Dec.{T, leb, leb→le, le→leb}
+use lib.ListN.{length, getD, set, replicate, length-set, length-replicate, getD-replicate, List·getD-eq-default}
+use lib.Seq.{getD-set-same, getD-set-other}
+use borrow.Author.Tests.{lt-ltb, le-ltb}
+use Rattle.laws.specs.Sums.{one, sumBelow}
+use Rattle.laws.proofs.TestLaws.{T-of-true, not-T-of-false, false-of-not-T, equal-of-iff, one-le-one}
+use Rattle.laws.proofs.SumLaws.{sum-below-zero, sum-below-suc}
+use Rattle.laws.proofs.Counting.{sum-le-of-terms-le-one}
+use Rattle.heap.specs.declared.Superblock.{Superblock}
+use Rattle.heap.specs.declared.State.{State}
+use Rattle.heap.specs.Table.{superblockAt, isUnused}
+use Rattle.heap.specs.Counts.{total}
+use Rattle.heap.specs.Ranks.{isRanked}
+use Rattle.checkrules.specs.Check.{rankedCount, ranksValid}
+use Rattle.heaplaws.proofs.StateFacts.{RanksSound}
+use Rattle.heaplaws.proofs.StateCheckLaws.{facts-of-is-unused, is-unused-of-facts}
+use Rattle.heaplaws.proofs.RankLaws.{ranks-sound-of-valid, ranks-valid-of-sound}
+
+-- superblock k's rank
+abbrev pub rankOf : State → ℕ → ℕ
+rankOf s k = superblockAt s k .rank
+
+-- the superblocks below k: how many are ranked, and the highest rank; a mark for each rank met, and no rank met twice
+pub record RanksMet (s : State) (met : List ℕ) (ranked highest k : ℕ) : Type 0 where
+  pub long : length met ≡ 256
+  pub counted : ranked ≡ sumBelow (λ j. one (isRanked (superblockAt s j))) k
+  pub not-above : (j : ℕ) → j < k → rankOf s j ≤ highest
+  pub reached : (highest ≡ 0) ⊎ ((j : ℕ) × (j < k) × (rankOf s j ≡ highest))
+  pub noted : (j : ℕ) → j < k → 0 < rankOf s j → getD met (rankOf s j) 0 ≡ 1
+  pub carried : (r : ℕ) → (getD met r 0 ≡ 0 → ⊥) → (j : ℕ) × (j < k) × (rankOf s j ≡ r)
+  pub once : (i j : ℕ) → i < j → j < k → 0 < rankOf s i → rankOf s i ≡ rankOf s j → ⊥
+  pub used : (j : ℕ) → j < k → 0 < rankOf s j → isUnused (superblockAt s j) ≡ false
+
+pub none-met : (s : State) → RanksMet s (replicate 256 0) 0 0 0
+none-met s =
+    record {
+      long = length-replicate {A = ℕ} 256 0;
+      counted = sym (sum-below-zero _);
+      not-above = λ j l. absurd (omega arith);
+      reached = inl refl;
+      noted = λ j l. absurd (omega arith);
+      carried = λ r n. absurd (n (no-mark r));
+      once = λ i j h l. absurd (omega arith);
+      used = λ j l. absurd (omega arith);
+    }
+  where
+    no-mark : (r : ℕ) → _≡_ {A = ℕ} (getD (replicate 256 0) r 0) 0
+    no-mark r = go (decLt r 256)
+      where
+        go : Dec (r < 256) → _≡_ {A = ℕ} (getD (replicate 256 0) r 0) 0
+        go (yes l) = getD-replicate 256 r 0 0 l
+        go (no f) = List·getD-eq-default (replicate 256 0) 0 {n = r} (rw (length-replicate {A = ℕ} 256 0) (omega arith))
+
+ranked-one : (b : Superblock) → 0 < b .rank → one (isRanked b) ≡ 1
+unfolding isRanked
+ranked-one b h = rw (lt-ltb 0 (b .rank) h)
+
+unranked-none : (b : Superblock) → b .rank ≤ 0 → one (isRanked b) ≡ 0
+unfolding isRanked
+unranked-none b h = rw (le-ltb 0 (b .rank) h)
+
+module _ (s : State) (met : List ℕ) (ranked highest k : ℕ) (before : RanksMet s met ranked highest k) where
+  -- no more are ranked than were looked at
+  pub ranked-le : ranked ≤ k
+  ranked-le = let few = sum-le-of-terms-le-one (λ j. one (isRanked (superblockAt s j))) k (λ j l. one-le-one (isRanked (superblockAt s j))) in omega (arith, before .counted)
+
+  -- ---- superblock k has no rank
+  pub step-unranked : (met' : List ℕ) (ranked' highest' : ℕ) → rankOf s k ≤ 0 → met' ≡ met → ranked' ≡ ranked → highest' ≡ highest → RanksMet s met' ranked' highest' (k + 1)
+  step-unranked met' ranked' highest' h p q r =
+      rw (p, q, r)
+      (record {
+        long = before .long;
+        counted = let one-more = sum-below-suc (λ j. one (isRanked (superblockAt s j))) k in omega (arith, before .counted, unranked-none (superblockAt s k) h);
+        not-above = λ j l. not-above j l (ℕ-discrete j k);
+        reached = reached (before .reached);
+        noted = λ j l n. before .noted j (below j l n) n;
+        carried = λ r n. let at = before .carried r n in (at .0, omega arith, at .2);
+        once = λ i j l m n e. before .once i j l (below j m (omega arith)) n e;
+        used = λ j l n. before .used j (below j l n) n;
+      })
+    where
+      -- a ranked one is another
+      below : (j : ℕ) → j < k + 1 → 0 < rankOf s j → j < k
+      below j l n = go (ℕ-discrete j k)
+        where
+          go : Dec (j ≡ k) → j < k
+          go (yes e) = let z = ap (rankOf s) e in absurd (omega arith)
+          go (no f) = omega arith
+
+      not-above : (j : ℕ) → j < k + 1 → Dec (j ≡ k) → rankOf s j ≤ highest
+      not-above j l (yes e) = let z = ap (rankOf s) e in omega arith
+      not-above j l (no f) = before .not-above j (omega arith)
+
+      reached : (highest ≡ 0) ⊎ ((j : ℕ) × (j < k) × (rankOf s j ≡ highest)) → (highest ≡ 0) ⊎ ((j : ℕ) × (j < k + 1) × (rankOf s j ≡ highest))
+      reached (inl e) = inl e
+      reached (inr at) = inr (at .0, omega arith, at .2)
+
+  -- ---- superblock k has a rank
+  module _ (low : k < 64) (is : 0 < rankOf s k) where
+    pub false-of-met-twice : (getD met (rankOf s k) 0 ≡ 0 → ⊥) → false ≡ ranksValid s
+    false-of-met-twice n =
+        sym (false-of-not-T (ranksValid s) (λ t.
+        let at = before .carried (rankOf s k) n in
+        let e = ranks-sound-of-valid s t .distinct k (at .0) low (omega arith) is (sym (at .2)) in
+        omega arith))
+
+    pub false-of-unused : (t : Bool) → t ≡ isUnused (superblockAt s k) → t ≡ true → false ≡ ranksValid s
+    false-of-unused t e h =
+        sym (false-of-not-T (ranksValid s) (λ v.
+        let z = ranks-sound-of-valid s v .unused-unranked k low (facts-of-is-unused (superblockAt s k) (T-of-true _ (sym e ∙ h))) in
+        omega arith))
+
+    -- the highest is superblock k's rank where that is above it
+    abbrev HigherOf : ℕ → Type 0
+    HigherOf highest' = ((highest < rankOf s k) × (highest' ≡ rankOf s k)) ⊎ ((rankOf s k ≤ highest) × (highest' ≡ highest))
+
+    step-ranked : (met' : List ℕ) (ranked' highest' : ℕ) → rankOf s k < 256 → getD met (rankOf s k) 0 ≡ 0 → isUnused (superblockAt s k) ≡ false
+        → HigherOf highest' → met' ≡ set met (rankOf s k) 1 → ranked' ≡ ranked + 1 → RanksMet s met' ranked' highest' (k + 1)
+    step-ranked met' ranked' highest' fits new u higher p q =
+        rw (p, q)
+        (record {
+          long = length-set met (rankOf s k) 1 ∙ before .long;
+          counted = let one-more = sum-below-suc (λ j. one (isRanked (superblockAt s j))) k in omega (arith, before .counted, ranked-one (superblockAt s k) is);
+          not-above = λ j l. not-above j l (ℕ-discrete j k) higher;
+          reached = reached higher (before .reached);
+          noted = λ j l n. noted j l n (ℕ-discrete (rankOf s j) (rankOf s k));
+          carried = λ r n. carried r n (ℕ-discrete r (rankOf s k));
+          once = λ i j l m n e. once i j l m n e (ℕ-discrete j k);
+          used = λ j l n. used j l n (ℕ-discrete j k);
+        })
+      where
+        not-above : (j : ℕ) → j < k + 1 → Dec (j ≡ k) → HigherOf highest' → rankOf s j ≤ highest'
+        not-above j l (yes e) (inl h) = let z = ap (rankOf s) e in omega arith
+        not-above j l (yes e) (inr h) = let z = ap (rankOf s) e in omega arith
+        not-above j l (no f) (inl h) = let z = before .not-above j (omega arith) in omega arith
+        not-above j l (no f) (inr h) = let z = before .not-above j (omega arith) in omega arith
+
+        reached : HigherOf highest' → (highest ≡ 0) ⊎ ((j : ℕ) × (j < k) × (rankOf s j ≡ highest)) → (highest' ≡ 0) ⊎ ((j : ℕ) × (j < k + 1) × (rankOf s j ≡ highest'))
+        reached (inl h) old = inr (k, omega arith, sym (h .1))
+        reached (inr h) (inl e) = inl (h .1 ∙ e)
+        reached (inr h) (inr at) = inr (at .0, omega arith, at .2 ∙ sym (h .1))
+
+        noted : (j : ℕ) → j < k + 1 → 0 < rankOf s j → Dec (rankOf s j ≡ rankOf s k) → getD (set met (rankOf s k) 1) (rankOf s j) 0 ≡ 1
+        noted j l n (yes e) = rw e (getD-set-same met (rankOf s k) 1 0 (omega (arith, before .long)))
+        noted j l n (no f) =
+            let other : j ≡ k → ⊥ = λ e. f (ap (rankOf s) e) in
+            getD-set-other met (rankOf s k) (rankOf s j) 1 0 f ∙ before .noted j (omega arith) n
+
+        carried : (r : ℕ) → (getD (set met (rankOf s k) 1) r 0 ≡ 0 → ⊥) → Dec (r ≡ rankOf s k) → (j : ℕ) × (j < k + 1) × (rankOf s j ≡ r)
+        carried r n (yes e) = (k, omega arith, sym e)
+        carried r n (no f) =
+            let at = before .carried r (λ (z : getD met r 0 ≡ 0). n (getD-set-other met (rankOf s k) r 1 0 f ∙ z)) in
+            (at .0, omega arith, at .2)
+
+        once : (i j : ℕ) → i < j → j < k + 1 → 0 < rankOf s i → rankOf s i ≡ rankOf s j → Dec (j ≡ k) → ⊥
+        once i j l m n e (yes f) =
+            let z = before .noted i (omega arith) n in
+            let same = ap (λ (r : ℕ). getD met r 0) (e ∙ ap (rankOf s) f) in
+            omega arith
+        once i j l m n e (no f) = before .once i j l (omega arith) n e
+
+        used : (j : ℕ) → j < k + 1 → 0 < rankOf s j → Dec (j ≡ k) → isUnused (superblockAt s j) ≡ false
+        used j l n (yes e) = ap (λ (i : ℕ). isUnused (superblockAt s i)) e ∙ u
+        used j l n (no f) = before .used j (omega arith) n
+
+    pub step-higher : (met' : List ℕ) (ranked' highest' : ℕ) → rankOf s k < 256 → getD met (rankOf s k) 0 ≡ 0 → isUnused (superblockAt s k) ≡ false
+        → highest < rankOf s k → met' ≡ set met (rankOf s k) 1 → ranked' ≡ ranked + 1 → highest' ≡ rankOf s k → RanksMet s met' ranked' highest' (k + 1)
+    step-higher met' ranked' highest' fits new u h p q r = step-ranked met' ranked' highest' fits new u (inl (h, r)) p q
+
+    pub step-not-higher : (met' : List ℕ) (ranked' highest' : ℕ) → rankOf s k < 256 → getD met (rankOf s k) 0 ≡ 0 → isUnused (superblockAt s k) ≡ false
+        → rankOf s k ≤ highest → met' ≡ set met (rankOf s k) 1 → ranked' ≡ ranked + 1 → highest' ≡ highest → RanksMet s met' ranked' highest' (k + 1)
+    step-not-higher met' ranked' highest' fits new u h p q r = step-ranked met' ranked' highest' fits new u (inr (h, r)) p q
+
+  -- ---- all looked at
+  pub ranks-valid-of-highest : 64 ≤ k → k ≤ 64 → leb highest ranked ≡ ranksValid s
+  unfolding rankedCount total
+  ranks-valid-of-highest g h = equal-of-iff (leb highest ranked) (ranksValid s) (λ t. ranks-valid-of-sound s (sound (leb→le highest ranked t))) (λ t. le→leb highest ranked (bound (ranks-sound-of-valid s t) (before .reached)))
+    where
+      all : ranked ≡ rankedCount s
+      all = before .counted ∙ ap (sumBelow (λ j. one (isRanked (superblockAt s j)))) (let e : k ≡ 64 = omega arith in e)
+
+      sound : highest ≤ ranked → RanksSound s
+      sound l =
+          record {
+            bounded = λ j m. let z = before .not-above j (omega arith) in omega (arith, all);
+            distinct = λ i j li lj n e. same i j li lj n e (decLt i j) (decLt j i);
+            unused-unranked = λ j m u. unranked j m (ℕ-discrete (rankOf s j) 0) (is-unused-of-facts (superblockAt s j) u);
+          }
+        where
+          same : (i j : ℕ) → i < 64 → j < 64 → 0 < rankOf s i → rankOf s i ≡ rankOf s j → Dec (i < j) → Dec (j < i) → i ≡ j
+          same i j li lj n e (yes l) d = absurd (before .once i j l (omega arith) n e)
+          same i j li lj n e (no f) (yes l) = absurd (before .once j i l (omega arith) (omega arith) (sym e))
+          same i j li lj n e (no f) (no g) = omega arith
+
+          unranked : (j : ℕ) → j < 64 → Dec (rankOf s j ≡ 0) → T (isUnused (superblockAt s j)) → rankOf s j ≡ 0
+          unranked j m (yes e) t = e
+          unranked j m (no f) t = absurd (not-T-of-false _ (before .used j (omega arith) (omega arith)) t)
+
+      bound : RanksSound s → (highest ≡ 0) ⊎ ((j : ℕ) × (j < k) × (rankOf s j ≡ highest)) → highest ≤ ranked
+      bound v (inl e) = omega arith
+      bound v (inr at) = let z = v .bounded (at .0) (omega arith) in omega (arith, all)

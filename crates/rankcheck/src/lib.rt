@@ -1,0 +1,36 @@
+// The check of a state's ranking: the ranked superblocks carry 1 upwards, each once without a gap, and no unused one is ranked.
+// One pass serves: where no rank is met twice, and none is above the number of those ranked, there is no gap.
+ghost use mathlib.Core.Path.{_≡_};
+ghost use Rattle.checkrules.specs.Check.{ranksValid};
+use heap::State;
+
+// The ranks are a ranking. The owner is looked at before `is_unused` is called, so that it seldom is.
+pub fn ranks_valid(s: State) -> bool
+    ensures { λ r. ⌜ r ≡ ranksValid s ⌝ }
+{
+    let mut met = [0u8; 256];
+    let mut ranked: usize = 0;
+    let mut highest: usize = 0;
+    let mut k: usize = 0;
+    while k < 64 {
+        let b = s.table[k];
+        let x = b.rank as usize;
+        if 0 < x {
+            if met[x] != 0 {
+                return false;
+            }
+            if b.owner == 255 {
+                if predicates::is_unused(b) {
+                    return false;
+                }
+            }
+            met[x] = 1;
+            ranked += 1;
+            if highest < x {
+                highest = x;
+            }
+        }
+        k += 1;
+    }
+    highest <= ranked
+}
