@@ -12,7 +12,10 @@ use Rattle.heap.specs.declared.Setup.{Setup}
 use Rattle.heap.specs.declared.State.{State}
 use Rattle.heap.specs.declared.Found.{Found}
 use Rattle.heap.specs.declared.Found.the-variants.{At, Nothing}
+use Rattle.heap.specs.Table.{superblockAt, liveIn}
 use Rattle.heap.specs.States.{noState}
+use Rattle.heap.specs.Ranks.{rankedLatest, unranked}
+use Rattle.laws.proofs.TestLaws.{pick-elim}
 use Rattle.choicerules.specs.Choice.{emptiest}
 use Rattle.moverules.specs.Moves.{mustMove, transferred, foundTransferred, transfersUpTo, excessTransferred, invariantRestored}
 use Rattle.checkrules.specs.Check.{withinLimits}
@@ -21,7 +24,7 @@ use Rattle.calls.specs.declared.Outcome.{Outcome}
 use Rattle.calls.specs.declared.Outcome.the-variants.{Ready, Address, Moves, Refused}
 use Rattle.calls.specs.Answers.{After, refused}
 use Rattle.calls.specs.Setup.{acceptedSetup, setupOf}
-use Rattle.calls.specs.Take.{takenFrom, takenFromOther, takeOf}
+use Rattle.calls.specs.Take.{unrankedIfEmpty, takenFrom, takenFromOther, takeOf}
 use Rattle.calls.specs.Free.{markCleared, blockFreed, freedAt, freeOf}
 use Rattle.calls.specs.Named.{nameBound, boundBy, withNameBound, namedTakeOf, heldAddress, namedFreeOf}
 use Rattle.calllaws.proofs.TakeLaws.{take-refused-or-accepted}
@@ -52,16 +55,20 @@ setup-of-invariant-restored h c s = go (eqb h 0)
     go true = refl
     go false = setup-of-transfers-up-to 64 h c 0 s
 
+setup-of-unranked-if-empty : (k : ℕ) (s : State) → unrankedIfEmpty k s .setup ≡ s .setup
+unfolding unrankedIfEmpty unranked
+setup-of-unranked-if-empty k s = pick-elim (λ (t : State). t .setup ≡ s .setup) (eqb (liveIn (superblockAt s k)) 0) _ _ (λ e. refl) (λ e. refl)
+
 -- ---- the calls
 pub setup-kept-by-take : (s : State) (order : List ℕ) (i size : ℕ) → takeOf s order i size .answer .state .setup ≡ s .setup
 unfolding takenFromOther takenFrom
 setup-kept-by-take s order i size =
     ⊎-elim (λ d. ap (λ (x : After). x .answer .state .setup) (d .1))
-    (λ d. ⊎-elim (λ e. ap (λ (x : After). x .answer .state .setup) (e .1)) (λ e. ap (λ (x : After). x .answer .state .setup) (e .2)) (d .1 .place))
+    (λ d. ⊎-elim (λ e. ap (λ (x : After). x .answer .state .setup) (e .1)) (λ e. ap (λ (x : After). x .answer .state .setup) (e .2) ∙ setup-of-unranked-if-empty (d .0) s) (d .1 .place))
     (take-refused-or-accepted s order i size)
 
 pub setup-kept-by-free : (s : State) (order : List ℕ) (i a : ℕ) → freeOf s order i a .answer .state .setup ≡ s .setup
-unfolding freedAt blockFreed markCleared
+unfolding freedAt blockFreed markCleared rankedLatest
 setup-kept-by-free s order i a =
     ⊎-elim (λ d. ap (λ (x : After). x .answer .state .setup) (d .1))
     (λ d. ap (λ (x : After). x .answer .state .setup) (d .result-is) ∙ setup-of-invariant-restored _ _ _)

@@ -1,4 +1,4 @@
--- The rest of the check as the code goes: each superblock alone, the totals and the emptiness invariant by one recount, and the names. Assumes nothing.
+-- The rest of the check as the code goes: each superblock alone, the totals and the emptiness invariant by one recount, the names and the ranks. Assumes nothing.
 use mathlib.Core.Path.{_≡_, refl, sym, ap, _∙_}
 use mathlib.Core.Bool.{Bool, true, false, not}
 use mathlib.Core.List.{List}
@@ -14,7 +14,7 @@ use Rattle.heap.specs.declared.Totals.{Totals}
 use Rattle.heap.specs.declared.State.{State}
 use Rattle.heap.specs.Table.{superblockAt}
 use Rattle.heap.specs.Totals.{heapCount, recounted}
-use Rattle.checkrules.specs.Check.{withinLimits, superblockValid, unusedFrom, sparseIfGlobal, emptinessInvariant, namesValid, sameTotals, totalsValid, restValid}
+use Rattle.checkrules.specs.Check.{withinLimits, superblockValid, unusedFrom, sparseIfGlobal, emptinessInvariant, namesValid, sameTotals, totalsValid, ranksValid, restValid}
 use Rattle.heaplaws.proofs.StateCheckLaws.{facts-of-within-limits}
 use Rattle.superblockcheck.specs.Alone.{aloneValid, eachValid}
 use Rattle.invariantcheck.specs.TotalsInvariant.{totalsInvariant}
@@ -22,12 +22,12 @@ use Rattle.invariantcheck.proofs.EmptinessInvariantLaws.{totals-invariant-of-re
 use Rattle.limits.specs.SetupRefusal.{setupRefusal}
 
 -- the clauses in the code's order
-rest-valid-by-parts : (s : State) (order : List ℕ) → restValid s order ≡ both (eachValid (s .setup) (s .table) order) (both (totalsValid s) (both (emptinessInvariant s) (namesValid s)))
+rest-valid-by-parts : (s : State) (order : List ℕ) → restValid s order ≡ both (eachValid (s .setup) (s .table) order) (both (totalsValid s) (both (emptinessInvariant s) (both (namesValid s) (ranksValid s))))
 unfolding restValid eachValid aloneValid
 rest-valid-by-parts s order =
     sym
-    (ap (λ (t : Bool). both t (both (totalsValid s) (both (emptinessInvariant s) (namesValid s)))) (all-both good (λ k. both (past k) (thin k)) 64 ∙ ap (both (allBelow good 64)) (all-both past thin 64))
-    ∙ regroup (allBelow good 64) (allBelow past 64) (emptinessInvariant s) (allBelow thin 64) (namesValid s) (totalsValid s))
+    (ap (λ (t : Bool). both t (both (totalsValid s) (both (emptinessInvariant s) (both (namesValid s) (ranksValid s))))) (all-both good (λ k. both (past k) (thin k)) 64 ∙ ap (both (allBelow good 64)) (all-both past thin 64))
+    ∙ regroup (allBelow good 64) (allBelow past 64) (emptinessInvariant s) (allBelow thin 64) (namesValid s) (totalsValid s) (ranksValid s))
   where
     good : ℕ → Bool
     good k = superblockValid (s .setup) order k (superblockAt s k)
@@ -38,17 +38,17 @@ rest-valid-by-parts s order =
     thin : ℕ → Bool
     thin k = sparseIfGlobal (s .setup) (superblockAt s k)
 
-    regroup : (a b h d n t : Bool) → both (both a (both b d)) (both t (both h n)) ≡ both a (both b (both h (both d (both n t))))
-    regroup false b h d n t = refl
-    regroup true false h d n t = refl
-    regroup true true true true true true = refl
-    regroup true true true true true false = refl
-    regroup true true true true false true = refl
-    regroup true true true true false false = refl
-    regroup true true true false n t = refl
-    regroup true true false true n true = refl
-    regroup true true false true n false = refl
-    regroup true true false false n t = refl
+    regroup : (a b h d n t r : Bool) → both (both a (both b d)) (both t (both h (both n r))) ≡ both a (both b (both h (both d (both n (both t r)))))
+    regroup false b h d n t r = refl
+    regroup true false h d n t r = refl
+    regroup true true true true true true r = refl
+    regroup true true true true true false r = refl
+    regroup true true true true false true r = refl
+    regroup true true true true false false r = refl
+    regroup true true true false n t r = refl
+    regroup true true false true n true r = refl
+    regroup true true false true n false r = refl
+    regroup true true false false n t r = refl
 
 -- a setup that is not refused has at most 8 processors, so that totals are kept of all their heaps
 processors-have-totals : (s : State) (order : List ℕ) (first : ℕ) → first ≡ setupRefusal 13 (s .setup) order → first ≡ 0 → s .setup .processors < heapCount
@@ -80,14 +80,22 @@ module _ (s : State) (order : List ℕ) (first : ℕ) (lawful : first ≡ setupR
       rest-valid-false-of-emptiness-invariant j = sym (rw (rest-valid-by-parts s order, ← e, not-false t f, ← same-is-totals-valid, not-false v g, ← invariant-is-emptiness-invariant, not-true u j))
 
       module _ (j : not u ≡ false) (w : Bool) (n : w ≡ namesValid s) where
-        rest-valid-is-names-valid : restValid s order ≡ w
-        rest-valid-is-names-valid = rw (rest-valid-by-parts s order, ← e, not-false t f, ← same-is-totals-valid, not-false v g, ← invariant-is-emptiness-invariant, not-false u j) (sym n)
+        rest-valid-is-names-and-ranks : restValid s order ≡ both w (ranksValid s)
+        rest-valid-is-names-and-ranks =
+            rw (rest-valid-by-parts s order, ← e, not-false t f, ← same-is-totals-valid, not-false v g, ← invariant-is-emptiness-invariant, not-false u j) (ap (λ (x : Bool). both x (ranksValid s)) (sym n))
 
         pub rest-valid-false-of-names : not w ≡ true → false ≡ restValid s order
-        rest-valid-false-of-names k = sym (rest-valid-is-names-valid ∙ not-true w k)
+        rest-valid-false-of-names k = sym (rest-valid-is-names-and-ranks ∙ ap (λ (x : Bool). both x (ranksValid s)) (not-true w k))
 
-        pub rest-valid-of-parts : not w ≡ false → true ≡ restValid s order
-        rest-valid-of-parts k = sym (rest-valid-is-names-valid ∙ not-false w k)
+        module _ (k : not w ≡ false) (x : Bool) (r : x ≡ ranksValid s) where
+          rest-valid-is-ranks-valid : restValid s order ≡ x
+          rest-valid-is-ranks-valid = rest-valid-is-names-and-ranks ∙ ap (λ (y : Bool). both y (ranksValid s)) (not-false w k) ∙ sym r
+
+          pub rest-valid-false-of-ranks : not x ≡ true → false ≡ restValid s order
+          rest-valid-false-of-ranks l = sym (rest-valid-is-ranks-valid ∙ not-true x l)
+
+          pub rest-valid-of-parts : not x ≡ false → true ≡ restValid s order
+          rest-valid-of-parts l = sym (rest-valid-is-ranks-valid ∙ not-false x l)
 
 -- how a proof finds which of them it asks
-pub ruleset rest-valid-rules = (rest-valid-false-of-each, rest-valid-false-of-totals, rest-valid-false-of-emptiness-invariant, rest-valid-false-of-names, rest-valid-of-parts)
+pub ruleset rest-valid-rules = (rest-valid-false-of-each, rest-valid-false-of-totals, rest-valid-false-of-emptiness-invariant, rest-valid-false-of-names, rest-valid-false-of-ranks, rest-valid-of-parts)

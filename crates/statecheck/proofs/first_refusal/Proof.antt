@@ -41,6 +41,12 @@ returns-5 c = search (first-refusal-rules, rest-valid-rules)
 returns-6 : tie.Need-returns-6
 returns-6 c = search (first-refusal-rules, rest-valid-rules)
 
+ranks-valid-requires : tie.Need-ranks-valid-requires
+ranks-valid-requires c κs = search needs
+
+returns-7 : tie.Need-returns-7
+returns-7 c = search (first-refusal-rules, rest-valid-rules)
+
 pub first-refusal-spec : {M : Type 1} → statement M
 first-refusal-spec =
     tie.close
@@ -56,4 +62,6 @@ first-refusal-spec =
     returns-4
     names-valid-requires
     returns-5
-    returns-6)
+    ranks-valid-requires
+    returns-6
+    returns-7)
