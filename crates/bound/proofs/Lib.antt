@@ -1,2 +1,3 @@
 pub mod LedgerDefinitions
 pub mod ClaimCases
+pub mod HistoryCases

@@ -198,9 +198,12 @@ module _ (s : State) (order : List ℕ) (i size k : ℕ) (shape : Shape s) (acc 
   shape-and-passed : Shape ranked × Passed ranked order × (ranked .setup ≡ s .setup) × (ranked .names ≡ s .names)
   unfolding unranked
   shape-and-passed =
-      of-ranked (λ (t : State). Shape t × Passed t order × (t .setup ≡ s .setup) × (t .names ≡ s .names)) s ranked i k (source-and-result .ranked-is)
-      (reranked-shape (rankAfterRenewal k (s .table)) s (shape .length-is) shape,
-      reranked-passed (rankAfterRenewal k (s .table)) s order (shape .length-is) (acc .passed) (unranked-ranks-sound k s (source-and-result .below-64) (acc .passed .ranks)), refl, refl)
+      of-ranked (λ (t : State). Shape t × Passed t order × (t .setup ≡ s .setup) × (t .names ≡ s .names)) s ranked i k (source-and-result .ranked-is) (
+        reranked-shape (rankAfterRenewal k (s .table)) s (shape .length-is) shape,
+        reranked-passed (rankAfterRenewal k (s .table)) s order (shape .length-is) (acc .passed) (unranked-ranks-sound k s (source-and-result .below-64) (acc .passed .ranks)),
+        refl,
+        refl,
+      )
       (shape, acc .passed, refl, refl)
 
   ranked-result : TakeResult i (classOf size) k taken-block ranked (takeOf s order i size .answer .state) (takeOf s order i size .order)

@@ -48,3 +48,13 @@ key-of-mixed-calls = refl
 storage-after-named-calls : storageOf (setup ++ take-name 5 ++ take-name 6 ++ free-name 5 ++ free-name 6) (replicate 257 7) ≡ 0 ∷ 1 ∷ (replicate 254 0 ++ (7 ∷ []))
 unfolding keyDefinitions
 storage-after-named-calls = refl
+
+-- two superblocks with one live block each, the second freed into last: the next take is from it, where the lower number is 0 (document 02, item 4). P = 1, N = 2, K = 2
+abbrev free-4096 : List ℕ
+free-4096 = 2 ∷ 1 ∷ 0 ∷ 16 ∷ 0 ∷ 0 ∷ []
+
+key-of-last-freed-into : keyOf (0 ∷ 1 ∷ 2 ∷ 2 ∷ 1 ∷ 2 ∷ [] ++ take ++ take ++ take ++ take ++ free-0 ++ free-4096 ++ take) (replicate 512 7)
+    ≡ letters "setup 1 2 2 1 2\n" ++ letters "take 1 2048 at 0\n" ++ letters "take 1 2048 at 2048\n" ++ letters "take 1 2048 at 4096\n" ++ letters "take 1 2048 at 6144\n" ++ letters "free 1 0 moved 0\n" ++ letters "free 1 4096 moved 0\n"
+    ++ letters "take 1 2048 at 4096\n" ++ letters "heap 1 class 26 superblocks 2 live 3\n" ++ letters "end\n"
+unfolding keyDefinitions
+key-of-last-freed-into = refl

@@ -3,17 +3,20 @@ use mathlib.Core.Path.{_≡_, refl, sym, ap, _∙_}
 use mathlib.Core.Bool.{Bool, true, false}
 use mathlib.Core.Logic.{_⊎_, inl, inr}
 use mathlib.Core.List.{List}
-use Prim.Native.Nat.{ℕ, _+_, _≤_, _<_}
+use Prim.Native.Nat.{ℕ, _+_, _*_, _/_, _%_, _^_, _≤_, _<_}
 use native.Mathlib.Decide.{ℕ-discrete, decLt}
 use native.Mathlib.Omega.{arith}
 use lib.Dec.{T, leb, leb→le, le→leb}
-use lib.ListN.{length, getD, set, replicate, length-set, length-replicate, getD-replicate, List·getD-eq-default}
-use lib.Seq.{getD-set-same, getD-set-other}
+use lib.ListN.{length, getD, set}
+use lib.Bits.{bitOr}
 use borrow.Author.Tests.{lt-ltb, le-ltb}
 use Rattle.laws.specs.Sums.{one, sumBelow}
 use Rattle.laws.proofs.TestLaws.{T-of-true, not-T-of-false, false-of-not-T, equal-of-iff, one-le-one}
 use Rattle.laws.proofs.SumLaws.{sum-below-zero, sum-below-suc}
 use Rattle.laws.proofs.Counting.{sum-le-of-terms-le-one}
+use Rattle.marks.specs.Marks.{markBit, withMark, noMarks}
+use Rattle.marklaws.proofs.BitLaws.{shl-one}
+use Rattle.marklaws.proofs.MarkLaws.{length-with-mark, with-mark-same, with-mark-other, mark-bit-of-no-marks}
 use Rattle.heap.specs.declared.Superblock.{Superblock}
 use Rattle.heap.specs.declared.State.{State}
 use Rattle.heap.specs.Table.{superblockAt, isUnused}
@@ -30,34 +33,35 @@ rankOf s k = superblockAt s k .rank
 
 -- the superblocks below k: how many are ranked, and the highest rank; a mark for each rank met, and no rank met twice
 pub record RanksMet (s : State) (met : List ℕ) (ranked highest k : ℕ) : Type 0 where
-  pub long : length met ≡ 256
+  pub long : length met ≡ 4
   pub counted : ranked ≡ sumBelow (λ j. one (isRanked (superblockAt s j))) k
   pub not-above : (j : ℕ) → j < k → rankOf s j ≤ highest
   pub reached : (highest ≡ 0) ⊎ ((j : ℕ) × (j < k) × (rankOf s j ≡ highest))
-  pub noted : (j : ℕ) → j < k → 0 < rankOf s j → getD met (rankOf s j) 0 ≡ 1
-  pub carried : (r : ℕ) → (getD met r 0 ≡ 0 → ⊥) → (j : ℕ) × (j < k) × (rankOf s j ≡ r)
+  pub noted : (j : ℕ) → j < k → 0 < rankOf s j → markBit met (rankOf s j) ≡ 1
+  pub carried : (r : ℕ) → markBit met r ≡ 1 → (j : ℕ) × (j < k) × (rankOf s j ≡ r)
   pub once : (i j : ℕ) → i < j → j < k → 0 < rankOf s i → rankOf s i ≡ rankOf s j → ⊥
   pub used : (j : ℕ) → j < k → 0 < rankOf s j → isUnused (superblockAt s j) ≡ false
 
-pub none-met : (s : State) → RanksMet s (replicate 256 0) 0 0 0
+pub none-met : (s : State) → RanksMet s noMarks 0 0 0
 none-met s =
     record {
-      long = length-replicate {A = ℕ} 256 0;
+      long = refl;
       counted = sym (sum-below-zero _);
       not-above = λ j l. absurd (omega arith);
       reached = inl refl;
       noted = λ j l. absurd (omega arith);
-      carried = λ r n. absurd (n (no-mark r));
+      carried = λ r n. absurd (omega (arith, mark-bit-of-no-marks r));
       once = λ i j h l. absurd (omega arith);
       used = λ j l. absurd (omega arith);
     }
-  where
-    no-mark : (r : ℕ) → _≡_ {A = ℕ} (getD (replicate 256 0) r 0) 0
-    no-mark r = go (decLt r 256)
-      where
-        go : Dec (r < 256) → _≡_ {A = ℕ} (getD (replicate 256 0) r 0) 0
-        go (yes l) = getD-replicate 256 r 0 0 l
-        go (no f) = List·getD-eq-default (replicate 256 0) 0 {n = r} (rw (length-replicate {A = ℕ} 256 0) (omega arith))
+
+-- rank x's mark set, as the code does it: its mask is a power of two
+abbrev notedInCode : List ℕ → ℕ → List ℕ
+notedInCode met x = set met (x / 64) (bitOr (getD met (x / 64) 0) (1 * 2 ^ (x % 64) % 2 ^ 64))
+
+noted-in-code-is-with-mark : (met : List ℕ) (x : ℕ) → notedInCode met x ≡ withMark met x
+unfolding withMark
+noted-in-code-is-with-mark met x = rw (shl-one (x % 64) (omega arith))
 
 ranked-one : (b : Superblock) → 0 < b .rank → one (isRanked b) ≡ 1
 unfolding isRanked
@@ -105,7 +109,7 @@ module _ (s : State) (met : List ℕ) (ranked highest k : ℕ) (before : RanksMe
 
   -- ---- superblock k has a rank
   module _ (low : k < 64) (is : 0 < rankOf s k) where
-    pub false-of-met-twice : (getD met (rankOf s k) 0 ≡ 0 → ⊥) → false ≡ ranksValid s
+    pub false-of-met-twice : markBit met (rankOf s k) ≡ 1 → false ≡ ranksValid s
     false-of-met-twice n =
         sym (false-of-not-T (ranksValid s) (λ t.
         let at = before .carried (rankOf s k) n in
@@ -122,12 +126,12 @@ module _ (s : State) (met : List ℕ) (ranked highest k : ℕ) (before : RanksMe
     abbrev HigherOf : ℕ → Type 0
     HigherOf highest' = ((highest < rankOf s k) × (highest' ≡ rankOf s k)) ⊎ ((rankOf s k ≤ highest) × (highest' ≡ highest))
 
-    step-ranked : (met' : List ℕ) (ranked' highest' : ℕ) → rankOf s k < 256 → getD met (rankOf s k) 0 ≡ 0 → isUnused (superblockAt s k) ≡ false
-        → HigherOf highest' → met' ≡ set met (rankOf s k) 1 → ranked' ≡ ranked + 1 → RanksMet s met' ranked' highest' (k + 1)
+    step-ranked : (met' : List ℕ) (ranked' highest' : ℕ) → rankOf s k < 256 → (markBit met (rankOf s k) ≡ 1 → ⊥) → isUnused (superblockAt s k) ≡ false
+        → HigherOf highest' → met' ≡ withMark met (rankOf s k) → ranked' ≡ ranked + 1 → RanksMet s met' ranked' highest' (k + 1)
     step-ranked met' ranked' highest' fits new u higher p q =
         rw (p, q)
         (record {
-          long = length-set met (rankOf s k) 1 ∙ before .long;
+          long = length-with-mark met (rankOf s k) ∙ before .long;
           counted = let one-more = sum-below-suc (λ j. one (isRanked (superblockAt s j))) k in omega (arith, before .counted, ranked-one (superblockAt s k) is);
           not-above = λ j l. not-above j l (ℕ-discrete j k) higher;
           reached = reached higher (before .reached);
@@ -148,36 +152,35 @@ module _ (s : State) (met : List ℕ) (ranked highest k : ℕ) (before : RanksMe
         reached (inr h) (inl e) = inl (h .1 ∙ e)
         reached (inr h) (inr at) = inr (at .0, omega arith, at .2 ∙ sym (h .1))
 
-        noted : (j : ℕ) → j < k + 1 → 0 < rankOf s j → Dec (rankOf s j ≡ rankOf s k) → getD (set met (rankOf s k) 1) (rankOf s j) 0 ≡ 1
-        noted j l n (yes e) = rw e (getD-set-same met (rankOf s k) 1 0 (omega (arith, before .long)))
+        noted : (j : ℕ) → j < k + 1 → 0 < rankOf s j → Dec (rankOf s j ≡ rankOf s k) → markBit (withMark met (rankOf s k)) (rankOf s j) ≡ 1
+        noted j l n (yes e) = rw e (with-mark-same met (rankOf s k) (before .long) fits)
         noted j l n (no f) =
             let other : j ≡ k → ⊥ = λ e. f (ap (rankOf s) e) in
-            getD-set-other met (rankOf s k) (rankOf s j) 1 0 f ∙ before .noted j (omega arith) n
+            with-mark-other met (rankOf s k) (rankOf s j) f ∙ before .noted j (omega arith) n
 
-        carried : (r : ℕ) → (getD (set met (rankOf s k) 1) r 0 ≡ 0 → ⊥) → Dec (r ≡ rankOf s k) → (j : ℕ) × (j < k + 1) × (rankOf s j ≡ r)
+        carried : (r : ℕ) → markBit (withMark met (rankOf s k)) r ≡ 1 → Dec (r ≡ rankOf s k) → (j : ℕ) × (j < k + 1) × (rankOf s j ≡ r)
         carried r n (yes e) = (k, omega arith, sym e)
         carried r n (no f) =
-            let at = before .carried r (λ (z : getD met r 0 ≡ 0). n (getD-set-other met (rankOf s k) r 1 0 f ∙ z)) in
+            let at = before .carried r (sym (with-mark-other met (rankOf s k) r f) ∙ n) in
             (at .0, omega arith, at .2)
 
         once : (i j : ℕ) → i < j → j < k + 1 → 0 < rankOf s i → rankOf s i ≡ rankOf s j → Dec (j ≡ k) → ⊥
         once i j l m n e (yes f) =
-            let z = before .noted i (omega arith) n in
-            let same = ap (λ (r : ℕ). getD met r 0) (e ∙ ap (rankOf s) f) in
-            omega arith
+            let same = ap (markBit met) (e ∙ ap (rankOf s) f) in
+            new (sym same ∙ before .noted i (omega arith) n)
         once i j l m n e (no f) = before .once i j l (omega arith) n e
 
         used : (j : ℕ) → j < k + 1 → 0 < rankOf s j → Dec (j ≡ k) → isUnused (superblockAt s j) ≡ false
         used j l n (yes e) = ap (λ (i : ℕ). isUnused (superblockAt s i)) e ∙ u
         used j l n (no f) = before .used j (omega arith) n
 
-    pub step-higher : (met' : List ℕ) (ranked' highest' : ℕ) → rankOf s k < 256 → getD met (rankOf s k) 0 ≡ 0 → isUnused (superblockAt s k) ≡ false
-        → highest < rankOf s k → met' ≡ set met (rankOf s k) 1 → ranked' ≡ ranked + 1 → highest' ≡ rankOf s k → RanksMet s met' ranked' highest' (k + 1)
-    step-higher met' ranked' highest' fits new u h p q r = step-ranked met' ranked' highest' fits new u (inl (h, r)) p q
+    pub step-higher : (met' : List ℕ) (ranked' highest' : ℕ) → rankOf s k < 256 → (markBit met (rankOf s k) ≡ 1 → ⊥) → isUnused (superblockAt s k) ≡ false
+        → highest < rankOf s k → met' ≡ notedInCode met (rankOf s k) → ranked' ≡ ranked + 1 → highest' ≡ rankOf s k → RanksMet s met' ranked' highest' (k + 1)
+    step-higher met' ranked' highest' fits new u h p q r = step-ranked met' ranked' highest' fits new u (inl (h, r)) (p ∙ noted-in-code-is-with-mark met (rankOf s k)) q
 
-    pub step-not-higher : (met' : List ℕ) (ranked' highest' : ℕ) → rankOf s k < 256 → getD met (rankOf s k) 0 ≡ 0 → isUnused (superblockAt s k) ≡ false
-        → rankOf s k ≤ highest → met' ≡ set met (rankOf s k) 1 → ranked' ≡ ranked + 1 → highest' ≡ highest → RanksMet s met' ranked' highest' (k + 1)
-    step-not-higher met' ranked' highest' fits new u h p q r = step-ranked met' ranked' highest' fits new u (inr (h, r)) p q
+    pub step-not-higher : (met' : List ℕ) (ranked' highest' : ℕ) → rankOf s k < 256 → (markBit met (rankOf s k) ≡ 1 → ⊥) → isUnused (superblockAt s k) ≡ false
+        → rankOf s k ≤ highest → met' ≡ notedInCode met (rankOf s k) → ranked' ≡ ranked + 1 → highest' ≡ highest → RanksMet s met' ranked' highest' (k + 1)
+    step-not-higher met' ranked' highest' fits new u h p q r = step-ranked met' ranked' highest' fits new u (inr (h, r)) (p ∙ noted-in-code-is-with-mark met (rankOf s k)) q
 
   -- ---- all looked at
   pub ranks-valid-of-highest : 64 ≤ k → k ≤ 64 → leb highest ranked ≡ ranksValid s

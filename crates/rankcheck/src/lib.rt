@@ -1,5 +1,5 @@
 // The check of a state's ranking: the ranked superblocks carry 1 upwards, each once without a gap, and no unused one is ranked.
-// One pass serves: where no rank is met twice, and none is above the number of those ranked, there is no gap.
+// One pass and a bitmap of the ranks met serve: where no rank is met twice, and none is above the number of those ranked, there is no gap.
 ghost use mathlib.Core.Path.{_≡_};
 ghost use Rattle.checkrules.specs.Check.{ranksValid};
 use heap::State;
@@ -8,7 +8,7 @@ use heap::State;
 pub fn ranks_valid(s: State) -> bool
     ensures { λ r. ⌜ r ≡ ranksValid s ⌝ }
 {
-    let mut met = [0u8; 256];
+    let mut met = [0u64; 4];
     let mut ranked: usize = 0;
     let mut highest: usize = 0;
     let mut k: usize = 0;
@@ -16,7 +16,10 @@ pub fn ranks_valid(s: State) -> bool
         let b = s.table[k];
         let x = b.rank as usize;
         if 0 < x {
-            if met[x] != 0 {
+            let w = x / 64;
+            let i = x % 64;
+            let word = met[w];
+            if (word >> i) % 2 == 1 {
                 return false;
             }
             if b.owner == 255 {
@@ -24,7 +27,7 @@ pub fn ranks_valid(s: State) -> bool
                     return false;
                 }
             }
-            met[x] = 1;
+            met[w] = word | (1u64 << i);
             ranked += 1;
             if highest < x {
                 highest = x;

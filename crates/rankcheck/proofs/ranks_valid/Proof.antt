@@ -6,6 +6,7 @@ use mathlib.Core.Logic.{⊎-elim}
 use Prim.Native.Nat.{_-_, _≤_, _<_}
 use native.Mathlib.Omega.{arith}
 use borrow.Author.Needs.{needs}
+use Rattle.marks.specs.Marks.{bit, markBit}
 use Rattle.heap.specs.Table.{superblockAt, isUnused}
 use Rattle.heaplaws.proofs.StateCheckLaws.{not-unused-of-owner}
 use Rattle.rankcheck.proofs.RankScanLaws.{rankOf, RanksMet, none-met, ranked-le, step-unranked, false-of-met-twice, false-of-unused, step-higher, step-not-higher, ranks-valid-of-highest}
@@ -30,10 +31,17 @@ element-copy-out-b c = omega arith
 cast-x : tie.Need-cast-x Inv-loop μ-loop
 cast-x c = omega arith
 
-array-read-if2 : tie.Need-array-read-if2 Inv-loop μ-loop
-array-read-if2 c = omega arith
+mul-word : tie.Need-mul-word Inv-loop μ-loop
+mul-word c = omega arith
+
+array-read-word : tie.Need-array-read-word Inv-loop μ-loop
+array-read-word c = omega arith
+
+shr-if2 : tie.Need-shr-if2 Inv-loop μ-loop
+shr-if2 c = omega arith
 
 returns : tie.Need-returns Inv-loop μ-loop
+unfolding markBit bit
 returns c =
     let turn = c .before .before .before .before .before in
     let low : turn .loop .k < 64 = omega arith in
@@ -50,6 +58,12 @@ returns-2 c =
     let is : 0 < rankOf (turn .before .args .t1) (turn .loop .k) = omega arith in
     search false-of-unused
 
+shl-met : tie.Need-shl-met Inv-loop μ-loop
+shl-met c = omega arith
+
+mul-met : tie.Need-mul-met Inv-loop μ-loop
+mul-met c = omega arith
+
 array-write-met : tie.Need-array-write-met Inv-loop μ-loop
 array-write-met c = omega arith
 
@@ -63,6 +77,7 @@ loop-less : tie.Need-loop-less Inv-loop μ-loop
 loop-less c = omega arith
 
 loop-again : tie.Need-loop-again Inv-loop μ-loop
+unfolding markBit bit
 loop-again c =
     let l = c .before .before .before .before .loop in
     let low : l .k < 64 = omega arith in
@@ -94,10 +109,14 @@ ranks-valid-spec =
     mul-b
     element-copy-out-b
     cast-x
-    array-read-if2
+    mul-word
+    array-read-word
+    shr-if2
     returns
     is-unused-requires
     returns-2
+    shl-met
+    mul-met
     array-write-met
     add-ranked
     add-k

@@ -1,0 +1,72 @@
+-- The history of frees and renewals in cases that tell its definitions from near misses, by computation. Assumes nothing.
+use mathlib.Core.Path.{_≡_, refl}
+use mathlib.Core.Logic.{_↔_}
+use mathlib.Core.List.{List, [], _∷_, _++_, map}
+use Prim.Native.Nat.{ℕ, _<_}
+use native.Mathlib.Omega.{arith}
+use lib.ListN.{replicate}
+use Rattle.heap.specs.declared.State.{State}
+use Rattle.heap.specs.Table.{unused}
+use Rattle.heap.specs.States.{withNames}
+use Rattle.heap.proofs.CaseStates.{unnamedState}
+use Rattle.heap.proofs.TableCases.{of, ranked, small-setup}
+use Rattle.calls.specs.declared.Call.the-variants.{Take, Free, NamedTake, NamedFree}
+use Rattle.calls.specs.declared.Outcome.{Outcome}
+use Rattle.calls.specs.declared.Outcome.the-variants.{Ready, Address, Moves, Refused}
+use Rattle.calls.proofs.CallDefinitions.{uncheckedCallDefinitions}
+use Rattle.bound.specs.History.{Event, freedInto, renewed, neither, eventOfFree, eventOfTake, eventOf, LastFree, callsAgo, notSinceRenewal, oneCallMore, lastFreeAfter, lastFree, RankedByLastFree}
+
+-- an accepted free, with moves and without, frees into the superblock that covers the address; another outcome is none
+pub event-of-free-cases :
+    eventOfFree 8191 (Moves 0) ∷ eventOfFree 8192 (Moves 3) ∷ map (eventOfFree 8192) (Refused 7 ∷ Ready ∷ Address 4096 ∷ [])
+    ≡ freedInto 1 ∷ freedInto 2 ∷ neither ∷ neither ∷ neither ∷ []
+unfolding eventOfFree
+event-of-free-cases = refl
+
+-- Superblocks 0 to 4: heap 1's, empty; heap 0's, empty; heap 0's, with a block live; an unused one; and heap 2's, empty. Name 7 is of block 2 of superblock 2.
+abbrev pub history-state : State
+history-state = withNames (unnamedState small-setup (of 1 20 0 ∷ of 0 23 0 ∷ of 0 20 4 ∷ unused ∷ of 2 20 0 ∷ replicate 59 unused)) (replicate 7 65535 ++ 514 ∷ replicate 1016 65535)
+
+-- processor 1 took from each of 0 to 3: "A superblock with nothing live is renewed .. when it comes from place 2, 3 or 4; from place 1 it is not"
+pub event-of-take-cases :
+    map (eventOfTake history-state 1) (Address 768 ∷ Address 4096 ∷ Address 9728 ∷ Address 12288 ∷ Refused 4 ∷ Ready ∷ Moves 1 ∷ [])
+    ≡ neither ∷ renewed 1 ∷ neither ∷ renewed 3 ∷ neither ∷ neither ∷ neither ∷ []
+unfolding eventOfTake uncheckedCallDefinitions
+event-of-take-cases = refl
+
+-- each kind of call; a named free is of the address that its name held
+pub event-of-cases :
+    eventOf history-state (Take 1 2000) (Address 4096) ∷ eventOf history-state (Take 2 700) (Address 16384) ∷ eventOf history-state (NamedTake 2 9 700) (Address 4096) ∷ eventOf history-state (Free 1 12289) (Moves 0)
+    ∷ eventOf history-state (NamedFree 1 7) (Moves 0) ∷ eventOf history-state (NamedFree 1 7) (Refused 15) ∷ []
+    ≡ renewed 1 ∷ neither ∷ renewed 1 ∷ freedInto 3 ∷ freedInto 2 ∷ neither ∷ []
+unfolding eventOf eventOfTake eventOfFree uncheckedCallDefinitions
+event-of-cases = refl
+
+-- The latest first: 5 was freed into, then 3, another call, 4 twice, 5 again, 4 was renewed, another call. Of 3, 4, 5 and 6, which was never freed into.
+abbrev pub history : List Event
+history = neither ∷ renewed 4 ∷ freedInto 5 ∷ freedInto 4 ∷ freedInto 4 ∷ neither ∷ freedInto 3 ∷ freedInto 5 ∷ []
+
+pub last-free-cases : map (λ (k : ℕ). lastFree k history) (3 ∷ 4 ∷ 5 ∷ 6 ∷ []) ≡ callsAgo 6 ∷ notSinceRenewal ∷ callsAgo 2 ∷ notSinceRenewal ∷ []
+unfolding lastFree lastFreeAfter oneCallMore
+last-free-cases = refl
+
+-- a free after the renewal counts again
+pub freed-after-renewal-case : map (λ (k : ℕ). lastFree k (freedInto 4 ∷ history)) (4 ∷ 5 ∷ []) ≡ callsAgo 0 ∷ callsAgo 3 ∷ []
+unfolding lastFree lastFreeAfter oneCallMore
+freed-after-renewal-case = refl
+
+-- ---- what the claim refuses: the earliest first; one that was freed into without a rank; one that was renewed with a rank
+abbrev pub with-ranks-of-0-and-1 : ℕ → ℕ → State
+with-ranks-of-0-and-1 a b = unnamedState small-setup (ranked 1 20 1 a ∷ ranked 1 20 1 b ∷ replicate 62 unused)
+
+pub earliest-first-refused : RankedByLastFree (with-ranks-of-0-and-1 1 2) (freedInto 1 ∷ freedInto 0 ∷ []) → ⊥
+unfolding lastFree lastFreeAfter oneCallMore
+earliest-first-refused h = let l : _<_ 2 1 = h .later-first 1 0 0 1 (omega arith) (omega arith) refl refl (omega arith) in omega arith
+
+pub freed-without-rank-refused : RankedByLastFree (with-ranks-of-0-and-1 0 0) (freedInto 0 ∷ []) → ⊥
+unfolding lastFree lastFreeAfter
+freed-without-rank-refused h = let e : callsAgo 0 ≡ notSinceRenewal = h .unranked-iff 0 (omega arith) .0 refl in let z : _≡_ {A = ℕ} 0 1 = cc in omega arith
+
+pub renewed-with-rank-refused : RankedByLastFree (with-ranks-of-0-and-1 1 0) (renewed 0 ∷ freedInto 0 ∷ []) → ⊥
+unfolding lastFree lastFreeAfter
+renewed-with-rank-refused h = let e : _≡_ {A = ℕ} 1 0 = h .unranked-iff 0 (omega arith) .1 refl in omega arith
