@@ -1,13 +1,14 @@
 // The state of the allocator: five setup numbers, a table of 64 superblocks, the names of blocks, and the totals of each heap and class. Its
 // table, the counts over it and the totals are defined in specs/; the rules on it have crates of their own (choicerules, moverules, checkrules).
 
-// Owner (0 the global heap, 1 to 8 a processor's heap, 255 none), size class, live marks (block j is bit j mod 64 of number j / 64), and the
-// rank among those that were freed into since they were last renewed: 1 the latest, 0 none.
+// Owner (0 the global heap, 1 to 8 a processor's heap, 255 none), size class, rank among those that were freed into since they were last
+// renewed (1 the latest, 0 none), and live marks: block j is bit j mod 64 of number j / 64. The marks come last: behind them the rank would
+// make each superblock eight bytes longer.
 pub struct Superblock {
     pub owner: u8,
     pub class: u8,
-    pub live: [u64; 4],
     pub rank: u8,
+    pub live: [u64; 4],
 }
 
 // Document 01's P, N, K, p and q.
