@@ -7,4 +7,5 @@ pub mod MoveLaws
 pub mod ShapeLaws
 pub mod CheckReadsLaws
 pub mod RerankedLaws
+pub mod Pigeonhole
 pub mod RankLaws

@@ -29,7 +29,7 @@ use Rattle.heaplaws.proofs.StateCheckLaws.{ranks-valid-of-rest, facts-o
 use Rattle.checkrules.proofs.ClauseLaws.{rest-of-passes}
 use Rattle.heaplaws.proofs.ChoiceLaws.{MoreRecent, facts-of-more-recent, more-recent-of-facts}
 use Rattle.heaplaws.proofs.RerankedLaws.{superblock-at-reranked}
-use Rattle.laws.proofs.Pigeonhole.{countAbove, le-count-of-each-once, same-of-each-once, each-once-of-distinct, same-of-order-kept, count-kept, count-one-more, count-one-less}
+use Rattle.heaplaws.proofs.Pigeonhole.{countAbove, le-count-of-each-once, same-of-each-once, each-once-of-distinct, same-of-order-kept, count-kept, count-one-more, count-one-less}
 
 -- ---- the check's clause
 -- superblock k's rank

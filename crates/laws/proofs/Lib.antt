@@ -8,4 +8,3 @@ pub mod Decides
 pub mod FieldArrays
 pub mod ListedLaws
 pub mod NumberLists
-pub mod Pigeonhole
