@@ -7,7 +7,7 @@ use lib.ListN.{replicate}
 use Rattle.heap.specs.declared.Superblock.{Superblock}
 use Rattle.heap.specs.declared.Setup.{Setup}
 use Rattle.heap.specs.declared.State.{State}
-use Rattle.heap.specs.declared.Found.the-variants.{At}
+use Rattle.heap.specs.declared.Found.the-variants.{At, Nothing}
 use Rattle.heap.specs.Table.{unused}
 use Rattle.heap.proofs.CaseStates.{unnamedState}
 use Rattle.heap.proofs.TableCases.{of, ranked}
@@ -15,7 +15,7 @@ use Rattle.calls.specs.declared.Outcome.{Outcome}
 use Rattle.calls.specs.declared.Outcome.the-variants.{Ready, Address, Moves, Refused}
 use Rattle.calls.specs.Answers.{After, numberOf, valuesOf, refused, checked, isProcessor}
 use Rattle.calls.specs.Setup.{setupOf}
-use Rattle.calls.specs.Take.{otherPlaces, acquired, acquiredOrder, unrankedIfEmpty, nextBlock, addressOf, takenFrom}
+use Rattle.calls.specs.Take.{otherPlaces, acquired, acquiredOrder, unrankedIfEmpty, nextBlock, addressOf, takenFrom, takenAt}
 use Rattle.calls.specs.Free.{blockOf, isUnmapped, isMisaligned, isLiveAt, markCleared, orderPushed, freedAt}
 use Rattle.calls.proofs.CallDefinitions.{uncheckedCallDefinitions, callDefinitions}
 
@@ -208,6 +208,19 @@ pub freed-at-case :
     ≡ after-with (Moves 0) (unnamedState (setup-with 2 1 1 3 7) (ranked 2 20 21 1 ∷ replicate 63 unused)) (1 ∷ 3 ∷ 9 ∷ [])
 unfolding uncheckedCallDefinitions
 freed-at-case = refl
+
+-- in heap 0 it is so too, and one that was ranked follows
+pub freed-in-heap-0-case :
+    freedAt (three-ranked (of 0 20 29) (ranked 1 20 31 1) unused) (1 ∷ 8 ∷ 9 ∷ []) 2304 ≡ after-with (Moves 0) (three-ranked (ranked 0 20 21 1) (ranked 1 20 31 2) unused) (1 ∷ 3 ∷ 9 ∷ [])
+unfolding uncheckedCallDefinitions
+freed-in-heap-0-case = refl
+
+-- from place 1 an empty superblock is not renewed, and keeps its rank: its block 0 is the last filled place's
+pub taken-at-place-1-case :
+    takenAt 2 26 (three-ranked (ranked 2 26 0 1) (ranked 1 20 31 2) unused) (1 ∷ 0 ∷ 9 ∷ []) (At 0) Nothing
+    ≡ after-with (Address 0) (three-ranked (ranked 2 26 1 1) (ranked 1 20 31 2) unused) (1 ∷ 0 ∷ 9 ∷ [])
+unfolding uncheckedCallDefinitions
+taken-at-place-1-case = refl
 
 -- "last in first out": blocks 0 and 3 are freed, 3 last, and 3 is the next one taken
 pub next-block-cases :
