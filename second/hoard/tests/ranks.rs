@@ -1,9 +1,12 @@
 //! The ranking of superblocks by their last free: kept by every call, decisive among
 //! equally full ones, and checked when handed in.
 
+mod made_calls;
+
 use hoard::{check_handed_in, free, free_named, renew, run, setup, take, take_named};
 use hoard::{Answer, BlockId, Command, Outcome, Refusal, Setup, State, Superblock, Totals};
 use hoard::{GLOBAL_HEAP, ORDER_PLACES, SUPERBLOCKS, UNUSED_OWNER};
+use made_calls::{Calls, Choices};
 
 /// A superblock to build a state with: owner, class, how many of its first blocks are
 /// live, and rank.
@@ -349,49 +352,15 @@ fn damaged_rankings() {
     is_refused(&[64]);
 }
 
-/// A small generator of calls on few classes, so that superblocks are often equally
-/// full.
-struct Calls(u64);
-
-impl Calls {
-    fn below(&mut self, bound: u64) -> u64 {
-        self.0 = self.0.wrapping_mul(6364136223846793005).wrapping_add(1);
-        (self.0 >> 33) % bound
-    }
-
-    fn next(&mut self, takes: u64, state: &State) -> Command {
-        let processors = u64::from(state.control.setup.processors);
-        let processor = (1 + self.below(processors)) as u8;
-        let name = self.below(60) as u16;
-        let size = [1024, 1024, 1024, 2048, 640][self.below(5) as usize];
-        let address = self.address(state);
-        match (self.below(10) < takes, self.below(3)) {
-            (true, 0) => Command::Take { processor, size },
-            (true, _) => Command::NamedTake {
-                processor,
-                name,
-                size,
-            },
-            (false, 0) => Command::NamedFree { processor, name },
-            (false, _) => Command::Free { processor, address },
-        }
-    }
-
-    /// The address of any live block, if there is one, or one beside it.
-    fn address(&mut self, state: &State) -> u32 {
-        let superblocks = usize::from(state.control.setup.superblocks);
-        let blocks = (0..superblocks).flat_map(|superblock| {
-            let block = move |block| BlockId { superblock, block };
-            (0..8).map(block)
-        });
-        let live = |it: &BlockId| state.superblocks[it.superblock].is_live(it.block);
-        let live: Vec<BlockId> = blocks.filter(live).collect();
-        let off = [0, 0, 0, 0, 0, 0, 0, 8][self.below(8) as usize];
-        match live.len() as u64 {
-            0 => off,
-            count => state.address_of(live[self.below(count) as usize]) + off,
-        }
-    }
+/// Calls on few classes, so that superblocks are often equally full.
+fn made_calls(seed: u64) -> Calls {
+    let choices = Choices {
+        sizes: &[1024, 1024, 1024, 2048, 640],
+        names: 60,
+        any_processor: false,
+        offsets: [0, 0, 0, 0, 0, 0, 0, 8],
+    };
+    Calls { seed, choices }
 }
 
 /// The superblocks freed into since they were renewed, the latest first.
@@ -456,7 +425,7 @@ fn offered_to(recency: &Recency, state: &State, command: &Command) -> Option<usi
 fn ranks_follow_the_frees_and_decide_among_equals() {
     let (mut decided, mut renewed, mut most) = (0, 0, 0);
     for seed in 0..60 {
-        let mut calls = Calls(seed);
+        let mut calls = made_calls(seed);
         let numbers = [
             1 + seed as u8 % 3,
             6 + seed as u8 % 30,

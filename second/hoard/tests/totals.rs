@@ -1,8 +1,11 @@
 //! The totals of each heap and class: kept by every call, and checked when handed in.
 
+mod made_calls;
+
 use hoard::{check_handed_in, free, free_named, renew, run, setup, take, take_named};
-use hoard::{BlockId, Command, Outcome, Refusal, Setup, State, Superblock, Totals, Usage};
+use hoard::{Command, Outcome, Refusal, Setup, State, Superblock, Totals, Usage};
 use hoard::{CLASSES, GLOBAL_HEAP, HEAPS, ORDER_PLACES, SUPERBLOCKS};
+use made_calls::{Calls, Choices};
 
 /// A superblock to build a state with: owner, class and how many of its first
 /// blocks are live.
@@ -264,50 +267,15 @@ fn totals_above_p_fail_where_nothing_is_owned() {
     }
 }
 
-/// A small generator of calls: takes of a few classes and frees, plain and by name,
-/// some of them refused.
-struct Calls(u64);
-
-impl Calls {
-    fn below(&mut self, bound: u64) -> u64 {
-        self.0 = self.0.wrapping_mul(6364136223846793005).wrapping_add(1);
-        (self.0 >> 33) % bound
-    }
-
-    fn next(&mut self, takes: u64, state: &State) -> Command {
-        let processors = u64::from(state.control.setup.processors);
-        let processor = [1 + self.below(processors), self.below(processors + 2)];
-        let processor = processor[self.below(8) as usize / 7] as u8;
-        let name = self.below(40) as u16;
-        let size = [0, 16, 200, 1024, 1024, 2048, 2048, 2049][self.below(8) as usize];
-        let address = self.address(state);
-        match (self.below(10) < takes, self.below(3)) {
-            (true, 0) => Command::Take { processor, size },
-            (true, _) => Command::NamedTake {
-                processor,
-                name,
-                size,
-            },
-            (false, 0) => Command::NamedFree { processor, name },
-            (false, _) => Command::Free { processor, address },
-        }
-    }
-
-    /// The address of any live block, if there is one, or one beside it.
-    fn address(&mut self, state: &State) -> u32 {
-        let superblocks = usize::from(state.control.setup.superblocks);
-        let blocks = (0..superblocks).flat_map(|superblock| {
-            let block = move |block| BlockId { superblock, block };
-            (0..ORDER_PLACES as u32).map(block)
-        });
-        let live = |it: &BlockId| state.superblocks[it.superblock].is_live(it.block);
-        let live: Vec<BlockId> = blocks.filter(live).collect();
-        let off = [0, 0, 0, 0, 0, 0, 8, 16][self.below(8) as usize];
-        match live.len() as u64 {
-            0 => off,
-            count => state.address_of(live[self.below(count) as usize]) + off,
-        }
-    }
+/// Takes of a few classes and frees, some of them refused.
+fn made_calls(seed: u64) -> Calls {
+    let choices = Choices {
+        sizes: &[0, 16, 200, 1024, 1024, 2048, 2048, 2049],
+        names: 40,
+        any_processor: true,
+        offsets: [0, 0, 0, 0, 0, 0, 8, 16],
+    };
+    Calls { seed, choices }
 }
 
 /// What a call did to owners: from which heap superblocks came, and to which.
@@ -321,7 +289,7 @@ fn passes(before: &State, after: &State) -> Vec<(u8, u8)> {
 fn totals_equal_a_recount_after_every_call() {
     let (mut accepted, mut moved, mut from_global) = (0, 0, 0);
     for seed in 0..60 {
-        let mut calls = Calls(seed);
+        let mut calls = made_calls(seed);
         let processors = [1, 2, 3, 8][seed as usize % 4];
         let numbers = [processors, 4 + seed as u8 % 21, 1, 1, 2];
         let mut order = vec![0; SUPERBLOCKS * ORDER_PLACES];
