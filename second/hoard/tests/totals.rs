@@ -3,7 +3,7 @@
 mod made_calls;
 
 use hoard::{check_handed_in, free, free_named, renew, run, setup, take, take_named};
-use hoard::{Command, Outcome, Refusal, Setup, State, Superblock, Totals, Usage};
+use hoard::{BlockId, Outcome, Refusal, Setup, State, Superblock, Totals, Usage};
 use hoard::{CLASSES, GLOBAL_HEAP, HEAPS, ORDER_PLACES, SUPERBLOCKS};
 use made_calls::{Calls, Choices};
 
