@@ -8,39 +8,46 @@ use native.Mathlib.Nat.{le-antisymm}
 use native.Mathlib.Numerals.{add-one}
 use native.Mathlib.Omega.{arith}
 use lib.ListN.{length, getD, List·getD-eq-default}
-use borrow.Author.Tests.{not-true, not-false}
-use Rattle.laws.specs.Sums.{pick}
+use borrow.Author.Tests.{eq-eqb, ne-eqb, not-true, not-false}
+use Rattle.laws.specs.Sums.{pick, both}
 use Rattle.laws.proofs.TestLaws.{pick-false}
 use Rattle.heap.specs.declared.Superblock.{Superblock}
 use Rattle.heap.specs.declared.Found.{Found}
 use Rattle.heap.specs.declared.Found.the-variants.{At, Nothing}
-use Rattle.heap.specs.Table.{blank, isUnused}
+use Rattle.heap.specs.Table.{blank, liveIn, isUnused}
 use Rattle.choicerules.specs.Choice.{prefer, chosenBelow, neverPreferred}
 use Rattle.choice.specs.declared.Criterion.{Criterion}
 use Rattle.choice.specs.declared.Best.{Best}
-use Rattle.choice.specs.Criteria.{meetsCriterion, preferredBy, replacesBest, bestAfter}
+use Rattle.choice.specs.Criteria.{meetsCriterion, preferredBy, ownerSought, classFits, liveFits, preferredByNumbers, replacesBest, bestAfter}
+use Rattle.choice.proofs.CriterionLaws.{meets-by-parts, preferred-by-numbers}
 
 -- ---- one superblock looked at, by the way the code goes
-module _ (w : Criterion) (best : Best) (k : ℕ) (b : Superblock) (t : Bool) (e : t ≡ meetsCriterion w b) where
-  pub best-after-not-meeting : not t ≡ true → best ≡ bestAfter w best k b
+module _ (w : Criterion) (best : Best) (k : ℕ) (b : Superblock) (t : Bool) (e : t ≡ classFits w (b .class)) where
+  pub best-after-other-class : not t ≡ true → best ≡ bestAfter w best k b
   unfolding bestAfter
-  best-after-not-meeting n = rw (← e, not-true t n)
+  best-after-other-class n = rw (← e, not-true t n)
 
-  pub best-after-first-meeting : not t ≡ false → best .found ≡ Nothing → _≡_ {A = Best} (record { found = At k; block = b }) (bestAfter w best k b)
-  unfolding bestAfter replacesBest
-  best-after-first-meeting n f = rw (← e, not-false t n, f)
+  module _ (y : not t ≡ false) (n : ℕ) (l : n ≡ liveIn b) (u : Bool) (g : u ≡ liveFits w n) where
+    pub best-after-other-live : not u ≡ true → best ≡ bestAfter w best k b
+    unfolding bestAfter
+    best-after-other-live z = rw (← e, not-false t y, ← l, ← g, not-true u z)
 
-  pub best-after-preferred : (m : ℕ) (u : Bool) → not t ≡ false → best .found ≡ At m → u ≡ preferredBy w b (best .block) → u ≡ true → _≡_ {A = Best} (record { found = At k; block = b }) (bestAfter w best k b)
-  unfolding bestAfter replacesBest
-  best-after-preferred m u n f g h = rw (← e, not-false t n, f, ← g, h)
+    pub best-after-first : not u ≡ false → best .found ≡ Nothing → _≡_ {A = Best} (record { found = At k; live = n; rank = b .rank }) (bestAfter w best k b)
+    unfolding bestAfter replacesBest
+    best-after-first z f = rw (← e, not-false t y, ← l, ← g, not-false u z, f)
 
-  pub best-after-not-preferred : (m : ℕ) (u : Bool) → not t ≡ false → best .found ≡ At m → u ≡ preferredBy w b (best .block) → u ≡ false → best ≡ bestAfter w best k b
-  unfolding bestAfter replacesBest
-  best-after-not-preferred m u n f g h = rw (← e, not-false t n, f, ← g, h)
+    module _ (z : not u ≡ false) (m : ℕ) (f : best .found ≡ At m) (v : Bool) (p : v ≡ preferredByNumbers w n (b .rank) (best .live) (best .rank)) where
+      pub best-after-preferred : not v ≡ false → _≡_ {A = Best} (record { found = At k; live = n; rank = b .rank }) (bestAfter w best k b)
+      unfolding bestAfter replacesBest
+      best-after-preferred q = rw (← e, not-false t y, ← l, ← g, not-false u z, f, ← p, not-false v q)
+
+      pub best-after-not-preferred : not v ≡ true → best ≡ bestAfter w best k b
+      unfolding bestAfter replacesBest
+      best-after-not-preferred q = rw (← e, not-false t y, ← l, ← g, not-false u z, f, ← p, not-true v q)
 
 -- ---- the choice, by one superblock more
 module _ (meets : Superblock → Bool) (preferred : Superblock → Superblock → Bool) (table : List Superblock) where
-  pub chosen-below-zero : Nothing ≡ chosenBelow meets preferred table 0
+  chosen-below-zero : Nothing ≡ chosenBelow meets preferred table 0
   unfolding chosenBelow
   chosen-below-zero = refl
 
@@ -49,58 +56,100 @@ module _ (meets : Superblock → Bool) (preferred : Superblock → Superblock �
   chosen-below-suc n = rw add-one
 
 -- ---- the best so far and the choice
--- the record kept is that of the best so far
-abbrev pub BestInTable : List Superblock → Best → Type 0
-BestInTable table best = (m : ℕ) → best .found ≡ At m → best .block ≡ getD table m blank
+-- live count and rank kept are those of the best so far
+abbrev KeptOfBest : List Superblock → Best → Type 0
+KeptOfBest table best = (m : ℕ) → best .found ≡ At m → (best .live ≡ liveIn (getD table m blank)) × (best .rank ≡ getD table m blank .rank)
 
-pub best-in-table-start : (table : List Superblock) (b : Superblock) → BestInTable table (record { found = Nothing; block = b })
-best-in-table-start table b m e = absurd (let z : _≡_ {A = ℕ} 0 1 = cc in omega arith)
+-- the best so far is the choice among the superblocks below k
+pub record BestBelow (w : Criterion) (table : List Superblock) (k : ℕ) (best : Best) : Type 0 where
+  pub chosen : best .found ≡ chosenBelow (meetsCriterion w) (preferredBy w) table k
+  pub keeps : KeptOfBest table best
+
+pub best-below-start : (w : Criterion) (table : List Superblock) → BestBelow w table 0 (record { found = Nothing; live = 0; rank = 0 })
+best-below-start w table = record {
+  chosen = chosen-below-zero (meetsCriterion w) (preferredBy w) table;
+  keeps = λ m e. absurd (let z : _≡_ {A = ℕ} 0 1 = cc in omega arith);
+}
+
+pub best-below-end : (w : Criterion) (table : List Superblock) (k n : ℕ) (best : Best) → BestBelow w table k best → k ≤ n → n ≤ k → best .found ≡ chosenBelow (meetsCriterion w) (preferredBy w) table n
+best-below-end w table k n best h l g = h .chosen ∙ ap (chosenBelow (meetsCriterion w) (preferredBy w) table) (le-antisymm l g)
+
+-- what is kept of superblock k
+abbrev kept : ℕ → Superblock → Best
+kept k b = record { found = At k; live = liveIn b; rank = b .rank }
 
 -- it is the superblock looked at, or the best before
-best-after-new-or-old : (w : Criterion) (best : Best) (k : ℕ) (b : Superblock) → (bestAfter w best k b ≡ record { found = At k; block = b }) ⊎ (bestAfter w best k b ≡ best)
+best-after-new-or-old : (w : Criterion) (best : Best) (k : ℕ) (b : Superblock) → (bestAfter w best k b ≡ kept k b) ⊎ (bestAfter w best k b ≡ best)
 unfolding bestAfter
-best-after-new-or-old w best k b = go (meetsCriterion w b) (replacesBest w (best .found) b (best .block))
+best-after-new-or-old w best k b = go (both (classFits w (b .class)) (both (liveFits w (liveIn b)) (replacesBest w (best .found) (liveIn b) (b .rank) (best .live) (best .rank))))
   where
-    go : (t u : Bool) → (pick t (pick u (record { found = At k; block = b }) best) best ≡ record { found = At k; block = b }) ⊎ (pick t (pick u (record { found = At k; block = b }) best) best ≡ best)
-    go true true = inl refl
-    go true false = inr refl
-    go false u = inr refl
+    go : (t : Bool) → (pick t (kept k b) best ≡ kept k b) ⊎ (pick t (kept k b) best ≡ best)
+    go true = inl refl
+    go false = inr refl
 
-module _ (w : Criterion) (table : List Superblock) (k : ℕ) (best : Best) (h : BestInTable table best) where
-  found-of-best-after : (f : Found) → best .found ≡ f → bestAfter w best k (getD table k blank) .found ≡ pick (meetsCriterion w (getD table k blank)) (prefer (preferredBy w) table f k) f
+-- the owner sought, and any other
+module _ (w : Criterion) (b : Superblock) where
+  meets-of-owner : b .owner ≡ ownerSought w → meetsCriterion w b ≡ both (classFits w (b .class)) (liveFits w (liveIn b))
+  meets-of-owner o = meets-by-parts w b ∙ ap (λ (t : Bool). both t (both (classFits w (b .class)) (liveFits w (liveIn b)))) (eq-eqb (b .owner) (ownerSought w) o)
+
+  not-meeting-of-other-owner : (b .owner ≡ ownerSought w → ⊥) → meetsCriterion w b ≡ false
+  not-meeting-of-other-owner n = meets-by-parts w b ∙ ap (λ (t : Bool). both t (both (classFits w (b .class)) (liveFits w (liveIn b)))) (ne-eqb (b .owner) (ownerSought w) n)
+
+module _ (w : Criterion) (table : List Superblock) (k : ℕ) (best : Best) (h : BestBelow w table k best) where
+  abbrev looked : Superblock
+  looked = getD table k blank
+
+  found-of-best-after : looked .owner ≡ ownerSought w → (f : Found) → best .found ≡ f → bestAfter w best k looked .found ≡ pick (meetsCriterion w looked) (prefer (preferredBy w) table f k) f
   unfolding bestAfter replacesBest prefer
-  found-of-best-after Nothing q =
-      ap (λ (f : Found). pick (meetsCriterion w (getD table k blank)) (pick (replacesBest w f (getD table k blank) (best .block)) (record { found = At k; block = getD table k blank }) best) best .found) q
-      ∙ go (meetsCriterion w (getD table k blank))
+  found-of-best-after o Nothing q =
+      ap (λ (f : Found). pick (both (classFits w (looked .class)) (both (liveFits w (liveIn looked)) (replacesBest w f (liveIn looked) (looked .rank) (best .live) (best .rank)))) (kept k looked) best .found) q
+      ∙ go (classFits w (looked .class)) (liveFits w (liveIn looked))
+      ∙ ap (λ (t : Bool). pick t (At k) Nothing) (sym (meets-of-owner w looked o))
     where
-      go : (t : Bool) → pick t (record { found = At k; block = getD table k blank }) best .found ≡ pick t (At k) Nothing
-      go true = refl
-      go false = q
-  found-of-best-after (At m) q =
-      ap (λ (f : Found). pick (meetsCriterion w (getD table k blank)) (pick (replacesBest w f (getD table k blank) (best .block)) (record { found = At k; block = getD table k blank }) best) best .found) q
-      ∙ ap (λ (d : Superblock). pick (meetsCriterion w (getD table k blank)) (pick (preferredBy w (getD table k blank) d) (record { found = At k; block = getD table k blank }) best) best .found) (h m q)
-      ∙ go (meetsCriterion w (getD table k blank)) (preferredBy w (getD table k blank) (getD table m blank))
-    where
-      go : (t u : Bool) → pick t (pick u (record { found = At k; block = getD table k blank }) best) best .found ≡ pick t (pick u (At k) (At m)) (At m)
+      go : (t u : Bool) → pick (both t (both u true)) (kept k looked) best .found ≡ pick (both t u) (At k) Nothing
       go true true = refl
       go true false = q
       go false u = q
+  found-of-best-after o (At m) q =
+      ap (λ (f : Found). pick (both (classFits w (looked .class)) (both (liveFits w (liveIn looked)) (replacesBest w f (liveIn looked) (looked .rank) (best .live) (best .rank)))) (kept k looked) best .found) q
+      ∙ ap (λ (t : Bool). pick (both (classFits w (looked .class)) (both (liveFits w (liveIn looked)) t)) (kept k looked) best .found) preference
+      ∙ go (classFits w (looked .class)) (liveFits w (liveIn looked)) (preferredBy w looked (getD table m blank))
+      ∙ ap (λ (t : Bool). pick t (pick (preferredBy w looked (getD table m blank)) (At k) (At m)) (At m)) (sym (meets-of-owner w looked o))
+    where
+      preference : preferredByNumbers w (liveIn looked) (looked .rank) (best .live) (best .rank) ≡ preferredBy w looked (getD table m blank)
+      preference = cc (preferred-by-numbers w looked (getD table m blank), h .keeps m q .0, h .keeps m q .1)
 
-module _ (w : Criterion) (table : List Superblock) (k : ℕ) (best r : Best) (h : BestInTable table best) (e : r ≡ bestAfter w best k (getD table k blank)) where
-  pub best-in-table-step : BestInTable table r
-  best-in-table-step m f = ⊎-elim
-      (λ (q : bestAfter w best k (getD table k blank) ≡ record { found = At k; block = getD table k blank }). let z : k ≡ m = cc in let y : r .block ≡ getD table k blank = cc in subst (λ (j : ℕ). r .block ≡ getD table j blank) z y)
-      (λ (q : bestAfter w best k (getD table k blank) ≡ best). let z : r ≡ best = e ∙ q in subst (λ (x : Best). x .found ≡ At m → x .block ≡ getD table m blank) (sym z) (h m) f)
-      (best-after-new-or-old w best k (getD table k blank))
+      go : (t u v : Bool) → pick (both t (both u v)) (kept k looked) best .found ≡ pick (both t u) (pick v (At k) (At m)) (At m)
+      go true true true = refl
+      go true true false = q
+      go true false v = q
+      go false u v = q
 
-  pub found-is-chosen-below-step : best .found ≡ chosenBelow (meetsCriterion w) (preferredBy w) table k → r .found ≡ chosenBelow (meetsCriterion w) (preferredBy w) table (k + 1)
-  found-is-chosen-below-step p =
-      ap (λ (x : Best). x .found) e
-      ∙ found-of-best-after w table k best h (chosenBelow (meetsCriterion w) (preferredBy w) table k) p
-      ∙ sym (chosen-below-suc (meetsCriterion w) (preferredBy w) table k)
+  keeps-after : (r : Best) → r ≡ bestAfter w best k looked → KeptOfBest table r
+  keeps-after r e m f = ⊎-elim
+      (λ (q : bestAfter w best k looked ≡ kept k looked). let z : k ≡ m = cc in let x : r .live ≡ liveIn looked = cc in let y : r .rank ≡ looked .rank = cc in subst (λ (j : ℕ). (r .live ≡ liveIn (getD table j blank)) × (r .rank ≡ getD table j blank .rank)) z (x, y))
+      (λ (q : bestAfter w best k looked ≡ best). let z : r ≡ best = e ∙ q in subst (λ (x : Best). x .found ≡ At m → (x .live ≡ liveIn (getD table m blank)) × (x .rank ≡ getD table m blank .rank)) (sym z) (h .keeps m) f)
+      (best-after-new-or-old w best k looked)
 
-pub found-is-chosen-below-end : (w : Criterion) (table : List Superblock) (k n : ℕ) (f : Found) → f ≡ chosenBelow (meetsCriterion w) (preferredBy w) table k → k ≤ n → n ≤ k → f ≡ chosenBelow (meetsCriterion w) (preferredBy w) table n
-found-is-chosen-below-end w table k n f e h g = e ∙ ap (chosenBelow (meetsCriterion w) (preferredBy w) table) (le-antisymm h g)
+  -- one turn of the loop: x is the owner sought, r the best after it
+  module _ (x : ℕ) (s : x ≡ ownerSought w) (r : Best) where
+    pub best-below-of-owner-sought : looked .owner ≡ x → (a : Best) → a ≡ bestAfter w best k looked → r ≡ a → BestBelow w table (k + 1) r
+    best-below-of-owner-sought o a e g = record {
+      chosen =
+          ap (λ (y : Best). y .found) (g ∙ e)
+          ∙ found-of-best-after (o ∙ s) (chosenBelow (meetsCriterion w) (preferredBy w) table k) (h .chosen)
+          ∙ sym (chosen-below-suc (meetsCriterion w) (preferredBy w) table k);
+      keeps = keeps-after r (g ∙ e);
+    }
+
+    pub best-below-of-other-owner : (looked .owner ≡ x → ⊥) → r ≡ best → BestBelow w table (k + 1) r
+    best-below-of-other-owner n g = subst (λ (y : Best). BestBelow w table (k + 1) y) (sym g) (record {
+      chosen =
+          h .chosen
+          ∙ sym (pick-false (meetsCriterion w looked) _ _ (not-meeting-of-other-owner w looked (λ o. n (o ∙ sym s))))
+          ∙ sym (chosen-below-suc (meetsCriterion w) (preferredBy w) table k);
+      keeps = h .keeps;
+    })
 
 -- ---- past the table's end nothing is unused
 blank-not-unused : isUnused blank ≡ false

@@ -2,8 +2,6 @@
 ghost use mathlib.Core.Path.{_≡_};
 ghost use Prim.Native.Nat.{_≤_};
 ghost use Rattle.heap.specs.Table.{liveIn, isUnused};
-ghost use Rattle.heap.specs.Counts.{belongs as belongsTo};
-ghost use Rattle.heap.specs.Ranks.{isMoreRecent};
 use heap::Superblock;
 
 // How many of its blocks are live.
@@ -14,29 +12,12 @@ pub fn live_in(b: Superblock) -> u32
     bitcount::live_count(live)
 }
 
-// It is of the heap and the class.
-pub fn belongs(b: Superblock, heap: u8, class: u8) -> bool
-    ensures { λ r. ⌜ r ≡ belongsTo heap class b ⌝ }
-{
-    b.owner == heap && b.class == class
-}
-
 // Owner 255, class 0, nothing live. The owner is looked at first, so that live blocks are seldom counted.
 pub fn is_unused(b: Superblock) -> bool
     ensures { λ r. ⌜ r ≡ isUnused b ⌝ }
 {
     if b.owner == 255 {
         return b.class == 0 && live_in(b) == 0;
-    }
-    false
-}
-
-// b was freed into more recently than d: a ranked one comes before those that are not ranked.
-pub fn more_recent(b: Superblock, d: Superblock) -> bool
-    ensures { λ r. ⌜ r ≡ isMoreRecent b d ⌝ }
-{
-    if 0 < b.rank {
-        return d.rank == 0 || b.rank < d.rank;
     }
     false
 }

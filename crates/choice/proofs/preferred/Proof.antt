@@ -7,23 +7,11 @@ use Rattle.choice.proofs.preferred.Tie as tie
 enum-known-w : tie.Need-enum-known-w
 enum-known-w c = search needs
 
-live-in-requires : tie.Need-live-in-requires
-live-in-requires c κs = search needs
-
-live-in-requires-2 : tie.Need-live-in-requires-2
-live-in-requires-2 c κs = search needs
-
 more-recent-requires : tie.Need-more-recent-requires
 more-recent-requires c κs = search needs
 
 enum-known-w-2 : tie.Need-enum-known-w-2
 enum-known-w-2 c = search needs
-
-live-in-requires-3 : tie.Need-live-in-requires-3
-live-in-requires-3 c κs = search needs
-
-live-in-requires-4 : tie.Need-live-in-requires-4
-live-in-requires-4 c κs = search needs
 
 enum-told : tie.Need-enum-told
 enum-told c = search needs
@@ -54,12 +42,8 @@ preferred-spec =
     tie.close
     (tie.spec
     enum-known-w
-    live-in-requires
-    live-in-requires-2
     more-recent-requires
     enum-known-w-2
-    live-in-requires-3
-    live-in-requires-4
     enum-told
     enum-told-2
     returns
