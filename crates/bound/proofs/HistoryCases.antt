@@ -1,6 +1,5 @@
 -- The history of frees and renewals in cases that tell its definitions from near misses, by computation. Assumes nothing.
 use mathlib.Core.Path.{_≡_, refl}
-use mathlib.Core.Logic.{_↔_}
 use mathlib.Core.List.{List, [], _∷_, _++_, map}
 use Prim.Native.Nat.{ℕ, _<_}
 use native.Mathlib.Omega.{arith}
@@ -11,10 +10,9 @@ use Rattle.heap.specs.States.{withNames}
 use Rattle.heap.proofs.CaseStates.{unnamedState}
 use Rattle.heap.proofs.TableCases.{of, ranked, small-setup}
 use Rattle.calls.specs.declared.Call.the-variants.{Take, Free, NamedTake, NamedFree}
-use Rattle.calls.specs.declared.Outcome.{Outcome}
 use Rattle.calls.specs.declared.Outcome.the-variants.{Ready, Address, Moves, Refused}
 use Rattle.calls.proofs.CallDefinitions.{uncheckedCallDefinitions}
-use Rattle.bound.specs.History.{Event, freedInto, renewed, neither, eventOfFree, eventOfTake, eventOf, LastFree, callsAgo, notSinceRenewal, oneCallMore, lastFreeAfter, lastFree, RankedByLastFree}
+use Rattle.bound.specs.History.{Event, freedInto, renewed, neither, eventOfFree, eventOfTake, eventOf, callsAgo, notSinceRenewal, oneCallMore, lastFreeAfter, lastFree, RankedByLastFree}
 
 -- an accepted free, with moves and without, frees into the superblock that covers the address; another outcome is none
 pub event-of-free-cases :

@@ -1,10 +1,10 @@
 -- Document 02, item 4, over lists of calls: the ranked superblocks are those freed into since they were last renewed, in the order of their last frees, the
 -- latest first. Assumes nothing.
 use mathlib.Core.Path.{_≡_, refl, sym, ap, ap₂, _∙_, subst}
-use mathlib.Core.Bool.{Bool, true, false, not}
+use mathlib.Core.Bool.{Bool, not}
 use mathlib.Core.Logic.{_⊎_, inl, inr, ⊎-elim}
 use mathlib.Core.List.{List, [], _∷_}
-use Prim.Native.Nat.{ℕ, _/_, _≤_, _<_}
+use Prim.Native.Nat.{ℕ, _<_}
 use native.Mathlib.Omega.{arith}
 use borrow.Author.Tests.{eq-eqb, ne-eqb}
 use lib.Dec.{eqb}
@@ -25,7 +25,7 @@ use Rattle.calls.specs.Take.{addressOf, takeOf}
 use Rattle.calls.specs.Free.{superblockIndex, freeOf}
 use Rattle.calls.specs.Named.{namedTakeOf, heldAddress, namedFreeOf}
 use Rattle.calls.specs.Calls.{callOf}
-use Rattle.calllaws.proofs.CallEffects.{Passed, TakeAccepted, FreeAccepted, NamedTakeAccepted, NamedFreeAccepted, TakeEffect}
+use Rattle.calllaws.proofs.CallEffects.{Passed, TakeAccepted, FreeAccepted, NamedTakeAccepted, NamedFreeAccepted}
 use Rattle.calllaws.proofs.AddressLaws.{address-superblock}
 use Rattle.calllaws.proofs.SetupLaws.{accepted-setup-of-ready}
 use Rattle.calllaws.proofs.TakeLaws.{Renews, RenewsNot, take-refused-or-accepted, taken-block, take-address, take-effect}
@@ -34,7 +34,7 @@ use Rattle.calllaws.proofs.NamedCallLaws.{named-take-refused-or-accepted, named
 use Rattle.calllaws.proofs.CallRankLaws.{RankedLatest, TakeRanks, take-changes-ranks, named-take-changes-ranks, free-changes-ranks, named-free-changes-ranks}
 use Rattle.bound.specs.Claim.{Step, Linked, peakWith}
 use Rattle.bound.specs.Ledger.{Entry, ledgerAfter}
-use Rattle.bound.specs.History.{Event, freedInto, renewed, neither, eventOfFree, eventOfTake, eventOf, RankedByLastFree, RankedByLastFreeOver}
+use Rattle.bound.specs.History.{Event, renewed, neither, eventOfFree, eventOfTake, eventOf, RankedByLastFree, RankedByLastFreeOver}
 use Rattle.boundlaws.proofs.EventLaws.{ranked-by-last-free-after-free, ranked-by-last-free-after-renewal, ranked-by-last-free-after-neither, ranked-by-last-free-of-new-state}
 use Rattle.boundlaws.proofs.CallInvariantLaws.{ListInvariant, after-step}
 use Rattle.boundlaws.proofs.Demand3.{list-invariant-after-setup}

@@ -10,7 +10,7 @@ use native.Mathlib.Omega.{arith}
 use lib.ListN.{length}
 use lib.Seq.{getD-set-same, getD-set-other}
 use lib.Dec.{T, eqb}
-use Rattle.laws.specs.Sums.{pick, both, one}
+use Rattle.laws.specs.Sums.{pick, one}
 use Rattle.laws.proofs.Inequalities.{le-of-not-below}
 use Rattle.laws.proofs.SumLaws.{sum-cong}
 use Rattle.classes.specs.Classes.{blocksOf}

@@ -3,15 +3,13 @@ use mathlib.Core.Path.{_≡_, refl, sym, ap, ap₂, _∙_, subst}
 use mathlib.Core.Bool.{Bool, true, false, not}
 use mathlib.Core.Logic.{_⊎_, inl, inr}
 use mathlib.Core.List.{List}
-use Prim.Native.Nat.{ℕ, _*_, _/_, _%_, _≤_, _<_}
-use native.Mathlib.Nat.{mul-le-mul-right}
+use Prim.Native.Nat.{ℕ, _*_, _/_, _%_, _<_}
 use native.Mathlib.Decide.{decLt}
 use native.Mathlib.Omega.{arith}
 use borrow.Author.Tests.{eq-eqb, ltb-true, lt-leb, not-false}
-use lib.ListN.{length}
-use lib.Dec.{T, eqb, leb, ltb}
+use lib.Dec.{T, leb, ltb}
 use Rattle.laws.specs.Sums.{pick, either}
-use Rattle.laws.proofs.TestLaws.{T-of-true, not-T-of-false, neither-left, neither-right}
+use Rattle.laws.proofs.TestLaws.{T-of-true, neither-left, neither-right}
 use Rattle.classes.specs.Classes.{sizeOf, blocksOf, classOf}
 use Rattle.classes.proofs.ClassTableLaws.{blocks-of-le-256}
 use Rattle.classes.proofs.OffsetLaws.{offset-lt-4096, offset-mod-size}
@@ -19,7 +17,7 @@ use Rattle.marks.specs.Marks.{markBit}
 use Rattle.marklaws.proofs.MarkLaws.{mark-of-mark-bit-one, marks-clear-of-live-count-zero}
 use Rattle.marklaws.proofs.NoMarkFromLaws.{mark-clear-of-no-mark-from}
 use Rattle.names.specs.Names.{blockNumber, isName, blockNamed, isHeld, withName}
-use Rattle.namelaws.proofs.NameLaws.{held-facts, block-named-with-name, block-named-with-other-name, length-with-name, not-held-without-block, block-named-without-other-block, held-cong}
+use Rattle.namelaws.proofs.NameLaws.{held-facts, block-named-with-name, block-named-with-other-name, length-with-name, not-held-without-block, block-named-without-other-block}
 use Rattle.filledplaces.proofs.PlacesValidLaws.{no-mark-from-of-places-valid}
 use Rattle.heap.specs.declared.State.{State}
 use Rattle.heap.specs.Table.{superblockAt, isUnused}
@@ -27,7 +25,6 @@ use Rattle.heap.specs.States.{withNames}
 use Rattle.heap.specs.Counts.{superblocksOf, superblocksOfClass, liveOfClass, ownersChanged}
 use Rattle.heaplaws.proofs.StateFacts.{Shape, Unused, Owned}
 use Rattle.heaplaws.proofs.StateCheckLaws.{shape-with-names, sound-with-names, names-sound-of-valid, owned-below-superblocks, owned-of-owner, not-unused-of-owner}
-use Rattle.calls.specs.declared.Answer.{Answer}
 use Rattle.calls.specs.declared.Outcome.{Outcome}
 use Rattle.calls.specs.declared.Outcome.the-variants.{Address}
 use Rattle.calls.specs.Answers.{After, refused, isProcessor}

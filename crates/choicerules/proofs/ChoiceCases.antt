@@ -7,7 +7,6 @@ use Rattle.laws.specs.Sums.{sumBelow}
 use Rattle.classes.specs.Classes.{counts, blocksOf}
 use Rattle.marks.specs.Marks.{bit, markBit, liveCount}
 use Rattle.heap.specs.declared.State.{State}
-use Rattle.heap.specs.declared.Found.{Found}
 use Rattle.heap.specs.declared.Found.the-variants.{At, Nothing}
 use Rattle.heap.specs.Table.{unused, isUnused}
 use Rattle.heap.specs.Counts.{belongs}

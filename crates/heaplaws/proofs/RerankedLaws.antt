@@ -1,6 +1,6 @@
 -- A state with other ranks: what does not go by ranks is as it was. Assumes nothing.
 use mathlib.Core.Path.{_≡_, refl, sym, ap, ap₂, _∙_, subst}
-use mathlib.Core.Bool.{Bool, not}
+use mathlib.Core.Bool.{not}
 use mathlib.Core.Logic.{_⊎_, inl, inr}
 use mathlib.Core.List.{List}
 use Prim.Native.Nat.{ℕ, zero, suc, _*_, _≤_, _<_}
@@ -19,7 +19,6 @@ use Rattle.classes.specs.Classes.{blocksOf}
 use Rattle.names.specs.Names.{eachHeld}
 use Rattle.namelaws.proofs.NameLaws.{each-held-of-tests}
 use Rattle.heap.specs.declared.Superblock.{Superblock}
-use Rattle.heap.specs.declared.Totals.{Totals}
 use Rattle.heap.specs.declared.State.{State}
 use Rattle.heap.specs.Table.{blank, superblockAt, liveIn, withRank, isLiveBlock}
 use Rattle.heap.specs.Counts.{total, belongs, oneIfBelongs, liveIfBelongs, isOwnedOfClass, superblocksOf, blocksIn, liveOf, superblocksOfClass, liveOfClass, ownersChanged}
