@@ -11,12 +11,12 @@ use Rattle.laws.specs.Sums.{sumBelow, allBelow}
 use Rattle.laws.proofs.TestLaws.{T-of-true, true-not-false}
 use Rattle.laws.proofs.SumLaws.{all-at}
 use Rattle.classes.specs.Classes.{counts, blocksOf}
-use Rattle.heap.specs.declared.Superblock.{Superblock}
 use Rattle.heap.specs.declared.Setup.{Setup}
 use Rattle.heap.specs.declared.State.{State}
 use Rattle.heap.specs.Table.{unused}
 use Rattle.heap.specs.Counts.{total, isOwnedOfClass, superblocksOfClass, ownersChanged}
 use Rattle.heap.proofs.CaseStates.{unnamedState}
+use Rattle.heap.proofs.TableCases.{of}
 use Rattle.checkrules.specs.Check.{withinLimits}
 use Rattle.calls.specs.declared.Call.{Call}
 use Rattle.calls.specs.declared.Call.the-variants.{Take, Free, NamedTake, NamedFree}
@@ -77,9 +77,6 @@ peak-with-cases = refl
 -- ---- the bound. P = 2, N = 20, K = 5, p = 3, q = 7
 abbrev pub u : Setup
 u = record { processors = 2; superblocks = 20; spare = 5; p = 3; q = 7 }
-
-abbrev pub of : ℕ → ℕ → ℕ → Superblock
-of h c marks = record { owner = h; class = c; live = marks ∷ 0 ∷ 0 ∷ 0 ∷ []; rank = 0 }
 
 -- eight of class c in heap 0, empty, and three in heap 1 with a block live; so many in heap 2 with two; two of class 25
 abbrev pub state-of-class : ℕ → ℕ → State

@@ -25,13 +25,13 @@ use Rattle.calls.specs.Take.{addressOf, takeOf}
 use Rattle.calls.specs.Free.{superblockIndex, freeOf}
 use Rattle.calls.specs.Named.{namedTakeOf, heldAddress, namedFreeOf}
 use Rattle.calls.specs.Calls.{callOf}
-use Rattle.calllaws.proofs.CallEffects.{Passed, TakeAccepted, FreeAccepted, NamedTakeAccepted, NamedFreeAccepted}
+use Rattle.calllaws.proofs.CallEffects.{Passed, TakeAccepted, FreeAccepted, NamedTakeAccepted, NamedFreeAccepted, RankedLatest, Renews, RenewsNot, TakeRanks}
 use Rattle.calllaws.proofs.AddressLaws.{address-superblock}
 use Rattle.calllaws.proofs.SetupLaws.{accepted-setup-of-ready}
-use Rattle.calllaws.proofs.TakeLaws.{Renews, RenewsNot, take-refused-or-accepted, taken-block, take-address, take-effect}
-use Rattle.calllaws.proofs.FreeLaws.{free-refused-or-accepted, moves, free-outcome, free-effect}
+use Rattle.calllaws.proofs.TakeLaws.{take-refused-or-accepted, taken-block, take-address, take-effect, take-ranks}
+use Rattle.calllaws.proofs.FreeLaws.{free-refused-or-accepted, moves, free-outcome, free-effect, free-ranks}
 use Rattle.calllaws.proofs.NamedCallLaws.{named-take-refused-or-accepted, named-taken-block, named-take-address, named-take-effect, named-free-refused-or-accepted}
-use Rattle.calllaws.proofs.CallRankLaws.{RankedLatest, TakeRanks, take-changes-ranks, named-take-changes-ranks, free-changes-ranks, named-free-changes-ranks}
+use Rattle.calllaws.proofs.CallRankLaws.{named-take-ranks, named-free-ranks}
 use Rattle.bound.specs.Claim.{Step, Linked, peakWith}
 use Rattle.bound.specs.Ledger.{Entry, ledgerAfter}
 use Rattle.bound.specs.History.{Event, renewed, neither, eventOfFree, eventOfTake, eventOf, RankedByLastFree, RankedByLastFreeOver}
@@ -106,27 +106,27 @@ module _ (s : State) (order : List ℕ) (events : List Event) (shape : Shape s) 
       accepted (k, acc) =
           let effect = take-effect s order i size k shape acc in
           after-take i k (classOf size) (taken-block s order i size k shape acc) (takeOf s order i size) (below-64 k (effect .below)) (effect .class-lt-27) (effect .block) (take-address s order i size k shape acc)
-          (take-changes-ranks s order i size k shape acc)
+          (take-ranks s order i size k shape acc)
   ranked-by-last-free-after-call (Free i a) = ⊎-elim (after-refused (Free i a)) accepted (free-refused-or-accepted s order i a)
     where
       accepted : FreeAccepted s order i a → RankedByLastFree (freeOf s order i a .answer .state) (eventOfFree a (freeOf s order i a .answer .outcome) ∷ events)
       accepted acc =
           after-free a (moves s order i a shape acc) (freeOf s order i a) (below-64 (superblockIndex a) (free-effect s order i a shape acc .below)) (free-outcome s order i a shape acc)
-          (free-changes-ranks s order i a shape acc)
+          (free-ranks s order i a shape acc)
   ranked-by-last-free-after-call (NamedTake i m size) = ⊎-elim (after-refused (NamedTake i m size)) accepted (named-take-refused-or-accepted s order i m size)
     where
       accepted : ((k : ℕ) × NamedTakeAccepted s order i m size k) → RankedByLastFree (namedTakeOf s order i m size .answer .state) (eventOfTake s i (namedTakeOf s order i m size .answer .outcome) ∷ events)
       accepted (k, acc) =
           let effect = named-take-effect s order i m size k shape acc in
           after-take i k (classOf size) (named-taken-block s order i m size k shape acc) (namedTakeOf s order i m size) (below-64 k (effect .below)) (effect .class-lt-27) (effect .block)
-          (named-take-address s order i m size k shape acc) (named-take-changes-ranks s order i m size k shape acc)
+          (named-take-address s order i m size k shape acc) (named-take-ranks s order i m size k shape acc)
   ranked-by-last-free-after-call (NamedFree i m) = ⊎-elim (after-refused (NamedFree i m)) accepted (named-free-refused-or-accepted s order i m)
     where
       accepted : NamedFreeAccepted s order i m → RankedByLastFree (namedFreeOf s order i m .answer .state) (eventOfFree (heldAddress s m) (namedFreeOf s order i m .answer .outcome) ∷ events)
       accepted acc =
           let a : ℕ = heldAddress s m in
           after-free a (moves s order i a shape (acc .freed)) (namedFreeOf s order i m) (below-64 (superblockIndex a) (free-effect s order i a shape (acc .freed) .below))
-          (ap (λ (x : After). x .answer .outcome) (acc .result-is) ∙ free-outcome s order i a shape (acc .freed)) (named-free-changes-ranks s order i m shape acc)
+          (ap (λ (x : After). x .answer .outcome) (acc .result-is) ∙ free-outcome s order i a shape (acc .freed)) (named-free-ranks s order i m shape acc)
 
 -- ---- along a list of calls
 ranked-by-last-free-from : (u : Setup) (before : After) (ledger : List Entry) (peak : ℕ → ℕ) (events : List Event) (steps : List Step) → ListInvariant u (before .answer .state) (before .order) ledger peak

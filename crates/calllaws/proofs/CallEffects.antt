@@ -11,6 +11,7 @@ use Rattle.marks.specs.Marks.{markBit}
 use Rattle.names.specs.Names.{isHeld}
 use Rattle.heap.specs.declared.State.{State}
 use Rattle.heap.specs.Table.{superblockAt, liveIn, withRank}
+use Rattle.heap.specs.Ranks.{rankAfterFree, rankAfterRenewal}
 use Rattle.heap.specs.Counts.{superblocksOf, superblocksOfClass, liveOfClass, ownersChanged}
 use Rattle.heap.specs.declared.Found.the-variants.{At, Nothing}
 use Rattle.choicerules.specs.Choice.{fullest}
@@ -103,3 +104,30 @@ pub record FreeEffect (c k j moves : ℕ) (s t : State) : Type 0 where
   pub owned : (d : ℕ) → superblocksOfClass d t ≡ superblocksOfClass d s
   pub live-of-class : liveOfClass c s ≡ suc (liveOfClass c t)
   pub live-of-others : (d : ℕ) → (d ≡ c → ⊥) → liveOfClass d t ≡ liveOfClass d s
+
+-- ---- what a call does to the ranks of a state s, which is t after it (document 02, item 4)
+-- they are as they were
+abbrev pub RanksKept : State → State → Type 0
+RanksKept s t = (m : ℕ) → m < 64 → superblockAt t m .rank ≡ superblockAt s m .rank
+
+-- superblock k is in front, and those that were ahead of it are shifted
+abbrev pub RankedLatest : ℕ → State → State → Type 0
+RankedLatest k s t = (m : ℕ) → m < 64 → superblockAt t m .rank ≡ rankAfterFree k (s .table) m
+
+-- superblock k has left the ranking, and the gap is closed
+abbrev pub Unranked : ℕ → State → State → Type 0
+Unranked k s t = (m : ℕ) → m < 64 → superblockAt t m .rank ≡ rankAfterRenewal k (s .table) m
+
+-- a take of heap i from superblock k renews it: it was not heap i's, and nothing was live. "A superblock with nothing live is renewed for c when it comes from place 2, 3
+-- or 4; from place 1 it is not."
+pub record Renews (s : State) (i k : ℕ) : Type 0 where
+  pub not-own : superblockAt s k .owner ≡ i → ⊥
+  pub empty : liveIn (superblockAt s k) ≡ 0
+
+-- it does not
+abbrev pub RenewsNot : State → ℕ → ℕ → Type 0
+RenewsNot s i k = (superblockAt s k .owner ≡ i) ⊎ (liveIn (superblockAt s k) ≡ 0 → ⊥)
+
+-- a take: a renewed superblock leaves the ranking, and else every rank stays, also that of an empty superblock from place 1 and that of one from place 2 with live blocks
+abbrev pub TakeRanks : ℕ → ℕ → State → State → Type 0
+TakeRanks i k s t = (Renews s i k × Unranked k s t) ⊎ (RenewsNot s i k × RanksKept s t)

@@ -1,13 +1,12 @@
 -- Document 02, item 4: what a call does to the ranking. Assumes nothing.
 use mathlib.Core.Path.{_≡_, sym, ap, _∙_, subst}
-use mathlib.Core.Logic.{_⊎_, ⊎-elim}
+use mathlib.Core.Logic.{⊎-elim}
 use mathlib.Core.List.{List}
 use Prim.Native.Nat.{ℕ, _*_, _≤_, _<_}
 use lib.ListN.{length}
 use Rattle.heap.specs.declared.Setup.{Setup}
 use Rattle.heap.specs.declared.State.{State}
 use Rattle.heap.specs.Table.{superblockAt}
-use Rattle.heap.specs.Ranks.{rankAfterFree, rankAfterRenewal}
 use Rattle.heaplaws.proofs.StateFacts.{Shape, WithinLimits, RanksSound}
 use Rattle.heaplaws.proofs.RankLaws.{rank-in-new-state, rank-after-free-of-superblock, rank-after-renewal-of-superblock, ranks-sound-of-valid}
 use Rattle.heaplaws.proofs.StateCheckLaws.{ranks-valid-of-rest}
@@ -16,55 +15,34 @@ use Rattle.laws.proofs.TestLaws.{T-of-true}
 use Rattle.calls.specs.declared.Call.{Call}
 use Rattle.calls.specs.declared.Outcome.the-variants.{Refused}
 use Rattle.calls.specs.Answers.{After, numberOf, refused}
-use Rattle.calls.specs.Take.{takeOf}
-use Rattle.calls.specs.Free.{superblockIndex, freeOf}
+use Rattle.calls.specs.Free.{superblockIndex}
 use Rattle.calls.specs.Named.{namedTakeOf, heldAddress, namedFreeOf}
 use Rattle.calls.specs.Calls.{callOf, callUnchecked}
 use Rattle.calls.specs.Setup.{setupOf}
 use Rattle.calls.proofs.CheckFirst.{call-of-checks-first}
-use Rattle.calllaws.proofs.CallEffects.{TakeAccepted, FreeAccepted, NamedTakeAccepted, NamedFreeAccepted}
-use Rattle.calllaws.proofs.TakeLaws.{Renews, RenewsNot, take-ranks}
+use Rattle.calllaws.proofs.CallEffects.{NamedTakeAccepted, NamedFreeAccepted, RanksKept, RankedLatest, Renews, TakeRanks}
+use Rattle.calllaws.proofs.TakeLaws.{take-ranks}
 use Rattle.calllaws.proofs.FreeLaws.{free-ranks}
 use Rattle.calllaws.proofs.NamedCallLaws.{named-take-state}
 use Rattle.calllaws.proofs.AcceptedCallLaws.{call-passes-if-accepted}
 use Rattle.calllaws.proofs.RefusalConditions.{rest-fails, check-fails-refused-13}
 use Rattle.calllaws.proofs.TotalsKeptLaws.{setup-state-is-new, refused-call-keeps-state}
 
--- the ranks of the second state are those of the first
-abbrev pub RanksKept : State → State → Type 0
-RanksKept s t = (m : ℕ) → m < 64 → superblockAt t m .rank ≡ superblockAt s m .rank
-
--- .. with superblock k in front: "a free ranks its superblock 1 and shifts those that were ahead of it"
-abbrev pub RankedLatest : ℕ → State → State → Type 0
-RankedLatest k s t = (m : ℕ) → m < 64 → superblockAt t m .rank ≡ rankAfterFree k (s .table) m
-
--- .. and without superblock k: "a renewal takes it out and closes the gap"
-abbrev pub Unranked : ℕ → State → State → Type 0
-Unranked k s t = (m : ℕ) → m < 64 → superblockAt t m .rank ≡ rankAfterRenewal k (s .table) m
-
--- ---- takes: a renewed superblock leaves the ranking, and else every rank stays, also that of an empty superblock from place 1, and that of one from place 2 with live blocks
-abbrev pub TakeRanks : ℕ → ℕ → State → State → Type 0
-TakeRanks i k s t = (Renews s i k × Unranked k s t) ⊎ (RenewsNot s i k × RanksKept s t)
-
-pub take-changes-ranks : (s : State) (order : List ℕ) (i size k : ℕ) → Shape s → TakeAccepted s order i size k → TakeRanks i k s (takeOf s order i size .answer .state)
-take-changes-ranks s order i size k shape acc = take-ranks s order i size k shape acc
-
-pub named-take-changes-ranks : (s : State) (order : List ℕ) (i m size k : ℕ) → Shape s → NamedTakeAccepted s order i m size k → TakeRanks i k s (namedTakeOf s order i m size .answer .state)
-named-take-changes-ranks s order i m size k shape acc =
+-- ---- named calls do what the plain ones do (TakeLaws · take-ranks, FreeLaws · free-ranks)
+pub named-take-ranks : (s : State) (order : List ℕ) (i m size k : ℕ) → Shape s → NamedTakeAccepted s order i m size k → TakeRanks i k s (namedTakeOf s order i m size .answer .state)
+named-take-ranks s order i m size k shape acc =
     subst (λ (t : State). TakeRanks i k s t) (sym (named-take-state s order i m size k shape acc)) (take-ranks s order i size k shape (acc .taken))
 
+pub named-free-ranks : (s : State) (order : List ℕ) (i m : ℕ) → Shape s → NamedFreeAccepted s order i m → RankedLatest (superblockIndex (heldAddress s m)) s (namedFreeOf s order i m .answer .state)
+named-free-ranks s order i m shape acc l h = ap (λ (x : After). superblockAt (x .answer .state) l .rank) (acc .result-is) ∙ free-ranks s order i (heldAddress s m) shape (acc .freed) l h
+
+-- ---- the superblock itself
 -- a superblock that a take renewed has no rank
 pub renewed-superblock-is-unranked : (s t : State) (i k : ℕ) → k < 64 → TakeRanks i k s t → Renews s i k → superblockAt t k .rank ≡ 0
 renewed-superblock-is-unranked s t i k l ranks renews =
     ⊎-elim (λ h. h .1 k l ∙ rank-after-renewal-of-superblock k (s .table)) (λ h. absurd (⊎-elim (renews .not-own) (λ f. f (renews .empty)) (h .0))) ranks
 
--- ---- frees: the superblock is the latest, whatever heap it is of and whatever moves follow
-pub free-changes-ranks : (s : State) (order : List ℕ) (i a : ℕ) → Shape s → FreeAccepted s order i a → RankedLatest (superblockIndex a) s (freeOf s order i a .answer .state)
-free-changes-ranks = free-ranks
-
-pub named-free-changes-ranks : (s : State) (order : List ℕ) (i m : ℕ) → Shape s → NamedFreeAccepted s order i m → RankedLatest (superblockIndex (heldAddress s m)) s (namedFreeOf s order i m .answer .state)
-named-free-changes-ranks s order i m shape acc l h = ap (λ (x : After). superblockAt (x .answer .state) l .rank) (acc .result-is) ∙ free-ranks s order i (heldAddress s m) shape (acc .freed) l h
-
+-- one that was freed into is the latest
 pub freed-superblock-is-latest : (s t : State) (k : ℕ) → k < 64 → RankedLatest k s t → superblockAt t k .rank ≡ 1
 freed-superblock-is-latest s t k l ranks = ranks k l ∙ rank-after-free-of-superblock k (s .table)
 

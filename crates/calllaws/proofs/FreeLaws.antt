@@ -34,7 +34,7 @@ use Rattle.calls.specs.Take.{addressOf}
 use Rattle.calls.specs.Free.{superblockIndex, offsetOf, superblockHolding, blockOf, isUnmapped, isMisaligned, isLiveAt, markCleared, orderPushed, blockNumberAt, blockFreed, freedAt, freeUnchecked, freeOf}
 use Rattle.moverules.specs.Moves.{invariantRestored}
 use Rattle.calllaws.proofs.CheckedLaws.{checked-refused-or-passed, bounds-of-is-processor}
-use Rattle.calllaws.proofs.CallEffects.{Passed, FreeAccepted, FreeEffect}
+use Rattle.calllaws.proofs.CallEffects.{Passed, FreeAccepted, FreeEffect, RankedLatest}
 use Rattle.calllaws.proofs.AddressLaws.{mapped-below-superblocks, mapped-is-owned}
 use Rattle.heaplaws.proofs.StateCheckLaws.{shape-with-names, sound-with-names}
 use Rattle.heaplaws.proofs.RankLaws.{ranks-sound-of-same-ranks, ranked-latest-ranks-sound}
@@ -218,7 +218,7 @@ module _ (s : State) (order : List ℕ) (i a : ℕ) (shape : Shape s) (acc : Fre
   free-names = ap (λ (t : State). t .names) free-state-is ∙ free-restores-invariant .from .names ∙ ap (withoutBlock (s .names)) block-number-is
 
   -- the superblock goes to the front of the ranking, in whatever heap it is and whatever moves follow
-  pub free-ranks : (m : ℕ) → m < 64 → superblockAt (freeOf s order i a .answer .state) m .rank ≡ rankAfterFree (superblockIndex a) (s .table) m
+  pub free-ranks : RankedLatest (superblockIndex a) s (freeOf s order i a .answer .state)
   free-ranks m l =
       ap (λ (t : State). superblockAt t m .rank) free-state-is
       ∙ invariant-restored-ranks ready order k (blockOf s a) live-when-ready restored free-restores-invariant m l

@@ -29,7 +29,7 @@ use Rattle.calls.specs.declared.Outcome.the-variants.{Address}
 use Rattle.calls.specs.Answers.{After, numberOf, refused, checked, isProcessor}
 use Rattle.calls.specs.Take.{otherPlaces, acquired, acquiredOrder, unrankedIfEmpty, addressOf, takenFrom, takenFromOther, takenAt, takeUnchecked, takeOf}
 use Rattle.calllaws.proofs.CheckedLaws.{checked-refused-or-passed, checked-is-next-of-passed, bounds-of-is-processor}
-use Rattle.calllaws.proofs.CallEffects.{Passed, TakeAccepted, TakeEffect}
+use Rattle.calllaws.proofs.CallEffects.{Passed, TakeAccepted, TakeEffect, Renews, RenewsNot, TakeRanks}
 use Rattle.calllaws.proofs.TakeSourceLaws.{lastBlockOf, takenWith, taken-from-is-taken-with, taken-from-other-is-taken-with, TakeSource, source-of-own-heap, offered-of-other-places, source-of-other-places}
 use Rattle.calllaws.proofs.TakeEffectLaws.{TakeResult, take-result-of-source, take-effect-of-reranked}
 use Rattle.calllaws.proofs.CheckedLaws.{reranked-passed}
@@ -123,16 +123,6 @@ refused-4-of-nothing-offered s order i size p h₁ h₂ h₃ a b c d =
     ∙ simp (le-leb 1 i h₁, le-leb i (s .setup .processors) h₂, false-of-decides (decides-too-large size) h₃, a, b, c, d)
 
 -- ---- an accepted take
--- a take from superblock k renews it: it was not heap i's, and nothing was live. "A superblock with nothing live is renewed for c when it comes from place 2, 3 or 4;
--- from place 1 it is not."
-pub record Renews (s : State) (i k : ℕ) : Type 0 where
-  pub not-own : superblockAt s k .owner ≡ i → ⊥
-  pub empty : liveIn (superblockAt s k) ≡ 0
-
--- it does not
-abbrev pub RenewsNot : State → ℕ → ℕ → Type 0
-RenewsNot s i k = (superblockAt s k .owner ≡ i) ⊎ (liveIn (superblockAt s k) ≡ 0 → ⊥)
-
 -- the state with superblock k out of the ranking where it is renewed, then the superblock that gives the block, and all order places, as they are then
 record TakeSourceAndResult (s : State) (order : List ℕ) (i c k : ℕ) (result : After) : Type 0 where
   ranked : State
@@ -238,8 +228,7 @@ module _ (s : State) (order : List ℕ) (i size k : ℕ) (shape : Shape s) (acc 
   take-passed = ranked-result .passed
 
   -- ---- the ranks: a renewed superblock leaves the ranking, and else every rank stays
-  pub take-ranks : (Renews s i k × ((m : ℕ) → m < 64 → superblockAt (takeOf s order i size .answer .state) m .rank ≡ rankAfterRenewal k (s .table) m))
-      ⊎ (RenewsNot s i k × ((m : ℕ) → m < 64 → superblockAt (takeOf s order i size .answer .state) m .rank ≡ superblockAt s m .rank))
+  pub take-ranks : TakeRanks i k s (takeOf s order i size .answer .state)
   take-ranks =
       ⊎-elim
       (λ h. inl (h .0, λ m l. ranked-result .ranks m ∙ ap (λ (t : State). superblockAt t m .rank) (h .1) ∙ ap (λ (b : Superblock). b .rank) (superblock-at-unranked k s m l)))
