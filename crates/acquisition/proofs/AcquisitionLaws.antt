@@ -4,7 +4,7 @@ use mathlib.Core.List.{List}
 use Prim.Native.Nat.{ℕ}
 use borrow.Author.Tests.{eq-eqb, ne-eqb}
 use lib.Dec.{eqb}
-use Rattle.laws.proofs.TestLaws.{pick-true, pick-false, pick-elim}
+use Rattle.laws.proofs.TestLaws.{pick-elim}
 use Rattle.classes.specs.Classes.{blocksOf}
 use Rattle.order.specs.Order.{renewed}
 use Rattle.heap.specs.declared.Superblock.{Superblock}
@@ -31,14 +31,14 @@ module _ (heap class : ℕ) (b : Superblock) (live : ℕ) (el : live ≡ liveIn 
   acquired-of-live f = rw (← el, ne-eqb live 0 f)
 
 -- the ranks then
-module _ (s : State) (k : ℕ) (b : Superblock) (live : ℕ) (eb : b ≡ superblockAt s k) (el : live ≡ liveIn b) where
+module _ (s : State) (k live : ℕ) (el : live ≡ liveIn (superblockAt s k)) where
   pub unranked-if-empty-of-empty : (t : State) → live ≡ 0 → t ≡ unranked k s → t ≡ unrankedIfEmpty k s
   unfolding unrankedIfEmpty
-  unranked-if-empty-of-empty t e et = et ∙ sym (pick-true (eqb (liveIn (superblockAt s k)) 0) (unranked k s) s (eq-eqb (liveIn (superblockAt s k)) 0 (ap liveIn (sym eb) ∙ sym el ∙ e)))
+  unranked-if-empty-of-empty t e et = rw (← el, eq-eqb live 0 e) et
 
   pub unranked-if-empty-of-live : (live ≡ 0 → ⊥) → s ≡ unrankedIfEmpty k s
   unfolding unrankedIfEmpty
-  unranked-if-empty-of-live f = sym (pick-false (eqb (liveIn (superblockAt s k)) 0) (unranked k s) s (ne-eqb (liveIn (superblockAt s k)) 0 (λ e. f (el ∙ ap liveIn eb ∙ e))))
+  unranked-if-empty-of-live f = rw (← el, ne-eqb live 0 f)
 
 pub unranked-if-empty-keeps-totals : (s t : State) (k : ℕ) → TotalsKept s → t ≡ unrankedIfEmpty k s → TotalsKept t
 unfolding unrankedIfEmpty unranked

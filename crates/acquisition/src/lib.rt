@@ -31,11 +31,12 @@ fn acquire(b: Superblock, heap: u8, class: u8) -> Superblock
     }
 }
 
-// The state with superblock k, which is b, out of the ranking where nothing is live.
-fn unrank_if_empty(s: State, b: Superblock, k: usize) -> State
-    requires { ⌜ (k < 64) × (b ≡ superblockAt s k) ⌝ }
+// The state with superblock k out of the ranking where nothing is live in it.
+fn unrank_if_empty(s: State, k: usize) -> State
+    requires { ⌜ k < 64 ⌝ }
     ensures { λ r. ⌜ r ≡ unrankedIfEmpty k s ⌝ }
 {
+    let b = s.table[k];
     if predicates::live_in(b) == 0 {
         return ranks::unrank(s, k);
     }
@@ -48,7 +49,7 @@ fn acquire_at(s: State, heap: u8, class: u8, k: usize) -> State
     ensures { λ r. ⌜ r ≡ withSuperblock (unrankedIfEmpty k s) k (acquired heap class (superblockAt s k)) ⌝ }
 {
     let b = s.table[k];
-    let ranked = unrank_if_empty(s, b, k);
+    let ranked = unrank_if_empty(s, k);
     let acquired = acquire(b, heap, class);
     table::replace(ranked, k, acquired)
 }

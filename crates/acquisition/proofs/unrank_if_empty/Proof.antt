@@ -4,6 +4,12 @@ use Rattle.acquisition.proofs.AcquisitionLaws.{unranked-if-empty-of-emp
 use Rattle.acquisition.proofs.unrank_if_empty.Statement.{statement}
 use Rattle.acquisition.proofs.unrank_if_empty.Tie as tie
 
+mul-b : tie.Need-mul-b
+mul-b c = search needs
+
+element-copy-out-b : tie.Need-element-copy-out-b
+element-copy-out-b c = search needs
+
 live-in-requires : tie.Need-live-in-requires
 live-in-requires c κs = search needs
 
@@ -17,4 +23,4 @@ returns-2 : tie.Need-returns-2
 returns-2 c = search unranked-if-empty-of-live
 
 pub unrank-if-empty-spec : {M : Type 1} → statement M
-unrank-if-empty-spec = tie.close (tie.spec live-in-requires unrank-requires returns returns-2)
+unrank-if-empty-spec = tie.close (tie.spec mul-b element-copy-out-b live-in-requires unrank-requires returns returns-2)
