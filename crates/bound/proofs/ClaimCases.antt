@@ -18,13 +18,11 @@ use Rattle.heap.specs.Counts.{total, isOwnedOfClass, superblocksOfClass, owners
 use Rattle.heap.proofs.CaseStates.{unnamedState}
 use Rattle.heap.proofs.TableCases.{of}
 use Rattle.checkrules.specs.Check.{withinLimits}
-use Rattle.calls.specs.declared.Call.{Call}
-use Rattle.calls.specs.declared.Call.the-variants.{Take, Free, NamedTake, NamedFree}
 use Rattle.calls.specs.declared.Outcome.{Outcome}
 use Rattle.calls.specs.declared.Outcome.the-variants.{Ready, Address, Moves, Refused}
 use Rattle.calls.specs.Answers.{After, numberOf, checked}
 use Rattle.calls.specs.Take.{takeOf}
-use Rattle.calls.specs.Calls.{callOf}
+use Rattle.calls.specs.Calls.{Call, Take, Free, NamedTake, NamedFree, callOf}
 use Rattle.bound.specs.Ledger.{Name, named, unnamed, Entry, ledgerAfter, entriesOf}
 use Rattle.bound.specs.Claim.{Step, Linked, Bounded, OwnerChanges, peakWith, Claims}
 use Rattle.bound.proofs.LedgerDefinitions.{ledgerDefinitions}

@@ -2,16 +2,15 @@
 use mathlib.Core.Path.{_≡_}
 use mathlib.Core.List.{List, [], _∷_}
 use Prim.Native.Nat.{ℕ, _+_, _-_, _*_, _≤_, _<_, max}
+use lib.ListN.{length}
 use Rattle.classes.specs.Classes.{blocksOf}
 use Rattle.heap.specs.declared.Setup.{Setup}
 use Rattle.heap.specs.declared.State.{State}
 use Rattle.heap.specs.Counts.{superblocksOfClass, ownersChanged}
-use Rattle.calls.specs.declared.Call.{Call}
-use Rattle.calls.specs.declared.Call.the-variants.{Take, Free, NamedTake, NamedFree}
 use Rattle.calls.specs.declared.Outcome.{Outcome}
 use Rattle.calls.specs.declared.Outcome.the-variants.{Moves, Refused}
 use Rattle.calls.specs.Answers.{After}
-use Rattle.calls.specs.Calls.{callOf}
+use Rattle.calls.specs.Calls.{Call, Take, Free, NamedTake, NamedFree, Drop, callOf}
 use Rattle.bound.specs.Ledger.{Entry, ledgerAfter, entriesOf}
 
 -- a call of the list, with what it returned and left
@@ -33,18 +32,20 @@ Bounded u s peak =
     → (u .q - u .p) * blocksOf c * superblocksOfClass c s ≤ u .q * peak c + (u .q - u .p) * u .processors * u .spare * blocksOf c
 
 -- "no free changes the owner of more than q superblocks, an accepted one changes exactly as many owners as it reports moves, and a
--- refused call changes none", of a call with so many owners changed
+-- refused call changes none", of a call with so many owners changed; of a free, of no more than so many superblocks. "a drop moves at most q
+-- superblocks for each address" (document 02, item 5)
 abbrev pub TakeOwnerChanges : ℕ → Outcome → Type 0
 TakeOwnerChanges changed outcome = (r : ℕ) → outcome ≡ Refused r → changed ≡ 0
 
 abbrev pub FreeOwnerChanges : ℕ → ℕ → Outcome → Type 0
-FreeOwnerChanges q changed outcome = (changed ≤ q) × ((m : ℕ) → outcome ≡ Moves m → changed ≡ m) × ((r : ℕ) → outcome ≡ Refused r → changed ≡ 0)
+FreeOwnerChanges most changed outcome = (changed ≤ most) × ((m : ℕ) → outcome ≡ Moves m → changed ≡ m) × ((r : ℕ) → outcome ≡ Refused r → changed ≡ 0)
 
 unfoldable pub OwnerChanges : ℕ → ℕ → Call → Outcome → Type 0
 OwnerChanges q changed (Take processor size) outcome = TakeOwnerChanges changed outcome
 OwnerChanges q changed (Free processor address) outcome = FreeOwnerChanges q changed outcome
 OwnerChanges q changed (NamedTake processor name size) outcome = TakeOwnerChanges changed outcome
 OwnerChanges q changed (NamedFree processor name) outcome = FreeOwnerChanges q changed outcome
+OwnerChanges q changed (Drop processor addresses) outcome = FreeOwnerChanges (q * length addresses) changed outcome
 
 -- "M is the most live blocks of the class after the setup (none) or any call up to and including this one."
 abbrev pub peakWith : (ℕ → ℕ) → List Entry → ℕ → ℕ

@@ -4,20 +4,19 @@ use Prim.Native.Nat.{ℕ, suc, _/_, _<_}
 use mathlib.Core.Path.{_≡_}
 use mathlib.Core.Bool.{not}
 use mathlib.Core.Logic.{_↔_}
-use mathlib.Core.List.{List, [], _∷_}
+use mathlib.Core.List.{List, [], _∷_, _++_}
 use lib.Dec.{eqb}
 use Rattle.laws.specs.Sums.{pick, both}
 use Rattle.heap.specs.declared.State.{State}
 use Rattle.heap.specs.Table.{superblockAt, liveIn}
-use Rattle.calls.specs.declared.Call.{Call}
-use Rattle.calls.specs.declared.Call.the-variants.{Take, Free, NamedTake, NamedFree}
+use Rattle.calls.specs.Calls.{Call, Take, Free, NamedTake, NamedFree, Drop}
 use Rattle.calls.specs.declared.Outcome.{Outcome}
 use Rattle.calls.specs.declared.Outcome.the-variants.{Ready, Address, Moves, Refused}
 use Rattle.calls.specs.Answers.{After}
 use Rattle.calls.specs.Named.{heldAddress}
 use Rattle.bound.specs.Claim.{Step}
 
--- what a call did to a superblock, as far as the ranking goes
+-- what a call, or one of the frees of a drop, did to a superblock, as far as the ranking goes
 pub data Event : Type 0 where
   freedInto : ℕ → Event
   renewed : ℕ → Event
@@ -39,27 +38,33 @@ eventOfTake s i (Address a) =
 eventOfTake s i (Moves m) = neither
 eventOfTake s i (Refused r) = neither
 
--- a call on state s
-unfoldable pub eventOf : State → Call → Outcome → Event
-eventOf s (Take processor size) outcome = eventOfTake s processor outcome
-eventOf s (Free processor address) outcome = eventOfFree address outcome
-eventOf s (NamedTake processor name size) outcome = eventOfTake s processor outcome
-eventOf s (NamedFree processor name) outcome = eventOfFree (heldAddress s name) outcome
+-- a drop's frees "in the order written", so that the last address's comes first (document 02, item 5)
+unfoldable pub eventsOfDrop : List ℕ → Outcome → List Event
+eventsOfDrop [] outcome = []
+eventsOfDrop (a ∷ addresses) outcome = eventsOfDrop addresses outcome ++ (eventOfFree a outcome ∷ [])
 
--- the last free into a superblock since it was last renewed: so many calls ago, or there was none
+-- the events of a call on state s, the latest of which comes first
+unfoldable pub eventsOf : State → Call → Outcome → List Event
+eventsOf s (Take processor size) outcome = eventOfTake s processor outcome ∷ []
+eventsOf s (Free processor address) outcome = eventOfFree address outcome ∷ []
+eventsOf s (NamedTake processor name size) outcome = eventOfTake s processor outcome ∷ []
+eventsOf s (NamedFree processor name) outcome = eventOfFree (heldAddress s name) outcome ∷ []
+eventsOf s (Drop processor addresses) outcome = eventsOfDrop addresses outcome
+
+-- the last free into a superblock since it was last renewed: so many events ago, or there was none
 pub data LastFree : Type 0 where
-  callsAgo : ℕ → LastFree
+  eventsAgo : ℕ → LastFree
   notSinceRenewal : LastFree
 
-unfoldable pub oneCallMore : LastFree → LastFree
-oneCallMore (callsAgo n) = callsAgo (suc n)
-oneCallMore notSinceRenewal = notSinceRenewal
+unfoldable pub oneEventMore : LastFree → LastFree
+oneEventMore (eventsAgo n) = eventsAgo (suc n)
+oneEventMore notSinceRenewal = notSinceRenewal
 
 -- that of superblock k after one more event
 unfoldable pub lastFreeAfter : ℕ → Event → LastFree → LastFree
-lastFreeAfter k (freedInto m) before = pick (eqb m k) (callsAgo 0) (oneCallMore before)
-lastFreeAfter k (renewed m) before = pick (eqb m k) notSinceRenewal (oneCallMore before)
-lastFreeAfter k neither before = oneCallMore before
+lastFreeAfter k (freedInto m) before = pick (eqb m k) (eventsAgo 0) (oneEventMore before)
+lastFreeAfter k (renewed m) before = pick (eqb m k) notSinceRenewal (oneEventMore before)
+lastFreeAfter k neither before = oneEventMore before
 
 -- that of superblock k after the events, the latest of which comes first
 unfoldable pub lastFree : ℕ → List Event → LastFree
@@ -69,11 +74,11 @@ lastFree k (event ∷ earlier) = lastFreeAfter k event (lastFree k earlier)
 -- the ranked superblocks are those freed into since they were last renewed, and the later the last free the lower the rank
 pub record RankedByLastFree (s : State) (events : List Event) : Type 0 where
   pub unranked-iff : (k : ℕ) → k < 64 → (superblockAt s k .rank ≡ 0) ↔ (lastFree k events ≡ notSinceRenewal)
-  pub later-first : (k m x y : ℕ) → k < 64 → m < 64 → lastFree k events ≡ callsAgo x → lastFree m events ≡ callsAgo y → x < y → superblockAt s k .rank < superblockAt s m .rank
+  pub later-first : (k m x y : ℕ) → k < 64 → m < 64 → lastFree k events ≡ eventsAgo x → lastFree m events ≡ eventsAgo y → x < y → superblockAt s k .rank < superblockAt s m .rank
 
 -- before a list and after each of its calls
 unfoldable pub RankedByLastFreeOver : After → List Event → List Step → Type 0
 RankedByLastFreeOver before events [] = RankedByLastFree (before .answer .state) events
 RankedByLastFreeOver before events (step ∷ steps) =
     RankedByLastFree (before .answer .state) events
-    × RankedByLastFreeOver (step .after) (eventOf (before .answer .state) (step .call) (step .after .answer .outcome) ∷ events) steps
+    × RankedByLastFreeOver (step .after) (eventsOf (before .answer .state) (step .call) (step .after .answer .outcome) ++ events) steps

@@ -3,10 +3,9 @@ use Prim.Native.Nat.{ℕ, _+_}
 use mathlib.Core.Bool.{Bool, false}
 use mathlib.Core.List.{List, [], _∷_}
 use lib.Dec.{eqb}
-use Rattle.laws.specs.Sums.{pick, one}
+use Rattle.laws.specs.Sums.{pick, either, one}
 use Rattle.classes.specs.Classes.{classOf}
-use Rattle.calls.specs.declared.Call.{Call}
-use Rattle.calls.specs.declared.Call.the-variants.{Take, Free, NamedTake, NamedFree}
+use Rattle.calls.specs.Calls.{Call, Take, Free, NamedTake, NamedFree, Drop}
 use Rattle.calls.specs.declared.Outcome.{Outcome}
 use Rattle.calls.specs.declared.Outcome.the-variants.{Ready, Address, Moves, Refused}
 
@@ -28,6 +27,11 @@ classOfEntry e = classOf (e .size)
 -- the block starts at address a
 abbrev pub isAt : ℕ → Entry → Bool
 isAt a e = eqb (e .address) a
+
+-- the block starts at one of the addresses
+unfoldable pub isAtOneOf : List ℕ → Entry → Bool
+isAtOneOf [] e = false
+isAtOneOf (a ∷ addresses) e = either (isAt a e) (isAtOneOf addresses e)
 
 -- the block was taken by name m
 unfoldable pub isCalled : ℕ → Name → Bool
@@ -57,12 +61,13 @@ afterFree test ledger (Moves m) = removed test ledger
 afterFree test ledger (Refused r) = ledger
 
 -- "A block is live when an accepted take answered its address and no accepted call has freed that address since." A named free frees the
--- address that the take by its name answered (document 02, item 2).
+-- address that the take by its name answered (document 02, item 2), a drop all of its addresses (item 5).
 unfoldable pub ledgerAfter : List Entry → Call → Outcome → List Entry
 ledgerAfter ledger (Take processor size) outcome = afterTake size unnamed ledger outcome
 ledgerAfter ledger (Free processor address) outcome = afterFree (isAt address) ledger outcome
 ledgerAfter ledger (NamedTake processor name size) outcome = afterTake size (named name) ledger outcome
 ledgerAfter ledger (NamedFree processor name) outcome = afterFree (hasName name) ledger outcome
+ledgerAfter ledger (Drop processor addresses) outcome = afterFree (isAtOneOf addresses) ledger outcome
 
 -- the live blocks of class c
 unfoldable pub entriesOf : ℕ → List Entry → ℕ

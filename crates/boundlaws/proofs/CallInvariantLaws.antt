@@ -16,15 +16,13 @@ use Rattle.heap.specs.declared.State.{State}
 use Rattle.heap.specs.Counts.{superblocksOf, superblocksOfClass, liveOfClass, ownersChanged}
 use Rattle.heaplaws.proofs.StateFacts.{Shape, WithinLimits}
 use Rattle.heaplaws.proofs.MoveLaws.{owners-changed-self}
-use Rattle.calls.specs.declared.Call.{Call}
-use Rattle.calls.specs.declared.Call.the-variants.{Take, Free, NamedTake, NamedFree}
 use Rattle.calls.specs.declared.Outcome.{Outcome}
 use Rattle.calls.specs.declared.Outcome.the-variants.{Address, Moves, Refused}
 use Rattle.calls.specs.Answers.{After, refused}
 use Rattle.calls.specs.Take.{addressOf, takeOf}
 use Rattle.calls.specs.Free.{superblockIndex, superblockHolding, blockOf, freeOf}
 use Rattle.calls.specs.Named.{namedTakeOf, heldAddress, namedFreeOf}
-use Rattle.calls.specs.Calls.{callOf}
+use Rattle.calls.specs.Calls.{Call, Take, Free, NamedTake, NamedFree, callOf}
 use Rattle.calllaws.proofs.CallEffects.{Passed, TakeAccepted, FreeAccepted, NamedTakeAccepted, NamedFreeAccepted, TakeEffect, FreeEffect}
 use Rattle.bound.specs.Ledger.{Name, named, unnamed, Entry, classOfEntry, isAt, removed, afterTake, afterFree, ledgerAfter, entriesOf}
 use Rattle.bound.specs.Claim.{Step, Bounded, TakeOwnerChanges, FreeOwnerChanges, OwnerChanges, peakWith}

@@ -4,11 +4,10 @@ use mathlib.Core.List.{List, [], _∷_}
 use Prim.Native.Nat.{ℕ}
 use Rattle.heap.specs.declared.Setup.{Setup}
 use Rattle.heap.specs.declared.State.{State}
-use Rattle.calls.specs.declared.Call.{Call}
 use Rattle.calls.specs.declared.Outcome.the-variants.{Ready}
 use Rattle.calls.specs.Answers.{After}
 use Rattle.calls.specs.Setup.{setupOf}
-use Rattle.calls.specs.Calls.{callOf, callUnchecked}
+use Rattle.calls.specs.Calls.{Call, callOf, callUnchecked}
 use Rattle.calls.proofs.CheckFirst.{call-of-checks-first}
 use Rattle.calllaws.proofs.CallEffects.{Passed}
 use Rattle.bound.specs.Ledger.{Entry, ledgerAfter}

@@ -8,7 +8,7 @@ use borrow.Author.Tests.{eq-eqb, ne-eqb}
 use lib.Dec.{eqb}
 use Rattle.laws.specs.Sums.{both, one}
 use Rattle.classes.proofs.ClassLaws.{class-of-size-0}
-use Rattle.calls.specs.declared.Call.the-variants.{Take}
+use Rattle.calls.specs.Calls.{Take}
 use Rattle.calls.specs.declared.Outcome.the-variants.{Address}
 use Rattle.bound.specs.Ledger.{unnamed, Entry, classOfEntry, isAt, removed, afterTake, ledgerAfter, entriesOf}
 use Rattle.bound.specs.Claim.{peakWith}

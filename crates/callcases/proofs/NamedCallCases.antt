@@ -5,11 +5,9 @@ use Prim.Native.Nat.{ℕ}
 use Rattle.names.specs.Names.{noNames, withName}
 use Rattle.heap.specs.declared.State.{State}
 use Rattle.heap.specs.States.{withNames}
-use Rattle.calls.specs.declared.Call.{Call}
-use Rattle.calls.specs.declared.Call.the-variants.{Take, Free, NamedTake, NamedFree}
 use Rattle.calls.specs.declared.Outcome.{Outcome}
 use Rattle.calls.specs.declared.Outcome.the-variants.{Refused}
-use Rattle.calls.specs.Calls.{callOf}
+use Rattle.calls.specs.Calls.{Call, Take, Free, NamedTake, NamedFree, callOf}
 use Rattle.calls.proofs.CallDefinitions.{callDefinitions}
 use Rattle.callcases.proofs.WholeCallCases.{SuperblockAndPlaces, CallCase, Seen, seen, expected-of, state-of, order-of, from-place-2, three-moves, nothing-offered}
 

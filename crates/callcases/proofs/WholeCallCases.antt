@@ -13,12 +13,10 @@ use Rattle.heap.specs.Table.{unused}
 use Rattle.heap.proofs.TableCases.{of, ranked}
 use Rattle.heap.proofs.CaseStates.{unnamedState}
 use Rattle.checkrules.specs.Check.{totalsValid}
-use Rattle.calls.specs.declared.Call.{Call}
-use Rattle.calls.specs.declared.Call.the-variants.{Take, Free}
 use Rattle.calls.specs.declared.Outcome.{Outcome}
 use Rattle.calls.specs.declared.Outcome.the-variants.{Address, Moves, Refused}
 use Rattle.calls.specs.Answers.{After}
-use Rattle.calls.specs.Calls.{callOf}
+use Rattle.calls.specs.Calls.{Call, Take, Free, callOf}
 use Rattle.calls.proofs.CallDefinitions.{callDefinitions}
 use Rattle.calls.proofs.RuleCases.{setup-with}
 

@@ -24,14 +24,12 @@ use Rattle.heaplaws.proofs.StateCheckLaws.{passes-of-sound, new-state-sound, ne
 use Rattle.heaplaws.proofs.RankLaws.{ranks-valid-of-sound, new-state-ranks-sound}
 use Rattle.heaplaws.proofs.TotalsLaws.{new-state-totals-kept}
 use Rattle.calls.specs.declared.Outcome.the-variants.{Address, Moves, Refused}
-use Rattle.calls.specs.declared.Call.{Call}
-use Rattle.calls.specs.declared.Call.the-variants.{Take, Free, NamedTake, NamedFree}
 use Rattle.calls.specs.Answers.{After, numberOf, PassesIfAccepted, refused, checked, isProcessor}
 use Rattle.calls.specs.Setup.{acceptedSetup, setupOf}
 use Rattle.calls.specs.Take.{otherPlaces, takenFrom, takenFromOther, takenAt, takeUnchecked}
 use Rattle.calls.specs.Free.{isUnmapped, isMisaligned, isLiveAt, freedAt, freeUnchecked}
 use Rattle.calls.specs.Named.{isUnavailable, withNameBound, namedTakeUnchecked, heldAddress, namedFreeUnchecked}
-use Rattle.calls.specs.Calls.{callOf, callUnchecked}
+use Rattle.calls.specs.Calls.{Call, Take, Free, NamedTake, NamedFree, callOf, callUnchecked}
 use Rattle.calls.proofs.CheckFirst.{call-of-checks-first}
 use Rattle.calllaws.proofs.CallEffects.{Passed}
 use Rattle.calllaws.proofs.TakeLaws.{take-refused-or-accepted, take-passed}

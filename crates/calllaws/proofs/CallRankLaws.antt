@@ -12,12 +12,11 @@ use Rattle.heaplaws.proofs.RankLaws.{rank-in-new-state, rank-after-free-of-supe
 use Rattle.heaplaws.proofs.StateCheckLaws.{ranks-valid-of-rest}
 use Rattle.checkrules.proofs.ClauseLaws.{rest-of-passes}
 use Rattle.laws.proofs.TestLaws.{T-of-true}
-use Rattle.calls.specs.declared.Call.{Call}
 use Rattle.calls.specs.declared.Outcome.the-variants.{Refused}
 use Rattle.calls.specs.Answers.{After, numberOf, refused}
 use Rattle.calls.specs.Free.{superblockIndex}
 use Rattle.calls.specs.Named.{namedTakeOf, heldAddress, namedFreeOf}
-use Rattle.calls.specs.Calls.{callOf, callUnchecked}
+use Rattle.calls.specs.Calls.{Call, callOf, callUnchecked}
 use Rattle.calls.specs.Setup.{setupOf}
 use Rattle.calls.proofs.CheckFirst.{call-of-checks-first}
 use Rattle.calllaws.proofs.CallEffects.{NamedTakeAccepted, NamedFreeAccepted, RanksKept, RankedLatest, Renews, TakeRanks}

@@ -10,13 +10,11 @@ use Rattle.laws.proofs.TestLaws.{T-of-true, not-T-of-false}
 use Rattle.names.specs.Names.{blockNumber, isName, blockNamed, isHeld}
 use Rattle.heap.specs.declared.State.{State}
 use Rattle.heaplaws.proofs.StateFacts.{Shape}
-use Rattle.calls.specs.declared.Call.{Call}
-use Rattle.calls.specs.declared.Call.the-variants.{Take, Free, NamedTake, NamedFree}
 use Rattle.calls.specs.declared.Outcome.the-variants.{Refused}
 use Rattle.calls.specs.Answers.{After, refused}
 use Rattle.calls.specs.Free.{superblockIndex, blockOf}
 use Rattle.calls.specs.Named.{isUnavailable, heldAddress}
-use Rattle.calls.specs.Calls.{callOf}
+use Rattle.calls.specs.Calls.{Call, Take, Free, NamedTake, NamedFree, callOf}
 use Rattle.calllaws.proofs.CallEffects.{FreeAccepted, NamedTakeAccepted, NamedFreeAccepted}
 use Rattle.calllaws.proofs.TakeLaws.{take-refused-or-accepted, take-names}
 use Rattle.calllaws.proofs.FreeLaws.{free-refused-or-accepted, free-outcome}

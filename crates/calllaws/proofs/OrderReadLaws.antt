@@ -27,8 +27,6 @@ use Rattle.checkrules.specs.Check.{withinLimits, restValid}
 use Rattle.heaplaws.proofs.StateCheckLaws.{sound-of-limits-and-rest, names-valid-of-rest, totals-kept-of-rest, ranks-valid-of-rest}
 use Rattle.heaplaws.proofs.RankLaws.{ranks-sound-of-valid}
 use Rattle.heaplaws.proofs.CheckReadsLaws.{rest-valid-reads-only-first-places}
-use Rattle.calls.specs.declared.Call.{Call}
-use Rattle.calls.specs.declared.Call.the-variants.{Take, Free, NamedTake, NamedFree}
 use Rattle.calls.specs.declared.Answer.{Answer}
 use Rattle.calls.specs.declared.Outcome.the-variants.{Address}
 use Rattle.calls.specs.Answers.{After, refused, checked, isProcessor}
@@ -36,7 +34,7 @@ use Rattle.calls.specs.Setup.{setupOf}
 use Rattle.calls.specs.Take.{otherPlaces, acquired, acquiredOrder, unrankedIfEmpty, nextBlock, addressOf, takenFrom, takenFromOther, takenAt, takeUnchecked}
 use Rattle.calls.specs.Free.{superblockIndex, superblockHolding, blockOf, isUnmapped, isMisaligned, isLiveAt, orderPushed, freedAt, freeUnchecked}
 use Rattle.calls.specs.Named.{isUnavailable, boundBy, withNameBound, heldAddress, namedTakeUnchecked, namedFreeUnchecked}
-use Rattle.calls.specs.Calls.{callOf, callUnchecked}
+use Rattle.calls.specs.Calls.{Call, Take, Free, NamedTake, NamedFree, callOf, callUnchecked}
 use Rattle.calls.proofs.CheckFirst.{call-of-checks-first}
 use Rattle.calllaws.proofs.CallEffects.{Passed}
 use Rattle.calllaws.proofs.CheckedLaws.{bounds-of-is-processor}

@@ -26,14 +26,12 @@ use Rattle.choicerules.specs.Choice.{fullest, lowestEmpty, lowestUnused, orElse
 use Rattle.checkrules.specs.Check.{withinLimits}
 use Rattle.heaplaws.proofs.StateCheckLaws.{owned-below-superblocks}
 use Rattle.heaplaws.proofs.ChoiceLaws.{best-of-fullest, facts-of-has-free, facts-of-empty-in-global, best-of-lowest-empty, best-of-lowest-unused}
-use Rattle.calls.specs.declared.Call.{Call}
-use Rattle.calls.specs.declared.Call.the-variants.{Take, Free, NamedTake, NamedFree}
 use Rattle.calls.specs.Answers.{After, refused}
 use Rattle.calls.specs.Setup.{acceptedSetup, setupOf}
 use Rattle.calls.specs.Take.{otherPlaces, acquiredOrder, takenFrom, takenFromOther, takeOf}
 use Rattle.calls.specs.Free.{superblockIndex, offsetOf, superblockHolding, blockOf, isMisaligned, isLiveAt, orderPushed, freedAt, freeOf}
 use Rattle.calls.specs.Named.{withNameBound, heldAddress}
-use Rattle.calls.specs.Calls.{callOf}
+use Rattle.calls.specs.Calls.{Call, Take, Free, NamedTake, NamedFree, callOf}
 use Rattle.calllaws.proofs.NamedCallLaws.{named-take-refused-or-accepted, named-free-refused-or-accepted}
 use Rattle.calllaws.proofs.CallEffects.{Passed, TakeAccepted, FreeAccepted}
 use Rattle.calllaws.proofs.AddressLaws.{mapped-below-superblocks}

@@ -7,10 +7,9 @@ use Rattle.classes.specs.Classes.{sizes, sizeOf, firstAtLeast, classOf, isTooLa
 use Rattle.classes.proofs.ClassLaws.{class-of-size-0}
 use Rattle.heap.specs.declared.State.{State}
 use Rattle.heaplaws.proofs.StateFacts.{Shape}
-use Rattle.calls.specs.declared.Call.the-variants.{Take}
 use Rattle.calls.specs.declared.Outcome.the-variants.{Refused}
 use Rattle.calls.specs.Take.{takeUnchecked, takeOf}
-use Rattle.calls.specs.Calls.{callOf}
+use Rattle.calls.specs.Calls.{Take, callOf}
 use Rattle.calllaws.proofs.CallEffects.{TakeAccepted, TakeEffect}
 use Rattle.calllaws.proofs.TakeLaws.{taken-block, take-effect}
 use Rattle.calllaws.proofs.RefusalConditions.{take-refused-3}

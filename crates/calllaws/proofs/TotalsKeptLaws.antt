@@ -31,14 +31,12 @@ use Rattle.heaplaws.proofs.MoveLaws.{totals-kept-of-found-transferred}
 use Rattle.heaplaws.proofs.TotalsLaws.{new-state-totals-kept, recounted-superblocks, recounted-live, superblocks-kept-are-counted, live-kept-is-counted, totals-equal-of-each, length-recounted-superblocks, length-recounted-live, superblocks-kept-above-processors, live-kept-above-processors}
 use Rattle.calls.specs.declared.Outcome.{Outcome}
 use Rattle.calls.specs.declared.Outcome.the-variants.{Ready, Address, Moves, Refused}
-use Rattle.calls.specs.declared.Call.{Call}
-use Rattle.calls.specs.declared.Call.the-variants.{Take, Free, NamedTake, NamedFree}
 use Rattle.calls.specs.Answers.{After, numberOf, refused, checked, isProcessor}
 use Rattle.calls.specs.Setup.{acceptedSetup, setupOf}
 use Rattle.calls.specs.Take.{otherPlaces, takenFrom, takenFromOther, takenAt, takeUnchecked}
 use Rattle.calls.specs.Free.{superblockHolding, isUnmapped, isMisaligned, isLiveAt, markCleared, blockFreed, freedAt, freeUnchecked}
 use Rattle.calls.specs.Named.{isUnavailable, nameBound, boundBy, withNameBound, namedTakeUnchecked, heldAddress, namedFreeUnchecked}
-use Rattle.calls.specs.Calls.{callOf, callUnchecked}
+use Rattle.calls.specs.Calls.{Call, Take, Free, NamedTake, NamedFree, callOf, callUnchecked}
 use Rattle.calls.proofs.CheckFirst.{call-of-checks-first}
 use Rattle.calllaws.proofs.CallEffects.{Passed}
 use Rattle.calllaws.proofs.NamedCallLaws.{name-bound-of-refused}

@@ -7,12 +7,10 @@ use Rattle.heap.specs.declared.State.{State}
 use Rattle.heap.specs.Table.{unused}
 use Rattle.heap.proofs.CaseStates.{unnamedState}
 use Rattle.heap.proofs.TableCases.{of, ranked}
-use Rattle.calls.specs.declared.Call.{Call}
-use Rattle.calls.specs.declared.Call.the-variants.{Take, Free}
 use Rattle.calls.specs.declared.Outcome.the-variants.{Address, Moves}
 use Rattle.calls.specs.Answers.{After, refused}
 use Rattle.calls.specs.Take.{takeUnchecked}
-use Rattle.calls.specs.Calls.{callUnchecked}
+use Rattle.calls.specs.Calls.{Call, Take, Free, callUnchecked}
 use Rattle.calls.proofs.CallDefinitions.{uncheckedCallDefinitions}
 use Rattle.calls.proofs.RuleCases.{setup-with, after-with}
 

@@ -10,8 +10,9 @@ use Rattle.checkrules.proofs.CheckDefinitions.{checkDefinitions}
 use Rattle.calls.specs.Answers.{checked, isProcessor}
 use Rattle.calls.specs.Setup.{setupOf}
 use Rattle.calls.specs.Take.{otherPlaces, acquired, acquiredOrder, unrankedIfEmpty, nextBlock, addressOf, takenFrom, takenFromOther, takenAt, takeUnchecked, takeOf}
-use Rattle.calls.specs.Free.{blockOf, isUnmapped, isMisaligned, isLiveAt, markCleared, orderPushed, blockNumberAt, blockFreed, freedAt, freeUnchecked, freeOf}
+use Rattle.calls.specs.Free.{blockOf, isUnmapped, isMisaligned, isLiveAt, addressRefusal, markCleared, orderPushed, blockNumberAt, blockFreed, freedAt, freeUnchecked, freeOf}
 use Rattle.calls.specs.Named.{isUnavailable, nameBound, boundBy, withNameBound, namedTakeUnchecked, namedTakeOf, heldAddress, namedFreeUnchecked, namedFreeOf}
+use Rattle.calls.specs.Drop.{allFreed, allPushed, firstRefusal, isTouched, thenRestored, classesRestored, heapsRestored, dropMoves, droppedAll, dropUnchecked, dropOf}
 use Rattle.calls.specs.Calls.{callOf, callUnchecked}
 
 -- the calls behind the check
@@ -19,6 +20,7 @@ unfoldable pub uncheckedCallDefinitions : Unit {0}
 unfolding callUnchecked takeUnchecked takenAt takenFromOther takenFrom addressOf nextBlock acquiredOrder acquired unrankedIfEmpty otherPlaces
     freeUnchecked freedAt orderPushed blockFreed markCleared blockNumberAt isLiveAt isMisaligned isUnmapped blockOf isProcessor
     namedTakeUnchecked withNameBound boundBy nameBound isUnavailable namedFreeUnchecked heldAddress
+    dropUnchecked droppedAll dropMoves heapsRestored classesRestored thenRestored isTouched firstRefusal allPushed allFreed addressRefusal
     invariantRestored excessTransferred transfersUpTo transferred foundTransferred
     fullest lowestEmpty lowestUnused emptiest prefer chosenBelow moreLive fullerOrMoreRecent fewerLive neverPreferred hasFree emptyInGlobal
     rankedLatest unranked rankAfterFree rankAfterRenewal isMoreRecent listed
@@ -27,5 +29,5 @@ uncheckedCallDefinitions = tt
 
 -- a setup and the calls with the check before them
 unfoldable pub callDefinitions : Unit {0}
-unfolding uncheckedCallDefinitions callOf takeOf freeOf namedTakeOf namedFreeOf checked setupOf cleared
+unfolding uncheckedCallDefinitions callOf takeOf freeOf namedTakeOf namedFreeOf dropOf checked setupOf cleared
 callDefinitions = tt

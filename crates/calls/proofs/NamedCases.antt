@@ -10,13 +10,11 @@ use Rattle.heap.specs.Table.{unused}
 use Rattle.heap.specs.States.{withNames}
 use Rattle.heap.proofs.CaseStates.{unnamedState}
 use Rattle.heap.proofs.TableCases.{ranked}
-use Rattle.calls.specs.declared.Call.{Call}
-use Rattle.calls.specs.declared.Call.the-variants.{Take, Free, NamedTake, NamedFree}
 use Rattle.calls.specs.declared.Outcome.the-variants.{Ready, Address, Moves, Refused}
 use Rattle.calls.specs.Answers.{After, refused}
 use Rattle.calls.specs.Free.{blockNumberAt, blockFreed}
 use Rattle.calls.specs.Named.{isUnavailable, nameBound, boundBy, heldAddress}
-use Rattle.calls.specs.Calls.{callUnchecked}
+use Rattle.calls.specs.Calls.{Call, Take, Free, NamedTake, NamedFree, callUnchecked}
 use Rattle.calls.proofs.CallDefinitions.{uncheckedCallDefinitions}
 use Rattle.calls.proofs.RuleCases.{setup-with, after-with, refusal-state}
 use Rattle.calls.proofs.CallCases.{pair-state, ranked-pair-state, pairOrder, order-before}

@@ -45,6 +45,10 @@ isMisaligned s a =
 unfoldable pub isLiveAt : State → ℕ → Bool
 isLiveAt s a = isMarked (superblockHolding s a .live) (blockOf s a)
 
+-- the refusal that an address meets: "5, 6, 7" in this order, or 0 where a live block starts there
+unfoldable pub addressRefusal : State → ℕ → ℕ
+addressRefusal s a = pick (isUnmapped s a) 5 (pick (isMisaligned s a) 6 (pick (isLiveAt s a) 0 7))
+
 -- "The block's mark is cleared"
 unfoldable pub markCleared : State → ℕ → State
 markCleared s a = withSuperblock s (superblockIndex a) (withoutMarkAt (superblockHolding s a) (blockOf s a))

@@ -3,4 +3,5 @@ pub mod Setup
 pub mod Take
 pub mod Free
 pub mod Named
+pub mod Drop
 pub mod Calls

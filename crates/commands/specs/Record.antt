@@ -1,14 +1,14 @@
 -- "Record and printed key": what stands at a position of a record.
 use mathlib.Core.Path.{_≡_}
-use Prim.Native.Nat.{ℕ, zero, suc, _+_}
+use Prim.Native.Nat.{ℕ, zero, suc, _+_, _*_}
 use mathlib.Core.Bool.{Bool, true, false}
 use mathlib.Core.List.{List, [], _∷_}
 use lib.ListN.{length}
 use lib.Dec.{eqb, leb, ltb}
 use Rattle.laws.specs.Sums.{pick, either}
-use Rattle.littleendian.specs.Bytes.{byteAt, twoAt, fourAt}
+use Rattle.littleendian.specs.Bytes.{byteAt, twoAt, fourAt, foursAt}
 use Rattle.commands.specs.declared.Command.{Command}
-use Rattle.commands.specs.declared.Command.the-variants.{Setup, Take, Free, NamedTake, NamedFree, Refused}
+use Rattle.commands.specs.declared.Command.the-variants.{Setup, Take, Free, NamedTake, NamedFree, Drop, Refused}
 
 -- refusal 9 (bench word: cut): "the record ends inside a command", one of n bytes
 unfoldable pub unlessTruncated : List ℕ → ℕ → ℕ → Command → Command
@@ -41,6 +41,15 @@ namedTakeAt r at = unlessFirst at (unlessTruncated r at 6 (NamedTake (byteAt r (
 unfoldable pub namedFreeAt : List ℕ → ℕ → Command
 namedFreeAt r at = unlessFirst at (unlessTruncated r at 4 (NamedFree (byteAt r (at + 1)) (twoAt r (at + 2))))
 
+-- "Command 05 has processor (1 byte), count (1) and that many addresses (4 each)" (document 02, item 5), which begin at byte 3 of the command. Where
+-- the record ends before the count, that reads as 0, and the command is cut all the same.
+unfoldable pub dropAt : List ℕ → ℕ → Command
+dropAt r at = unlessFirst at (unlessTruncated r at (3 + 4 * byteAt r (at + 2)) (Drop (byteAt r (at + 1)) (byteAt r (at + 2)) (at + 3)))
+
+-- a drop's addresses, so many, the first of which stands at an offset of the record
+abbrev pub addressesIn : List ℕ → ℕ → ℕ → List ℕ
+addressesIn r first count = foursAt r first count
+
 -- the command by its first byte; refusal 8 (bench word: command): "unknown command byte"
 unfoldable pub commandByFirstByte : List ℕ → ℕ → Command
 commandByFirstByte r at =
@@ -49,7 +58,8 @@ commandByFirstByte r at =
     (pick (eqb (byteAt r at) 2) (freeAt r at)
     (pick (eqb (byteAt r at) 3) (namedTakeAt r at)
     (pick (eqb (byteAt r at) 4) (namedFreeAt r at)
-    (Refused 8 at)))))
+    (pick (eqb (byteAt r at) 5) (dropAt r at)
+    (Refused 8 at))))))
 
 -- "Record: 11, then for each command 8, 10, 9"; refusal 11 (bench word: long): "record above 60000 bytes", which stops at 0. At the record's
 -- end and past it there is no command: 10 where there is no byte at all, else 9 at the end, which no reader meets.
@@ -66,6 +76,7 @@ commandNumberOf (Take processor size) = 0
 commandNumberOf (Free processor address) = 0
 commandNumberOf (NamedTake processor name size) = 0
 commandNumberOf (NamedFree processor name) = 0
+commandNumberOf (Drop processor count first) = 0
 commandNumberOf (Refused number offset) = number
 
 -- the byte offset that a refusal carries: "a refusal with its offset"; 0 for a command that is read, which carries none
@@ -75,6 +86,7 @@ refusalOffsetOf (Take processor size) = 0
 refusalOffsetOf (Free processor address) = 0
 refusalOffsetOf (NamedTake processor name size) = 0
 refusalOffsetOf (NamedFree processor name) = 0
+refusalOffsetOf (Drop processor count first) = 0
 refusalOffsetOf (Refused number offset) = offset
 
 -- the command byte; a refusal has none
@@ -84,15 +96,18 @@ commandByte (Take processor size) = 1 ∷ []
 commandByte (Free processor address) = 2 ∷ []
 commandByte (NamedTake processor name size) = 3 ∷ []
 commandByte (NamedFree processor name) = 4 ∷ []
+commandByte (Drop processor count first) = 5 ∷ []
 commandByte (Refused number offset) = []
 
--- the numbers that a command carries, in the record's order; a refusal carries none beside its number and its offset
+-- the numbers that a command carries, in the record's order, and where a drop's addresses begin; a refusal carries none beside its number and its
+-- offset
 unfoldable pub numbersOf : Command → List ℕ
 numbersOf (Setup processors superblocks spare p q) = processors ∷ superblocks ∷ spare ∷ p ∷ q ∷ []
 numbersOf (Take processor size) = processor ∷ size ∷ []
 numbersOf (Free processor address) = processor ∷ address ∷ []
 numbersOf (NamedTake processor name size) = processor ∷ name ∷ size ∷ []
 numbersOf (NamedFree processor name) = processor ∷ name ∷ []
+numbersOf (Drop processor count first) = processor ∷ count ∷ first ∷ []
 numbersOf (Refused number offset) = []
 
 -- a command has the number, the offset, the command byte and the numbers of the command that the rules give
@@ -109,6 +124,7 @@ sizeOfCommand (Take processor size) = 4
 sizeOfCommand (Free processor address) = 6
 sizeOfCommand (NamedTake processor name size) = 6
 sizeOfCommand (NamedFree processor name) = 4
+sizeOfCommand (Drop processor count first) = 3 + 4 * count
 sizeOfCommand (Refused number offset) = 0
 
 -- after a command that is refused nothing more is read
@@ -118,6 +134,7 @@ isRefused (Take processor size) = false
 isRefused (Free processor address) = false
 isRefused (NamedTake processor name size) = false
 isRefused (NamedFree processor name) = false
+isRefused (Drop processor count first) = false
 isRefused (Refused number offset) = true
 
 -- the commands from a position on, at most as many as the first number: one is read in any case, and more until one is refused or

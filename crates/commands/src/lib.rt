@@ -1,6 +1,7 @@
 // The commands of a record. What stands at a position of a record is in specs/.
 
-// A setup, a take or a free with its numbers, a take or a free by name, or a refusal with its offset.
+// A setup, a take or a free with its numbers, a take or a free by name, a drop with its count and where its first address stands in the record, or
+// a refusal with its offset.
 pub enum Command {
     Setup {
         processors: u8,
@@ -25,6 +26,11 @@ pub enum Command {
     NamedFree {
         processor: u8,
         name: u16,
+    },
+    Drop {
+        processor: u8,
+        count: u8,
+        first: u32,
     },
     Refused {
         number: u8,

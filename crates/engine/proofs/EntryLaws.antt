@@ -14,15 +14,13 @@ use Rattle.heap.specs.States.{noState, newState}
 use Rattle.checkrules.specs.Check.{withinLimits, restValid, passes}
 use Rattle.heaplaws.proofs.StateFacts.{Shape}
 use Rattle.calls.specs.declared.Answer.{Answer}
-use Rattle.calls.specs.declared.Call.{Call}
-use Rattle.calls.specs.declared.Call.the-variants.{Take, Free, NamedTake, NamedFree}
 use Rattle.calls.specs.declared.Outcome.the-variants.{Ready, Refused}
 use Rattle.calls.specs.Answers.{After, HasNumberAndValuesOf, PassesIfAccepted, refused, checked}
 use Rattle.calls.specs.Setup.{acceptedSetup, setupOf}
 use Rattle.calls.specs.Take.{takeUnchecked}
 use Rattle.calls.specs.Free.{freeUnchecked}
 use Rattle.calls.specs.Named.{namedTakeUnchecked, namedFreeUnchecked}
-use Rattle.calls.specs.Calls.{callOf, callUnchecked}
+use Rattle.calls.specs.Calls.{Call, Take, Free, NamedTake, NamedFree, callOf, callUnchecked}
 use Rattle.calls.proofs.AnswerLaws.{number-and-values-by-rules, passes-if-accepted-by-rules, refused-of-answer}
 use Rattle.calls.proofs.CheckFirst.{call-of-checks-first}
 use Rattle.calllaws.proofs.AcceptedCallLaws.{call-passes-if-accepted, setup-passes-if-accepted}

@@ -6,7 +6,7 @@ use lib.ListN.{length}
 use lib.Dec.{eqb, leb}
 use Rattle.laws.specs.Sums.{pick, both, either}
 use Rattle.laws.specs.Lists.{listed}
-use Rattle.littleendian.specs.Bytes.{byteAt, twoAt, fourAt, eightAt}
+use Rattle.littleendian.specs.Bytes.{byteAt, twoAt, fourAt, eightAt, foursAt}
 use Rattle.heap.specs.declared.Superblock.{Superblock}
 use Rattle.heap.specs.declared.Setup.{Setup}
 use Rattle.heap.specs.declared.Totals.{Totals}
@@ -15,13 +15,14 @@ use Rattle.formrules.specs.declared.Request.{Request}
 use Rattle.formrules.specs.declared.Request.the-variants as request
 
 -- ---- the call
--- byte 0: 0 setup, 1 take, 2 free, 3 named take, else a named free; all but a setup have their numbers from byte 6 on
+-- byte 0: 0 setup, 1 take, 2 free, 3 named take, 4 named free, else a drop; all but a setup have their numbers from byte 6 on
 unfoldable pub callIn : List ℕ → Request
 callIn b =
     pick (eqb (byteAt b 0) 0) request.Setup
     (pick (eqb (byteAt b 0) 1) (request.Take (byteAt b 6) (twoAt b 7))
     (pick (eqb (byteAt b 0) 2) (request.Free (byteAt b 6) (fourAt b 7))
-    (pick (eqb (byteAt b 0) 3) (request.NamedTake (byteAt b 6) (twoAt b 7) (twoAt b 9)) (request.NamedFree (byteAt b 6) (twoAt b 7)))))
+    (pick (eqb (byteAt b 0) 3) (request.NamedTake (byteAt b 6) (twoAt b 7) (twoAt b 9))
+    (pick (eqb (byteAt b 0) 4) (request.NamedFree (byteAt b 6) (twoAt b 7)) (request.Drop (byteAt b 6) (twoAt b 7))))))
 
 -- ---- the state
 -- P, N, K, p, q in bytes 1 to 5
@@ -64,9 +65,13 @@ stateIn b at =
       totals = totalsIn b (totalsOffset at);
     }
 
--- where the superblocks begin: after the numbers of a take or a named free, or of a free or a named take
+-- the addresses of a drop, as many as its count says, from byte 9 on
+unfoldable pub addressesIn : List ℕ → List ℕ
+addressesIn b = foursAt b 9 (twoAt b 7)
+
+-- where the superblocks begin: after the numbers of a take or a named free, of a free or a named take, or of a drop and its addresses
 unfoldable pub tableOffset : List ℕ → ℕ
-tableOffset b = pick (either (eqb (byteAt b 0) 1) (eqb (byteAt b 0) 4)) 9 11
+tableOffset b = pick (either (eqb (byteAt b 0) 1) (eqb (byteAt b 0) 4)) 9 (pick (eqb (byteAt b 0) 5) (9 + 4 * twoAt b 7) 11)
 
 -- ---- the order places
 -- where they begin: after the setup numbers, or the totals, and the four bytes of L
@@ -83,4 +88,4 @@ placesIn b at n = listed (λ i. twoAt b (at + 2 * i)) n
 
 -- a known call, and just the bytes that it has
 unfoldable pub wellFormed : List ℕ → Bool
-wellFormed b = both (leb (byteAt b 0) 4) (eqb (length b) (placesOffset b + 2 * placeCount b))
+wellFormed b = both (leb (byteAt b 0) 5) (eqb (length b) (placesOffset b + 2 * placeCount b))

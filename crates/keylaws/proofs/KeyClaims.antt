@@ -12,13 +12,12 @@ use Rattle.laws.specs.Sums.{pick, either}
 use Rattle.heap.specs.declared.Setup.{Setup}
 use Rattle.heap.specs.States.{noState}
 use Rattle.checkrules.specs.Check.{withinLimits}
-use Rattle.calls.specs.declared.Call.{Call}
-use Rattle.calls.specs.declared.Call.the-variants as call
+use Rattle.calls.specs.Calls as call
 use Rattle.calls.specs.declared.Outcome.{Outcome}
 use Rattle.calls.specs.declared.Outcome.the-variants.{Ready, Refused}
 use Rattle.calls.specs.Answers.{After, refused, numberOf}
 use Rattle.calls.specs.Setup.{acceptedSetup, setupOf}
-use Rattle.calls.specs.Calls.{callOf}
+use Rattle.calls.specs.Calls.{Call, callOf}
 use Rattle.bound.specs.Claim.{Step, Linked, Claims}
 use Rattle.boundlaws.proofs.Demand3.{demand-3}
 use Rattle.boundlaws.proofs.NamesAgree.{lastAfter}

@@ -15,10 +15,11 @@ use Rattle.calls.specs.Setup.{setupOf}
 use Rattle.calls.specs.Take.{takeOf}
 use Rattle.calls.specs.Free.{freeOf}
 use Rattle.calls.specs.Named.{namedTakeOf, namedFreeOf}
+use Rattle.calls.specs.Drop.{dropOf}
 use Rattle.commands.specs.declared.Command.{Command}
 use Rattle.commands.specs.declared.Command.the-variants as command
-use Rattle.commands.specs.Record.{commandsOf}
-use Rattle.linerules.specs.Lines.{setupLine, takeLine, freeLine, namedTakeLine, namedFreeLine, stopLine, finalLines}
+use Rattle.commands.specs.Record.{addressesIn, commandsOf}
+use Rattle.linerules.specs.Lines.{setupLine, takeLine, freeLine, namedTakeLine, namedFreeLine, dropLine, stopLine, finalLines}
 use Rattle.keyrules.specs.declared.Printed.{Printed}
 use Rattle.keyrules.specs.declared.Printed.the-variants.{Text, NoRoom}
 
@@ -35,50 +36,56 @@ unfoldable pub setupText : Setup → Outcome → List ℕ → List ℕ
 setupText u outcome rest = pick (eqb (numberOf outcome) 0) (setupLine u ++ rest) (stopLine (numberOf outcome) 0)
 
 -- "prints a line for each command. A refused take or free prints its number and the record goes on. Refusals 1, 8, 9, 10, 11 print
--- `stopped R at B` .. as the last line. Otherwise" the final lines: the text of the commands, with what the one before them left
-unfoldable pub textOf : After → List Command → List ℕ
-textOf before [] = finalLines (before .answer .state)
-textOf before (command.Setup processors superblocks spare p q ∷ commands) =
+-- `stopped R at B` .. as the last line. Otherwise" the final lines: the text of commands of record r, with what the one before them left; the
+-- addresses of a drop are read in the record
+unfoldable pub textOf : List ℕ → After → List Command → List ℕ
+textOf r before [] = finalLines (before .answer .state)
+textOf r before (command.Setup processors superblocks spare p q ∷ commands) =
     let u : Setup = record { processors = processors; superblocks = superblocks; spare = spare; p = p; q = q } in
-    setupText u (setupOf u (before .order) .answer .outcome) (textOf (setupOf u (before .order)) commands)
-textOf before (command.Take processor size ∷ commands) =
+    setupText u (setupOf u (before .order) .answer .outcome) (textOf r (setupOf u (before .order)) commands)
+textOf r before (command.Take processor size ∷ commands) =
     let after : After = takeOf (before .answer .state) (before .order) processor size in
-    takeLine processor size (after .answer .outcome) ++ textOf after commands
-textOf before (command.Free processor address ∷ commands) =
+    takeLine processor size (after .answer .outcome) ++ textOf r after commands
+textOf r before (command.Free processor address ∷ commands) =
     let after : After = freeOf (before .answer .state) (before .order) processor address in
-    freeLine processor address (after .answer .outcome) ++ textOf after commands
-textOf before (command.NamedTake processor name size ∷ commands) =
+    freeLine processor address (after .answer .outcome) ++ textOf r after commands
+textOf r before (command.NamedTake processor name size ∷ commands) =
     let after : After = namedTakeOf (before .answer .state) (before .order) processor name size in
-    namedTakeLine processor name size (after .answer .outcome) ++ textOf after commands
-textOf before (command.NamedFree processor name ∷ commands) =
+    namedTakeLine processor name size (after .answer .outcome) ++ textOf r after commands
+textOf r before (command.NamedFree processor name ∷ commands) =
     let after : After = namedFreeOf (before .answer .state) (before .order) processor name in
-    namedFreeLine processor name (after .answer .outcome) ++ textOf after commands
-textOf before (command.Refused number offset ∷ commands) = stopLine number offset
+    namedFreeLine processor name (after .answer .outcome) ++ textOf r after commands
+textOf r before (command.Drop processor count first ∷ commands) =
+    let after : After = dropOf (before .answer .state) (before .order) processor (addressesIn r first count) in
+    dropLine processor count (after .answer .outcome) ++ textOf r after commands
+textOf r before (command.Refused number offset ∷ commands) = stopLine number offset
 
 -- the order storage that these commands leave; after a stop nothing more is done
-unfoldable pub orderAfter : After → List Command → List ℕ
-orderAfter before [] = before .order
-orderAfter before (command.Setup processors superblocks spare p q ∷ commands) =
+unfoldable pub orderAfter : List ℕ → After → List Command → List ℕ
+orderAfter r before [] = before .order
+orderAfter r before (command.Setup processors superblocks spare p q ∷ commands) =
     let u : Setup = record { processors = processors; superblocks = superblocks; spare = spare; p = p; q = q } in
     let after : After = setupOf u (before .order) in
-    pick (eqb (numberOf (after .answer .outcome)) 0) (orderAfter after commands) (after .order)
-orderAfter before (command.Take processor size ∷ commands) = orderAfter (takeOf (before .answer .state) (before .order) processor size) commands
-orderAfter before (command.Free processor address ∷ commands) = orderAfter (freeOf (before .answer .state) (before .order) processor address) commands
-orderAfter before (command.NamedTake processor name size ∷ commands) = orderAfter (namedTakeOf (before .answer .state) (before .order) processor name size) commands
-orderAfter before (command.NamedFree processor name ∷ commands) = orderAfter (namedFreeOf (before .answer .state) (before .order) processor name) commands
-orderAfter before (command.Refused number offset ∷ commands) = before .order
+    pick (eqb (numberOf (after .answer .outcome)) 0) (orderAfter r after commands) (after .order)
+orderAfter r before (command.Take processor size ∷ commands) = orderAfter r (takeOf (before .answer .state) (before .order) processor size) commands
+orderAfter r before (command.Free processor address ∷ commands) = orderAfter r (freeOf (before .answer .state) (before .order) processor address) commands
+orderAfter r before (command.NamedTake processor name size ∷ commands) = orderAfter r (namedTakeOf (before .answer .state) (before .order) processor name size) commands
+orderAfter r before (command.NamedFree processor name ∷ commands) = orderAfter r (namedFreeOf (before .answer .state) (before .order) processor name) commands
+orderAfter r before (command.Drop processor count first ∷ commands) =
+    orderAfter r (dropOf (before .answer .state) (before .order) processor (addressesIn r first count)) commands
+orderAfter r before (command.Refused number offset ∷ commands) = before .order
 
 -- the key of a record, made with this order storage
 unfoldable pub keyOf : List ℕ → List ℕ → List ℕ
-keyOf r order = textOf (beforeFirst order) (commandsOf r)
+keyOf r order = textOf r (beforeFirst order) (commandsOf r)
 
 -- and the storage that making it leaves
 unfoldable pub storageOf : List ℕ → List ℕ → List ℕ
-storageOf r order = orderAfter (beforeFirst order) (commandsOf r)
+storageOf r order = orderAfter r (beforeFirst order) (commandsOf r)
 
 -- room for the key of any record
 abbrev pub room : ℕ
-room = 524288
+room = 655360
 
 -- the whole key of record r stands in the first n bytes of the buffer; what lies behind them is as it was
 pub record KeyWritten (r order out : List ℕ) (n : ℕ) (left new : List ℕ) : Type 0 where

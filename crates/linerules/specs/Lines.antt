@@ -8,8 +8,8 @@ use Rattle.textrules.specs.Text.{letters, decimal}
 use Rattle.heap.specs.declared.Setup.{Setup}
 use Rattle.heap.specs.declared.State.{State}
 use Rattle.heap.specs.Counts.{superblocksOf, liveOf}
-use Rattle.calls.specs.declared.Call.{Call}
-use Rattle.calls.specs.declared.Call.the-variants as call
+use Rattle.calls.specs.declared.CallHeader.{CallHeader}
+use Rattle.calls.specs.declared.CallHeader.the-variants as header
 use Rattle.calls.specs.declared.Outcome.{Outcome}
 use Rattle.calls.specs.declared.Outcome.the-variants.{Ready, Address, Moves, Refused}
 
@@ -48,12 +48,17 @@ namedTakeLine processor name size outcome = processorAndName (letters "take ") p
 unfoldable pub namedFreeLine : ℕ → ℕ → Outcome → List ℕ
 namedFreeLine processor name outcome = processorAndName (letters "free ") processor name ++ result outcome ++ letters "\n"
 
--- the line of a call
-unfoldable pub callLine : Call → Outcome → List ℕ
-callLine (call.Take processor size) outcome = takeLine processor size outcome
-callLine (call.Free processor address) outcome = freeLine processor address outcome
-callLine (call.NamedTake processor name size) outcome = namedTakeLine processor name size outcome
-callLine (call.NamedFree processor name) outcome = namedFreeLine processor name outcome
+-- "The line is `drop 1 count 3 moved 1`" (document 02, item 5)
+unfoldable pub dropLine : ℕ → ℕ → Outcome → List ℕ
+dropLine processor count outcome = field (letters "drop ") processor ++ field (letters " count ") count ++ result outcome ++ letters "\n"
+
+-- the line of a call with this header, where so many addresses are lent beside it
+unfoldable pub callLine : CallHeader → ℕ → Outcome → List ℕ
+callLine (header.Take processor size) count outcome = takeLine processor size outcome
+callLine (header.Free processor address) count outcome = freeLine processor address outcome
+callLine (header.NamedTake processor name size) count outcome = namedTakeLine processor name size outcome
+callLine (header.NamedFree processor name) count outcome = namedFreeLine processor name outcome
+callLine (header.Drop processor) count outcome = dropLine processor count outcome
 
 -- "`stopped R at B` (R the number, B the command's byte offset; 0 for 11) as the last line"
 unfoldable pub stopLine : ℕ → ℕ → List ℕ

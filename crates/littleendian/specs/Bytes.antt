@@ -4,6 +4,7 @@ use mathlib.Core.List.{List}
 use lib.ListN.{length, getD}
 use lib.Dec.{ltb}
 use Rattle.laws.specs.Sums.{pick}
+use Rattle.laws.specs.Lists.{listed}
 
 -- "numbers of several bytes have the low byte first"
 abbrev pub byteAt : List ℕ → ℕ → ℕ
@@ -21,3 +22,7 @@ eightAt r i = fourAt r i + 4294967296 * fourAt r (i + 4)
 -- the position i bytes after another, or the list's end where that is nearer
 unfoldable pub positionAfter : List ℕ → ℕ → ℕ → ℕ
 positionAfter r at i = pick (ltb (at + i) (length r)) (at + i) (length r)
+
+-- so many numbers of four bytes each, from a position on
+unfoldable pub foursAt : List ℕ → ℕ → ℕ → List ℕ
+foursAt r at count = listed (λ i. fourAt r (at + 4 * i)) count

@@ -7,12 +7,10 @@ use Rattle.heap.specs.declared.Superblock.{Superblock}
 use Rattle.heap.specs.declared.State.{State}
 use Rattle.heap.specs.Table.{unused, superblockAt}
 use Rattle.heap.proofs.CaseStates.{unnamedState}
-use Rattle.calls.specs.declared.Call.{Call}
-use Rattle.calls.specs.declared.Call.the-variants.{Take, Free}
 use Rattle.calls.specs.declared.Outcome.{Outcome}
 use Rattle.calls.specs.declared.Outcome.the-variants.{Address, Moves, Refused}
 use Rattle.calls.specs.Answers.{After}
-use Rattle.calls.specs.Calls.{callOf}
+use Rattle.calls.specs.Calls.{Call, Take, Free, callOf}
 use Rattle.calls.proofs.CallDefinitions.{callDefinitions}
 
 -- a call on a state and storage; its outcome, and then superblock 0's class and what stands in its first order place

@@ -14,8 +14,8 @@ use Rattle.textrules.specs.Text.{Pasted, pasted}
 use Rattle.textrules.proofs.PasteLaws.{paste-append, put-length, put-end-le}
 use Rattle.heap.specs.declared.Setup.{Setup}
 use Rattle.calls.specs.declared.Answer.{Answer}
-use Rattle.calls.specs.declared.Call.{Call}
-use Rattle.calls.specs.declared.Call.the-variants as call
+use Rattle.calls.specs.declared.CallHeader.{CallHeader}
+use Rattle.calls.specs.declared.CallHeader.the-variants as header
 use Rattle.calls.specs.declared.Outcome.{Outcome}
 use Rattle.calls.specs.Answers.{After, numberOf}
 use Rattle.calls.specs.Setup.{setupOf}

@@ -9,8 +9,8 @@ use Rattle.laws.specs.Sums.{pick}
 use Rattle.textrules.specs.Text.{Pasted, pasted}
 use Rattle.heap.specs.declared.State.{State}
 use Rattle.heap.specs.Totals.{TotalsKept}
-use Rattle.calls.specs.declared.Call.{Call}
-use Rattle.calls.specs.declared.Call.the-variants as call
+use Rattle.calls.specs.declared.CallHeader.{CallHeader}
+use Rattle.calls.specs.declared.CallHeader.the-variants as header
 use Rattle.commands.specs.declared.Command.{Command}
 use Rattle.commands.specs.declared.Command.the-variants as command
 use Rattle.commands.specs.Record.{commandsFrom}

@@ -13,9 +13,8 @@ use Rattle.heap.specs.declared.Superblock.{Superblock}
 use Rattle.heap.specs.declared.Setup.{Setup}
 use Rattle.heap.specs.States.{noState}
 use Rattle.checkrules.specs.Check.{withinLimits, passes}
-use Rattle.calls.specs.declared.Call.{Call}
 use Rattle.calls.specs.Answers.{numberOf, PassesIfAccepted}
-use Rattle.calls.specs.Calls.{callOf}
+use Rattle.calls.specs.Calls.{Call, callOf}
 use Rattle.rowrules.specs.declared.Control.{Control}
 use Rattle.rowrules.specs.Row.{RowAfter, rowAfter, stateOf, controlOf, asRowAfter, rowRefused, rowAcceptedSetup, setupOn, callOn, rowSetup, rowCall}
 use Rattle.tablecall.specs.declared.TableCall.{TableCall}

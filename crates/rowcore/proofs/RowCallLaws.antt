@@ -13,10 +13,9 @@ use Rattle.heap.specs.declared.State.{State}
 use Rattle.heap.specs.States.{noState}
 use Rattle.checkrules.specs.Check.{withinLimits}
 use Rattle.calls.specs.declared.Answer.{Answer}
-use Rattle.calls.specs.declared.Call.{Call}
 use Rattle.calls.specs.Answers.{refused, numberOf, HasNumberAndValuesOf, PassesIfAccepted}
 use Rattle.calls.specs.Setup.{acceptedSetup, setupOf}
-use Rattle.calls.specs.Calls.{callOf}
+use Rattle.calls.specs.Calls.{Call, callOf}
 use Rattle.limits.specs.SetupRefusal.{setupRefusal}
 use Rattle.calls.proofs.AnswerLaws.{has-number-and-values-of-equal}
 use Rattle.rowrules.specs.declared.Control.{Control}

@@ -16,8 +16,6 @@ use Rattle.choicerules.specs.Choice.{emptiest}
 use Rattle.moverules.specs.Moves.{mustMove, foundTransferred, transfersUpTo, excessTransferred, invariantRestored}
 use Rattle.heaplaws.proofs.StateFacts.{Shape}
 use Rattle.heaplaws.proofs.MoveLaws.{length-of-found-transferred}
-use Rattle.calls.specs.declared.Call.{Call}
-use Rattle.calls.specs.declared.Call.the-variants.{Take, Free, NamedTake, NamedFree}
 use Rattle.calls.specs.declared.Outcome.{Outcome}
 use Rattle.calls.specs.declared.Outcome.the-variants.{Ready, Address, Moves, Refused}
 use Rattle.calls.specs.Answers.{After, refused}
@@ -27,7 +25,7 @@ use Rattle.calllaws.proofs.TakeSourceLaws.{length-unranked-if-empty}
 use Rattle.calls.specs.Take.{acquired, unrankedIfEmpty, nextBlock, takenFrom, takenFromOther, takeOf}
 use Rattle.calls.specs.Free.{superblockIndex, superblockHolding, blockOf, markCleared, blockFreed, freedAt, freeOf}
 use Rattle.calls.specs.Named.{nameBound, boundBy, withNameBound, namedTakeOf, heldAddress, namedFreeOf}
-use Rattle.calls.specs.Calls.{callOf}
+use Rattle.calls.specs.Calls.{Call, Take, Free, NamedTake, NamedFree, callOf}
 use Rattle.calllaws.proofs.CallEffects.{Passed, TakeAccepted, FreeAccepted, NamedTakeAccepted, NamedFreeAccepted}
 use Rattle.calllaws.proofs.TakeLaws.{take-refused-or-accepted, take-passed, take-shape}
 use Rattle.calllaws.proofs.FreeLaws.{free-refused-or-accepted, free-passed, free-shape}

@@ -7,8 +7,7 @@ use lib.ListN.{getD, replicate}
 use Rattle.heap.specs.declared.Superblock.{Superblock}
 use Rattle.heap.specs.declared.Totals.{Totals}
 use Rattle.heap.specs.Table.{withRank}
-use Rattle.calls.specs.declared.Call.{Call}
-use Rattle.calls.specs.declared.Call.the-variants.{Take, Free, NamedTake, NamedFree}
+use Rattle.calls.specs.Calls.{Call, Take, Free, NamedTake, NamedFree}
 use Rattle.calls.specs.declared.Outcome.the-variants.{Ready, Address, Moves}
 use Rattle.calls.specs.Answers.{valuesOf}
 use Rattle.calls.proofs.CallDefinitions.{callDefinitions}

@@ -6,7 +6,7 @@ use lib.ListN.{length}
 use Rattle.heap.specs.declared.Superblock.{Superblock}
 use Rattle.heap.specs.declared.Setup.{Setup}
 use Rattle.calls.specs.declared.Outcome.the-variants.{Ready}
-use Rattle.calls.specs.declared.Call.{Call}
+use Rattle.calls.specs.Calls.{Call}
 use Rattle.calls.specs.Setup.{setupOf}
 use Rattle.bound.specs.Claim.{Linked}
 use Rattle.boundlaws.proofs.Demand3.{demand-3}

@@ -9,12 +9,10 @@ use Rattle.names.specs.Names.{isHeld}
 use Rattle.namelaws.proofs.NameLaws.{not-held-of-no-names}
 use Rattle.heap.specs.declared.Superblock.{Superblock}
 use Rattle.heap.specs.declared.Setup.{Setup}
-use Rattle.calls.specs.declared.Call.{Call}
-use Rattle.calls.specs.declared.Call.the-variants.{Take, Free, NamedTake, NamedFree}
 use Rattle.calls.specs.declared.Outcome.the-variants.{Refused}
 use Rattle.calls.specs.Answers.{isProcessor}
 use Rattle.calls.specs.Named.{isUnavailable, withNameBound, heldAddress}
-use Rattle.calls.specs.Calls.{callOf}
+use Rattle.calls.specs.Calls.{Call, Take, Free, NamedTake, NamedFree, callOf}
 use Rattle.calllaws.proofs.CallEffects.{Passed}
 use Rattle.calllaws.proofs.NamedCallLaws.{named-take-is-plain-take, named-free-is-free-of-held-address}
 use Rattle.rowrules.specs.declared.Control.{Control}

@@ -6,7 +6,7 @@ use lib.ListN.{length}
 use Rattle.heap.specs.declared.Superblock.{Superblock}
 use Rattle.heap.specs.declared.Setup.{Setup}
 use Rattle.heaplaws.proofs.StateFacts.{WithinLimits, RanksSound}
-use Rattle.calls.specs.declared.Call.{Call}
+use Rattle.calls.specs.Calls.{Call}
 use Rattle.calls.specs.declared.Outcome.the-variants.{Ready, Refused}
 use Rattle.calllaws.proofs.CallRankLaws.{call-refused-13-of-wrong-ranking}
 use Rattle.bound.specs.History.{RankedByLastFreeOver}

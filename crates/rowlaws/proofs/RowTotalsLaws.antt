@@ -8,7 +8,7 @@ use Rattle.heap.specs.declared.Superblock.{Superblock}
 use Rattle.heap.specs.declared.Setup.{Setup}
 use Rattle.heap.specs.Totals.{recounted, noTotals}
 use Rattle.heaplaws.proofs.StateFacts.{WithinLimits}
-use Rattle.calls.specs.declared.Call.{Call}
+use Rattle.calls.specs.Calls.{Call}
 use Rattle.calls.specs.declared.Outcome.the-variants.{Ready, Refused}
 use Rattle.calllaws.proofs.TotalsKeptLaws.{TotalsCounted, totals-counted-of-kept, call-keeps-totals, call-refused-13-of-wrong-total}
 use Rattle.boundlaws.proofs.TotalsOverLists.{TotalsCountedOver, totals-kept-over-list, LiveTotalsAgreeOver, live-totals-agree-with-ledger}

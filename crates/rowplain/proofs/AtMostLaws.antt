@@ -9,7 +9,7 @@ use lib.ListN.{length, take, drop, drop-of-length-le}
 use lib.Seq.{take-all, take-at}
 use Rattle.heap.specs.declared.Superblock.{Superblock}
 use Rattle.heap.specs.declared.Setup.{Setup}
-use Rattle.calls.specs.declared.Call.{Call}
+use Rattle.calls.specs.Calls.{Call}
 use Rattle.calls.specs.Answers.{HasNumberAndValuesOf, PassesIfAccepted}
 use Rattle.rowrules.specs.declared.Control.{Control}
 use Rattle.rowrules.specs.Row.{RowAfter, stateOf, rowSetup, rowCall}

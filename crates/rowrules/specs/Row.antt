@@ -12,11 +12,10 @@ use Rattle.heap.specs.declared.State.{State}
 use Rattle.heap.specs.Table.{unused}
 use Rattle.heap.specs.States.{noState, newState}
 use Rattle.checkrules.specs.Check.{withinLimits}
-use Rattle.calls.specs.declared.Call.{Call}
 use Rattle.calls.specs.declared.Outcome.{Outcome}
 use Rattle.calls.specs.declared.Outcome.the-variants.{Ready, Refused}
 use Rattle.calls.specs.Answers.{After}
-use Rattle.calls.specs.Calls.{callOf}
+use Rattle.calls.specs.Calls.{Call, callOf}
 use Rattle.rowrules.specs.declared.Control.{Control}
 use Rattle.rowrules.specs.declared.RowAnswer.{RowAnswer}
 

@@ -3,7 +3,7 @@ use mathlib.Core.Path.{_≡_}
 use mathlib.Core.List.{List, [], _∷_, map}
 use Prim.Native.Nat.{ℕ}
 use Rattle.heap.specs.declared.Setup.{Setup}
-use Rattle.calls.specs.declared.Call.{Call}
+use Rattle.calls.specs.Calls.{Call}
 use Rattle.calls.specs.Answers.{After}
 use Rattle.bound.specs.Ledger.{Entry}
 use Rattle.bound.specs.Claim.{Step, Claims}

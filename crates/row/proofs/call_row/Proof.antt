@@ -41,7 +41,7 @@ use denote.Triple.Table.{entered, cited}
 use denote.Triple.Walked.{Stays, gave-slice, stay-dropped, walkOf, goes-gave-slice, goes-dropped, Walks, ends-at, walked, walk-meets}
 use denote.Exit.{yes}
 use Rattle.heap.specs.declared.Superblock.{Superblock}
-use Rattle.calls.specs.declared.Call.{Call}
+use Rattle.calls.specs.declared.CallHeader.{CallHeader}
 use Rattle.rowrules.specs.declared.Control.{Control}
 use Rattle.rowrules.specs.declared.RowAnswer.{RowAnswer}
 use Rattle.calls.specs.Answers.{HasNumberAndValuesOf, PassesIfAccepted}
