@@ -13,7 +13,7 @@ use Rattle.classes.proofs.OffsetLaws.{offset-lt-4096, block-of-offset}
 use Rattle.names.specs.Names.{blockNumber}
 use Rattle.heap.specs.declared.State.{State}
 use Rattle.heap.specs.Table.{superblockAt, isUnused}
-use Rattle.heaplaws.proofs.StateFacts.{Unused, Owned, Sound}
+use Rattle.heaplaws.proofs.StateFacts.{Unused, Owned, SoundWith}
 use Rattle.heaplaws.proofs.StateCheckLaws.{is-unused-of-facts}
 use Rattle.calls.specs.Take.{addressOf}
 use Rattle.calls.specs.Free.{superblockIndex, superblockHolding, blockOf, isUnmapped, blockNumberAt}
@@ -38,7 +38,7 @@ module _ (c k j : ℕ) (known : c < 27) (block : j < blocksOf c) where
     address-block-number l = rw (address-block, address-superblock) (pick-true (ltb k 64) _ _ (lt-ltb k 64 l))
 
 -- an address that is mapped, in a state that passes, lies in a superblock that a heap owns
-module _ (s : State) (order : List ℕ) (a : ℕ) (sound : Sound s order) (mapped : isUnmapped s a ≡ false) where
+module _ {Invariant : ℕ → ℕ → State → Type 0} (s : State) (order : List ℕ) (a : ℕ) (sound : SoundWith Invariant s order) (mapped : isUnmapped s a ≡ false) where
   pub mapped-below-superblocks : superblockIndex a < s .setup .superblocks
   unfolding isUnmapped
   mapped-below-superblocks =

@@ -16,21 +16,30 @@ use Rattle.heap.specs.Counts.{superblocksOf, superblocksOfClass, liveOfClass, o
 use Rattle.heap.specs.declared.Found.the-variants.{At, Nothing}
 use Rattle.choicerules.specs.Choice.{fullest}
 use Rattle.checkrules.specs.Check.{namesValid}
-use Rattle.heaplaws.proofs.StateFacts.{Sound, RanksSound}
+use Rattle.moverules.specs.Moves.{mustMove}
+use Rattle.heaplaws.proofs.StateFacts.{SoundWith, InvariantBeforeFrees, RanksSound}
 use Rattle.heap.specs.Totals.{TotalsKept}
 use Rattle.calls.specs.Take.{otherPlaces, takenFrom, takenFromOther, takeOf}
 use Rattle.calls.specs.Free.{isUnmapped, isMisaligned, isLiveAt, freedAt, freeOf}
 use Rattle.calls.specs.Named.{isUnavailable, withNameBound, namedTakeOf, heldAddress, namedFreeOf}
 
--- the state passes the check and its places are lent
-pub record Passed (s : State) (order : List ℕ) : Type 0 where
-  pub sound : Sound s order
+-- the state passes the check, with this of the processor heaps and classes, and its places are lent
+pub record PassedWith (Invariant : ℕ → ℕ → State → Type 0) (s : State) (order : List ℕ) : Type 0 where
+  pub sound : SoundWith Invariant s order
   pub names : T (namesValid s)
   -- "equal to the recount" (document 02, item 3)
   pub totals : TotalsKept s
   -- "each once without a gap" (item 4)
   pub ranks : RanksSound s
   pub room : s .setup .superblocks * 256 ≤ length order
+
+-- the state passes the check and its places are lent
+abbrev pub Passed : State → List ℕ → Type 0
+Passed s order = PassedWith (λ h c t. T (mustMove h c t) → ⊥) s order
+
+-- it does, but for the move rule, as so many blocks of each heap and class were freed since the rule was last followed
+abbrev pub PassedAfterFrees : (ℕ → ℕ → ℕ) → State → List ℕ → Type 0
+PassedAfterFrees freed s order = PassedWith (λ h c t. InvariantBeforeFrees (freed h c) h c t) s order
 
 -- an accepted take: the state passes, the processor is in range, the size is at most 2048, and
 -- place 1, or else one of places 2 to 4, offers superblock k

@@ -9,6 +9,7 @@ pub mod TakeLaws
 pub mod TransferredLaws
 pub mod MarkClearedLaws
 pub mod InvariantRestoredLaws
+pub mod BlockFreedLaws
 pub mod FreeLaws
 pub mod RefusalOrder
 pub mod AddressLaws

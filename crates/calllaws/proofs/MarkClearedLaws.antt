@@ -5,13 +5,12 @@ use mathlib.Core.Logic.{_⊎_, inl, inr}
 use mathlib.Core.List.{List}
 use Prim.Native.Nat.{ℕ, suc, _+_, _-_, _*_, _≤_, _<_}
 use native.Mathlib.Nat.{mul-le-mul-left}
-use native.Mathlib.Decide.{ℕ-discrete, decLt}
+use native.Mathlib.Decide.{ℕ-discrete}
 use native.Mathlib.Omega.{arith}
 use lib.ListN.{length}
 use lib.Seq.{getD-set-same, getD-set-other}
 use lib.Dec.{T, eqb}
 use Rattle.laws.specs.Sums.{pick, one}
-use Rattle.laws.proofs.Inequalities.{le-of-not-below}
 use Rattle.laws.proofs.SumLaws.{sum-cong}
 use Rattle.classes.specs.Classes.{blocksOf}
 use Rattle.classes.proofs.ClassTableLaws.{blocks-of-le-256}
@@ -25,19 +24,18 @@ use Rattle.heap.specs.declared.State.{State}
 use Rattle.heap.specs.Table.{blank, superblockAt, liveIn, withoutMarkAt}
 use Rattle.heap.specs.States.{withSuperblock}
 use Rattle.heap.specs.Counts.{total, belongs, isOwnedOfClass, oneIfBelongs, liveIfBelongs, superblocksOf, blocksIn, liveOf, superblocksOfClass, liveOfClass, ownersChanged}
-use Rattle.moverules.specs.Moves.{mustMove}
-use Rattle.heaplaws.proofs.StateFacts.{Shape, Unused, Owned, Sparse}
+use Rattle.heaplaws.proofs.StateFacts.{Shape, Unused, Owned, Sparse, InvariantBeforeFrees, SoundAfterFrees}
 use Rattle.heaplaws.proofs.CountLaws.{total-with-superblock, live-if-belongs-is-live-in, live-if-belongs-other-owner, live-if-belongs-other-class}
 use Rattle.heaplaws.proofs.StateCheckLaws.{shape-with-superblock, owned-of-owner}
-use Rattle.heaplaws.proofs.MoveLaws.{must-move-of-conditions}
-use Rattle.calllaws.proofs.CallEffects.{Passed}
+use Rattle.calllaws.proofs.CallEffects.{PassedAfterFrees}
 use Rattle.calllaws.proofs.SuperblockLaws.{owned-of-class-true, owned-of-class-false}
-use Rattle.calllaws.proofs.TransferredLaws.{SoundExcept, must-move-cong}
+use Rattle.calllaws.proofs.TransferredLaws.{oneMoreFreed, one-more-freed-of-pair, one-more-freed-of-others, invariant-before-frees-cong}
 
--- block j of superblock k is live, in a state that passes its check
+-- block j of superblock k is live, in a state that passes its check, or did before these blocks of each heap and class were freed
 pub record LiveBlock (s : State) (order : List ℕ) (k j : ℕ) : Type 0 where
   pub shape : Shape s
-  pub passed : Passed s order
+  pub freed : ℕ → ℕ → ℕ
+  pub passed : PassedAfterFrees freed s order
   pub below : k < s .setup .superblocks
   pub owned : superblockAt s k .owner ≡ 255 → ⊥
   pub block : j < blocksOf (superblockAt s k .class)
@@ -58,23 +56,12 @@ withMarkCleared s k j = withSuperblock s k (withoutMarkAt (superblockAt s k) j)
 abbrev pub withBlockPushed : State → List ℕ → ℕ → ℕ → List ℕ
 withBlockPushed s order k j = withPlace order k (blocksOf (superblockAt s k .class) - liveIn (superblockAt s k)) j
 
--- where the move rule does not ask for a move, one of its conditions is not met
-condition-fails-of-not-must-move : (h c : ℕ) (s : State) → (T (mustMove h c s) → ⊥)
-    → (blocksIn h c s ≤ liveOf h c s + s .setup .spare * blocksOf c) ⊎ ((s .setup .q - s .setup .p) * blocksIn h c s ≤ s .setup .q * liveOf h c s)
-condition-fails-of-not-must-move h c s f = go (decLt (liveOf h c s + s .setup .spare * blocksOf c) (blocksIn h c s)) (decLt (s .setup .q * liveOf h c s) ((s .setup .q - s .setup .p) * blocksIn h c s))
+-- a condition that fails with so many live blocks more, after one block is freed
+condition-with-one-live-less : {a b u v : ℕ} (n q r x : ℕ) → b ≡ a → u ≡ suc v → (a ≤ u + n + x) ⊎ (r * a ≤ q * (u + n)) → (b ≤ v + (n + 1) + x) ⊎ (r * b ≤ q * (v + (n + 1)))
+condition-with-one-live-less n q r x e f (inl l) = inl (omega arith)
+condition-with-one-live-less {a} {b} {u} {v} n q r x e f (inr l) = inr (subst (λ (y : ℕ). r * b ≤ q * y) more (subst (λ (y : ℕ). r * y ≤ q * (u + n)) (sym e) l))
   where
-    go : Dec (liveOf h c s + s .setup .spare * blocksOf c < blocksIn h c s) → Dec (s .setup .q * liveOf h c s < (s .setup .q - s .setup .p) * blocksIn h c s)
-        → (blocksIn h c s ≤ liveOf h c s + s .setup .spare * blocksOf c) ⊎ ((s .setup .q - s .setup .p) * blocksIn h c s ≤ s .setup .q * liveOf h c s)
-    go (yes a) (yes b) = absurd (f (must-move-of-conditions h c s a b))
-    go (yes a) (no b) = inr (le-of-not-below b)
-    go (no a) q = inl (le-of-not-below a)
-
--- one of the conditions, read with one live block more
-condition-with-one-live-less : {a b u v : ℕ} (q r x : ℕ) → b ≡ a → u ≡ suc v → (a ≤ u + x) ⊎ (r * a ≤ q * u) → (b ≤ v + 1 + x) ⊎ (r * b ≤ q * (v + 1))
-condition-with-one-live-less q r x e f (inl l) = inl (omega arith)
-condition-with-one-live-less {a} {b} {u} {v} q r x e f (inr l) = inr (subst (λ (y : ℕ). r * b ≤ q * y) more (subst (λ (y : ℕ). r * y ≤ q * u) (sym e) l))
-  where
-    more : u ≡ v + 1
+    more : u + n ≡ v + (n + 1)
     more = omega arith
 
 module _ (s : State) (order : List ℕ) (k j : ℕ) (live : LiveBlock s order k j) where
@@ -215,24 +202,34 @@ module _ (s : State) (order : List ℕ) (k j : ℕ) (live : LiveBlock s order k 
         places = subst T (sym (places-valid-other-with-place order (superblockAt s m .live) m (blocksOf (superblockAt s m .class)) k f (blocks-of-le-256 (superblockAt s m .class)) (blocksOf (classAt s k) - liveIn (superblockAt s k)) j next-place-lt-256)) (o .places);
       })
 
-  -- the check holds as before, but perhaps for the move rule of the block's heap and class
-  pub mark-cleared-sound-except : SoundExcept (ownerAt s k) (classAt s k) (withMarkCleared s k j) (withBlockPushed s order k j)
-  mark-cleared-sound-except =
+  -- the check holds as before, with one block more of its heap and class freed
+  pub mark-cleared-sound : SoundAfterFrees (oneMoreFreed (ownerAt s k) (classAt s k) (live .freed)) (withMarkCleared s k j) (withBlockPushed s order k j)
+  mark-cleared-sound =
       record {
         numbers = live .passed .sound .numbers;
         each = mark-cleared-unused-or-owned;
         past-unused = mark-cleared-each (λ m b. s .setup .superblocks ≤ m → Unused b) (λ far. absurd (let l = live .below in let z : ⊥ = omega arith in z)) (λ m l f. live .passed .sound .past-unused m l);
-        invariant = λ i d low high class apart must. live .passed .sound .invariant i d low high class (subst T (must-move-cong i d s (withMarkCleared s k j) refl (mark-cleared-superblocks-of i d) (mark-cleared-live-of-others i d apart)) must);
+        invariant = λ i d low high class. condition i d (live .passed .sound .invariant i d low high class) (ℕ-discrete i (ownerAt s k)) (ℕ-discrete d (classAt s k));
         sparse = mark-cleared-each (λ m b. b .owner ≡ 0 → Sparse (s .setup) b) (λ zero. still (live .passed .sound .sparse k live-block-superblock-lt-64 zero)) (λ m l f. live .passed .sound .sparse m l);
       }
     where
       still : Sparse (s .setup) (superblockAt s k) → Sparse (s .setup) (withoutMarkAt (superblockAt s k) j)
       still h = let g = mul-le-mul-left {m = liveIn (withoutMarkAt (superblockAt s k) j)} {n = liveIn (superblockAt s k)} (s .setup .q) (omega (arith, mark-cleared-live-in)) in omega arith
 
-  -- before the free the block's heap and class did not meet both conditions: with one live block more one of them fails
-  pub mark-cleared-condition-fails : 1 ≤ ownerAt s k
-      → (blocksIn (ownerAt s k) (classAt s k) (withMarkCleared s k j) ≤ liveOf (ownerAt s k) (classAt s k) (withMarkCleared s k j) + 1 + s .setup .spare * blocksOf (classAt s k))
-      ⊎ ((s .setup .q - s .setup .p) * blocksIn (ownerAt s k) (classAt s k) (withMarkCleared s k j) ≤ s .setup .q * (liveOf (ownerAt s k) (classAt s k) (withMarkCleared s k j) + 1))
-  mark-cleared-condition-fails pos =
-      condition-with-one-live-less (s .setup .q) (s .setup .q - s .setup .p) (s .setup .spare * blocksOf (classAt s k)) (mark-cleared-blocks-in (ownerAt s k) (classAt s k)) mark-cleared-live-of
-      (condition-fails-of-not-must-move (ownerAt s k) (classAt s k) s (live .passed .sound .invariant (ownerAt s k) (classAt s k) pos (live-block-superblock-owned .owner) (live-block-superblock-owned .class)))
+      Fails : ℕ → ℕ → Type 0
+      Fails i d = InvariantBeforeFrees (oneMoreFreed (ownerAt s k) (classAt s k) (live .freed) i d) i d (withMarkCleared s k j)
+
+      other : (i d : ℕ) → InvariantBeforeFrees (live .freed i d) i d s → ((i ≡ ownerAt s k) × (d ≡ classAt s k) → ⊥) → Fails i d
+      other i d before apart =
+          subst (λ (n : ℕ). InvariantBeforeFrees n i d (withMarkCleared s k j)) (sym (one-more-freed-of-others (ownerAt s k) (classAt s k) (live .freed) i d apart))
+          (invariant-before-frees-cong (live .freed i d) i d s (withMarkCleared s k j) refl (mark-cleared-superblocks-of i d) (mark-cleared-live-of-others i d apart) before)
+
+      own : InvariantBeforeFrees (live .freed (ownerAt s k) (classAt s k)) (ownerAt s k) (classAt s k) s → Fails (ownerAt s k) (classAt s k)
+      own before =
+          subst (λ (n : ℕ). InvariantBeforeFrees n (ownerAt s k) (classAt s k) (withMarkCleared s k j)) (sym (one-more-freed-of-pair (ownerAt s k) (classAt s k) (live .freed)))
+          (condition-with-one-live-less (live .freed (ownerAt s k) (classAt s k)) (s .setup .q) (s .setup .q - s .setup .p) (s .setup .spare * blocksOf (classAt s k)) (mark-cleared-blocks-in (ownerAt s k) (classAt s k)) mark-cleared-live-of before)
+
+      condition : (i d : ℕ) → InvariantBeforeFrees (live .freed i d) i d s → Dec (i ≡ ownerAt s k) → Dec (d ≡ classAt s k) → Fails i d
+      condition i d before (yes e) (yes g) = rw (e, g) (own (rw (e, g) at before))
+      condition i d before (yes e) (no g) = other i d before (λ q. g (q .1))
+      condition i d before (no e) q = other i d before (λ r. e (r .0))

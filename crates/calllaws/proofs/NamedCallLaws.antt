@@ -34,6 +34,7 @@ use Rattle.calls.specs.Named.{isUnavailable, nameBound, boundBy, withNameBound,
 use Rattle.heaplaws.proofs.RankLaws.{ranks-sound-of-same-ranks}
 use Rattle.calllaws.proofs.CallEffects.{Passed, TakeAccepted, FreeAccepted, NamedTakeAccepted, NamedFreeAccepted, TakeEffect}
 use Rattle.calllaws.proofs.CheckedLaws.{checked-refused-or-passed, checked-is-next-of-passed, bounds-of-is-processor}
+use Rattle.calllaws.proofs.TransferredLaws.{passed-after-no-frees}
 use Rattle.calllaws.proofs.NamesKeptLaws.{mark-of-live-block, live-block-in-table, names-valid-after-named-take}
 use Rattle.calllaws.proofs.AddressLaws.{address-superblock, address-offset, address-block, address-block-number}
 use Rattle.calllaws.proofs.TakeLaws.{take-refused-or-accepted, taken-block, take-address, take-effect, take-names, take-shape, take-passed}
@@ -266,7 +267,7 @@ module _ (s : State) (order : List ℕ) (shape : Shape s) (passed : Passed s ord
           absurd (let z : ⊥ = omega (arith, marked) in z)
 
   pub held-block-is-live : LiveBlock s order (blockNamed (s .names) m / 256) (blockNamed (s .names) m % 256)
-  held-block-is-live = record { shape = shape; passed = passed; below = owned-below-superblocks s order (passed .sound) k in-table owned; owned = owned; block = in-class; marked = marked }
+  held-block-is-live = record { shape = shape; freed = λ h c. 0; passed = passed-after-no-frees s order passed; below = owned-below-superblocks s order (passed .sound) k in-table owned; owned = owned; block = in-class; marked = marked }
 
 -- ---- every live block can be freed by its address
 module _ (s : State) (order : List ℕ) (k j : ℕ) (live : LiveBlock s order k j) where
@@ -303,21 +304,21 @@ module _ (s : State) (order : List ℕ) (k j : ℕ) (live : LiveBlock s order k 
   unfolding isLiveAt
   live-block-live = rw (address-block class k j live-class-lt-27 (live .block) s refl, holding) (mark-of-mark-bit-one (superblockAt s k .live) j (live .marked))
 
-  pub free-accepted-of-live-block : (i : ℕ) → isProcessor s i ≡ true → FreeAccepted s order i (addressOf k (superblockAt s k .class) j)
-  free-accepted-of-live-block i p =
+  pub free-accepted-of-live-block : (i : ℕ) → Passed s order → isProcessor s i ≡ true → FreeAccepted s order i (addressOf k (superblockAt s k .class) j)
+  free-accepted-of-live-block i passed p =
       record {
-        passed = live .passed;
+        passed = passed;
         processor = bounds-of-is-processor s i (T-of-true _ p);
         mapped = live-block-mapped;
         block-aligned = live-block-aligned;
         live = live-block-live;
-        result-is = free-of-live-block s order i (live .passed) a p live-block-mapped live-block-aligned live-block-live;
+        result-is = free-of-live-block s order i passed a p live-block-mapped live-block-aligned live-block-live;
       }
 
 -- A held name's free meets none of 5, 6 and 7: for a processor in range it is accepted, on every state that passes.
 pub held-name-free-accepted : (s : State) (order : List ℕ) (i m : ℕ) → Shape s → Passed s order → isProcessor s i ≡ true → T (isHeld (s .names) m) → FreeAccepted s order i (heldAddress s m)
 unfolding heldAddress
-held-name-free-accepted s order i m shape passed p held = free-accepted-of-live-block s order (blockNamed (s .names) m / 256) (blockNamed (s .names) m % 256) (held-block-is-live s order shape passed m held) i p
+held-name-free-accepted s order i m shape passed p held = free-accepted-of-live-block s order (blockNamed (s .names) m / 256) (blockNamed (s .names) m % 256) (held-block-is-live s order shape passed m held) i passed p
 
 -- ---- "A name holds .. until its block is freed by either command"
 -- the block at the held address is the name's

@@ -1,39 +1,110 @@
--- What the moves of a heap and class keep: each clause of the check, and each superblock's class and marks. Assumes nothing.
+-- What the moves of a heap and class keep: each clause of the check, and each superblock's class, marks and rank. Assumes nothing.
 use mathlib.Core.Path.{_≡_, refl, sym, ap, ap₂, _∙_, subst}
-use mathlib.Core.Logic.{_⊎_, inl, inr}
+use mathlib.Core.Bool.{Bool, true, false}
+use mathlib.Core.Logic.{_⊎_, inl, inr, ⊎-elim}
 use mathlib.Core.List.{List}
-use Prim.Native.Nat.{ℕ, _*_, _≤_, _<_, zero-le}
+use Prim.Native.Nat.{ℕ, _+_, _*_, _/_, _%_, _≤_, _<_, zero-le}
+use native.Mathlib.Nat.{le-refl}
 use native.Mathlib.Decide.{ℕ-discrete}
 use native.Mathlib.Omega.{arith}
 use lib.ListN.{length}
-use lib.Dec.{T}
+use borrow.Author.Tests.{eq-eqb}
+use lib.Dec.{T, eqb, eqb→eq}
+use Rattle.laws.specs.Sums.{pick, both, one}
+use Rattle.laws.proofs.TestLaws.{false-of-not-T, both-left, both-right, both-make, pick-elim}
 use Rattle.classes.specs.Classes.{blocksOf}
 use Rattle.heap.specs.declared.Superblock.{Superblock}
 use Rattle.heap.specs.declared.Setup.{Setup}
 use Rattle.heap.specs.declared.Totals.{Totals}
 use Rattle.heap.specs.declared.State.{State}
-use Rattle.heap.specs.Table.{superblockAt, withOwner}
+use Rattle.marks.specs.Marks.{isMarked, liveCount}
+use Rattle.names.specs.Names.{eachHeld}
+use Rattle.namelaws.proofs.NameLaws.{each-held-of-tests}
+use Rattle.heap.specs.Table.{superblockAt, withOwner, isLiveBlock}
 use Rattle.heap.specs.Counts.{belongs, superblocksOf, blocksIn, liveOf}
-use Rattle.moverules.specs.Moves.{bothConditions, mustMove}
-use Rattle.heaplaws.proofs.StateFacts.{Shape, WithinLimits, Unused, Owned, Sparse, Sound, TransferredFrom}
+use Rattle.checkrules.specs.Check.{namesValid}
+use Rattle.heaplaws.proofs.StateFacts.{Shape, WithinLimits, Unused, Owned, Sparse, RanksSound, InvariantBeforeFrees, SoundAfterFrees, TransferredFrom}
 use Rattle.heap.specs.Totals.{TotalsKept}
 use Rattle.heaplaws.proofs.CountLaws.{owner-and-class-of-belongs}
+use Rattle.heaplaws.proofs.MoveLaws.{condition-fails-of-not-must-move, not-must-move-of-condition-fails}
+use Rattle.heaplaws.proofs.RankLaws.{ranks-sound-of-same-ranks}
 use Rattle.heaplaws.proofs.TotalsLaws.{length-recounted-superblocks, length-recounted-live}
+use Rattle.calllaws.proofs.CallEffects.{Passed, PassedAfterFrees}
+use Rattle.calllaws.proofs.NamesKeptLaws.{live-block-in-table}
 
--- equal counts meet the conditions of the move rule alike
-pub must-move-cong : (h c : ℕ) (s t : State) → t .setup ≡ s .setup → superblocksOf h c t ≡ superblocksOf h c s → liveOf h c t ≡ liveOf h c s → mustMove h c t ≡ mustMove h c s
-unfolding mustMove blocksIn
-must-move-cong h c s t e f g =
-    ap (λ (u : Setup). bothConditions (u .spare) (u .p) (u .q) (blocksOf c) (superblocksOf h c t * blocksOf c) (liveOf h c t)) e
-    ∙ ap₂ (λ (m u : ℕ). bothConditions (s .setup .spare) (s .setup .p) (s .setup .q) (blocksOf c) (m * blocksOf c) u) f g
+-- ---- so many blocks of each heap and class
+-- one more of heap h and class c
+unfoldable pub oneMoreFreed : ℕ → ℕ → (ℕ → ℕ → ℕ) → ℕ → ℕ → ℕ
+oneMoreFreed h c freed i d = freed i d + one (both (eqb i h) (eqb d c))
 
--- the whole check, but for the move rule of heap h and class c
-pub record SoundExcept (h c : ℕ) (s : State) (order : List ℕ) : Type 0 where
-  pub numbers : WithinLimits (s .setup)
-  pub each : (k : ℕ) → k < 64 → Unused (superblockAt s k) ⊎ Owned (s .setup) order k (superblockAt s k)
-  pub past-unused : (k : ℕ) → k < 64 → s .setup .superblocks ≤ k → Unused (superblockAt s k)
-  pub invariant : (i d : ℕ) → 1 ≤ i → i ≤ s .setup .processors → d < 27 → ((i ≡ h) × (d ≡ c) → ⊥) → T (mustMove i d s) → ⊥
-  pub sparse : (k : ℕ) → k < 64 → superblockAt s k .owner ≡ 0 → Sparse (s .setup) (superblockAt s k)
+-- none of heap h and class c
+unfoldable pub noneFreed : ℕ → ℕ → (ℕ → ℕ → ℕ) → ℕ → ℕ → ℕ
+noneFreed h c freed i d = pick (both (eqb i h) (eqb d c)) 0 (freed i d)
+
+module _ (h c : ℕ) (freed : ℕ → ℕ → ℕ) where
+  same-pair : both (eqb h h) (eqb c c) ≡ true
+  same-pair = ap₂ both (eq-eqb h h refl) (eq-eqb c c refl)
+
+  other-pair : (i d : ℕ) → ((i ≡ h) × (d ≡ c) → ⊥) → both (eqb i h) (eqb d c) ≡ false
+  other-pair i d apart = false-of-not-T (both (eqb i h) (eqb d c)) (λ t. apart (eqb→eq i h (both-left (eqb i h) (eqb d c) t), eqb→eq d c (both-right (eqb i h) (eqb d c) t)))
+
+  pub one-more-freed-of-pair : oneMoreFreed h c freed h c ≡ freed h c + 1
+  unfolding oneMoreFreed
+  one-more-freed-of-pair = ap (λ (t : Bool). freed h c + one t) same-pair
+
+  pub one-more-freed-of-others : (i d : ℕ) → ((i ≡ h) × (d ≡ c) → ⊥) → oneMoreFreed h c freed i d ≡ freed i d
+  unfolding oneMoreFreed
+  one-more-freed-of-others i d apart = let z : one (both (eqb i h) (eqb d c)) ≡ 0 = ap one (other-pair i d apart) in omega arith
+
+  pub none-freed-of-pair : noneFreed h c freed h c ≡ 0
+  unfolding noneFreed
+  none-freed-of-pair = rw same-pair
+
+  pub none-freed-of-others : (i d : ℕ) → ((i ≡ h) × (d ≡ c) → ⊥) → noneFreed h c freed i d ≡ freed i d
+  unfolding noneFreed
+  none-freed-of-others i d apart = rw (other-pair i d apart)
+
+  pub none-freed-le : (i d : ℕ) → noneFreed h c freed i d ≤ freed i d
+  unfolding noneFreed
+  none-freed-le i d = pick-elim (λ (n : ℕ). n ≤ freed i d) (both (eqb i h) (eqb d c)) _ _ (λ e. zero-le) (λ e. le-refl (freed i d))
+
+-- equal counts fail the conditions of the move rule alike
+pub invariant-before-frees-cong : (n h c : ℕ) (s t : State) → t .setup ≡ s .setup → superblocksOf h c t ≡ superblocksOf h c s → liveOf h c t ≡ liveOf h c s → InvariantBeforeFrees n h c s → InvariantBeforeFrees n h c t
+unfolding blocksIn superblocksOf liveOf
+invariant-before-frees-cong n h c s t e f g fails = rw (e, f, g) fails
+
+-- a state that passes has no frees to follow up, and the other way round
+pub passed-after-no-frees : (s : State) (order : List ℕ) → Passed s order → PassedAfterFrees (λ h c. 0) s order
+passed-after-no-frees s order p =
+    record {
+      sound = record {
+        numbers = p .sound .numbers;
+        each = p .sound .each;
+        past-unused = p .sound .past-unused;
+        invariant = λ h c low high known. condition-fails-of-not-must-move h c s (p .sound .invariant h c low high known);
+        sparse = p .sound .sparse;
+      };
+      names = p .names;
+      totals = p .totals;
+      ranks = p .ranks;
+      room = p .room;
+    }
+
+pub passed-of-no-frees-left : (freed : ℕ → ℕ → ℕ) (s : State) (order : List ℕ) → ((h c : ℕ) → 1 ≤ h → h ≤ s .setup .processors → c < 27 → freed h c ≡ 0) → PassedAfterFrees freed s order → Passed s order
+passed-of-no-frees-left freed s order none p =
+    record {
+      sound = record {
+        numbers = p .sound .numbers;
+        each = p .sound .each;
+        past-unused = p .sound .past-unused;
+        invariant = λ h c low high known. not-must-move-of-condition-fails h c s (subst (λ (n : ℕ). InvariantBeforeFrees n h c s) (none h c low high known) (p .sound .invariant h c low high known));
+        sparse = p .sound .sparse;
+      };
+      names = p .names;
+      totals = p .totals;
+      ranks = p .ranks;
+      room = p .room;
+    }
 
 -- ---- superblock by superblock
 module _ (h c : ℕ) (s t : State) (m : TransferredFrom h c s t) (k : ℕ) (l : k < 64) where
@@ -87,14 +158,14 @@ module _ (h c : ℕ) (s t : State) (m : TransferredFrom h c s t) where
       go (inl same) = subst (λ (b : Superblock). P k b) (sym same) (before k l)
       go (inr (mine, sparse, now)) = subst (λ (b : Superblock). P k b) (sym now) (pass k l (owner-and-class-of-belongs h c (superblockAt s k) mine .0) sparse (before k l))
 
-  -- the moves that end where the rule is no longer met leave a state that passes
-  pub sound-after-transfers : (order : List ℕ) → h < 255 → SoundExcept h c s order → (1 ≤ h → T (mustMove h c t) → ⊥) → Sound t order
-  sound-after-transfers order low before done =
+  -- the moves that end where the rule is no longer met leave a state in which no frees of the heap and class are left to follow up
+  pub sound-after-transfers : (freed : ℕ → ℕ → ℕ) (order : List ℕ) → h < 255 → SoundAfterFrees freed s order → (1 ≤ h → InvariantBeforeFrees 0 h c t) → SoundAfterFrees (noneFreed h c freed) t order
+  sound-after-transfers freed order low before done =
       record {
         numbers = subst WithinLimits (sym (m .setup)) (before .numbers);
         each = subst (λ (u : Setup). (k : ℕ) → k < 64 → Unused (superblockAt t k) ⊎ Owned u order k (superblockAt t k)) (sym (m .setup)) (transferred-keeps-each (λ k b. Unused b ⊎ Owned (s .setup) order k b) (before .each) (λ k l mine sparse. passes-on k mine));
         past-unused = subst (λ (u : Setup). (k : ℕ) → k < 64 → u .superblocks ≤ k → Unused (superblockAt t k)) (sym (m .setup)) (transferred-keeps-each (λ k b. s .setup .superblocks ≤ k → Unused b) (before .past-unused) (λ k l mine sparse unused far. absurd (not-unused k mine (unused far))));
-        invariant = λ i d low high known must. held-now i d low (subst (λ (u : Setup). i ≤ u .processors) (m .setup) high) known (ℕ-discrete i h) (ℕ-discrete d c) must;
+        invariant = λ i d low high known. held-now i d low (subst (λ (u : Setup). i ≤ u .processors) (m .setup) high) known (ℕ-discrete i h) (ℕ-discrete d c);
         sparse = subst (λ (u : Setup). (k : ℕ) → k < 64 → superblockAt t k .owner ≡ 0 → Sparse u (superblockAt t k)) (sym (m .setup)) (transferred-keeps-each (λ k b. b .owner ≡ 0 → Sparse (s .setup) b) (before .sparse) (λ k l mine sparse was zero. sparse));
       }
     where
@@ -105,10 +176,37 @@ module _ (h c : ℕ) (s t : State) (m : TransferredFrom h c s t) where
       passes-on k mine (inl u) = absurd (not-unused k mine u)
       passes-on k mine (inr o) = inr (record { owner = zero-le; class = o .class; places = o .places })
 
-      other : (i d : ℕ) → 1 ≤ i → i ≤ s .setup .processors → d < 27 → ((i ≡ h) × (d ≡ c) → ⊥) → T (mustMove i d t) → ⊥
-      other i d low high known apart must = before .invariant i d low high known apart (subst T (must-move-cong i d s t (m .setup) (m .others i d low apart .0) (m .others i d low apart .1)) must)
+      other : (i d : ℕ) → 1 ≤ i → i ≤ s .setup .processors → d < 27 → ((i ≡ h) × (d ≡ c) → ⊥) → InvariantBeforeFrees (noneFreed h c freed i d) i d t
+      other i d low high known apart =
+          subst (λ (n : ℕ). InvariantBeforeFrees n i d t) (sym (none-freed-of-others h c freed i d apart))
+          (invariant-before-frees-cong (freed i d) i d s t (m .setup) (m .others i d low apart .0) (m .others i d low apart .1) (before .invariant i d low high known))
 
-      held-now : (i d : ℕ) → 1 ≤ i → i ≤ s .setup .processors → d < 27 → Dec (i ≡ h) → Dec (d ≡ c) → T (mustMove i d t) → ⊥
-      held-now i d low high known (yes e) (yes g) must = done (subst (λ (x : ℕ). 1 ≤ x) e low) (subst (λ (x : ℕ). T (mustMove x c t)) e (subst (λ (x : ℕ). T (mustMove i x t)) g must))
-      held-now i d low high known (yes e) (no g) must = other i d low high known (λ q. g (q .1)) must
-      held-now i d low high known (no e) q must = other i d low high known (λ r. e (r .0)) must
+      held-now : (i d : ℕ) → 1 ≤ i → i ≤ s .setup .processors → d < 27 → Dec (i ≡ h) → Dec (d ≡ c) → InvariantBeforeFrees (noneFreed h c freed i d) i d t
+      held-now i d low high known (yes e) (yes g) =
+          rw (e, g) (subst (λ (n : ℕ). InvariantBeforeFrees n h c t) (sym (none-freed-of-pair h c freed)) (done (subst (λ (x : ℕ). 1 ≤ x) e low)))
+      held-now i d low high known (yes e) (no g) = other i d low high known (λ q. g (q .1))
+      held-now i d low high known (no e) q = other i d low high known (λ r. e (r .0))
+
+  -- names that point at live blocks still do
+  pub names-valid-after-transfers : length (s .table) ≡ 64 → T (namesValid s) → T (namesValid t)
+  unfolding namesValid isLiveBlock
+  names-valid-after-transfers long valid =
+      rw (m .names)
+      (both-make (eachHeld (isLiveBlock t) (s .names)) _
+      (each-held-of-tests (isLiveBlock s) (isLiveBlock t) (s .names) still-live (both-left (eachHeld (isLiveBlock s) (s .names)) _ valid))
+      (both-right (eachHeld (isLiveBlock s) (s .names)) _ valid))
+    where
+      still-live : (b : ℕ) → T (isLiveBlock s b) → T (isLiveBlock t b)
+      still-live b live = subst (λ (l : List ℕ). T (isMarked l (b % 256))) (sym (transferred-live h c s t m (b / 256) (live-block-in-table s b long live))) live
+
+  -- no more superblocks are unused, and ranks stay: "passing between heaps keeps the rank"
+  pub ranks-sound-after-transfers : h < 255 → RanksSound s → RanksSound t
+  ranks-sound-after-transfers low = ranks-sound-of-same-ranks s t (transferred-rank h c s t m) was-unused
+    where
+      was-unused : (k : ℕ) → k < 64 → Unused (superblockAt t k) → Unused (superblockAt s k)
+      was-unused k l u =
+          record {
+            owner = ⊎-elim (λ e. sym e ∙ u .owner) (λ h. absurd (let z : ⊥ = omega (arith, h .1, u .owner) in z)) (transferred-owner h c s t m k l);
+            class = sym (transferred-class h c s t m k l) ∙ u .class;
+            live = sym (ap liveCount (transferred-live h c s t m k l)) ∙ u .live;
+          }

@@ -4,3 +4,4 @@ pub mod CallCases
 pub mod NamedCases
 pub mod AnswerLaws
 pub mod CheckFirst
+pub mod AddressRefusalLaws

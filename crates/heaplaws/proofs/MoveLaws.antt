@@ -4,7 +4,7 @@ use mathlib.Core.Bool.{Bool, true, false, not}
 use mathlib.Core.Logic.{_⊎_, inl, inr}
 use Prim.Native.Nat.{ℕ, zero, suc, _+_, _-_, _*_, _≤_, _<_, zero-le}
 use native.Mathlib.Nat.{eq-zero-or-pos, mul-add, zero-mul, mul-le-mul-left, mul-le-mul-right, lt-of-mul-lt-mul-left, lt-irrefl}
-use native.Mathlib.Decide.{ℕ-discrete}
+use native.Mathlib.Decide.{ℕ-discrete, decLt}
 use native.Mathlib.Omega.{arith}
 use borrow.Author.Tests.{eq-eqb, ne-eqb}
 use lib.ListN.{length, length-set}
@@ -12,6 +12,7 @@ use lib.Seq.{getD-set-same, getD-set-other}
 use lib.Dec.{T, eqb, ltb, ltb→lt, lt→ltb}
 use Rattle.laws.specs.Sums.{pick, both, one}
 use Rattle.laws.proofs.TestLaws.{both-left, both-right, both-make, T-of-true, not-T-of-false}
+use Rattle.laws.proofs.Inequalities.{le-of-not-below}
 use Rattle.laws.proofs.SumLaws.{sum-of-zeros}
 use Rattle.laws.proofs.ReplacedElement.{sum-set-indexed}
 use Rattle.classes.specs.Classes.{blocksOf}
@@ -27,7 +28,7 @@ use Rattle.choicerules.specs.Choice.{emptiest}
 use Rattle.moverules.specs.Moves.{bothConditions, mustMove, transferred, foundTransferred, transfersUpTo, excessTransferred}
 use Rattle.heaplaws.proofs.ChoiceLaws.{best-of-emptiest, emptiest-has-fewest-live, none-belongs-of-emptiest-nothing}
 use Rattle.heaplaws.proofs.CountLaws.{total-with-superblock, owner-and-class-of-belongs, belongs-of-owner-and-class, one-if-belongs-is-1, one-if-belongs-other-owner, one-if-belongs-other-class, live-if-belongs-is-live-in, live-if-belongs-other-owner, live-if-belongs-other-class, belongs-of-superblocks-pos, superblocks-of-le-64, live-of-at-least-each}
-use Rattle.heaplaws.proofs.StateFacts.{WithinLimits, Sparse, TransferredFrom}
+use Rattle.heaplaws.proofs.StateFacts.{WithinLimits, Sparse, TransferredFrom, InvariantBeforeFrees}
 use Rattle.heap.specs.Totals.{TotalsKept}
 use Rattle.heaplaws.proofs.TotalsLaws.{totals-kept-with-superblock}
 
@@ -45,6 +46,28 @@ must-move-of-conditions h c s = go (liveOf h c s + s .setup .spare * blocksOf c)
   where
     go : (w x y z : ℕ) → w < x → y < z → T (both (ltb w x) (ltb y z))
     go w x y z a b = both-make (ltb w x) (ltb y z) (lt→ltb w x a) (lt→ltb y z b)
+
+-- where the move rule does not ask for a move, one of its conditions is not met, and the other way round
+pub condition-fails-of-not-must-move : (h c : ℕ) (s : State) → (T (mustMove h c s) → ⊥) → InvariantBeforeFrees 0 h c s
+condition-fails-of-not-must-move h c s f = go (decLt (liveOf h c s + s .setup .spare * blocksOf c) (blocksIn h c s)) (decLt (s .setup .q * liveOf h c s) ((s .setup .q - s .setup .p) * blocksIn h c s))
+  where
+    same : liveOf h c s + 0 ≡ liveOf h c s
+    same = omega arith
+
+    go : Dec (liveOf h c s + s .setup .spare * blocksOf c < blocksIn h c s) → Dec (s .setup .q * liveOf h c s < (s .setup .q - s .setup .p) * blocksIn h c s) → InvariantBeforeFrees 0 h c s
+    go (yes a) (yes b) = absurd (f (must-move-of-conditions h c s a b))
+    go (yes a) (no b) = inr (subst (λ (u : ℕ). (s .setup .q - s .setup .p) * blocksIn h c s ≤ s .setup .q * u) (sym same) (le-of-not-below b))
+    go (no a) q = inl (omega (arith, le-of-not-below a))
+
+pub not-must-move-of-condition-fails : (h c : ℕ) (s : State) → InvariantBeforeFrees 0 h c s → T (mustMove h c s) → ⊥
+not-must-move-of-condition-fails h c s fails must = go fails (conditions-of-must-move h c s must)
+  where
+    same : liveOf h c s + 0 ≡ liveOf h c s
+    same = omega arith
+
+    go : InvariantBeforeFrees 0 h c s → (liveOf h c s + s .setup .spare * blocksOf c < blocksIn h c s) × (s .setup .q * liveOf h c s < (s .setup .q - s .setup .p) * blocksIn h c s) → ⊥
+    go (inl l) met = omega (arith, met .0)
+    go (inr l) met = omega (arith, met .1, subst (λ (u : ℕ). (s .setup .q - s .setup .p) * blocksIn h c s ≤ s .setup .q * u) same l)
 
 -- who must move has a superblock, and its emptiest is sparse
 pub superblocks-pos-of-must-move : (h c : ℕ) (s : State) → T (mustMove h c s) → 0 < superblocksOf h c s
@@ -339,12 +362,12 @@ module _ (h c freed : ℕ) (s : State) (numbers : WithinLimits (s .setup)) (pos 
 
 -- The whole of the moves of heap h and class c, from a state s in which so many of its blocks were freed since the emptiness invariant
 -- of heap and class last held: before, u was higher by `freed`, so that a ≤ u + freed + K × n, or (q - p) × a ≤ q × (u + freed).
-module _ (h c freed : ℕ) (s : State) (long : length (s .table) ≡ 64) (numbers : WithinLimits (s .setup)) (pos : 0 < h) (low : h < 255) (some : 1 ≤ freed)
-    (invariant-before : (blocksIn h c s ≤ liveOf h c s + freed + s .setup .spare * blocksOf c) ⊎ ((s .setup .q - s .setup .p) * blocksIn h c s ≤ s .setup .q * (liveOf h c s + freed))) where
+module _ (h c freed : ℕ) (s : State) (long : length (s .table) ≡ 64) (numbers : WithinLimits (s .setup)) (pos : 0 < h) (low : h < 255)
+    (invariant-before : InvariantBeforeFrees freed h c s) where
   after-no-move : AfterMoves h c freed s 0 s
   after-no-move = record { from = transferred-from-self h c s long; changed = owners-changed-self s; bounded = go invariant-before; moves-bound = zero-le }
     where
-      go : (blocksIn h c s ≤ liveOf h c s + freed + s .setup .spare * blocksOf c) ⊎ ((s .setup .q - s .setup .p) * blocksIn h c s ≤ s .setup .q * (liveOf h c s + freed))
+      go : InvariantBeforeFrees freed h c s
           → MovesBounded (s .setup .spare) (s .setup .p) (s .setup .q) (blocksOf c) freed (blocksIn h c s) (liveOf h c s) 0
       go (inl l) = inl (omega arith)
       go (inr l) = inr (omega arith)

@@ -26,7 +26,7 @@ use Rattle.heap.specs.Totals.{totalIndex, isCounted, withCounted, countedBelow,
 use Rattle.heap.specs.Ranks.{reranked}
 use Rattle.moverules.specs.Moves.{bothConditions, mustMove}
 use Rattle.checkrules.specs.Check.{namesValid}
-use Rattle.heaplaws.proofs.StateFacts.{Shape, Unused, Owned, Sparse, Sound}
+use Rattle.heaplaws.proofs.StateFacts.{Shape, Unused, Owned, Sparse, Sound, SoundWith, SoundAfterFrees, InvariantBeforeFrees}
 
 module _ (rank : ℕ → ℕ) (s : State) where
   -- each superblock is as it was but for its rank ..
@@ -131,18 +131,29 @@ module _ (rank : ℕ → ℕ) (s : State) where
     reranked-owned : (order : List ℕ) (k : ℕ) → Owned (s .setup) order k (superblockAt s k) → Owned (s .setup) order k (superblockAt (reranked rank s) k)
     reranked-owned order k o = subst (Owned (s .setup) order k) (sym (superblock-keeps-all-but-rank k)) (record { owner = o .owner; class = o .class; places = o .places })
 
-    pub reranked-sound : (order : List ℕ) → Sound s order → Sound (reranked rank s) order
-    reranked-sound order sound = record {
+    -- with what is said of heaps and classes, where the ranks are no part of it
+    reranked-sound-with : (Invariant : ℕ → ℕ → State → Type 0) → ((h c : ℕ) → Invariant h c s → Invariant h c (reranked rank s)) → (order : List ℕ) → SoundWith Invariant s order → SoundWith Invariant (reranked rank s) order
+    reranked-sound-with Invariant kept order sound = record {
       numbers = sound .numbers;
       each = λ k l. go k (sound .each k l);
       past-unused = λ k l far. reranked-unused k (sound .past-unused k l far);
-      invariant = λ h c low high known must. sound .invariant h c low high known (subst T (reranked-must-move h c) must);
+      invariant = λ h c low high known. kept h c (sound .invariant h c low high known);
       sparse = λ k l e. subst (Sparse (s .setup)) (sym (superblock-keeps-all-but-rank k)) (sound .sparse k l (sym (reranked-owner k) ∙ e));
     }
       where
         go : (k : ℕ) → Unused (superblockAt s k) ⊎ Owned (s .setup) order k (superblockAt s k) → Unused (superblockAt (reranked rank s) k) ⊎ Owned (s .setup) order k (superblockAt (reranked rank s) k)
         go k (inl u) = inl (reranked-unused k u)
         go k (inr o) = inr (reranked-owned order k o)
+
+    pub reranked-sound : (order : List ℕ) → Sound s order → Sound (reranked rank s) order
+    reranked-sound = reranked-sound-with (λ h c t. T (mustMove h c t) → ⊥) (λ h c none must. none (subst T (reranked-must-move h c) must))
+
+    pub reranked-sound-after-frees : (freed : ℕ → ℕ → ℕ) (order : List ℕ) → SoundAfterFrees freed s order → SoundAfterFrees freed (reranked rank s) order
+    unfolding blocksIn
+    reranked-sound-after-frees freed = reranked-sound-with (λ h c t. InvariantBeforeFrees (freed h c) h c t) kept
+      where
+        kept : (h c : ℕ) → InvariantBeforeFrees (freed h c) h c s → InvariantBeforeFrees (freed h c) h c (reranked rank s)
+        kept h c fails = rw (reranked-superblocks-of h c, reranked-live-of h c) fails
 
     pub reranked-names-valid : T (namesValid s) → T (namesValid (reranked rank s))
     unfolding namesValid isLiveBlock

@@ -28,7 +28,7 @@ use Rattle.heap.specs.Counts.{superblocksOf, liveOf, blocksIn, belongs}
 use Rattle.moverules.specs.Moves.{bothConditions, mustMove}
 use Rattle.checkrules.specs.Check.{within, withinLimits, superblockValid, unusedFrom, emptinessInvariant, sparseIfGlobal, namesValid, ranksValid, restValid, passes}
 use Rattle.checkrules.proofs.ClauseLaws.{clauses-of-rest, rest-of-clauses, limits-of-passes, rest-of-passes, passes-of-limits-and-rest}
-use Rattle.heaplaws.proofs.StateFacts.{Shape, WithinLimits, Unused, Owned, Sparse, Sound, NamesSound}
+use Rattle.heaplaws.proofs.StateFacts.{Shape, WithinLimits, Unused, Owned, Sparse, Sound, NamesSound, SoundWith, SoundAfterFrees}
 use Rattle.heap.specs.Totals.{TotalsKept}
 use Rattle.heaplaws.proofs.TotalsLaws.{totals-kept-of-valid, totals-valid-of-kept, length-recounted-superblocks, length-recounted-live}
 use Rattle.heaplaws.proofs.CountLaws.{superblock-at-replaced, superblock-at-others, owner-and-class-of-belongs, superblocks-of-new-state}
@@ -290,6 +290,10 @@ pub sound-with-names : (s : State) (names order : List ℕ) → Sound s order �
 unfolding mustMove blocksIn superblocksOf liveOf
 sound-with-names s names order h = record { numbers = h .numbers; each = h .each; past-unused = h .past-unused; invariant = h .invariant; sparse = h .sparse }
 
+pub sound-after-frees-with-names : (freed : ℕ → ℕ → ℕ) (s : State) (names order : List ℕ) → SoundAfterFrees freed s order → SoundAfterFrees freed (withNames s names) order
+unfolding blocksIn superblocksOf liveOf
+sound-after-frees-with-names freed s names order h = record { numbers = h .numbers; each = h .each; past-unused = h .past-unused; invariant = h .invariant; sparse = h .sparse }
+
 -- ---- what a state that passes says of one superblock
 -- fewer live than the share of n that sparse allows are fewer than n
 live-lt-blocks-of-sparse : (q p live n : ℕ) → q * live < (q - p) * n → live < n
@@ -299,7 +303,7 @@ live-lt-blocks-of-sparse q p live n h = go (decLt live n)
     go (yes l) = l
     go (no f) = absurd (let z : ⊥ = omega (arith, mul-le-mul-left {m = n} {n = live} q (omega arith), mul-le-mul-right {m = q - p} {n = q} n (omega arith)) in z)
 
-module _ (s : State) (order : List ℕ) (sound : Sound s order) (k : ℕ) (l : k < 64) where
+module _ {Invariant : ℕ → ℕ → State → Type 0} (s : State) (order : List ℕ) (sound : SoundWith Invariant s order) (k : ℕ) (l : k < 64) where
   -- a superblock that a heap owns has a number below N
   pub owned-below-superblocks : (superblockAt s k .owner ≡ 255 → ⊥) → k < s .setup .superblocks
   owned-below-superblocks f = go (decLt k (s .setup .superblocks))

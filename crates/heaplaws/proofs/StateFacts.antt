@@ -3,7 +3,7 @@ use mathlib.Core.Path.{_≡_}
 use mathlib.Core.Bool.{Bool}
 use mathlib.Core.Logic.{_⊎_}
 use mathlib.Core.List.{List}
-use Prim.Native.Nat.{ℕ, _-_, _*_, _≤_, _<_}
+use Prim.Native.Nat.{ℕ, _+_, _-_, _*_, _≤_, _<_}
 use lib.ListN.{length, getD}
 use lib.Dec.{T}
 use Rattle.classes.specs.Classes.{blocksOf}
@@ -13,7 +13,7 @@ use Rattle.heap.specs.declared.Superblock.{Superblock}
 use Rattle.heap.specs.declared.Setup.{Setup}
 use Rattle.heap.specs.declared.State.{State}
 use Rattle.heap.specs.Table.{blank, superblockAt, liveIn, withOwner, isLiveBlock}
-use Rattle.heap.specs.Counts.{belongs, superblocksOf, liveOf, superblocksOfClass, liveOfClass}
+use Rattle.heap.specs.Counts.{belongs, superblocksOf, blocksIn, liveOf, superblocksOfClass, liveOfClass}
 use Rattle.heap.specs.Totals.{TotalsKept}
 use Rattle.moverules.specs.Moves.{mustMove}
 use Rattle.checkrules.specs.Check.{rankedCount}
@@ -68,13 +68,26 @@ pub record Owned (u : Setup) (order : List ℕ) (k : ℕ) (b : Superblock) : Typ
 abbrev pub Sparse : Setup → Superblock → Type 0
 Sparse u b = u .q * liveIn b < (u .q - u .p) * blocksOf (b .class)
 
--- the whole check, but for names, totals and ranks
-pub record Sound (s : State) (order : List ℕ) : Type 0 where
+-- the whole check, but for names, totals and ranks, with this of the processor heaps and classes
+pub record SoundWith (Invariant : ℕ → ℕ → State → Type 0) (s : State) (order : List ℕ) : Type 0 where
   pub numbers : WithinLimits (s .setup)
   pub each : (k : ℕ) → k < 64 → Unused (superblockAt s k) ⊎ Owned (s .setup) order k (superblockAt s k)
   pub past-unused : (k : ℕ) → k < 64 → s .setup .superblocks ≤ k → Unused (superblockAt s k)
-  pub invariant : (h c : ℕ) → 1 ≤ h → h ≤ s .setup .processors → c < 27 → T (mustMove h c s) → ⊥
+  pub invariant : (h c : ℕ) → 1 ≤ h → h ≤ s .setup .processors → c < 27 → Invariant h c s
   pub sparse : (k : ℕ) → k < 64 → superblockAt s k .owner ≡ 0 → Sparse (s .setup) (superblockAt s k)
+
+-- with the emptiness invariant, which the move rule keeps
+abbrev pub Sound : State → List ℕ → Type 0
+Sound s order = SoundWith (λ h c t. T (mustMove h c t) → ⊥) s order
+
+-- one of the move rule's conditions fails, read with so many live blocks more: as many of heap h and class c were freed since the rule was last followed
+abbrev pub InvariantBeforeFrees : ℕ → ℕ → ℕ → State → Type 0
+InvariantBeforeFrees freed h c s =
+    (blocksIn h c s ≤ liveOf h c s + freed + s .setup .spare * blocksOf c) ⊎ ((s .setup .q - s .setup .p) * blocksIn h c s ≤ s .setup .q * (liveOf h c s + freed))
+
+-- with so many blocks of each heap and class freed since then
+abbrev pub SoundAfterFrees : (ℕ → ℕ → ℕ) → State → List ℕ → Type 0
+SoundAfterFrees freed s order = SoundWith (λ h c t. InvariantBeforeFrees (freed h c) h c t) s order
 
 -- the names' part of the check: "each held name points at a live block, no two at one"
 pub record NamesSound (s : State) : Type 0 where
