@@ -29,6 +29,20 @@ checked-by-tests s order next true true false e f g = inl (13, refl)
 checked-by-tests s order next true false c e f g = inl (12, refl)
 checked-by-tests s order next false b c e f g = inl (13, refl)
 
+-- a state that passes, its places being lent
+pub passed-of-passes : (s : State) (order : List ℕ) → passes s order ≡ true → s .setup .superblocks * 256 ≤ length order → Passed s order
+unfolding passes
+passed-of-passes s order e room =
+    let t = T-of-true (both (withinLimits (s .setup)) (restValid s order)) e in
+    let rest = both-right (withinLimits (s .setup)) (restValid s order) t in
+    record {
+      sound = sound-of-limits-and-rest s order (both-left (withinLimits (s .setup)) (restValid s order) t) rest;
+      names = names-valid-of-rest s order rest;
+      totals = totals-kept-of-rest s order rest;
+      ranks = ranks-sound-of-valid s (ranks-valid-of-rest s order rest);
+      room = room;
+    }
+
 -- a call is refused by the check, or goes on with a state that passes
 pub checked-refused-or-passed : (s : State) (order : List ℕ) (next : After) → ((r : ℕ) × (checked s order next ≡ refused r s order)) ⊎ (Passed s order × (checked s order next ≡ next))
 unfolding checked

@@ -10,6 +10,10 @@ pub mod TransferredLaws
 pub mod MarkClearedLaws
 pub mod InvariantRestoredLaws
 pub mod BlockFreedLaws
+pub mod AllFreedLaws
+pub mod DropTransfersLaws
+pub mod DropLaws
+pub mod DropMoveLaws
 pub mod FreeLaws
 pub mod RefusalOrder
 pub mod AddressLaws

@@ -35,18 +35,18 @@ use Rattle.calllaws.proofs.NamesKeptLaws.{live-block-in-table}
 -- ---- so many blocks of each heap and class
 -- one more of heap h and class c
 unfoldable pub oneMoreFreed : ℕ → ℕ → (ℕ → ℕ → ℕ) → ℕ → ℕ → ℕ
-oneMoreFreed h c freed i d = freed i d + one (both (eqb i h) (eqb d c))
+oneMoreFreed h c freed i d = freed i d + one (both (eqb h i) (eqb c d))
 
 -- none of heap h and class c
 unfoldable pub noneFreed : ℕ → ℕ → (ℕ → ℕ → ℕ) → ℕ → ℕ → ℕ
-noneFreed h c freed i d = pick (both (eqb i h) (eqb d c)) 0 (freed i d)
+noneFreed h c freed i d = pick (both (eqb h i) (eqb c d)) 0 (freed i d)
 
 module _ (h c : ℕ) (freed : ℕ → ℕ → ℕ) where
   same-pair : both (eqb h h) (eqb c c) ≡ true
   same-pair = ap₂ both (eq-eqb h h refl) (eq-eqb c c refl)
 
-  other-pair : (i d : ℕ) → ((i ≡ h) × (d ≡ c) → ⊥) → both (eqb i h) (eqb d c) ≡ false
-  other-pair i d apart = false-of-not-T (both (eqb i h) (eqb d c)) (λ t. apart (eqb→eq i h (both-left (eqb i h) (eqb d c) t), eqb→eq d c (both-right (eqb i h) (eqb d c) t)))
+  other-pair : (i d : ℕ) → ((i ≡ h) × (d ≡ c) → ⊥) → both (eqb h i) (eqb c d) ≡ false
+  other-pair i d apart = false-of-not-T (both (eqb h i) (eqb c d)) (λ t. apart (sym (eqb→eq h i (both-left (eqb h i) (eqb c d) t)), sym (eqb→eq c d (both-right (eqb h i) (eqb c d) t))))
 
   pub one-more-freed-of-pair : oneMoreFreed h c freed h c ≡ freed h c + 1
   unfolding oneMoreFreed
@@ -54,7 +54,7 @@ module _ (h c : ℕ) (freed : ℕ → ℕ → ℕ) where
 
   pub one-more-freed-of-others : (i d : ℕ) → ((i ≡ h) × (d ≡ c) → ⊥) → oneMoreFreed h c freed i d ≡ freed i d
   unfolding oneMoreFreed
-  one-more-freed-of-others i d apart = let z : one (both (eqb i h) (eqb d c)) ≡ 0 = ap one (other-pair i d apart) in omega arith
+  one-more-freed-of-others i d apart = let z : one (both (eqb h i) (eqb c d)) ≡ 0 = ap one (other-pair i d apart) in omega arith
 
   pub none-freed-of-pair : noneFreed h c freed h c ≡ 0
   unfolding noneFreed
@@ -66,7 +66,7 @@ module _ (h c : ℕ) (freed : ℕ → ℕ → ℕ) where
 
   pub none-freed-le : (i d : ℕ) → noneFreed h c freed i d ≤ freed i d
   unfolding noneFreed
-  none-freed-le i d = pick-elim (λ (n : ℕ). n ≤ freed i d) (both (eqb i h) (eqb d c)) _ _ (λ e. zero-le) (λ e. le-refl (freed i d))
+  none-freed-le i d = pick-elim (λ (n : ℕ). n ≤ freed i d) (both (eqb h i) (eqb c d)) _ _ (λ e. zero-le) (λ e. le-refl (freed i d))
 
 -- equal counts fail the conditions of the move rule alike
 pub invariant-before-frees-cong : (n h c : ℕ) (s t : State) → t .setup ≡ s .setup → superblocksOf h c t ≡ superblocksOf h c s → liveOf h c t ≡ liveOf h c s → InvariantBeforeFrees n h c s → InvariantBeforeFrees n h c t

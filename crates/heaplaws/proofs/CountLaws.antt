@@ -167,7 +167,7 @@ unfolding isOwnedOfClass
 owned-of-class-of-facts c b f q = both-make (not (eqb (b .owner) 255)) (eqb (b .class) c) (T-of-true _ (ap not (ne-eqb (b .owner) 255 f))) (T-of-true _ (eq-eqb (b .class) c q))
 
 -- heap 0 and the heaps after it
-sum-from-heap-0 : (f : ℕ → ℕ) (p : ℕ) → f 0 + sumBelow (λ i. f (suc i)) p ≡ sumBelow f (suc p)
+pub sum-from-heap-0 : (f : ℕ → ℕ) (p : ℕ) → f 0 + sumBelow (λ i. f (suc i)) p ≡ sumBelow f (suc p)
 unfolding sumBelow
 sum-from-heap-0 f zero = omega arith
 sum-from-heap-0 f (suc p) = let e = sum-from-heap-0 f p in omega arith

@@ -9,3 +9,4 @@ pub mod CheckReadsLaws
 pub mod RerankedLaws
 pub mod Pigeonhole
 pub mod RankLaws
+pub mod OutsideGlobalLaws

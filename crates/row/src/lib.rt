@@ -2,27 +2,30 @@
 // value, and these carry the records.
 ghost use mathlib.Core.Path.{_≡_};
 ghost use Rattle.calls.specs.Answers.{HasNumberAndValuesOf, PassesIfAccepted};
+ghost use Rattle.calls.specs.Calls.{callWith};
 ghost use Rattle.rowrules.specs.Row.{stateOf, rowAfter, rowSetup, rowCall};
-use calls::Call;
+use calls::CallHeader;
 use heap::Setup;
 use heap::Superblock;
 use rowrules::Control;
 use rowrules::RowAnswer;
 
-// A take or a free on the row, whatever its length. A refused one writes no record.
+// A take, a free, plain or named, or a drop on the row, whatever its length. A refused one writes no record. Only a drop
+// reads the addresses.
 pub fn call_row(
     row: &mut [Superblock],
     order: &mut [u16],
     control: Control,
-    call: Call,
+    call: CallHeader,
+    addresses: &[u32],
 ) -> RowAnswer
-    ensures { λ r. ⌜ rowAfter r (now (row .exit)) (now (order .exit)) ≡ rowCall control (now (row .entry)) (now (order .entry)) call ⌝ }
-    ensures number_and_values { λ r. ⌜ HasNumberAndValuesOf (r .outcome) (rowCall control (now (row .entry)) (now (order .entry)) call .outcome) ⌝ }
+    ensures { λ r. ⌜ rowAfter r (now (row .exit)) (now (order .exit)) ≡ rowCall control (now (row .entry)) (now (order .entry)) (callWith call (now (addresses .entry))) ⌝ }
+    ensures number_and_values { λ r. ⌜ HasNumberAndValuesOf (r .outcome) (rowCall control (now (row .entry)) (now (order .entry)) (callWith call (now (addresses .entry))) .outcome) ⌝ }
     ensures passes { λ r. ⌜ PassesIfAccepted (r .outcome) (stateOf (r .control) (now (row .exit))) (now (order .exit)) ⌝ }
 {
     let n = row.len();
     let t = rowaccess::load(row);
-    let w = rowcore::call_table(n, t, order, control, call);
+    let w = rowcore::call_table(n, t, order, control, call, addresses);
     rowaccess::store(row, w.table, w.accepted);
     w.answer
 }

@@ -75,7 +75,7 @@ module _ (n first : ℕ) (u : Setup) (table : List Superblock) (order : List ℕ
       go true false c q = absurd (omega arith)
       go false b c q = absurd (omega arith)
 
--- ---- a take or a free
+-- ---- a take, a free, plain or named, or a drop
 module _ (n first : ℕ) (control : Control) (table : List Superblock) (order : List ℕ) (call : Call) (e : first ≡ rowFirstRefusal 13 n order (control .setup)) where
   pub refused-call-is-call-on : (first ≡ 0 → ⊥) → (r : TableCall) → r ≡ refusedCall first control table → rowAfterCall r order ≡ callOn n control table order call
   unfolding callOn rowFirstRefusal setupRefusal

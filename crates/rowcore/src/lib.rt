@@ -2,9 +2,10 @@
 // stored in the row is handed back, with whether the call was accepted: a refused one stores nothing.
 ghost use mathlib.Core.Path.{_≡_};
 ghost use Rattle.calls.specs.Answers.{HasNumberAndValuesOf, PassesIfAccepted};
+ghost use Rattle.calls.specs.Calls.{callWith};
 ghost use Rattle.rowrules.specs.Row.{stateOf, setupOn, callOn};
 ghost use Rattle.tablecall.specs.Tables.{isAccepted, rowAfterCall};
-use calls::Call;
+use calls::CallHeader;
 use heap::Setup;
 use heap::Superblock;
 use rowrules::Control;
@@ -27,17 +28,18 @@ pub fn setup_table(n: usize, table: [Superblock; 64], order: &mut [u16], u: Setu
     tablecall::answered(a)
 }
 
-// A take or a free, plain or named, where n records are lent.
+// A take, a free, plain or named, or a drop, where n records are lent. Only a drop reads the addresses.
 pub fn call_table(
     n: usize,
     table: [Superblock; 64],
     order: &mut [u16],
     control: Control,
-    call: Call,
+    call: CallHeader,
+    addresses: &[u32],
 ) -> TableCall
-    ensures { λ r. ⌜ rowAfterCall r (now (order .exit)) ≡ callOn n control table (now (order .entry)) call ⌝ }
+    ensures { λ r. ⌜ rowAfterCall r (now (order .exit)) ≡ callOn n control table (now (order .entry)) (callWith call (now (addresses .entry))) ⌝ }
     ensures accepts { λ r. ⌜ r .accepted ≡ isAccepted (r .answer .outcome) ⌝ }
-    ensures number_and_values { λ r. ⌜ HasNumberAndValuesOf (r .answer .outcome) (callOn n control table (now (order .entry)) call .outcome) ⌝ }
+    ensures number_and_values { λ r. ⌜ HasNumberAndValuesOf (r .answer .outcome) (callOn n control table (now (order .entry)) (callWith call (now (addresses .entry))) .outcome) ⌝ }
     ensures passes { λ r. ⌜ PassesIfAccepted (r .answer .outcome) (stateOf (r .answer .control) (r .table)) (now (order .exit)) ⌝ }
 {
     let u = control.setup;
@@ -46,6 +48,6 @@ pub fn call_table(
         return tablecall::refuse(first, control, table);
     }
     let s = tablecall::state_of(control, table);
-    let a = engine::call_state(s, order, call);
+    let a = engine::call_state(s, order, call, addresses);
     tablecall::answered(a)
 }

@@ -3,9 +3,10 @@ ghost use mathlib.Core.Path.{_≡_};
 ghost use Prim.Native.Nat.{_≤_, min};
 ghost use lib.ListN.{take};
 ghost use Rattle.calls.specs.Answers.{HasNumberAndValuesOf, PassesIfAccepted};
+ghost use Rattle.calls.specs.Calls.{callWith};
 ghost use Rattle.rowrules.specs.Row.{stateOf, rowSetup, rowCall};
 ghost use Rattle.rowrules.specs.Borrowed.{RecordsAfter, recordsAfter};
-use calls::Call;
+use calls::CallHeader;
 use heap::Setup;
 use heap::Superblock;
 use rowrules::Control;
@@ -21,37 +22,40 @@ fn at_most(n: usize) -> usize
     65
 }
 
-// A take or a free on a row of the first n records.
+// A take, a free, plain or named, or a drop on a row of the first n records.
 fn borrow_call(
     n: usize,
     records: [Superblock; 65],
     order: &mut [u16],
     control: Control,
-    call: Call,
+    call: CallHeader,
+    addresses: &[u32],
 ) -> RecordsAnswer
     requires { ⌜ n ≤ 65 ⌝ }
-    ensures { λ r. ⌜ record { returned = r; order = now (order .exit) } ≡ recordsAfter n records (rowCall control (take n records) (now (order .entry)) call) ⌝ }
+    ensures { λ r. ⌜ record { returned = r; order = now (order .exit) } ≡ recordsAfter n records (rowCall control (take n records) (now (order .entry)) (callWith call (now (addresses .entry)))) ⌝ }
     ensures passes { λ r. ⌜ PassesIfAccepted (r .answer .outcome) (stateOf (r .answer .control) (take n (r .records))) (now (order .exit)) ⌝ }
 {
     let mut t = records;
-    let answer = row::call_row(&mut t[..n], order, control, call);
+    let answer = row::call_row(&mut t[..n], order, control, call, addresses);
     RecordsAnswer { records: t, answer }
 }
 
-// A take or a free on a row of the first n records, of all 65 where n is above.
+// A take, a free, plain or named, or a drop on a row of the first n records, of all 65 where n is above. Only a drop reads the
+// addresses.
 pub fn call_by_row(
     n: usize,
     records: [Superblock; 65],
     order: &mut [u16],
     control: Control,
-    call: Call,
+    call: CallHeader,
+    addresses: &[u32],
 ) -> RecordsAnswer
-    ensures { λ r. ⌜ record { returned = r; order = now (order .exit) } ≡ recordsAfter n records (rowCall control (take n records) (now (order .entry)) call) ⌝ }
-    ensures number_and_values { λ r. ⌜ HasNumberAndValuesOf (r .answer .outcome) (rowCall control (take n records) (now (order .entry)) call .outcome) ⌝ }
+    ensures { λ r. ⌜ record { returned = r; order = now (order .exit) } ≡ recordsAfter n records (rowCall control (take n records) (now (order .entry)) (callWith call (now (addresses .entry)))) ⌝ }
+    ensures number_and_values { λ r. ⌜ HasNumberAndValuesOf (r .answer .outcome) (rowCall control (take n records) (now (order .entry)) (callWith call (now (addresses .entry))) .outcome) ⌝ }
     ensures passes { λ r. ⌜ PassesIfAccepted (r .answer .outcome) (stateOf (r .answer .control) (take n (r .records))) (now (order .exit)) ⌝ }
 {
     let m = at_most(n);
-    borrow_call(m, records, order, control, call)
+    borrow_call(m, records, order, control, call, addresses)
 }
 
 // A setup on a row of the first n records.

@@ -1,0 +1,201 @@
+-- Blocks freed one after another, before any move, in a drop (document 02, item 5). Assumes nothing.
+use mathlib.Core.Path.{_≡_, refl, sym, ap, ap₂, _∙_, subst}
+use mathlib.Core.Bool.{Bool, true, false}
+use mathlib.Core.List.{List, [], _∷_}
+use Prim.Native.Nat.{ℕ, zero, suc, _+_, _≤_, _<_}
+use native.Mathlib.Decide.{decLt}
+use native.Mathlib.Omega.{arith}
+use borrow.Author.Tests.{eqb-true, eqb-false}
+use lib.ListN.{length, getD, take, List·getD-eq-default}
+use lib.Dec.{eqb}
+use Rattle.laws.specs.Sums.{pick, both, either, one, sumBelow}
+use Rattle.laws.proofs.Inequalities.{le-of-not-below}
+use Rattle.laws.proofs.TestLaws.{neither-left, neither-right}
+use Rattle.laws.proofs.SumLaws.{sum-cong, sum-of-zeros, sum-le-of-terms-le}
+use Rattle.laws.proofs.Counting.{sum-add, indicator-sum-inside, indicator-sum-outside}
+use Rattle.heap.specs.declared.Superblock.{Superblock}
+use Rattle.heap.specs.declared.Setup.{Setup}
+use Rattle.heap.specs.declared.State.{State}
+use Rattle.heap.specs.Table.{blank, superblockAt}
+use Rattle.heap.specs.Counts.{belongs, superblocksOfClass}
+use Rattle.heap.specs.Totals.{TotalsKept}
+use Rattle.heap.specs.Ranks.{RanksFit}
+use Rattle.heaplaws.proofs.StateFacts.{Shape, InvariantBeforeFrees}
+use Rattle.heaplaws.proofs.CountLaws.{sum-from-heap-0}
+use Rattle.heaplaws.proofs.RankLaws.{ranks-fit-of-sound}
+use Rattle.calls.specs.Free.{superblockIndex, superblockHolding, addressRefusal, orderPushed, blockFreed}
+use Rattle.calls.specs.Drop.{allFreed, allPushed, firstRefusal, isTouched}
+use Rattle.calllaws.proofs.CallEffects.{PassedAfterFrees}
+use Rattle.calllaws.proofs.TransferredLaws.{oneMoreFreed}
+use Rattle.calllaws.proofs.BlockFreedLaws.{freed-superblock-lt-64, freed-superblock-owner-le, block-freed-effect, block-freed-owner, block-freed-shape, block-freed-passed}
+
+-- how many of the addresses lie in superblocks of heap h and class c
+unfoldable pub freedOf : State → List ℕ → ℕ → ℕ → ℕ
+freedOf s [] h c = 0
+freedOf s (a ∷ addresses) h c = one (belongs h c (superblockHolding s a)) + freedOf s addresses h c
+
+-- none, where they do not touch it
+pub freed-of-untouched : (s : State) (addresses : List ℕ) (h c : ℕ) → isTouched s addresses h c ≡ false → freedOf s addresses h c ≡ 0
+unfolding freedOf isTouched
+freed-of-untouched s [] h c e = refl
+freed-of-untouched s (a ∷ addresses) h c e =
+    let one-is : one (belongs h c (superblockHolding s a)) ≡ 0 = ap one (neither-left (belongs h c (superblockHolding s a)) (isTouched s addresses h c) e) in
+    let rest = freed-of-untouched s addresses h c (neither-right (belongs h c (superblockHolding s a)) (isTouched s addresses h c) e) in
+    omega arith
+
+-- ---- each address is of one heap and class at most, so that all counts together are at most as many as the addresses
+one-class-of-superblock : (h : ℕ) (b : Superblock) → sumBelow (λ c. one (belongs h c b)) 27 ≤ one (eqb (b .owner) h)
+unfolding belongs
+one-class-of-superblock h b = go (eqb (b .owner) h)
+  where
+    below : Dec (b .class < 27) → sumBelow (λ c. one (eqb (b .class) c)) 27 ≤ 1
+    below (yes l) = let z = indicator-sum-inside (b .class) 27 l in omega arith
+    below (no f) = let z = indicator-sum-outside (b .class) 27 (le-of-not-below f) in omega arith
+
+    go : (t : Bool) → sumBelow (λ c. one (both t (eqb (b .class) c))) 27 ≤ one t
+    go true = below (decLt (b .class) 27)
+    go false = let z = sum-of-zeros (λ c. one (both false (eqb (b .class) c))) 27 (λ c l. refl) in omega arith
+
+one-heap-of-superblock : (p : ℕ) (b : Superblock) → sumBelow (λ i. one (eqb (b .owner) (suc i))) p ≤ 1
+one-heap-of-superblock p b = let z = sum-from-heap-0 (λ h. one (eqb (b .owner) h)) p in let few = all-heaps (decLt (b .owner) (suc p)) in omega arith
+  where
+    all-heaps : Dec (b .owner < suc p) → sumBelow (λ h. one (eqb (b .owner) h)) (suc p) ≤ 1
+    all-heaps (yes l) = let z = indicator-sum-inside (b .owner) (suc p) l in omega arith
+    all-heaps (no f) = let z = indicator-sum-outside (b .owner) (suc p) (le-of-not-below f) in omega arith
+
+-- the addresses of the processor heaps 1 to p, in all classes
+abbrev pub freedOfHeaps : (ℕ → ℕ → ℕ) → ℕ → ℕ
+freedOfHeaps freed p = sumBelow (λ i. sumBelow (freed (suc i)) 27) p
+
+pub freed-of-heaps-le-length : (s : State) (p : ℕ) (addresses : List ℕ) → freedOfHeaps (freedOf s addresses) p ≤ length addresses
+unfolding freedOf
+freed-of-heaps-le-length s p [] =
+    let z = sum-of-zeros (λ i. sumBelow (λ c. freedOf s [] (suc i) c) 27) p (λ i l. sum-of-zeros (λ c. freedOf s [] (suc i) c) 27 (λ c lc. refl)) in omega arith
+freed-of-heaps-le-length s p (a ∷ addresses) = let l = freed-of-heaps-le-length s p addresses in let f = first in omega (arith, split)
+  where
+    split : freedOfHeaps (freedOf s (a ∷ addresses)) p ≡ sumBelow (λ i. sumBelow (λ c. one (belongs (suc i) c (superblockHolding s a))) 27) p + sumBelow (λ i. sumBelow (freedOf s addresses (suc i)) 27) p
+    split =
+        sum-cong (λ i. sumBelow (freedOf s (a ∷ addresses) (suc i)) 27) (λ i. sumBelow (λ c. one (belongs (suc i) c (superblockHolding s a))) 27 + sumBelow (freedOf s addresses (suc i)) 27) p
+        (λ i l. sum-add (λ c. one (belongs (suc i) c (superblockHolding s a))) (freedOf s addresses (suc i)) 27)
+        ∙ sum-add (λ i. sumBelow (λ c. one (belongs (suc i) c (superblockHolding s a))) 27) (λ i. sumBelow (freedOf s addresses (suc i)) 27) p
+
+    first : sumBelow (λ i. sumBelow (λ c. one (belongs (suc i) c (superblockHolding s a))) 27) p ≤ 1
+    first =
+        let few = sum-le-of-terms-le (λ i. sumBelow (λ c. one (belongs (suc i) c (superblockHolding s a))) 27) (λ i. one (eqb (superblockHolding s a .owner) (suc i))) p (λ i l. one-class-of-superblock (suc i) (superblockHolding s a)) in
+        let one-heap = one-heap-of-superblock p (superblockHolding s a) in
+        omega arith
+
+-- ---- states with the same owners and classes
+module _ (s t : State) (long : length (s .table) ≡ 64) (long-after : length (t .table) ≡ 64) (owners : (m : ℕ) → m < 64 → superblockAt t m .owner ≡ superblockAt s m .owner)
+    (classes : (m : ℕ) → m < 64 → superblockAt t m .class ≡ superblockAt s m .class) where
+  same-belongs : (h c m : ℕ) → belongs h c (superblockAt t m) ≡ belongs h c (superblockAt s m)
+  unfolding belongs
+  same-belongs h c m = go (decLt m 64)
+    where
+      go : Dec (m < 64) → belongs h c (superblockAt t m) ≡ belongs h c (superblockAt s m)
+      go (yes l) = ap₂ (λ (x y : ℕ). both (eqb x h) (eqb y c)) (owners m l) (classes m l)
+      go (no f) =
+          let g = le-of-not-below f in
+          ap (belongs h c) (List·getD-eq-default (t .table) blank (omega arith) ∙ sym (List·getD-eq-default (s .table) blank (omega arith)))
+
+  pub freed-of-same : (addresses : List ℕ) (h c : ℕ) → freedOf t addresses h c ≡ freedOf s addresses h c
+  unfolding freedOf
+  freed-of-same [] h c = refl
+  freed-of-same (a ∷ addresses) h c = ap₂ (λ (x : Bool) (n : ℕ). one x + n) (same-belongs h c (superblockIndex a)) (freed-of-same addresses h c)
+
+-- ---- an accepted address first, and then the others
+refusal-of-first-zero : (r n : ℕ) → pick (eqb r 0) n r ≡ 0 → (r ≡ 0) × (n ≡ 0)
+refusal-of-first-zero r n e = go (eqb r 0) refl e
+  where
+    go : (t : Bool) → eqb r 0 ≡ t → pick t n r ≡ 0 → (r ≡ 0) × (n ≡ 0)
+    go true q z = (eqb-true r 0 q, z)
+    go false q z = absurd (eqb-false r 0 q z)
+
+pub first-refusal-of-cons : (s : State) (a : ℕ) (addresses : List ℕ) → firstRefusal s (a ∷ addresses) ≡ 0 → (addressRefusal s a ≡ 0) × (firstRefusal (blockFreed s a) addresses ≡ 0)
+unfolding firstRefusal
+first-refusal-of-cons s a addresses e = refusal-of-first-zero (addressRefusal s a) (firstRefusal (blockFreed s a) addresses) e
+
+-- as many frees in another way of counting
+pub passed-after-frees-cong : (f g : ℕ → ℕ → ℕ) (s : State) (order : List ℕ) → ((h c : ℕ) → f h c ≡ g h c) → PassedAfterFrees f s order → PassedAfterFrees g s order
+passed-after-frees-cong f g s order same p =
+    record {
+      sound = record {
+        numbers = p .sound .numbers;
+        each = p .sound .each;
+        past-unused = p .sound .past-unused;
+        invariant = λ h c low high known. subst (λ (n : ℕ). InvariantBeforeFrees n h c s) (same h c) (p .sound .invariant h c low high known);
+        sparse = p .sound .sparse;
+      };
+      names = p .names;
+      totals = p .totals;
+      ranks = p .ranks;
+      room = p .room;
+    }
+
+-- ---- all of them
+-- what the frees leave of a state that passed before so many others
+pub record AllFreed (freed : ℕ → ℕ → ℕ) (s : State) (order addresses : List ℕ) : Type 0 where
+  pub passed : PassedAfterFrees (λ h c. freed h c + freedOf s addresses h c) (allFreed s addresses) (allPushed s order addresses)
+  pub shape : Shape (allFreed s addresses)
+  pub setup : allFreed s addresses .setup ≡ s .setup
+  pub owners : (m : ℕ) → m < 64 → superblockAt (allFreed s addresses) m .owner ≡ superblockAt s m .owner
+  pub classes : (m : ℕ) → m < 64 → superblockAt (allFreed s addresses) m .class ≡ superblockAt s m .class
+  pub owned : (d : ℕ) → superblocksOfClass d (allFreed s addresses) ≡ superblocksOfClass d s
+
+-- one more for the first of them, in the counts before and after it
+counted-with-first : (freed : ℕ → ℕ → ℕ) (s t : State) (a : ℕ) (addresses : List ℕ) → length (s .table) ≡ 64 → length (t .table) ≡ 64 → ((m : ℕ) → m < 64 → superblockAt t m .owner ≡ superblockAt s m .owner)
+    → ((m : ℕ) → m < 64 → superblockAt t m .class ≡ superblockAt s m .class) → (h c : ℕ)
+    → oneMoreFreed (superblockHolding s a .owner) (superblockHolding s a .class) freed h c + freedOf t addresses h c ≡ freed h c + (one (belongs h c (superblockHolding s a)) + freedOf s addresses h c)
+unfolding oneMoreFreed belongs
+counted-with-first freed s t a addresses long long-after owners classes h c = omega (arith, freed-of-same s t long long-after owners classes addresses h c)
+
+pub all-freed : (freed : ℕ → ℕ → ℕ) (s : State) (order addresses : List ℕ) → Shape s → PassedAfterFrees freed s order → firstRefusal s addresses ≡ 0 → AllFreed freed s order addresses
+unfolding allFreed allPushed freedOf
+all-freed freed s order [] shape passed ok =
+    record {
+      passed = passed-after-frees-cong freed (λ h c. freed h c + 0) s order (λ h c. omega arith) passed;
+      shape = shape;
+      setup = refl;
+      owners = λ m l. refl;
+      classes = λ m l. refl;
+      owned = λ d. refl;
+    }
+all-freed freed s order (a ∷ addresses) shape passed ok =
+    let first = first-refusal-of-cons s a addresses ok in
+    let effect = block-freed-effect freed s order a shape passed (first .0) in
+    let owner-same = block-freed-owner freed s order a shape passed (first .0) in
+    let shape-after = block-freed-shape freed s order a shape passed (first .0) in
+    let more = oneMoreFreed (superblockHolding s a .owner) (superblockHolding s a .class) freed in
+    let rest = all-freed more (blockFreed s a) (orderPushed s order a) addresses shape-after (block-freed-passed freed s order a shape passed (first .0)) (first .1) in
+    record {
+      passed = passed-after-frees-cong (λ h c. more h c + freedOf (blockFreed s a) addresses h c) (λ h c. freed h c + (one (belongs h c (superblockHolding s a)) + freedOf s addresses h c)) _ _ (counted-with-first freed s (blockFreed s a) a addresses (shape .length-is) (shape-after .length-is) owner-same (effect .classes)) (rest .passed);
+      shape = rest .shape;
+      setup = rest .setup ∙ effect .setup;
+      owners = λ m l. rest .owners m l ∙ owner-same m l;
+      classes = λ m l. rest .classes m l ∙ effect .classes m l;
+      owned = λ d. rest .owned d ∙ effect .owned d;
+    }
+
+-- each address of a drop that meets no refusal lies in the table, in a superblock that a heap owns, and the state before its free keeps its totals and ranks
+pub frees-in-table : (freed : ℕ → ℕ → ℕ) (s : State) (order addresses : List ℕ) → Shape s → PassedAfterFrees freed s order → firstRefusal s addresses ≡ 0 → (i : ℕ) → i < length addresses
+    → (superblockIndex (getD addresses i 0) < 64) × (superblockHolding s (getD addresses i 0) .owner < 9) × (superblockHolding s (getD addresses i 0) .class < 27)
+    × TotalsKept (allFreed s (take i addresses)) × RanksFit (allFreed s (take i addresses))
+unfolding allFreed
+frees-in-table freed s order [] shape passed ok i l = absurd (let z : ⊥ = omega arith in z)
+frees-in-table freed s order (a ∷ addresses) shape passed ok zero l =
+    let first = first-refusal-of-cons s a addresses ok in (
+      freed-superblock-lt-64 freed s order a shape passed (first .0),
+      omega (arith, freed-superblock-owner-le freed s order a shape passed (first .0), passed .sound .numbers .processors-high),
+      block-freed-effect freed s order a shape passed (first .0) .class-lt-27,
+      passed .totals,
+      ranks-fit-of-sound s (passed .ranks),
+    )
+frees-in-table freed s order (a ∷ addresses) shape passed ok (suc i) l =
+    let first = first-refusal-of-cons s a addresses ok in
+    let rest = frees-in-table _ (blockFreed s a) (orderPushed s order a) addresses (block-freed-shape freed s order a shape passed (first .0)) (block-freed-passed freed s order a shape passed (first .0)) (first .1) i (omega arith) in (
+      rest .0,
+      subst (λ (h : ℕ). h < 9) (block-freed-owner freed s order a shape passed (first .0) (superblockIndex (getD addresses i 0)) (rest .0)) (rest .1),
+      subst (λ (c : ℕ). c < 27) (block-freed-effect freed s order a shape passed (first .0) .classes (superblockIndex (getD addresses i 0)) (rest .0)) (rest .2),
+      rest .3,
+      rest .4,
+    )
