@@ -6,7 +6,8 @@ use mathlib.Core.List.{List}
 use Prim.Native.Nat.{ℕ, _*_}
 use native.Mathlib.Omega.{arith}
 use lib.ListN.{length}
-use lib.Dec.{leb}
+use borrow.Author.Tests.{eqb-false}
+use lib.Dec.{eqb, leb}
 use Rattle.laws.specs.Sums.{pick}
 use Rattle.laws.proofs.TestLaws.{T-of-true, true-of-T}
 use Rattle.classes.specs.Classes.{classOf, isTooLarge}
@@ -29,11 +30,13 @@ use Rattle.calls.specs.Setup.{acceptedSetup, setupOf}
 use Rattle.calls.specs.Take.{otherPlaces, takenFrom, takenFromOther, takenAt, takeUnchecked}
 use Rattle.calls.specs.Free.{isUnmapped, isMisaligned, isLiveAt, freedAt, freeUnchecked}
 use Rattle.calls.specs.Named.{isUnavailable, withNameBound, namedTakeUnchecked, heldAddress, namedFreeUnchecked}
-use Rattle.calls.specs.Calls.{Call, Take, Free, NamedTake, NamedFree, callOf, callUnchecked}
+use Rattle.calls.specs.Drop.{firstRefusal, droppedAll, dropUnchecked}
+use Rattle.calls.specs.Calls.{Call, Take, Free, NamedTake, NamedFree, Drop, callOf, callUnchecked}
 use Rattle.calls.proofs.CheckFirst.{call-of-checks-first}
 use Rattle.calllaws.proofs.CallEffects.{Passed}
 use Rattle.calllaws.proofs.TakeLaws.{take-refused-or-accepted, take-passed}
 use Rattle.calllaws.proofs.FreeLaws.{free-refused-or-accepted, free-passed}
+use Rattle.calllaws.proofs.DropLaws.{drop-refused-or-accepted, drop-passed}
 use Rattle.calllaws.proofs.NamedCallLaws.{named-take-refused-or-accepted, named-take-passed, named-free-refused-or-accepted, named-free-passed}
 
 -- ---- no refusal has the number 0, which is an accepted call's
@@ -86,6 +89,17 @@ free-not-refused-0 s order i a =
     (pick-not-refused-0 (not (isLiveAt s a)) _ _ (refused-not-refused-0 7 s order (λ e. omega arith))
     (moves-not-refused-0 _))))
 
+drop-not-refused-0 : (s : State) (order : List ℕ) (i : ℕ) (addresses : List ℕ) → NotRefused0 (dropUnchecked s order i addresses)
+unfolding dropUnchecked droppedAll
+drop-not-refused-0 s order i addresses =
+    pick-not-refused-0 (not (isProcessor s i)) _ _ (refused-not-refused-0 2 s order (λ e. omega arith))
+    (pick-not-refused-0 (eqb (length addresses) 0) _ _ (refused-not-refused-0 16 s order (λ e. omega arith))
+    (go (eqb (firstRefusal s addresses) 0) refl))
+  where
+    go : (t : Bool) → eqb (firstRefusal s addresses) 0 ≡ t → NotRefused0 (pick t (droppedAll s order addresses) (refused (firstRefusal s addresses) s order))
+    go true e = moves-not-refused-0 _
+    go false e = refused-not-refused-0 (firstRefusal s addresses) s order (eqb-false (firstRefusal s addresses) 0 e)
+
 unchecked-not-refused-0 : (s : State) (order : List ℕ) (call : Call) → NotRefused0 (callUnchecked s order call)
 unfolding callUnchecked namedTakeUnchecked withNameBound namedFreeUnchecked
 unchecked-not-refused-0 s order (Take i size) = take-not-refused-0 s order i size
@@ -96,6 +110,7 @@ unchecked-not-refused-0 s order (NamedTake i m size) =
 unchecked-not-refused-0 s order (NamedFree i m) =
     pick-not-refused-0 (not (isProcessor s i)) _ _ (refused-not-refused-0 2 s order (λ e. omega arith))
     (pick-not-refused-0 (not (isHeld (s .names) m)) _ _ (refused-not-refused-0 15 s order (λ e. omega arith)) (free-not-refused-0 s order i (heldAddress s m)))
+unchecked-not-refused-0 s order (Drop i addresses) = drop-not-refused-0 s order i addresses
 
 call-not-refused-0 : (s : State) (order : List ℕ) (call : Call) → NotRefused0 (callOf s order call)
 call-not-refused-0 s order call = rw (call-of-checks-first s order call) (checked-not-refused-0 s order (callUnchecked s order call) (unchecked-not-refused-0 s order call))
@@ -119,6 +134,7 @@ call-refused-or-passed s order (Take i size) shape = ⊎-elim inl (λ h. inr (ta
 call-refused-or-passed s order (Free i a) shape = ⊎-elim inl (λ h. inr (free-passed s order i a shape h)) (free-refused-or-accepted s order i a)
 call-refused-or-passed s order (NamedTake i m size) shape = ⊎-elim inl (λ h. inr (named-take-passed s order i m size (h .0) shape (h .1))) (named-take-refused-or-accepted s order i m size)
 call-refused-or-passed s order (NamedFree i m) shape = ⊎-elim inl (λ h. inr (named-free-passed s order i m shape h)) (named-free-refused-or-accepted s order i m)
+call-refused-or-passed s order (Drop i addresses) shape = ⊎-elim inl (λ h. inr (drop-passed s order i addresses shape h)) (drop-refused-or-accepted s order i addresses)
 
 pub call-passes-if-accepted : (s : State) (order : List ℕ) (call : Call) → Shape s → PassesIfAccepted (callOf s order call .answer .outcome) (callOf s order call .answer .state) (callOf s order call .order)
 call-passes-if-accepted s order call shape = go (call-refused-or-passed s order call shape)

@@ -3,9 +3,11 @@
 use mathlib.Core.Path.{_≡_, refl, sym, ap, ap₂, _∙_, subst}
 use mathlib.Core.Bool.{Bool, true, false, not}
 use mathlib.Core.Logic.{_↔_, _⊎_, inl, inr, ⊎-elim}
-use mathlib.Core.List.{List}
+use mathlib.Core.List.{List, [], _∷_}
 use Prim.Native.Nat.{ℕ, zero, suc, _+_, _*_, _≤_, _<_}
+use native.Mathlib.Nat.{pos-of-ne-zero}
 use native.Mathlib.Omega.{arith}
+use borrow.Author.Tests.{eqb-false}
 use lib.ListN.{length, getD-replicate}
 use lib.Dec.{eqb, leb}
 use Rattle.laws.specs.Sums.{pick, sumBelow}
@@ -36,10 +38,12 @@ use Rattle.calls.specs.Setup.{acceptedSetup, setupOf}
 use Rattle.calls.specs.Take.{otherPlaces, takenFrom, takenFromOther, takenAt, takeUnchecked}
 use Rattle.calls.specs.Free.{superblockHolding, isUnmapped, isMisaligned, isLiveAt, markCleared, blockFreed, freedAt, freeUnchecked}
 use Rattle.calls.specs.Named.{isUnavailable, nameBound, boundBy, withNameBound, namedTakeUnchecked, heldAddress, namedFreeUnchecked}
-use Rattle.calls.specs.Calls.{Call, Take, Free, NamedTake, NamedFree, callOf, callUnchecked}
+use Rattle.calls.specs.Drop.{allFreed, firstRefusal, isTouched, dropMoves, droppedAll, dropUnchecked}
+use Rattle.calls.specs.Calls.{Call, Take, Free, NamedTake, NamedFree, Drop, callOf, callUnchecked}
 use Rattle.calls.proofs.CheckFirst.{call-of-checks-first}
 use Rattle.calllaws.proofs.CallEffects.{Passed}
 use Rattle.calllaws.proofs.NamedCallLaws.{name-bound-of-refused}
+use Rattle.calllaws.proofs.DropMoveLaws.{heaps-restored-keep, then-restored-keeps-totals}
 use Rattle.calllaws.proofs.AcceptedCallLaws.{call-passes-if-accepted}
 use Rattle.calllaws.proofs.RefusalConditions.{address-not-refused, moves-not-refused, rest-fails, check-fails-refused-13}
 
@@ -79,6 +83,16 @@ invariant-restored-recounted h c s kept = go (eqb h 0)
     go : (b : Bool) → TotalsKept (pick b (record { moves = 0; state = s }) (transfersUpTo 64 h c 0 s) .state)
     go true = kept
     go false = moves-recounted 64 h c 0 s kept
+
+-- a block freed replaces a superblock, and the moves of a drop keep them as those of a free do
+all-freed-recounted : (s : State) (addresses : List ℕ) → TotalsKept s → TotalsKept (allFreed s addresses)
+unfolding allFreed blockFreed markCleared
+all-freed-recounted s [] kept = kept
+all-freed-recounted s (a ∷ addresses) kept = all-freed-recounted (blockFreed s a) addresses refl
+
+drop-moves-recounted : (s : State) (addresses : List ℕ) → TotalsKept (allFreed s addresses) → TotalsKept (dropMoves s addresses .state)
+unfolding dropMoves
+drop-moves-recounted s addresses kept = heaps-restored-keep (λ m. TotalsKept (m .state)) then-restored-keeps-totals (isTouched s addresses) (s .setup .processors) (record { moves = 0; state = allFreed s addresses }) kept
 
 -- a name bound leaves them as they are
 bound-recounted : (o : Outcome) (m : ℕ) (s : State) → TotalsKept s → TotalsKept (boundBy o m s)
@@ -133,6 +147,18 @@ module _ (s : State) (order : List ℕ) where
       (by-test (not (isLiveAt s a)) _ _ (with-refusal 7 (omega arith))
       (inr (moves-not-refused _, invariant-restored-recounted (superblockHolding s a .owner) (superblockHolding s a .class) (blockFreed s a) refl)))))
 
+  -- a drop frees a block at least
+  drop-recounts : (i : ℕ) (addresses : List ℕ) → RefusedOrRecounted s order (dropUnchecked s order i addresses)
+  unfolding dropUnchecked droppedAll allFreed blockFreed markCleared
+  drop-recounts i [] = by-test (not (isProcessor s i)) _ _ (with-refusal 2 (omega arith)) (with-refusal 16 (omega arith))
+  drop-recounts i (a ∷ addresses) =
+      by-test (not (isProcessor s i)) _ _ (with-refusal 2 (omega arith))
+      (by-test (eqb (length (a ∷ addresses)) 0) _ _ (with-refusal 16 (omega arith)) (go (eqb (firstRefusal s (a ∷ addresses)) 0) refl))
+    where
+      go : (t : Bool) → eqb (firstRefusal s (a ∷ addresses)) 0 ≡ t → RefusedOrRecounted s order (pick t (droppedAll s order (a ∷ addresses)) (refused (firstRefusal s (a ∷ addresses)) s order))
+      go true e = inr (moves-not-refused _, drop-moves-recounted s (a ∷ addresses) (all-freed-recounted (blockFreed s a) addresses refl))
+      go false e = with-refusal (firstRefusal s (a ∷ addresses)) (pos-of-ne-zero (eqb-false (firstRefusal s (a ∷ addresses)) 0 e))
+
   name-bound-recounts : (m : ℕ) (x : After) → RefusedOrRecounted s order x → RefusedOrRecounted s order (withNameBound m x)
   unfolding withNameBound
   name-bound-recounts m x (inl (r, pos, e)) = inl (r, pos, ap (withNameBound m) e ∙ name-bound-of-refused r m s order)
@@ -148,6 +174,7 @@ module _ (s : State) (order : List ℕ) where
   unchecked-call-recounts (NamedFree i m) =
       by-test (not (isProcessor s i)) _ _ (with-refusal 2 (omega arith))
       (by-test (not (isHeld (s .names) m)) _ _ (with-refusal 15 (omega arith)) (free-recounts i (heldAddress s m)))
+  unchecked-call-recounts (Drop i addresses) = drop-recounts i addresses
 
   module _ (call : Call) where
     refused-or-recounted : RefusedOrRecounted s order (callOf s order call)
