@@ -9,10 +9,10 @@ use Rattle.heap.specs.Table.{unused}
 use Rattle.heap.specs.States.{withNames}
 use Rattle.heap.proofs.CaseStates.{unnamedState}
 use Rattle.heap.proofs.TableCases.{of, ranked, small-setup}
-use Rattle.calls.specs.Calls.{Take, Free, NamedTake, NamedFree}
+use Rattle.calls.specs.Calls.{Call, Take, Free, NamedTake, NamedFree, Drop}
 use Rattle.calls.specs.declared.Outcome.the-variants.{Ready, Address, Moves, Refused}
 use Rattle.calls.proofs.CallDefinitions.{uncheckedCallDefinitions}
-use Rattle.bound.specs.History.{Event, freedInto, renewed, neither, eventOfFree, eventOfTake, eventOf, callsAgo, notSinceRenewal, oneCallMore, lastFreeAfter, lastFree, RankedByLastFree}
+use Rattle.bound.specs.History.{Event, freedInto, renewed, neither, eventOfFree, eventOfTake, eventsAfter, eventsAfterDrop, eventsAgo, notSinceRenewal, oneEventMore, lastFreeAfter, lastFree, RankedByLastFree}
 
 -- an accepted free, with moves and without, frees into the superblock that covers the address; another outcome is none
 pub event-of-free-cases :
@@ -32,25 +32,32 @@ pub event-of-take-cases :
 unfolding eventOfTake uncheckedCallDefinitions
 event-of-take-cases = refl
 
--- each kind of call; a named free is of the address that its name held
-pub event-of-cases :
-    eventOf history-state (Take 1 2000) (Address 4096) ∷ eventOf history-state (Take 2 700) (Address 16384) ∷ eventOf history-state (NamedTake 2 9 700) (Address 4096) ∷ eventOf history-state (Free 1 12289) (Moves 0)
-    ∷ eventOf history-state (NamedFree 1 7) (Moves 0) ∷ eventOf history-state (NamedFree 1 7) (Refused 15) ∷ []
-    ≡ renewed 1 ∷ neither ∷ renewed 1 ∷ freedInto 3 ∷ freedInto 2 ∷ neither ∷ []
-unfolding eventOf eventOfTake eventOfFree uncheckedCallDefinitions
-event-of-cases = refl
+-- each kind of call, before which superblock 9 was freed into; a named free is of the address that its name held
+pub events-after-cases :
+    map (λ (call : Call). eventsAfter (freedInto 9 ∷ []) history-state call (Address 4096)) (Take 1 2000 ∷ NamedTake 2 9 700 ∷ []) ++ (eventsAfter (freedInto 9 ∷ []) history-state (Take 2 700) (Address 16384) ∷ [])
+    ++ map (λ (call : Call). eventsAfter (freedInto 9 ∷ []) history-state call (Moves 0)) (Free 1 12289 ∷ NamedFree 1 7 ∷ []) ++ (eventsAfter (freedInto 9 ∷ []) history-state (NamedFree 1 7) (Refused 15) ∷ [])
+    ≡ (renewed 1 ∷ freedInto 9 ∷ []) ∷ (renewed 1 ∷ freedInto 9 ∷ []) ∷ (neither ∷ freedInto 9 ∷ []) ∷ (freedInto 3 ∷ freedInto 9 ∷ []) ∷ (freedInto 2 ∷ freedInto 9 ∷ []) ∷ (neither ∷ freedInto 9 ∷ []) ∷ []
+unfolding eventsAfter eventOfTake eventOfFree uncheckedCallDefinitions
+events-after-cases = refl
+
+-- an accepted drop frees into the superblock of each address, the last address's latest; a refused one into none
+pub events-after-drop-cases :
+    eventsAfter (freedInto 9 ∷ []) history-state (Drop 1 (4096 ∷ 8191 ∷ 12288 ∷ 0 ∷ [])) (Moves 2) ∷ eventsAfter (freedInto 9 ∷ []) history-state (Drop 1 (4096 ∷ 12288 ∷ [])) (Refused 7) ∷ []
+    ≡ (freedInto 0 ∷ freedInto 3 ∷ freedInto 1 ∷ freedInto 1 ∷ freedInto 9 ∷ []) ∷ (neither ∷ neither ∷ freedInto 9 ∷ []) ∷ []
+unfolding eventsAfter eventsAfterDrop eventOfFree
+events-after-drop-cases = refl
 
 -- The latest first: 5 was freed into, then 3, another call, 4 twice, 5 again, 4 was renewed, another call. Of 3, 4, 5 and 6, which was never freed into.
 abbrev pub history : List Event
 history = neither ∷ renewed 4 ∷ freedInto 5 ∷ freedInto 4 ∷ freedInto 4 ∷ neither ∷ freedInto 3 ∷ freedInto 5 ∷ []
 
-pub last-free-cases : map (λ (k : ℕ). lastFree k history) (3 ∷ 4 ∷ 5 ∷ 6 ∷ []) ≡ callsAgo 6 ∷ notSinceRenewal ∷ callsAgo 2 ∷ notSinceRenewal ∷ []
-unfolding lastFree lastFreeAfter oneCallMore
+pub last-free-cases : map (λ (k : ℕ). lastFree k history) (3 ∷ 4 ∷ 5 ∷ 6 ∷ []) ≡ eventsAgo 6 ∷ notSinceRenewal ∷ eventsAgo 2 ∷ notSinceRenewal ∷ []
+unfolding lastFree lastFreeAfter oneEventMore
 last-free-cases = refl
 
 -- a free after the renewal counts again
-pub freed-after-renewal-case : map (λ (k : ℕ). lastFree k (freedInto 4 ∷ history)) (4 ∷ 5 ∷ []) ≡ callsAgo 0 ∷ callsAgo 3 ∷ []
-unfolding lastFree lastFreeAfter oneCallMore
+pub freed-after-renewal-case : map (λ (k : ℕ). lastFree k (freedInto 4 ∷ history)) (4 ∷ 5 ∷ []) ≡ eventsAgo 0 ∷ eventsAgo 3 ∷ []
+unfolding lastFree lastFreeAfter oneEventMore
 freed-after-renewal-case = refl
 
 -- ---- what the claim refuses: the earliest first; one that was freed into without a rank; one that was renewed with a rank
@@ -58,12 +65,12 @@ abbrev pub with-ranks-of-0-and-1 : ℕ → ℕ → State
 with-ranks-of-0-and-1 a b = unnamedState small-setup (ranked 1 20 1 a ∷ ranked 1 20 1 b ∷ replicate 62 unused)
 
 pub earliest-first-refused : RankedByLastFree (with-ranks-of-0-and-1 1 2) (freedInto 1 ∷ freedInto 0 ∷ []) → ⊥
-unfolding lastFree lastFreeAfter oneCallMore
+unfolding lastFree lastFreeAfter oneEventMore
 earliest-first-refused h = let l : _<_ 2 1 = h .later-first 1 0 0 1 (omega arith) (omega arith) refl refl (omega arith) in omega arith
 
 pub freed-without-rank-refused : RankedByLastFree (with-ranks-of-0-and-1 0 0) (freedInto 0 ∷ []) → ⊥
 unfolding lastFree lastFreeAfter
-freed-without-rank-refused h = let e : callsAgo 0 ≡ notSinceRenewal = h .unranked-iff 0 (omega arith) .0 refl in let z : _≡_ {A = ℕ} 0 1 = cc in omega arith
+freed-without-rank-refused h = let e : eventsAgo 0 ≡ notSinceRenewal = h .unranked-iff 0 (omega arith) .0 refl in let z : _≡_ {A = ℕ} 0 1 = cc in omega arith
 
 pub renewed-with-rank-refused : RankedByLastFree (with-ranks-of-0-and-1 1 0) (renewed 0 ∷ freedInto 0 ∷ []) → ⊥
 unfolding lastFree lastFreeAfter

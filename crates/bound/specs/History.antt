@@ -4,7 +4,7 @@ use Prim.Native.Nat.{ℕ, suc, _/_, _<_}
 use mathlib.Core.Path.{_≡_}
 use mathlib.Core.Bool.{not}
 use mathlib.Core.Logic.{_↔_}
-use mathlib.Core.List.{List, [], _∷_, _++_}
+use mathlib.Core.List.{List, [], _∷_}
 use lib.Dec.{eqb}
 use Rattle.laws.specs.Sums.{pick, both}
 use Rattle.heap.specs.declared.State.{State}
@@ -38,18 +38,18 @@ eventOfTake s i (Address a) =
 eventOfTake s i (Moves m) = neither
 eventOfTake s i (Refused r) = neither
 
--- a drop's frees "in the order written", so that the last address's comes first (document 02, item 5)
-unfoldable pub eventsOfDrop : List ℕ → Outcome → List Event
-eventsOfDrop [] outcome = []
-eventsOfDrop (a ∷ addresses) outcome = eventsOfDrop addresses outcome ++ (eventOfFree a outcome ∷ [])
+-- with those of a drop, whose frees are "in the order written" (document 02, item 5); the latest event comes first
+unfoldable pub eventsAfterDrop : List Event → List ℕ → Outcome → List Event
+eventsAfterDrop events [] outcome = events
+eventsAfterDrop events (a ∷ addresses) outcome = eventsAfterDrop (eventOfFree a outcome ∷ events) addresses outcome
 
--- the events of a call on state s, the latest of which comes first
-unfoldable pub eventsOf : State → Call → Outcome → List Event
-eventsOf s (Take processor size) outcome = eventOfTake s processor outcome ∷ []
-eventsOf s (Free processor address) outcome = eventOfFree address outcome ∷ []
-eventsOf s (NamedTake processor name size) outcome = eventOfTake s processor outcome ∷ []
-eventsOf s (NamedFree processor name) outcome = eventOfFree (heldAddress s name) outcome ∷ []
-eventsOf s (Drop processor addresses) outcome = eventsOfDrop addresses outcome
+-- with those of a call on state s
+unfoldable pub eventsAfter : List Event → State → Call → Outcome → List Event
+eventsAfter events s (Take processor size) outcome = eventOfTake s processor outcome ∷ events
+eventsAfter events s (Free processor address) outcome = eventOfFree address outcome ∷ events
+eventsAfter events s (NamedTake processor name size) outcome = eventOfTake s processor outcome ∷ events
+eventsAfter events s (NamedFree processor name) outcome = eventOfFree (heldAddress s name) outcome ∷ events
+eventsAfter events s (Drop processor addresses) outcome = eventsAfterDrop events addresses outcome
 
 -- the last free into a superblock since it was last renewed: so many events ago, or there was none
 pub data LastFree : Type 0 where
@@ -81,4 +81,4 @@ unfoldable pub RankedByLastFreeOver : After → List Event → List Step → Typ
 RankedByLastFreeOver before events [] = RankedByLastFree (before .answer .state) events
 RankedByLastFreeOver before events (step ∷ steps) =
     RankedByLastFree (before .answer .state) events
-    × RankedByLastFreeOver (step .after) (eventsOf (before .answer .state) (step .call) (step .after .answer .outcome) ++ events) steps
+    × RankedByLastFreeOver (step .after) (eventsAfter events (before .answer .state) (step .call) (step .after .answer .outcome)) steps

@@ -4,10 +4,11 @@ use mathlib.Core.Bool.{Bool}
 use mathlib.Core.Logic.{_⊎_, inl, inr, ⊎-elim}
 use mathlib.Core.List.{List, _∷_}
 use Prim.Native.Nat.{ℕ, _+_, _-_, _*_, _≤_, _<_}
-use native.Mathlib.Nat.{le-refl, le-of-eq, le-max-left, le-max-right, mul-le-mul-left}
+use native.Mathlib.Nat.{le-refl, le-trans, le-of-eq, le-max-left, le-max-right, mul-le-mul-left}
 use native.Mathlib.Decide.{ℕ-discrete}
 use native.Mathlib.Omega.{arith}
 use borrow.Author.Tests.{eq-eqb, ne-eqb}
+use lib.ListN.{length}
 use lib.Dec.{eqb}
 use Rattle.laws.specs.Sums.{both, one}
 use Rattle.classes.specs.Classes.{blocksOf, classOf}
@@ -22,70 +23,21 @@ use Rattle.calls.specs.Answers.{After, refused}
 use Rattle.calls.specs.Take.{addressOf, takeOf}
 use Rattle.calls.specs.Free.{superblockIndex, superblockHolding, blockOf, freeOf}
 use Rattle.calls.specs.Named.{namedTakeOf, heldAddress, namedFreeOf}
-use Rattle.calls.specs.Calls.{Call, Take, Free, NamedTake, NamedFree, callOf}
+use Rattle.calls.specs.Drop.{allFreed, isTouched, dropMoves, dropOf}
+use Rattle.calls.specs.Calls.{Call, Take, Free, NamedTake, NamedFree, Drop, callOf}
 use Rattle.calllaws.proofs.CallEffects.{Passed, TakeAccepted, FreeAccepted, NamedTakeAccepted, NamedFreeAccepted, TakeEffect, FreeEffect}
-use Rattle.bound.specs.Ledger.{Name, named, unnamed, Entry, classOfEntry, isAt, removed, afterTake, afterFree, ledgerAfter, entriesOf}
+use Rattle.bound.specs.Ledger.{Name, named, unnamed, Entry, classOfEntry, isAt, isAtOneOf, removed, afterTake, afterFree, ledgerAfter, entriesOf}
 use Rattle.bound.specs.Claim.{Step, Bounded, TakeOwnerChanges, FreeOwnerChanges, OwnerChanges, peakWith}
 use Rattle.calllaws.proofs.TakeLaws.{take-refused-or-accepted, taken-block, take-address, take-effect, take-names, take-shape, take-passed}
 use Rattle.calllaws.proofs.FreeLaws.{free-refused-or-accepted, moves, free-outcome, free-address, free-effect, free-names, free-shape, free-passed}
+use Rattle.calllaws.proofs.TransferredLaws.{passed-after-no-frees}
+use Rattle.calllaws.proofs.DropLaws.{DropAccepted, DropEffect, drop-refused-or-accepted, drop-frees, drop-transfers, dropped-shape, drop-outcome, drop-state-is, drop-effect, drop-shape, drop-passed}
 use Rattle.calllaws.proofs.NamedCallLaws.{facts-of-available, named-take-refused-or-accepted, named-taken-block, named-take-address, named-take-effect, named-take-names, named-take-shape, named-take-passed, named-free-refused-or-accepted}
 use Rattle.boundlaws.proofs.LedgerLaws.{entriesAt, entries-at-added, entries-of-added, entries-at-removed, entries-at-others-removed, entries-of-removed}
 use Rattle.boundlaws.proofs.LiveAtLaws.{liveAt, OneMoreLive, live-at-before-is-zero, live-at-one-more, one-more-live-of-take, one-more-live-of-free}
-use Rattle.boundlaws.proofs.LedgerNames.{EachEntry, each-entry-map, each-entry-cons, EntryAgrees, plain-take-keeps-agreement, plain-take-entry-agrees, named-take-keeps-agreement, named-take-entry-agrees, no-entry-at, agreement-after-free, removed-by-name-is-removed-by-address}
+use Rattle.boundlaws.proofs.LedgerNames.{EachEntry, each-entry-map, each-entry-cons, EntryAgrees, plain-take-keeps-agreement, plain-take-entry-agrees, named-take-keeps-agreement, named-take-entry-agrees, no-entry-at, agreement-after-free, agreement-of-same-names-and-classes, removed-by-name-is-removed-by-address}
+use Rattle.boundlaws.proofs.ListedLaws.{Listed, listed-added, listed-removed, Agreement, all-freed-agreement, transfers-class, listed-after-transfers}
 use Rattle.boundlaws.proofs.BoundLaws.{bound-of-none-in-global}
-
--- ---- the ledger lists the live blocks
-pub record Listed (s : State) (ledger : List Entry) : Type 0 where
-  -- each block once, and nothing else
-  pub blocks : (a c : ℕ) → c < 27 → entriesAt ledger a c ≡ liveAt s a c
-  -- so that each class has as many entries as live blocks
-  pub counted : (c : ℕ) → c < 27 → entriesOf c ledger ≡ liveOfClass c s
-
-module _ (c k j : ℕ) (s t : State) (one-more-live : OneMoreLive c k j s t) (ledger : List Entry) where
-  listed-added : (e : Entry) → e .address ≡ addressOf k c j → classOfEntry e ≡ c → Listed s ledger → Listed t (e ∷ ledger)
-  listed-added e at class h =
-      record {
-        blocks = λ a d l.
-            entries-at-added e ledger a d
-            ∙ ap₂ (λ (x y : ℕ). entriesAt ledger a d + one (both (eqb x a) (eqb y d))) at class
-            ∙ ap (λ (x : ℕ). x + one (both (eqb (addressOf k c j) a) (eqb c d))) (h .blocks a d l)
-            ∙ sym (live-at-one-more c k j s t one-more-live a d l);
-        counted = λ d l.
-            entries-of-added e ledger d
-            ∙ ap (λ (y : ℕ). entriesOf d ledger + one (eqb y d)) class
-            ∙ ap (λ (x : ℕ). x + one (eqb c d)) (h .counted d l)
-            ∙ sym (one-more-live .live d);
-      }
-
-  abbrev without-address : List Entry
-  without-address = removed (isAt (addressOf k c j)) ledger
-
-  listed-removed : Listed t ledger → Listed s without-address
-  listed-removed h = record { blocks = λ a d l. without a d l (ℕ-discrete (addressOf k c j) a); counted = one-live-less }
-    where
-      without : (a d : ℕ) → d < 27 → Dec (addressOf k c j ≡ a) → entriesAt without-address a d ≡ liveAt s a d
-      without a d l (yes e) =
-          ap (λ (x : ℕ). entriesAt without-address x d) (sym e)
-          ∙ entries-at-removed (addressOf k c j) ledger d
-          ∙ sym (live-at-before-is-zero c k j s t one-more-live d l)
-          ∙ ap (λ (x : ℕ). liveAt s x d) e
-      without a d l (no f) =
-          let x = entries-at-others-removed (addressOf k c j) ledger a d f in
-          let y = h .blocks a d l in
-          let z = live-at-one-more c k j s t one-more-live a d l in
-          let o : one (both (eqb (addressOf k c j) a) (eqb c d)) ≡ 0 = ap (λ (x : Bool). one (both x (eqb c d))) (ne-eqb (addressOf k c j) a f) in
-          omega arith
-
-      one-live-less : (d : ℕ) → d < 27 → entriesOf d without-address ≡ liveOfClass d s
-      one-live-less d l =
-          let x = entries-of-removed (addressOf k c j) ledger d in
-          let y = h .blocks (addressOf k c j) d l in
-          let z = live-at-one-more c k j s t one-more-live (addressOf k c j) d l in
-          let w = live-at-before-is-zero c k j s t one-more-live d l in
-          let o : one (both (eqb (addressOf k c j) (addressOf k c j)) (eqb c d)) ≡ one (eqb c d) = ap (λ (x : Bool). one (both x (eqb c d))) (eq-eqb (addressOf k c j) (addressOf k c j) refl) in
-          let n = h .counted d l in
-          let v = one-more-live .live d in
-          omega arith
 
 -- ---- after the setup or a call
 pub record ListInvariant (u : Setup) (s : State) (order : List ℕ) (ledger : List Entry) (peak : ℕ → ℕ) : Type 0 where
@@ -161,15 +113,16 @@ module _ (u : Setup) (s : State) (order : List ℕ) (ledger : List Entry) (peak 
   refused-take-changes-no-owner : (r : ℕ) → TakeOwnerChanges (ownersChanged s s) (Refused r)
   refused-take-changes-no-owner r m e = owners-changed-self s
 
-  refused-free-changes-no-owner : (r : ℕ) → FreeOwnerChanges (u .q) (ownersChanged s s) (Refused r)
-  refused-free-changes-no-owner r = (omega (arith, owners-changed-self s), λ m e. absurd (Refused-and-Moves-differ (Refused r) r m refl e), λ m e. owners-changed-self s)
+  refused-free-changes-no-owner : (most r : ℕ) → FreeOwnerChanges most (ownersChanged s s) (Refused r)
+  refused-free-changes-no-owner most r = (omega (arith, owners-changed-self s), λ m e. absurd (Refused-and-Moves-differ (Refused r) r m refl e), λ m e. owners-changed-self s)
 
   after-refused-call : (r : ℕ) (call : Call) → AfterCall u s ledger peak call (refused r s order)
   unfolding OwnerChanges ledgerAfter afterTake afterFree
   after-refused-call r (Take i size) = record { owner-changes = refused-take-changes-no-owner r; invariant = list-invariant-after-refusal }
-  after-refused-call r (Free i a) = record { owner-changes = refused-free-changes-no-owner r; invariant = list-invariant-after-refusal }
+  after-refused-call r (Free i a) = record { owner-changes = refused-free-changes-no-owner (u .q) r; invariant = list-invariant-after-refusal }
   after-refused-call r (NamedTake i m size) = record { owner-changes = refused-take-changes-no-owner r; invariant = list-invariant-after-refusal }
-  after-refused-call r (NamedFree i m) = record { owner-changes = refused-free-changes-no-owner r; invariant = list-invariant-after-refusal }
+  after-refused-call r (NamedFree i m) = record { owner-changes = refused-free-changes-no-owner (u .q) r; invariant = list-invariant-after-refusal }
+  after-refused-call r (Drop i addresses) = record { owner-changes = refused-free-changes-no-owner (u .q * length addresses) r; invariant = list-invariant-after-refusal }
 
   numbers : WithinLimits (s .setup)
   numbers = g .passed .sound .numbers
@@ -309,7 +262,7 @@ module _ (u : Setup) (s : State) (order : List ℕ) (ledger : List Entry) (peak 
     names-after-free : EachEntry (EntryAgrees (freed .answer .state)) without-freed
     names-after-free =
         subst (λ (b : ℕ). EachEntry (EntryAgrees (freed .answer .state)) (removed (isAt b) ledger)) (sym (free-address s order i a (g .shape) acc))
-        (agreement-after-free (superblockHolding s a .class) (superblockIndex a) (blockOf s a) (moves s order i a (g .shape) acc) s (freed .answer .state) order (g .shape) (g .passed) home-below free-effect-of-call
+        (agreement-after-free (superblockHolding s a .class) (superblockIndex a) (blockOf s a) (moves s order i a (g .shape) acc) s (freed .answer .state) (g .shape .length-is) (g .passed .names) free-effect-of-call
         (free-names s order i a (g .shape) acc) ledger (g .names))
 
     list-invariant-after-free : ListInvariant u (freed .answer .state) (freed .order) without-freed (peakWith peak without-freed)
@@ -330,6 +283,56 @@ module _ (u : Setup) (s : State) (order : List ℕ) (ledger : List Entry) (peak 
         invariant = rw (outcome i (heldAddress s m) (acc .freed), removed-by-name-is-removed-by-address s ledger m (g .names) (acc .held)) (list-invariant-after-free i (heldAddress s m) (acc .freed));
       })
 
+  -- ---- an accepted drop
+  module _ (i : ℕ) (addresses : List ℕ) (acc : DropAccepted s order i addresses) where
+    abbrev dropped : After
+    dropped = dropOf s order i addresses
+
+    abbrev without-dropped : List Entry
+    without-dropped = removed (isAtOneOf addresses) ledger
+
+    abbrev left : State
+    left = dropMoves s addresses .state
+
+    effect-of-drop : DropEffect addresses (dropMoves s addresses .moves) s (dropped .answer .state)
+    effect-of-drop = drop-effect s order i addresses (g .shape) acc
+
+    drop-changes-owners : FreeOwnerChanges (u .q * length addresses) (ownersChanged s (dropped .answer .state)) (dropped .answer .outcome)
+    drop-changes-owners =
+        let answered = drop-outcome s order i addresses (g .shape) acc in (
+          subst (λ (v : Setup). ownersChanged s (dropped .answer .state) ≤ v .q * length addresses) (g .setup) (le-trans (le-of-eq (effect-of-drop .changed)) (effect-of-drop .moves-bound)),
+          λ m e. effect-of-drop .changed ∙ Moves-equal (dropped .answer .outcome) (dropMoves s addresses .moves) m answered e,
+          λ r e. absurd (Refused-and-Moves-differ (dropped .answer .outcome) r (dropMoves s addresses .moves) e answered),
+        )
+
+    -- the frees, and the moves after them
+    agreement-after-frees : Agreement (allFreed s addresses) without-dropped
+    agreement-after-frees =
+        all-freed-agreement (λ h c. 0) s order addresses ledger (g .shape) (passed-after-no-frees s order (acc .passed)) (acc .no-refusal) (record { listed = g .listed; names = g .names })
+
+    agreement-after-drop : Agreement (dropped .answer .state) without-dropped
+    agreement-after-drop =
+        let frees = drop-frees s order addresses (g .shape) (acc .passed) (acc .no-refusal) in
+        let moved = drop-transfers s order addresses (g .shape) (acc .passed) (acc .no-refusal) in
+        subst (λ (t : State). Agreement t without-dropped) (sym (drop-state-is s order i addresses (g .shape) acc))
+        (record {
+          listed = listed-after-transfers (isTouched s addresses) (allFreed s addresses) left (dropMoves s addresses .moves) moved without-dropped (agreement-after-frees .listed);
+          names =
+              agreement-of-same-names-and-classes (allFreed s addresses) left (frees .shape .length-is) (dropped-shape s order addresses (g .shape) (acc .passed) (acc .no-refusal) .length-is) (moved .names)
+              (transfers-class (isTouched s addresses) (allFreed s addresses) left (dropMoves s addresses .moves) moved) without-dropped (agreement-after-frees .names);
+        })
+
+    after-accepted-drop : AfterCall u s ledger peak (Drop i addresses) dropped
+    unfolding OwnerChanges ledgerAfter afterFree
+    after-accepted-drop =
+        record {
+          owner-changes = drop-changes-owners;
+          invariant = rw (drop-outcome s order i addresses (g .shape) acc)
+              (list-invariant-next u s (dropped .answer .state) order (dropped .order) ledger without-dropped peak g
+              (effect-of-drop .setup) (drop-passed s order i addresses (g .shape) acc) (drop-shape s order i addresses (g .shape) acc) (agreement-after-drop .listed) (agreement-after-drop .names)
+              (λ c l. inl (le-of-eq (effect-of-drop .owned c))));
+        }
+
   -- ---- whatever the call
   refused-or : (call : Call) → ((r : ℕ) × (callOf s order call ≡ refused r s order)) → AfterCall u s ledger peak call (callOf s order call)
   refused-or call h = subst (AfterCall u s ledger peak call) (sym (h .1)) (after-refused-call (h .0) call)
@@ -340,6 +343,7 @@ module _ (u : Setup) (s : State) (order : List ℕ) (ledger : List Entry) (peak 
   after-call (Free i a) = ⊎-elim (refused-or (Free i a)) (λ h. after-accepted-free i a h) (free-refused-or-accepted s order i a)
   after-call (NamedTake i m size) = ⊎-elim (refused-or (NamedTake i m size)) (λ h. after-accepted-named-take i m size (h .0) (h .1)) (named-take-refused-or-accepted s order i m size)
   after-call (NamedFree i m) = ⊎-elim (refused-or (NamedFree i m)) (λ h. after-accepted-named-free i m h) (named-free-refused-or-accepted s order i m)
+  after-call (Drop i addresses) = ⊎-elim (refused-or (Drop i addresses)) (λ h. after-accepted-drop i addresses h) (drop-refused-or-accepted s order i addresses)
 
   -- the same of a step of a list
   pub after-step : (step : Step) → step .after ≡ callOf s order (step .call) → AfterCall u s ledger peak (step .call) (step .after)

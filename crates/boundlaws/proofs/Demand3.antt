@@ -28,7 +28,8 @@ use Rattle.heaplaws.proofs.CountLaws.{owned-of-new-state, live-of-class-of-new-
 use Rattle.boundlaws.proofs.LedgerLaws.{entries-at-empty, entries-of-empty}
 use Rattle.boundlaws.proofs.LiveAtLaws.{live-at-of-new-state}
 use Rattle.boundlaws.proofs.LedgerNames.{EntryAgrees, each-entry-empty}
-use Rattle.boundlaws.proofs.CallInvariantLaws.{Listed, ListInvariant, AfterCall, after-step}
+use Rattle.boundlaws.proofs.ListedLaws.{Listed}
+use Rattle.boundlaws.proofs.CallInvariantLaws.{ListInvariant, AfterCall, after-step}
 
 -- ---- after the setup
 ledger-of-new-state : (u : Setup) → Listed (newState u) []
@@ -80,7 +81,7 @@ claims-of-list-invariant u before ledger peak (step ∷ steps) g linked = (g .bo
     n : AfterCall u (before .answer .state) ledger peak (step .call) (step .after)
     n = after-step u (before .answer .state) (before .order) ledger peak g step (linked .0)
 
--- For every accepted setup, whatever stood in the storage before, and every list of takes and frees after it, plain and named.
+-- For every accepted setup, whatever stood in the storage before, and every list of takes and frees after it, plain and named, and of drops.
 pub demand-3 : (u : Setup) (order : List ℕ) (start : After) → start ≡ setupOf u order → start .answer .outcome ≡ Ready
     → (steps : List Step) → Linked start steps → Claims u start [] (λ c. 0) steps
 demand-3 u order start e ready steps linked =

@@ -16,24 +16,24 @@ use Rattle.heap.specs.Ranks.{rankAfterFree, rankAfterRenewal}
 use Rattle.heaplaws.proofs.StateFacts.{RanksSound}
 use Rattle.heaplaws.proofs.RankLaws.{rank-in-new-state, rank-after-free-of-superblock, rank-after-renewal-of-superblock, ranked-of-ranked-after-free, ranked-after-free-of-ranked}
 use Rattle.heaplaws.proofs.RankLaws.{ranked-of-ranked-after-renewal, ranked-after-renewal-of-ranked, order-kept-by-free, order-kept-by-renewal, latest-after-free}
-use Rattle.bound.specs.History.{Event, freedInto, renewed, neither, LastFree, callsAgo, notSinceRenewal, oneCallMore, lastFreeAfter, lastFree, RankedByLastFree}
+use Rattle.bound.specs.History.{Event, freedInto, renewed, neither, LastFree, eventsAgo, notSinceRenewal, oneEventMore, lastFreeAfter, lastFree, RankedByLastFree}
 
--- ---- one call more
--- what was freed into so many calls ago was freed into since it was last renewed
-not-both-of-last-free : (l : LastFree) (x : ℕ) → l ≡ callsAgo x → l ≡ notSinceRenewal → ⊥
+-- ---- one event more
+-- what was freed into so many events ago was freed into since it was last renewed
+not-both-of-last-free : (l : LastFree) (x : ℕ) → l ≡ eventsAgo x → l ≡ notSinceRenewal → ⊥
 not-both-of-last-free l x e g = let z : _≡_ {A = ℕ} 0 1 = cc in omega arith
 
--- when it was, one call before
-before-calls-ago : (l : LastFree) (x : ℕ) → oneCallMore l ≡ callsAgo x → (w : ℕ) × (l ≡ callsAgo w) × (x ≡ suc w)
-unfolding oneCallMore
-before-calls-ago (callsAgo w) x e = (w, refl, cc)
-before-calls-ago notSinceRenewal x e = absurd (not-both-of-last-free _ x e refl)
+-- when it was, one event before
+before-events-ago : (l : LastFree) (x : ℕ) → oneEventMore l ≡ eventsAgo x → (w : ℕ) × (l ≡ eventsAgo w) × (x ≡ suc w)
+unfolding oneEventMore
+before-events-ago (eventsAgo w) x e = (w, refl, cc)
+before-events-ago notSinceRenewal x e = absurd (not-both-of-last-free _ x e refl)
 
--- none was, exactly if none was one call before
-one-call-more-none-iff : (l : LastFree) → (l ≡ notSinceRenewal) ↔ (oneCallMore l ≡ notSinceRenewal)
-unfolding oneCallMore
-one-call-more-none-iff (callsAgo w) = (λ e. absurd (not-both-of-last-free _ w refl e), λ e. absurd (not-both-of-last-free _ (suc w) refl e))
-one-call-more-none-iff notSinceRenewal = (λ e. refl, λ e. refl)
+-- none was, exactly if none was one event before
+one-event-more-none-iff : (l : LastFree) → (l ≡ notSinceRenewal) ↔ (oneEventMore l ≡ notSinceRenewal)
+unfolding oneEventMore
+one-event-more-none-iff (eventsAgo w) = (λ e. absurd (not-both-of-last-free _ w refl e), λ e. absurd (not-both-of-last-free _ (suc w) refl e))
+one-event-more-none-iff notSinceRenewal = (λ e. refl, λ e. refl)
 
 -- a number that is not 0 only where another is not 0 is 0 where the other is
 zero-of-positive : (x y : ℕ) → (0 < y → 0 < x) → x ≡ 0 → y ≡ 0
@@ -43,31 +43,31 @@ zero-of-positive x (suc y) f e = absurd (let h = f (omega arith) in let z : ⊥ 
 -- ---- the superblocks that a call does not free into or renew
 module _ (s : State) (event : Event) (events : List Event) (ranked : RankedByLastFree s events) where
   -- one that stays ranked or unranked is ranked exactly if it was freed into since it was last renewed
-  unranked-iff-of-other : (m r : ℕ) → m < 64 → lastFree m (event ∷ events) ≡ oneCallMore (lastFree m events) → (0 < r → 0 < superblockAt s m .rank) → (0 < superblockAt s m .rank → 0 < r)
+  unranked-iff-of-other : (m r : ℕ) → m < 64 → lastFree m (event ∷ events) ≡ oneEventMore (lastFree m events) → (0 < r → 0 < superblockAt s m .rank) → (0 < superblockAt s m .rank → 0 < r)
       → (r ≡ 0) ↔ (lastFree m (event ∷ events) ≡ notSinceRenewal)
   unranked-iff-of-other m r l other f g = (
-    λ e. other ∙ one-call-more-none-iff _ .0 (ranked .unranked-iff m l .0 (zero-of-positive r (superblockAt s m .rank) g e)),
-    λ e. zero-of-positive (superblockAt s m .rank) r f (ranked .unranked-iff m l .1 (one-call-more-none-iff _ .1 (sym other ∙ e))),
+    λ e. other ∙ one-event-more-none-iff _ .0 (ranked .unranked-iff m l .0 (zero-of-positive r (superblockAt s m .rank) g e)),
+    λ e. zero-of-positive (superblockAt s m .rank) r f (ranked .unranked-iff m l .1 (one-event-more-none-iff _ .1 (sym other ∙ e))),
   )
 
   -- one that was freed into since then was ranked
-  ranked-before : (m x : ℕ) → m < 64 → lastFree m (event ∷ events) ≡ oneCallMore (lastFree m events) → lastFree m (event ∷ events) ≡ callsAgo x → 0 < superblockAt s m .rank
+  ranked-before : (m x : ℕ) → m < 64 → lastFree m (event ∷ events) ≡ oneEventMore (lastFree m events) → lastFree m (event ∷ events) ≡ eventsAgo x → 0 < superblockAt s m .rank
   ranked-before m x l other e =
-      let b = before-calls-ago (lastFree m events) x (sym other ∙ e) in
+      let b = before-events-ago (lastFree m events) x (sym other ∙ e) in
       pos-of-ne-zero (λ z. not-both-of-last-free _ (b .0) (b .1) (ranked .unranked-iff m l .0 z))
 
   -- the order of two of them was that of their last frees
-  order-before : (i j x y : ℕ) → i < 64 → j < 64 → lastFree i (event ∷ events) ≡ oneCallMore (lastFree i events) → lastFree j (event ∷ events) ≡ oneCallMore (lastFree j events)
-      → lastFree i (event ∷ events) ≡ callsAgo x → lastFree j (event ∷ events) ≡ callsAgo y → x < y → superblockAt s i .rank < superblockAt s j .rank
+  order-before : (i j x y : ℕ) → i < 64 → j < 64 → lastFree i (event ∷ events) ≡ oneEventMore (lastFree i events) → lastFree j (event ∷ events) ≡ oneEventMore (lastFree j events)
+      → lastFree i (event ∷ events) ≡ eventsAgo x → lastFree j (event ∷ events) ≡ eventsAgo y → x < y → superblockAt s i .rank < superblockAt s j .rank
   order-before i j x y li lj other-i other-j e f h =
-      let a = before-calls-ago (lastFree i events) x (sym other-i ∙ e) in
-      let b = before-calls-ago (lastFree j events) y (sym other-j ∙ f) in
+      let a = before-events-ago (lastFree i events) x (sym other-i ∙ e) in
+      let b = before-events-ago (lastFree j events) y (sym other-j ∙ f) in
       ranked .later-first i j (a .0) (b .0) li lj (a .1) (b .1) (omega arith)
 
 -- ---- the three kinds of call
 module _ (k : ℕ) (events : List Event) where
   -- the superblock freed into, or renewed, and the others
-  last-free-of-freed : (m : ℕ) → m ≡ k → lastFree m (freedInto k ∷ events) ≡ callsAgo 0
+  last-free-of-freed : (m : ℕ) → m ≡ k → lastFree m (freedInto k ∷ events) ≡ eventsAgo 0
   unfolding lastFree lastFreeAfter
   last-free-of-freed m q = pick-true _ _ _ (eq-eqb k m (sym q))
 
@@ -75,11 +75,11 @@ module _ (k : ℕ) (events : List Event) where
   unfolding lastFree lastFreeAfter
   last-free-of-renewed m q = pick-true _ _ _ (eq-eqb k m (sym q))
 
-  last-free-of-not-freed : (m : ℕ) → (m ≡ k → ⊥) → lastFree m (freedInto k ∷ events) ≡ oneCallMore (lastFree m events)
+  last-free-of-not-freed : (m : ℕ) → (m ≡ k → ⊥) → lastFree m (freedInto k ∷ events) ≡ oneEventMore (lastFree m events)
   unfolding lastFree lastFreeAfter
   last-free-of-not-freed m a = pick-false _ _ _ (ne-eqb k m (λ q. a (sym q)))
 
-  last-free-of-not-renewed : (m : ℕ) → (m ≡ k → ⊥) → lastFree m (renewed k ∷ events) ≡ oneCallMore (lastFree m events)
+  last-free-of-not-renewed : (m : ℕ) → (m ≡ k → ⊥) → lastFree m (renewed k ∷ events) ≡ oneEventMore (lastFree m events)
   unfolding lastFree lastFreeAfter
   last-free-of-not-renewed m a = pick-false _ _ _ (ne-eqb k m (λ q. a (sym q)))
 
@@ -102,13 +102,13 @@ module _ (s t : State) (k : ℕ) (events : List Event) (below : k < 64) (sound :
           (ranked-after-free-of-ranked k (s .table) m a)
 
       -- nothing was freed into later than the superblock freed into now
-      not-later : (j x y : ℕ) → j ≡ k → lastFree j (freedInto k ∷ events) ≡ callsAgo y → x < y → ⊥
+      not-later : (j x y : ℕ) → j ≡ k → lastFree j (freedInto k ∷ events) ≡ eventsAgo y → x < y → ⊥
       not-later j x y q f h =
-          let same : callsAgo y ≡ callsAgo 0 = sym f ∙ last-free-of-freed k events j q in
+          let same : eventsAgo y ≡ eventsAgo 0 = sym f ∙ last-free-of-freed k events j q in
           let now : y ≡ 0 = cc in
           omega arith
 
-      order : (i j x y : ℕ) → i < 64 → j < 64 → lastFree i (freedInto k ∷ events) ≡ callsAgo x → lastFree j (freedInto k ∷ events) ≡ callsAgo y → x < y → Dec (i ≡ k) → Dec (j ≡ k)
+      order : (i j x y : ℕ) → i < 64 → j < 64 → lastFree i (freedInto k ∷ events) ≡ eventsAgo x → lastFree j (freedInto k ∷ events) ≡ eventsAgo y → x < y → Dec (i ≡ k) → Dec (j ≡ k)
           → rankAfterFree k (s .table) i < rankAfterFree k (s .table) j
       order i j x y li lj e f h d (yes q) = absurd (not-later j x y q f h)
       order i j x y li lj e f h (yes p) (no b) =
@@ -132,7 +132,7 @@ module _ (s t : State) (k : ℕ) (events : List Event) (below : k < 64) (sound :
           unranked-iff-of-other s (renewed k) events ranked m (rankAfterRenewal k (s .table) m) l (last-free-of-not-renewed k events m a) (ranked-of-ranked-after-renewal k (s .table) m a)
           (ranked-after-renewal-of-ranked k (s .table) m a)
 
-      order : (i j x y : ℕ) → i < 64 → j < 64 → lastFree i (renewed k ∷ events) ≡ callsAgo x → lastFree j (renewed k ∷ events) ≡ callsAgo y → x < y → Dec (i ≡ k) → Dec (j ≡ k)
+      order : (i j x y : ℕ) → i < 64 → j < 64 → lastFree i (renewed k ∷ events) ≡ eventsAgo x → lastFree j (renewed k ∷ events) ≡ eventsAgo y → x < y → Dec (i ≡ k) → Dec (j ≡ k)
           → rankAfterRenewal k (s .table) i < rankAfterRenewal k (s .table) j
       order i j x y li lj e f h (yes p) d = absurd (not-both-of-last-free _ x e (last-free-of-renewed k events i p))
       order i j x y li lj e f h (no a) (yes q) = absurd (not-both-of-last-free _ y f (last-free-of-renewed k events j q))

@@ -5,11 +5,13 @@ use mathlib.Core.Bool.{Bool, true, false}
 use mathlib.Core.Logic.{_⊎_, inl, inr}
 use mathlib.Core.List.{List, [], _∷_}
 use Prim.Native.Nat.{ℕ, _+_, _*_, _/_, _%_, _<_}
-use native.Mathlib.Decide.{ℕ-discrete}
+use native.Mathlib.Decide.{ℕ-discrete, decLt}
 use native.Mathlib.Omega.{arith}
 use borrow.Author.Tests.{eq-eqb, ne-eqb, eqb-false}
+use lib.ListN.{length, List·getD-eq-default}
 use lib.Dec.{T, eqb}
 use Rattle.laws.specs.Sums.{pick, both, one}
+use Rattle.laws.proofs.Inequalities.{le-of-not-below}
 use Rattle.laws.proofs.TestLaws.{T-of-true, true-of-T, both-false-right}
 use Rattle.classes.specs.Classes.{sizeOf, blocksOf, classOf}
 use Rattle.classes.proofs.ClassTableLaws.{blocks-of-le-256}
@@ -20,12 +22,15 @@ use Rattle.names.specs.Names.{notHeld, blockNumber, blockNamed, isHeld, withNam
 use Rattle.namelaws.proofs.NameLaws.{held-facts, held-of-facts, held-cong, block-named-with-name, block-named-with-other-name, not-held-without-block, block-named-without-other-block}
 use Rattle.heap.specs.declared.Superblock.{Superblock}
 use Rattle.heap.specs.declared.State.{State}
-use Rattle.heap.specs.Table.{superblockAt, liveIn}
+use Rattle.heap.specs.Table.{blank, superblockAt, liveIn}
+use Rattle.checkrules.specs.Check.{namesValid}
 use Rattle.heaplaws.proofs.StateFacts.{Shape}
+use Rattle.heaplaws.proofs.StateCheckLaws.{names-sound-of-valid}
 use Rattle.calls.specs.Take.{addressOf}
 use Rattle.calls.specs.Named.{heldAddress}
 use Rattle.calllaws.proofs.CallEffects.{Passed, TakeEffect, FreeEffect}
 use Rattle.calllaws.proofs.AddressLaws.{address-superblock, address-offset}
+use Rattle.calllaws.proofs.NamesKeptLaws.{live-block-in-table}
 use Rattle.calllaws.proofs.MarkClearedLaws.{LiveBlock}
 use Rattle.calllaws.proofs.NamedCallLaws.{held-block-is-live, live-class-lt-27}
 use Rattle.bound.specs.Ledger.{Name, named, unnamed, Entry, classOfEntry, isAt, isCalled, hasName, removed}
@@ -228,7 +233,7 @@ no-entry-at s a (e ∷ ledger) h none = (apart, no-entry-at s a ledger (h .1) (�
         omega (arith, none (classOfEntry e) (h .0 .class-lt-27))
 
 -- ---- a free of block j of superblock k
-module _ (c k j moves : ℕ) (s t : State) (order : List ℕ) (shape : Shape s) (passed : Passed s order) (below : k < 64) (effect : FreeEffect c k j moves s t) (names : t .names ≡ withoutBlock (s .names) (blockNumber k j)) where
+module _ (c k j moves : ℕ) (s t : State) (long : length (s .table) ≡ 64) (valid : T (namesValid s)) (effect : FreeEffect c k j moves s t) (names : t .names ≡ withoutBlock (s .names) (blockNumber k j)) where
   small-block : j < 256
   small-block = omega (arith, effect .block, blocks-of-le-256 c)
 
@@ -243,7 +248,7 @@ module _ (c k j moves : ℕ) (s t : State) (order : List ℕ) (shape : Shape s) 
   free-keeps-held-address : (m : ℕ) → T (isHeld (s .names) m) → blockNamed (t .names) m ≡ blockNamed (s .names) m → heldAddress t m ≡ heldAddress s m
   free-keeps-held-address m held e =
       held-address-cong s t m e
-      (effect .classes (blockNamed (s .names) m / 256) (omega (arith, held-block-is-live s order shape passed m held .below, passed .sound .numbers .superblocks-high)))
+      (effect .classes (blockNamed (s .names) m / 256) (live-block-in-table s (blockNamed (s .names) m) long (names-sound-of-valid s valid .live m (held-facts (s .names) m held .1))))
 
   free-keeps-agreement : (e : Entry) → isAt (addressOf k c j) e ≡ false → EntryAgrees s e → EntryAgrees t e
   free-keeps-agreement e apart h = record { class-lt-27 = h .class-lt-27; name-agrees = λ m. h .name-agrees m ∙ at m (ℕ-discrete (blockNamed (s .names) m) (blockNumber k j)) }
@@ -258,6 +263,23 @@ module _ (c k j moves : ℕ) (s t : State) (order : List ℕ) (shape : Shape s) 
 
   pub agreement-after-free : (ledger : List Entry) → EachEntry (EntryAgrees s) ledger → EachEntry (EntryAgrees t) (removed (isAt (addressOf k c j)) ledger)
   agreement-after-free ledger h = each-entry-removed (EntryAgrees s) (EntryAgrees t) (isAt (addressOf k c j)) ledger free-keeps-agreement h
+
+-- ---- moves: names and classes stay
+pub agreement-of-same-names-and-classes : (s t : State) → length (s .table) ≡ 64 → length (t .table) ≡ 64 → t .names ≡ s .names → ((k : ℕ) → k < 64 → superblockAt t k .class ≡ superblockAt s k .class)
+    → (ledger : List Entry) → EachEntry (EntryAgrees s) ledger → EachEntry (EntryAgrees t) ledger
+agreement-of-same-names-and-classes s t long long-after names classes ledger h =
+    each-entry-map (EntryAgrees s) (EntryAgrees s) (EntryAgrees t) ledger (λ e g _. record { class-lt-27 = g .class-lt-27; name-agrees = λ m. g .name-agrees m ∙ sym (same m (e .address)) }) h h
+  where
+    class-same : (k : ℕ) → Dec (k < 64) → superblockAt t k .class ≡ superblockAt s k .class
+    class-same k (yes l) = classes k l
+    class-same k (no f) =
+        let far = le-of-not-below f in
+        ap (λ (b : Superblock). b .class) (List·getD-eq-default (t .table) blank (omega arith) ∙ sym (List·getD-eq-default (s .table) blank (omega arith)))
+
+    same : (m a : ℕ) → holdsAddress t m a ≡ holdsAddress s m a
+    same m a =
+        holds-address-cong s t m a (ap (λ (l : List ℕ). isHeld l m) names)
+        (λ q. held-address-cong s t m (ap (λ (l : List ℕ). blockNamed l m) names) (class-same (blockNamed (s .names) m / 256) (decLt (blockNamed (s .names) m / 256) 64)))
 
 -- ---- an accepted named free removes by name what a free of the held address removes by address
 pub removed-by-name-is-removed-by-address : (s : State) (ledger : List Entry) (m : ℕ) → EachEntry (EntryAgrees s) ledger → T (isHeld (s .names) m) → removed (hasName m) ledger ≡ removed (isAt (heldAddress s m)) ledger

@@ -2,6 +2,7 @@ pub mod LedgerLaws
 pub mod LiveAtLaws
 pub mod LedgerNames
 pub mod BoundLaws
+pub mod ListedLaws
 pub mod CallInvariantLaws
 pub mod Demand3
 pub mod NamesAgree

@@ -23,10 +23,6 @@ pub mod AcceptedCallLaws
 pub mod NothingOfferedLaws
 pub mod RefusalConditions
 pub mod NamedRefusalConditions
-pub mod NameLifetime
 pub mod TotalsKeptLaws
 pub mod CallRankLaws
-pub mod OrderWriteLaws
-pub mod OrderReadLaws
-pub mod FreeStackLaws
 pub mod SizeZeroLaws
