@@ -31,18 +31,26 @@ module _ (b : List ℕ) (first : ℕ) (is : first ≡ byteAt b 0) where
   unfolding callIn
   call-in-of-named-take processor name size n m l e p a s = rw (← is, ne-eqb _ _ n, ne-eqb _ _ m, ne-eqb _ _ l, eq-eqb _ _ e, ← p, ← a, ← s)
 
-  pub call-in-of-named-free : (processor name : ℕ) → (first ≡ 0 → ⊥) → (first ≡ 1 → ⊥) → (first ≡ 2 → ⊥) → (first ≡ 3 → ⊥) → processor ≡ byteAt b 6 → name ≡ twoAt b 7 → request.NamedFree processor name ≡ callIn b
+  pub call-in-of-named-free : (processor name : ℕ) → (first ≡ 0 → ⊥) → (first ≡ 1 → ⊥) → (first ≡ 2 → ⊥) → (first ≡ 3 → ⊥) → first ≡ 4 → processor ≡ byteAt b 6 → name ≡ twoAt b 7 → request.NamedFree processor name ≡ callIn b
   unfolding callIn
-  call-in-of-named-free processor name n m l k p a = rw (← is, ne-eqb _ _ n, ne-eqb _ _ m, ne-eqb _ _ l, ne-eqb _ _ k, ← p, ← a)
+  call-in-of-named-free processor name n m l k e p a = rw (← is, ne-eqb _ _ n, ne-eqb _ _ m, ne-eqb _ _ l, ne-eqb _ _ k, eq-eqb _ _ e, ← p, ← a)
+
+  pub call-in-of-drop : (processor count : ℕ) → (first ≡ 0 → ⊥) → (first ≡ 1 → ⊥) → (first ≡ 2 → ⊥) → (first ≡ 3 → ⊥) → (first ≡ 4 → ⊥) → processor ≡ byteAt b 6 → count ≡ twoAt b 7 → request.Drop processor count ≡ callIn b
+  unfolding callIn
+  call-in-of-drop processor count n m l k j p c = rw (← is, ne-eqb _ _ n, ne-eqb _ _ m, ne-eqb _ _ l, ne-eqb _ _ k, ne-eqb _ _ j, ← p, ← c)
 
   -- ---- where the superblocks begin
   pub table-offset-of-take-or-named-free : (first ≡ 1) ⊎ (first ≡ 4) → 9 ≡ tableOffset b
   unfolding tableOffset
   table-offset-of-take-or-named-free = ⊎-elim (λ e. rw (← is, e)) (λ e. rw (← is, e))
 
-  pub table-offset-of-free-or-named-take : ((first ≡ 1) ⊎ (first ≡ 4) → ⊥) → 11 ≡ tableOffset b
+  pub table-offset-of-drop : (count : ℕ) → first ≡ 5 → count ≡ twoAt b 7 → 9 + 4 * count ≡ tableOffset b
   unfolding tableOffset
-  table-offset-of-free-or-named-take n = rw (← is, ne-eqb first 1 (λ e. n (inl e)), ne-eqb first 4 (λ e. n (inr e)))
+  table-offset-of-drop count e c = rw (← is, e, ← c)
+
+  pub table-offset-of-free-or-named-take : ((first ≡ 1) ⊎ (first ≡ 4) → ⊥) → (first ≡ 5 → ⊥) → 11 ≡ tableOffset b
+  unfolding tableOffset
+  table-offset-of-free-or-named-take n m = rw (← is, ne-eqb first 1 (λ e. n (inl e)), ne-eqb first 4 (λ e. n (inr e)), ne-eqb first 5 m)
 
   -- ---- where the order places begin, and how many are lent
   pub places-offset-of-setup : first ≡ 0 → 10 ≡ placesOffset b
@@ -64,10 +72,10 @@ module _ (b : List ℕ) (first : ℕ) (is : first ≡ byteAt b 0) where
       rw (← is, ne-eqb _ _ n, ← t, e, ← l)
 
   -- ---- the whole form
-  pub well-formed-false-of-unknown : 4 < first → false ≡ wellFormed b
+  pub well-formed-false-of-unknown : 5 < first → false ≡ wellFormed b
   unfolding wellFormed
   well-formed-false-of-unknown h = rw (← is, lt-leb _ _ h)
 
-  pub well-formed-is-length-test : (from lent : ℕ) → first ≤ 4 → from ≡ placesOffset b → lent ≡ placeCount b → eqb (length b) (from + 2 * lent) ≡ wellFormed b
+  pub well-formed-is-length-test : (from lent : ℕ) → first ≤ 5 → from ≡ placesOffset b → lent ≡ placeCount b → eqb (length b) (from + 2 * lent) ≡ wellFormed b
   unfolding wellFormed
   well-formed-is-length-test from lent h f l = rw (← is, le-leb _ _ h, ← f, ← l)

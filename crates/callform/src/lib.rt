@@ -18,7 +18,7 @@ use littleendian::two_at;
 
 // ---- the call
 
-// The call that byte 0 names. An unknown byte reads as a named free; `well_formed` is false then.
+// The call that byte 0 names. An unknown byte reads as a drop; `well_formed` is false then.
 pub fn call_in(bytes: &[u8]) -> Request
     ensures { λ r. ⌜ r ≡ callIn (now (bytes .entry)) ⌝ }
 {
@@ -44,7 +44,11 @@ pub fn call_in(bytes: &[u8]) -> Request
             size,
         };
     }
-    Request::NamedFree { processor, name }
+    if first == 4 {
+        return Request::NamedFree { processor, name };
+    }
+    let count = two_at(bytes, 7);
+    Request::Drop { processor, count }
 }
 
 // ---- the state
@@ -62,12 +66,17 @@ pub fn setup_in(bytes: &[u8]) -> Setup
     }
 }
 
-// Where the superblocks begin: a take and a named free have two bytes fewer before them than a free and a named take.
+// Where the superblocks begin: a take and a named free have two bytes fewer before them than a free and a named take, and a drop has
+// its addresses there, four bytes each.
 pub fn table_offset(bytes: &[u8]) -> usize
-    ensures { λ r. ⌜ (r ≡ tableOffset (now (bytes .entry))) × (r ≤ 11) ⌝ }
+    ensures { λ r. ⌜ (r ≡ tableOffset (now (bytes .entry))) × (r ≤ 262149) ⌝ }
 {
     match byte_at(bytes, 0) {
         1 | 4 => 9,
+        5 => {
+            let addresses = two_at(bytes, 7);
+            9 + 4 * (addresses as usize)
+        }
         _ => 11,
     }
 }
@@ -77,7 +86,7 @@ pub fn table_offset(bytes: &[u8]) -> usize
 // Where they begin: in all but a setup 64 superblocks of 35 bytes, 1024 names of two bytes, 243 totals of one byte, 243 of two and the
 // four bytes of L come before.
 pub fn places_offset(bytes: &[u8]) -> usize
-    ensures { λ r. ⌜ (r ≡ placesOffset (now (bytes .entry))) × (r ≤ 5032) ⌝ }
+    ensures { λ r. ⌜ (r ≡ placesOffset (now (bytes .entry))) × (r ≤ 267170) ⌝ }
 {
     if byte_at(bytes, 0) == 0 {
         return 10;
@@ -102,7 +111,7 @@ pub fn place_count(bytes: &[u8]) -> usize
 pub fn well_formed(bytes: &[u8]) -> bool
     ensures { λ r. ⌜ r ≡ wellFormed (now (bytes .entry)) ⌝ }
 {
-    if byte_at(bytes, 0) > 4 {
+    if byte_at(bytes, 0) > 5 {
         return false;
     }
     let from = places_offset(bytes);

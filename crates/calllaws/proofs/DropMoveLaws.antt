@@ -1,15 +1,18 @@
 -- The moves of a drop, over all its heaps and classes: at most 64 in all. Assumes nothing.
-use mathlib.Core.Path.{_≡_, refl}
+use mathlib.Core.Path.{_≡_, refl, _∙_}
 use mathlib.Core.Bool.{Bool}
-use mathlib.Core.List.{List}
+use mathlib.Core.List.{List, [], _∷_}
 use Prim.Native.Nat.{ℕ, zero, suc, _+_, _≤_}
 use native.Mathlib.Omega.{arith}
-use lib.ListN.{length}
+use lib.ListN.{length, length-set}
 use Rattle.laws.proofs.TestLaws.{pick-elim}
 use Rattle.heap.specs.declared.State.{State}
 use Rattle.heap.specs.declared.Moved.{Moved}
 use Rattle.heap.specs.Totals.{TotalsKept}
 use Rattle.heaplaws.proofs.OutsideGlobalLaws.{outsideGlobal, outside-global-le-64, movesAndOutsideGlobal, moves-leave-heaps, length-of-invariant-restored, totals-kept-of-invariant-restored}
+use Rattle.laws.proofs.ListedLaws.{length-listed}
+use Rattle.heap.specs.Ranks.{rankedLatest}
+use Rattle.calls.specs.Free.{superblockIndex, markCleared, blockFreed}
 use Rattle.calls.specs.Drop.{allFreed, isTouched, thenRestored, classesRestored, heapsRestored, dropMoves}
 
 -- ---- what the move rule of one heap and class keeps, that of all touched keeps
@@ -57,3 +60,20 @@ pub drop-moves-le-64 : (s : State) (addresses : List ℕ) → length (allFreed s
 unfolding dropMoves
 drop-moves-le-64 s addresses long =
     omega (arith, heaps-restored-leave-heaps (isTouched s addresses) (s .setup .processors) (record { moves = 0; state = allFreed s addresses }) long, outside-global-le-64 (allFreed s addresses))
+
+-- ---- the table has 64 superblocks
+-- ranking a superblock makes a table of 64
+pub length-of-block-freed : (s : State) (a : ℕ) → length (blockFreed s a .table) ≡ 64
+unfolding blockFreed markCleared rankedLatest
+length-of-block-freed s a = length-set (rankedLatest (superblockIndex a) s .table) (superblockIndex a) _ ∙ length-listed _ 64
+
+pub length-of-all-freed : (s : State) (addresses : List ℕ) → length (s .table) ≡ 64 → length (allFreed s addresses .table) ≡ 64
+unfolding allFreed
+length-of-all-freed s [] long = long
+length-of-all-freed s (a ∷ addresses) long = length-of-all-freed (blockFreed s a) addresses (length-of-block-freed s a)
+
+pub length-of-drop-moves : (s : State) (addresses : List ℕ) → length (s .table) ≡ 64 → length (dropMoves s addresses .state .table) ≡ 64
+unfolding dropMoves thenRestored
+length-of-drop-moves s addresses long =
+    heaps-restored-keep (λ m. length (m .state .table) ≡ 64) (λ h c before p. length-of-invariant-restored h c (before .state) p) (isTouched s addresses) (s .setup .processors)
+    (record { moves = 0; state = allFreed s addresses }) (length-of-all-freed s addresses long)

@@ -25,4 +25,7 @@ pub mod RefusalConditions
 pub mod NamedRefusalConditions
 pub mod TotalsKeptLaws
 pub mod CallRankLaws
+pub mod OrderWriteLaws
+pub mod OrderReadLaws
+pub mod FreeStackLaws
 pub mod SizeZeroLaws

@@ -43,6 +43,7 @@ use Rattle.calls.specs.Calls.{Call, Take, Free, NamedTake, NamedFree, Drop, cal
 use Rattle.calls.proofs.CheckFirst.{call-of-checks-first}
 use Rattle.calllaws.proofs.CallEffects.{Passed}
 use Rattle.calllaws.proofs.NamedCallLaws.{name-bound-of-refused}
+use Rattle.heaplaws.proofs.OutsideGlobalLaws.{totals-kept-of-invariant-restored}
 use Rattle.calllaws.proofs.DropMoveLaws.{heaps-restored-keep, then-restored-keeps-totals}
 use Rattle.calllaws.proofs.AcceptedCallLaws.{call-passes-if-accepted}
 use Rattle.calllaws.proofs.RefusalConditions.{address-not-refused, moves-not-refused, rest-fails, check-fails-refused-13}
@@ -66,24 +67,6 @@ totals-kept-iff-counted s shape = (totals-counted-of-kept s, kept)
         (totals-equal-of-each (s .totals .live) _ (shape .live-totals-length) (length-recounted-live (s .table)) (λ h c lh lc. each h c lh lc .1 ∙ sym (recounted-live s h c lh lc)))
 
 -- ---- calls, by their definitions alone
-moves-recounted : (k h c m : ℕ) (s : State) → TotalsKept s → TotalsKept (transfersUpTo k h c m s .state)
-unfolding transfersUpTo
-moves-recounted zero h c m s kept = kept
-moves-recounted (suc k) h c m s kept = go (mustMove h c s) (moves-recounted k h c (m + 1) (foundTransferred (emptiest h c s) s) (totals-kept-of-found-transferred (emptiest h c s) s kept))
-  where
-    go : (b : Bool) → TotalsKept (transfersUpTo k h c (m + 1) (foundTransferred (emptiest h c s) s) .state)
-        → TotalsKept (pick b (transfersUpTo k h c (m + 1) (foundTransferred (emptiest h c s) s)) (record { moves = m; state = s }) .state)
-    go true next = next
-    go false next = kept
-
-invariant-restored-recounted : (h c : ℕ) (s : State) → TotalsKept s → TotalsKept (invariantRestored h c s .state)
-unfolding invariantRestored excessTransferred
-invariant-restored-recounted h c s kept = go (eqb h 0)
-  where
-    go : (b : Bool) → TotalsKept (pick b (record { moves = 0; state = s }) (transfersUpTo 64 h c 0 s) .state)
-    go true = kept
-    go false = moves-recounted 64 h c 0 s kept
-
 -- a block freed replaces a superblock, and the moves of a drop keep them as those of a free do
 all-freed-recounted : (s : State) (addresses : List ℕ) → TotalsKept s → TotalsKept (allFreed s addresses)
 unfolding allFreed blockFreed markCleared
@@ -145,7 +128,7 @@ module _ (s : State) (order : List ℕ) where
       (by-test (isUnmapped s a) _ _ (with-refusal 5 (omega arith))
       (by-test (isMisaligned s a) _ _ (with-refusal 6 (omega arith))
       (by-test (not (isLiveAt s a)) _ _ (with-refusal 7 (omega arith))
-      (inr (moves-not-refused _, invariant-restored-recounted (superblockHolding s a .owner) (superblockHolding s a .class) (blockFreed s a) refl)))))
+      (inr (moves-not-refused _, totals-kept-of-invariant-restored (superblockHolding s a .owner) (superblockHolding s a .class) (blockFreed s a) refl)))))
 
   -- a drop frees a block at least
   drop-recounts : (i : ℕ) (addresses : List ℕ) → RefusedOrRecounted s order (dropUnchecked s order i addresses)

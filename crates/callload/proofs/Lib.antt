@@ -1,1 +1,2 @@
 pub mod StateInLaws
+pub mod AddressesInLaws

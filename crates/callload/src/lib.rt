@@ -1,16 +1,39 @@
-// Reads the state and the order places that the input of the program `call` holds. Each function answers for any bytes: past their
-// end a byte reads as 0.
+// Reads the addresses, the state and the order places that the input of the program `call` holds. Each function answers for any bytes:
+// past their end a byte reads as 0.
 ghost use mathlib.Core.Path.{_≡_};
 ghost use Prim.Native.Nat.{_^_, _<_};
-ghost use lib.ListN.{length};
-ghost use Rattle.formrules.specs.Form.{superblockIn, namesIn, totalsIn, stateIn, placesIn};
+ghost use lib.ListN.{length, take};
+ghost use Rattle.littleendian.specs.Bytes.{twoAt};
+ghost use Rattle.formrules.specs.Form.{
+  addressesIn,
+  superblockIn,
+  namesIn,
+  totalsIn,
+  stateIn,
+  placesIn,
+};
 use heap::State;
 use heap::Superblock;
 use heap::Totals;
 use littleendian::byte_at;
 use littleendian::eight_at;
+use littleendian::four_at;
 use littleendian::position_after;
 use littleendian::two_at;
+
+// The addresses of a drop, or the first 512 of more. What stands past its count are other bytes of the input.
+pub fn load_addresses(bytes: &[u8]) -> [u32; 512]
+    ensures { λ r. ⌜ take (twoAt (now (bytes .entry)) 7) r ≡ take 512 (addressesIn (now (bytes .entry))) ⌝ }
+{
+    let mut addresses = [0u32; 512];
+    let mut i = 0;
+    while i < 512 {
+        let address = four_at(bytes, position_after(bytes, 9, 4 * i));
+        addresses[i] = address;
+        i += 1;
+    }
+    addresses
+}
 
 // The superblock at a position.
 fn superblock_in(bytes: &[u8], at: usize) -> Superblock

@@ -3,28 +3,26 @@ use mathlib.Core.Path.{_≡_, refl, sym, ap, _∙_, subst}
 use mathlib.Core.Bool.{Bool, true, false}
 use mathlib.Core.List.{List, [], _∷_}
 use mathlib.Core.Logic.{⊎-elim}
-use Prim.Native.Nat.{ℕ, zero, suc, _+_, _≤_, _<_}
-use native.Mathlib.Nat.{le-refl}
+use Prim.Native.Nat.{ℕ, zero, suc, _+_, _*_, _≤_, _<_}
 use native.Mathlib.Omega.{arith}
 use borrow.Author.Tests.{leb-false, lt-leb, le-leb}
 use lib.ListN.{length}
 use lib.Dec.{T, leb}
 use Rattle.laws.specs.Sums.{pick, either}
-use Rattle.commandlaws.proofs.RefusalTable.{CommandRow, row-of-command-at, ReadAt, no-refusal-of-read, command-iff-read-at, setup-iff-setup-at, take-iff-take-at, free-iff-free-at, named-take-iff-named-take-at, named-free-iff-named-free-at}
+use Rattle.commandlaws.proofs.RefusalTable.{CommandRow, row-of-command-at, ReadAt, no-refusal-of-read, command-iff-read-at, setup-iff-setup-at, take-iff-take-at, free-iff-free-at, named-take-iff-named-take-at, named-free-iff-named-free-at, drop-iff-drop-at}
 use Rattle.commandlaws.proofs.RefusalTable as row
 use Rattle.commands.specs.declared.Command.{Command}
-use Rattle.commands.specs.declared.Command.the-variants.{Setup, Take, Free, NamedTake, NamedFree, Refused}
+use Rattle.commands.specs.declared.Command.the-variants.{Setup, Take, Free, NamedTake, NamedFree, Drop, Refused}
 use Rattle.littleendian.specs.Bytes.{byteAt}
 use Rattle.commands.specs.Record.{commandAt, commandNumberOf, refusalOffsetOf, sizeOfCommand, isRefused, commandsFrom, commandsOf}
 
 -- ---- one command
 
--- a command that is not refused lies whole in a record that is not too long, and has 4 to 6 bytes
+-- a command that is not refused lies whole in a record that is not too long, and has 3 bytes at least
 pub record CommandInside (r : List ℕ) (at : ℕ) (c : Command) : Type 0 where
   pub record-le-60000 : length r ≤ 60000
   pub inside : at + sizeOfCommand c ≤ length r
-  pub size-ge-4 : 4 ≤ sizeOfCommand c
-  pub size-le-6 : sizeOfCommand c ≤ 6
+  pub size-ge-3 : 3 ≤ sizeOfCommand c
 
 RefusalBounds : Command → Type 0
 RefusalBounds c = (8 ≤ commandNumberOf c) × (commandNumberOf c ≤ 11) × (refusalOffsetOf c ≤ 60000)
@@ -35,11 +33,12 @@ module _ (r : List ℕ) (at : ℕ) (c : Command) (e : c ≡ commandAt r at) wher
   command-inside f = go c (command-iff-read-at r at c f .0 (sym e))
     where
       go : (d : Command) → ReadAt r at d → CommandInside r at d
-      go (Setup processors superblocks spare p q) t = record { record-le-60000 = t .0; inside = t .3; size-ge-4 = omega arith; size-le-6 = le-refl 6 }
-      go (Take processor size) t = record { record-le-60000 = t .0; inside = t .3; size-ge-4 = le-refl 4; size-le-6 = omega arith }
-      go (Free processor address) t = record { record-le-60000 = t .0; inside = t .3; size-ge-4 = omega arith; size-le-6 = le-refl 6 }
-      go (NamedTake processor name size) t = record { record-le-60000 = t .0; inside = t .3; size-ge-4 = omega arith; size-le-6 = le-refl 6 }
-      go (NamedFree processor name) t = record { record-le-60000 = t .0; inside = t .3; size-ge-4 = le-refl 4; size-le-6 = omega arith }
+      go (Setup processors superblocks spare p q) t = record { record-le-60000 = t .0; inside = t .3; size-ge-3 = omega arith }
+      go (Take processor size) t = record { record-le-60000 = t .0; inside = t .3; size-ge-3 = omega arith }
+      go (Free processor address) t = record { record-le-60000 = t .0; inside = t .3; size-ge-3 = omega arith }
+      go (NamedTake processor name size) t = record { record-le-60000 = t .0; inside = t .3; size-ge-3 = omega arith }
+      go (NamedFree processor name) t = record { record-le-60000 = t .0; inside = t .3; size-ge-3 = omega arith }
+      go (Drop processor count first) t = record { record-le-60000 = t .0; inside = omega arith; size-ge-3 = omega arith }
       go (Refused number offset) t = absurd t
 
   -- by kind: a setup is first, a take or a free is not
@@ -57,6 +56,9 @@ module _ (r : List ℕ) (at : ℕ) (c : Command) (e : c ≡ commandAt r at) wher
 
   pub named-free-later-and-inside : (processor name : ℕ) → c ≡ NamedFree processor name → (length r ≤ 60000) × (0 < at) × (at + 4 ≤ length r)
   named-free-later-and-inside processor name k = let t = named-free-iff-named-free-at r at processor name .0 (sym e ∙ k) in (t .0, t .1, t .3)
+
+  pub drop-later-and-inside : (processor count first : ℕ) → c ≡ Drop processor count first → (length r ≤ 60000) × (0 < at) × (at + (3 + 4 * count) ≤ length r)
+  drop-later-and-inside processor count first k = let t = drop-iff-drop-at r at processor count first .0 (sym e ∙ k) in (t .0, t .1, omega arith)
 
   -- a record's own refusals are 8 to 11, at offsets up to the longest record's end
   pub refusal-number-and-offset-bounds : (number offset : ℕ) → c ≡ Refused number offset → (8 ≤ number) × (number ≤ 11) × (offset ≤ 60000)
@@ -97,6 +99,25 @@ module _ (r : List ℕ) (at : ℕ) (c : Command) (e : c ≡ commandAt r at) wher
     named-free-fits processor name k =
         let t = named-free-iff-named-free-at r at processor name .0 (sym e ∙ k) in
         (omega (arith, bytes (at + 1)), omega (arith, bytes (at + 2), bytes (at + 3)))
+
+    pub drop-fits : (processor count first : ℕ) → c ≡ Drop processor count first → (processor < 256) × (count < 256) × (first < 4294967296)
+    drop-fits processor count first k =
+        let t = drop-iff-drop-at r at processor count first .0 (sym e ∙ k) in
+        (omega (arith, bytes (at + 1)), omega (arith, bytes (at + 2)), omega arith)
+
+    -- so that a command has 3 to 1023 bytes
+    pub size-le-1023 : isRefused c ≡ false → sizeOfCommand c ≤ 1023
+    unfolding ReadAt sizeOfCommand
+    size-le-1023 f = go c (command-iff-read-at r at c f .0 (sym e))
+      where
+        go : (d : Command) → ReadAt r at d → sizeOfCommand d ≤ 1023
+        go (Setup processors superblocks spare p q) t = omega arith
+        go (Take processor size) t = omega arith
+        go (Free processor address) t = omega arith
+        go (NamedTake processor name size) t = omega arith
+        go (NamedFree processor name) t = omega arith
+        go (Drop processor count first) t = omega (arith, bytes (at + 2))
+        go (Refused number offset) t = absurd t
 
 -- ---- the commands that follow
 
@@ -180,3 +201,7 @@ module _ (r : List ℕ) (at : ℕ) (c : Command) (e : c ≡ commandAt r at) wher
   pub commands-named-free : (processor name : ℕ) → c ≡ NamedFree processor name → commandsAt r at ≡ NamedFree processor name ∷ remaining r (at + 4)
   unfolding isRefused sizeOfCommand
   commands-named-free processor name k = rw k at (commands-next r at c e (ap isRefused k))
+
+  pub commands-drop : (processor count first : ℕ) → c ≡ Drop processor count first → commandsAt r at ≡ Drop processor count first ∷ remaining r (at + (3 + 4 * count))
+  unfolding isRefused sizeOfCommand
+  commands-drop processor count first k = rw k at (commands-next r at c e (ap isRefused k))

@@ -12,7 +12,7 @@ use lib.ListN.{length}
 use lib.Dec.{T, leb}
 use Rattle.laws.specs.Sums.{pick, either}
 use Rattle.commands.specs.declared.Command.{Command}
-use Rattle.commands.specs.declared.Command.the-variants.{Setup, Take, Free, NamedTake, NamedFree, Refused}
+use Rattle.commands.specs.declared.Command.the-variants.{Setup, Take, Free, NamedTake, NamedFree, Drop, Refused}
 use Rattle.commands.specs.Record.{commandAt, sizeOfCommand, isRefused, commandsFrom, commandsOf}
 use Rattle.commandlaws.proofs.RefusalTable.{CommandRow, row-of-command-at, no-refusal-of-read}
 use Rattle.commandlaws.proofs.RefusalTable as row
@@ -45,6 +45,7 @@ size-of-refused-command (Take processor size) e = absurd (subst T (sym e) tt)
 size-of-refused-command (Free processor address) e = absurd (subst T (sym e) tt)
 size-of-refused-command (NamedTake processor name size) e = absurd (subst T (sym e) tt)
 size-of-refused-command (NamedFree processor name) e = absurd (subst T (sym e) tt)
+size-of-refused-command (Drop processor count first) e = absurd (subst T (sym e) tt)
 size-of-refused-command (Refused number offset) e = refl
 
 -- a list with something in it is not empty

@@ -12,9 +12,10 @@ use lib.Dec.{T, eqb, leb, ltb}
 use Rattle.laws.specs.Sums.{pick, either}
 use Rattle.laws.proofs.TestLaws.{pick-elim}
 use Rattle.commands.specs.declared.Command.{Command}
-use Rattle.commands.specs.declared.Command.the-variants.{Setup, Take, Free, NamedTake, NamedFree, Refused}
+use Rattle.commands.specs.declared.Command.the-variants.{Setup, Take, Free, NamedTake, NamedFree, Drop, Refused}
 use Rattle.littleendian.specs.Bytes.{byteAt, twoAt, fourAt}
-use Rattle.commands.specs.Record.{unlessTruncated, setupAt, unlessFirst, takeAt, freeAt, namedTakeAt, namedFreeAt, commandByFirstByte, commandAt, commandNumberOf, refusalOffsetOf, commandByte, numbersOf, HasNumbersOf, isRefused}
+use Rattle.littleendian.proofs.FoursLaws.{length-of-fours-at, fours-at-number}
+use Rattle.commands.specs.Record.{unlessTruncated, setupAt, unlessFirst, takeAt, freeAt, namedTakeAt, namedFreeAt, dropAt, addressesIn, commandByFirstByte, commandAt, commandNumberOf, refusalOffsetOf, commandByte, numbersOf, HasNumbersOf, isRefused}
 
 -- a command that is the rules' has their number, offset, command byte and numbers
 pub has-numbers-of-equal : (command rules : Command) → command ≡ rules → HasNumbersOf command rules
@@ -28,7 +29,8 @@ commandWith number offset (byte ∷ _) l =
     (pick (eqb byte 1) (Take (getD l 0 0) (getD l 1 0))
     (pick (eqb byte 2) (Free (getD l 0 0) (getD l 1 0))
     (pick (eqb byte 3) (NamedTake (getD l 0 0) (getD l 1 0) (getD l 2 0))
-    (NamedFree (getD l 0 0) (getD l 1 0)))))
+    (pick (eqb byte 4) (NamedFree (getD l 0 0) (getD l 1 0))
+    (Drop (getD l 0 0) (getD l 1 0) (getD l 2 0))))))
 
 command-with-its-numbers : (c : Command) → commandWith (commandNumberOf c) (refusalOffsetOf c) (commandByte c) (numbersOf c) ≡ c
 unfolding commandWith commandNumberOf refusalOffsetOf commandByte numbersOf
@@ -37,6 +39,7 @@ command-with-its-numbers (Take _ _) = refl
 command-with-its-numbers (Free _ _) = refl
 command-with-its-numbers (NamedTake _ _ _) = refl
 command-with-its-numbers (NamedFree _ _) = refl
+command-with-its-numbers (Drop _ _ _) = refl
 command-with-its-numbers (Refused _ _) = refl
 
 -- so that they tell the command
@@ -46,9 +49,10 @@ equal-of-has-numbers command rules t =
 
 -- ---- the table's words
 
--- the bytes of the command that begins with this byte: 4 for a take or a named free, 6 for a setup, a free or a named take
-unfoldable pub bytesOf : ℕ → ℕ
-bytesOf first = pick (either (eqb first 1) (eqb first 4)) 4 6
+-- the bytes of the command that begins with this byte: 4 for a take or a named free, 3 and 4 for each address of a drop, which has so many, 6 for a
+-- setup, a free or a named take
+unfoldable pub bytesOf : ℕ → ℕ → ℕ
+bytesOf first count = pick (either (eqb first 1) (eqb first 4)) 4 (pick (eqb first 5) (3 + 4 * count) 6)
 
 -- 11: "record above 60000 bytes"
 abbrev pub TooLong : List ℕ → Type 0
@@ -56,18 +60,19 @@ TooLong r = 60000 < length r
 
 -- 8: "unknown command byte"
 abbrev pub UnknownByte : List ℕ → ℕ → Type 0
-UnknownByte r at = (at < length r) × (4 < byteAt r at)
+UnknownByte r at = (at < length r) × (5 < byteAt r at)
 
 -- 10: "a setup that is not first, a known other command that is, or no byte at all"
 abbrev pub Misplaced : List ℕ → ℕ → Type 0
 Misplaced r at =
     ((at < length r) × (0 < at) × (byteAt r at ≡ 0))
-    ⊎ ((at < length r) × (at ≡ 0) × (1 ≤ byteAt r at) × (byteAt r at ≤ 4))
+    ⊎ ((at < length r) × (at ≡ 0) × (1 ≤ byteAt r at) × (byteAt r at ≤ 5))
     ⊎ ((at ≡ 0) × (length r ≡ 0))
 
--- 9: "the record ends inside a command"; at the record's end and past it there is no command, and no reader asks
+-- 9: "the record ends inside a command"; at the record's end and past it there is no command, and no reader asks. The count of a drop is its third
+-- byte, which reads as 0 where the record ends before it: such a drop is cut all the same.
 abbrev pub Truncated : List ℕ → ℕ → Type 0
-Truncated r at = (length r ≤ at) ⊎ (length r < at + bytesOf (byteAt r at))
+Truncated r at = (length r ≤ at) ⊎ (length r < at + bytesOf (byteAt r at) (byteAt r (at + 2)))
 
 -- ---- the commands that are read, with the bytes that they carry: "numbers of several bytes have the low byte first"
 
@@ -95,6 +100,11 @@ module _ (r : List ℕ) (at : ℕ) where
   NamedFreeAt processor name =
       (length r ≤ 60000) × (0 < at) × (byteAt r at ≡ 4) × (at + 4 ≤ length r) × (processor ≡ byteAt r (at + 1)) × (name ≡ byteAt r (at + 2) + 256 * byteAt r (at + 3))
 
+  -- the addresses begin at byte 3 of the command
+  abbrev pub DropAt : ℕ → ℕ → ℕ → Type 0
+  DropAt processor count first =
+      (length r ≤ 60000) × (0 < at) × (byteAt r at ≡ 5) × (at + 3 + 4 * count ≤ length r) × (processor ≡ byteAt r (at + 1)) × (count ≡ byteAt r (at + 2)) × (first ≡ at + 3)
+
   -- a command that is read, by its kind; a refusal is none
   unfoldable pub ReadAt : Command → Type 0
   ReadAt (Setup processors superblocks spare p q) = SetupAt processors superblocks spare p q
@@ -102,6 +112,7 @@ module _ (r : List ℕ) (at : ℕ) where
   ReadAt (Free processor address) = FreeAt processor address
   ReadAt (NamedTake processor name size) = NamedTakeAt processor name size
   ReadAt (NamedFree processor name) = NamedFreeAt processor name
+  ReadAt (Drop processor count first) = DropAt processor count first
   ReadAt (Refused number offset) = ⊥
 
   -- what holds of every command that is read: its byte is known, it is first where it is a setup and only there, and it lies whole in a
@@ -109,12 +120,12 @@ module _ (r : List ℕ) (at : ℕ) where
   record Whole : Type 0 where
     short : length r ≤ 60000
     inside : at < length r
-    known : byteAt r at ≤ 4
+    known : byteAt r at ≤ 5
     first : byteAt r at ≡ 0 → at ≡ 0
     later : 1 ≤ byteAt r at → 0 < at
-    whole : at + bytesOf (byteAt r at) ≤ length r
+    whole : at + bytesOf (byteAt r at) (byteAt r (at + 2)) ≤ length r
 
-  whole-of-other : 1 ≤ byteAt r at → byteAt r at ≤ 4 → length r ≤ 60000 → 0 < at → at < length r → at + bytesOf (byteAt r at) ≤ length r → Whole
+  whole-of-other : 1 ≤ byteAt r at → byteAt r at ≤ 5 → length r ≤ 60000 → 0 < at → at < length r → at + bytesOf (byteAt r at) (byteAt r (at + 2)) ≤ length r → Whole
   whole-of-other some known short later inside whole = record { short = short; inside = inside; known = known; first = λ z. absurd (omega arith); later = λ z. later; whole = whole }
 
   whole-of-read : (c : Command) → ReadAt c → Whole
@@ -124,6 +135,7 @@ module _ (r : List ℕ) (at : ℕ) where
   whole-of-read (Free processor address) h = whole-of-other (omega arith) (omega arith) (h .0) (h .1) (omega arith) (rw (h .2) (h .3))
   whole-of-read (NamedTake processor name size) h = whole-of-other (omega arith) (omega arith) (h .0) (h .1) (omega arith) (rw (h .2) (h .3))
   whole-of-read (NamedFree processor name) h = whole-of-other (omega arith) (omega arith) (h .0) (h .1) (omega arith) (rw (h .2) (h .3))
+  whole-of-read (Drop processor count first) h = whole-of-other (omega arith) (omega arith) (h .0) (h .1) (omega arith) (rw (h .2) (omega arith))
   whole-of-read (Refused number offset) h = absurd h
 
   -- and it is no refusal
@@ -134,6 +146,7 @@ module _ (r : List ℕ) (at : ℕ) where
   no-refusal-of-read (Free processor address) h = (refl, refl)
   no-refusal-of-read (NamedTake processor name size) h = (refl, refl)
   no-refusal-of-read (NamedFree processor name) h = (refl, refl)
+  no-refusal-of-read (Drop processor count first) h = (refl, refl)
   no-refusal-of-read (Refused number offset) h = absurd h
 
 byte-at-cong : (r : List ℕ) (i j : ℕ) → i ≡ j → byteAt r i ≡ byteAt r j
@@ -158,7 +171,7 @@ pub data CommandRow (r : List ℕ) (at : ℕ) : Command → Type 0 where
 
 module _ (r : List ℕ) (at : ℕ) (short : length r ≤ 60000) (inside : at < length r) where
   -- a command of n bytes whose byte is known and that stands where it may
-  row-of-placed : byteAt r at ≤ 4 → (byteAt r at ≡ 0 → at ≡ 0) → (1 ≤ byteAt r at → 0 < at) → (n : ℕ) → bytesOf (byteAt r at) ≡ n
+  row-of-placed : byteAt r at ≤ 5 → (byteAt r at ≡ 0 → at ≡ 0) → (1 ≤ byteAt r at → 0 < at) → (n : ℕ) → bytesOf (byteAt r at) (byteAt r (at + 2)) ≡ n
       → (c : Command) → (at + n ≤ length r → ReadAt r at c) → CommandRow r at (unlessTruncated r at n c)
   unfolding unlessTruncated
   row-of-placed known first later n e c f =
@@ -178,7 +191,7 @@ module _ (r : List ℕ) (at : ℕ) (short : length r ≤ 60000) (inside : at < l
       (λ f. let later = eqb-false at 0 f in misplaced (λ l. omega arith) (λ u. omega arith) (inl (inside, omega arith, e)))
 
   -- any other command
-  row-of-other : 1 ≤ byteAt r at → byteAt r at ≤ 4 → (n : ℕ) → bytesOf (byteAt r at) ≡ n
+  row-of-other : 1 ≤ byteAt r at → byteAt r at ≤ 5 → (n : ℕ) → bytesOf (byteAt r at) (byteAt r (at + 2)) ≡ n
       → (c : Command) → (0 < at → at + n ≤ length r → ReadAt r at c) → CommandRow r at (unlessFirst at (unlessTruncated r at n c))
   unfolding unlessFirst
   row-of-other some known n e c f =
@@ -205,6 +218,10 @@ module _ (r : List ℕ) (at : ℕ) (short : length r ≤ 60000) (inside : at < l
   unfolding namedFreeAt ReadAt bytesOf
   row-of-named-free e = row-of-other (omega arith) (omega arith) 4 (rw e) _ (λ later whole. (short, later, e, whole, refl, two-at-by-bytes r (at + 2) (at + 3) (omega arith)))
 
+  row-of-drop : byteAt r at ≡ 5 → CommandRow r at (dropAt r at)
+  unfolding dropAt ReadAt bytesOf
+  row-of-drop e = row-of-other (omega arith) (omega arith) (3 + 4 * byteAt r (at + 2)) (rw e) _ (λ later whole. (short, later, e, omega arith, refl, refl, refl))
+
   row-of-known : CommandRow r at (commandByFirstByte r at)
   unfolding commandByFirstByte
   row-of-known =
@@ -212,14 +229,16 @@ module _ (r : List ℕ) (at : ℕ) (short : length r ≤ 60000) (inside : at < l
       (λ e. pick-elim (CommandRow r at) (eqb (byteAt r at) 1) (takeAt r at) _ (λ f. row-of-take (eqb-true (byteAt r at) 1 f))
       (λ f. pick-elim (CommandRow r at) (eqb (byteAt r at) 2) (freeAt r at) _ (λ g. row-of-free (eqb-true (byteAt r at) 2 g))
       (λ g. pick-elim (CommandRow r at) (eqb (byteAt r at) 3) (namedTakeAt r at) _ (λ h. row-of-named-take (eqb-true (byteAt r at) 3 h))
-      (λ h. pick-elim (CommandRow r at) (eqb (byteAt r at) 4) (namedFreeAt r at) (Refused 8 at) (λ i. row-of-named-free (eqb-true (byteAt r at) 4 i))
-      (λ i.
+      (λ h. pick-elim (CommandRow r at) (eqb (byteAt r at) 4) (namedFreeAt r at) _ (λ i. row-of-named-free (eqb-true (byteAt r at) 4 i))
+      (λ i. pick-elim (CommandRow r at) (eqb (byteAt r at) 5) (dropAt r at) (Refused 8 at) (λ j. row-of-drop (eqb-true (byteAt r at) 5 j))
+      (λ j.
       let a = eqb-false (byteAt r at) 0 e in
       let b = eqb-false (byteAt r at) 1 f in
       let c = eqb-false (byteAt r at) 2 g in
       let d = eqb-false (byteAt r at) 3 h in
-      let j = eqb-false (byteAt r at) 4 i in
-      unknown (λ l. omega arith) (inside, omega arith))))))
+      let k = eqb-false (byteAt r at) 4 i in
+      let m = eqb-false (byteAt r at) 5 j in
+      unknown (λ l. omega arith) (inside, omega arith)))))))
 
 pub row-of-command-at : (r : List ℕ) (at : ℕ) → CommandRow r at (commandAt r at)
 unfolding commandAt
@@ -363,13 +382,14 @@ module _ (r : List ℕ) (at : ℕ) where
   unless-first-of-later n c later h = rw (ne-eqb at 0 (λ z. omega arith)) (unless-truncated-of-whole n c h)
 
   command-by-first-byte-of-read-at : (c : Command) → ReadAt r at c → commandByFirstByte r at ≡ c
-  unfolding ReadAt commandByFirstByte setupAt takeAt freeAt namedTakeAt namedFreeAt
+  unfolding ReadAt commandByFirstByte setupAt takeAt freeAt namedTakeAt namedFreeAt dropAt
   command-by-first-byte-of-read-at (Setup processors superblocks spare p q) h = rw (h .2, eq-eqb at 0 (h .1)) (unless-truncated-of-whole 6 _ (h .3) ∙ cc)
   command-by-first-byte-of-read-at (Take processor size) h = rw (h .2) (unless-first-of-later 4 _ (h .1) (h .3) ∙ cc (two-at-by-bytes r (at + 2) (at + 3) (omega arith)))
   command-by-first-byte-of-read-at (Free processor address) h = rw (h .2) (unless-first-of-later 6 _ (h .1) (h .3) ∙ cc (four-at-by-bytes r at))
   command-by-first-byte-of-read-at (NamedTake processor name size) h =
       rw (h .2) (unless-first-of-later 6 _ (h .1) (h .3) ∙ cc (two-at-by-bytes r (at + 2) (at + 3) (omega arith), two-at-by-bytes r (at + 4) (at + 5) (omega arith)))
   command-by-first-byte-of-read-at (NamedFree processor name) h = rw (h .2) (unless-first-of-later 4 _ (h .1) (h .3) ∙ cc (two-at-by-bytes r (at + 2) (at + 3) (omega arith)))
+  command-by-first-byte-of-read-at (Drop processor count first) h = rw (h .2) (unless-first-of-later (3 + 4 * byteAt r (at + 2)) _ (h .1) (omega arith) ∙ cc)
   command-by-first-byte-of-read-at (Refused number offset) h = absurd h
 
   command-of-read-at : (c : Command) → ReadAt r at c → commandAt r at ≡ c
@@ -409,6 +429,23 @@ module _ (r : List ℕ) (at : ℕ) where
   pub named-free-iff-named-free-at : (processor name : ℕ) → commandAt r at ≡ NamedFree processor name ↔ NamedFreeAt r at processor name
   unfolding ReadAt isRefused
   named-free-iff-named-free-at processor name = command-iff-read-at (NamedFree processor name) refl
+
+  pub drop-iff-drop-at : (processor count first : ℕ) → commandAt r at ≡ Drop processor count first ↔ DropAt r at processor count first
+  unfolding ReadAt isRefused
+  drop-iff-drop-at processor count first = command-iff-read-at (Drop processor count first) refl
+
+  -- "that many addresses (4 each)", one behind the other, each with "the low byte first"
+  pub drop-addresses-by-bytes : (processor count first : ℕ) → commandAt r at ≡ Drop processor count first
+      → (length (addressesIn r first count) ≡ byteAt r (at + 2))
+      × ((i : ℕ) → i < count → getD (addressesIn r first count) i 0
+      ≡ byteAt r (at + 3 + 4 * i) + 256 * byteAt r (at + 4 + 4 * i) + 65536 * byteAt r (at + 5 + 4 * i) + 16777216 * byteAt r (at + 6 + 4 * i))
+  drop-addresses-by-bytes processor count first e =
+      let t = drop-iff-drop-at processor count first .0 e in (
+        length-of-fours-at r first count ∙ t .5,
+        λ i h.
+            fours-at-number r first count i h
+            ∙ omega (arith, byte-at-cong r (first + 4 * i) (at + 3 + 4 * i) (omega arith), byte-at-cong r (first + 4 * i + 1) (at + 4 + 4 * i) (omega arith), byte-at-cong r (first + 4 * i + 2) (at + 5 + 4 * i) (omega arith), byte-at-cong r (first + 4 * i + 2 + 1) (at + 6 + 4 * i) (omega arith)),
+      )
 
   -- ---- the offset of a refusal: the command's own first byte, and 0 for 11
 

@@ -2,11 +2,13 @@
 -- nothing.
 use mathlib.Core.Path.{_≡_, refl}
 use mathlib.Core.List.{List, [], _∷_, _++_}
-use Prim.Native.Nat.{ℕ}
+use Prim.Native.Nat.{ℕ, suc}
 use lib.ListN.{replicate}
+use lib.ListN as bytes
+use Rattle.laws.specs.Lists.{listed}
 use Rattle.commands.specs.declared.Command.{Command}
-use Rattle.commands.specs.declared.Command.the-variants.{Setup, Take, Free, NamedTake, NamedFree, Refused}
-use Rattle.commands.specs.Record.{commandAt, commandsOf, commandNumberOf, refusalOffsetOf, commandByte, numbersOf}
+use Rattle.commands.specs.declared.Command.the-variants.{Setup, Take, Free, NamedTake, NamedFree, Drop, Refused}
+use Rattle.commands.specs.Record.{addressesIn, commandAt, commandsOf, commandNumberOf, refusalOffsetOf, commandByte, numbersOf}
 use Rattle.commands.proofs.CommandDefinitions.{commandDefinitions}
 
 abbrev setup : List ℕ
@@ -29,7 +31,7 @@ no-byte : commandsOf [] ≡ Refused 10 0 ∷ []
 unfolding commandDefinitions
 no-byte = refl
 
-unknown-first : commandsOf (5 ∷ []) ≡ Refused 8 0 ∷ []
+unknown-first : commandsOf (6 ∷ []) ≡ Refused 8 0 ∷ []
 unfolding commandDefinitions
 unknown-first = refl
 
@@ -51,11 +53,18 @@ free-truncated = refl
 
 -- every byte of a command another: "numbers of several bytes have the low byte first"
 abbrev distinct-bytes : List ℕ
-distinct-bytes = 0 ∷ 3 ∷ 4 ∷ 5 ∷ 6 ∷ 7 ∷ 1 ∷ 8 ∷ 9 ∷ 10 ∷ 2 ∷ 11 ∷ 12 ∷ 13 ∷ 14 ∷ 15 ∷ 3 ∷ 16 ∷ 17 ∷ 18 ∷ 19 ∷ 20 ∷ 4 ∷ 21 ∷ 22 ∷ 23 ∷ []
+distinct-bytes =
+    0 ∷ 3 ∷ 4 ∷ 5 ∷ 6 ∷ 7 ∷ 1 ∷ 8 ∷ 9 ∷ 10 ∷ 2 ∷ 11 ∷ 12 ∷ 13 ∷ 14 ∷ 15 ∷ 3 ∷ 16 ∷ 17 ∷ 18 ∷ 19 ∷ 20 ∷ 4 ∷ 21 ∷ 22 ∷ 23
+    ∷ 5 ∷ 24 ∷ 2 ∷ 25 ∷ 26 ∷ 27 ∷ 28 ∷ 29 ∷ 30 ∷ 31 ∷ 32 ∷ []
 
-commands-of-distinct-bytes : commandsOf distinct-bytes ≡ Setup 3 4 5 6 7 ∷ Take 8 2569 ∷ Free 11 252579084 ∷ NamedTake 16 4625 5139 ∷ NamedFree 21 5910 ∷ []
+commands-of-distinct-bytes : commandsOf distinct-bytes ≡ Setup 3 4 5 6 7 ∷ Take 8 2569 ∷ Free 11 252579084 ∷ NamedTake 16 4625 5139 ∷ NamedFree 21 5910 ∷ Drop 24 2 29 ∷ []
 unfolding commandDefinitions
 commands-of-distinct-bytes = refl
+
+-- the addresses of its drop, in the order written
+addresses-of-distinct-bytes : addressesIn distinct-bytes 29 2 ≡ 471538201 ∷ 538910237 ∷ []
+unfolding commandDefinitions
+addresses-of-distinct-bytes = refl
 
 -- a setup truncated, and whole but not first; a free first, whole and truncated; a take truncated, and a command of its first byte alone
 setup-truncated : commandsOf (0 ∷ 1 ∷ 2 ∷ 1 ∷ 1 ∷ []) ≡ Refused 9 0 ∷ []
@@ -115,6 +124,42 @@ names-read-as-they-are : commandsOf (setup ++ (3 ∷ 1 ∷ 255 ∷ 3 ∷ 0 ∷ 0
 unfolding commandDefinitions
 names-read-as-they-are = refl
 
+-- ---- drops (document 02, item 5): of no address, which is the call's refusal 16 and has 3 bytes, of one, two and 255, each followed by the free
+abbrev drop-0 : List ℕ
+drop-0 = 5 ∷ 1 ∷ 0 ∷ []
+
+abbrev drop-1 : List ℕ
+drop-1 = 5 ∷ 1 ∷ 1 ∷ 0 ∷ 8 ∷ 0 ∷ 0 ∷ []
+
+abbrev drop-2 : List ℕ
+drop-2 = 5 ∷ 1 ∷ 2 ∷ 0 ∷ 0 ∷ 0 ∷ 0 ∷ 0 ∷ 8 ∷ 0 ∷ 0 ∷ []
+
+drops-read : commandsOf (setup ++ drop-0 ++ free ++ drop-1 ++ free ++ drop-2 ++ free) ≡ Setup 1 2 1 1 4 ∷ Drop 1 0 9 ∷ Free 1 0 ∷ Drop 1 1 18 ∷ Free 1 0 ∷ Drop 1 2 31 ∷ Free 1 0 ∷ []
+unfolding commandDefinitions
+drops-read = refl
+
+drop-of-255-read : commandsOf (setup ++ (5 ∷ 1 ∷ 255 ∷ []) ++ replicate 1020 7 ++ free) ≡ Setup 1 2 1 1 4 ∷ Drop 1 255 9 ∷ Free 1 0 ∷ []
+unfolding commandDefinitions
+drop-of-255-read = refl
+
+-- cut at every byte, from the command byte alone to the last byte of the last address: 9 at its own offset, whatever the processor and the count are
+drop-truncated : listed (λ n. commandsOf (setup ++ bytes.take (suc n) drop-2)) 10 ≡ replicate 10 (Setup 1 2 1 1 4 ∷ Refused 9 6 ∷ [])
+unfolding commandDefinitions
+drop-truncated = refl
+
+drop-of-0-truncated : listed (λ n. commandsOf (setup ++ bytes.take (suc n) (5 ∷ 0 ∷ 0 ∷ []))) 2 ≡ replicate 2 (Setup 1 2 1 1 4 ∷ Refused 9 6 ∷ [])
+unfolding commandDefinitions
+drop-of-0-truncated = refl
+
+drop-of-255-truncated : commandsOf (setup ++ (5 ∷ 0 ∷ 255 ∷ []) ++ replicate 1019 7) ≡ Setup 1 2 1 1 4 ∷ Refused 9 6 ∷ []
+unfolding commandDefinitions
+drop-of-255-truncated = refl
+
+-- first, cut at every byte and whole
+drop-first : listed (λ n. commandsOf (bytes.take (suc n) drop-2)) 11 ≡ replicate 11 (Refused 10 0 ∷ [])
+unfolding commandDefinitions
+drop-first = refl
+
 -- 60000 bytes are read and 60001 are not, whatever they are
 record-of-60000-read : commandAt (replicate 60000 0) 0 ≡ Setup 0 0 0 0 0
 unfolding commandDefinitions
@@ -140,13 +185,14 @@ values : List Command → List Values
 values [] = []
 values (c ∷ commands) = record { number = commandNumberOf c; offset = refusalOffsetOf c; byte = commandByte c; numbers = numbersOf c } ∷ values commands
 
-values-of-all-kinds : values (commandsOf (distinct-bytes ++ (5 ∷ [])))
+values-of-all-kinds : values (commandsOf (distinct-bytes ++ (6 ∷ [])))
     ≡ record { number = 0; offset = 0; byte = 0 ∷ []; numbers = 3 ∷ 4 ∷ 5 ∷ 6 ∷ 7 ∷ [] }
     ∷ record { number = 0; offset = 0; byte = 1 ∷ []; numbers = 8 ∷ 2569 ∷ [] }
     ∷ record { number = 0; offset = 0; byte = 2 ∷ []; numbers = 11 ∷ 252579084 ∷ [] }
     ∷ record { number = 0; offset = 0; byte = 3 ∷ []; numbers = 16 ∷ 4625 ∷ 5139 ∷ [] }
     ∷ record { number = 0; offset = 0; byte = 4 ∷ []; numbers = 21 ∷ 5910 ∷ [] }
-    ∷ record { number = 8; offset = 26; byte = []; numbers = [] }
+    ∷ record { number = 0; offset = 0; byte = 5 ∷ []; numbers = 24 ∷ 2 ∷ 29 ∷ [] }
+    ∷ record { number = 8; offset = 37; byte = []; numbers = [] }
     ∷ []
 unfolding values commandNumberOf refusalOffsetOf commandByte numbersOf commandDefinitions
 values-of-all-kinds = refl

@@ -9,6 +9,7 @@ ghost use Rattle.commands.specs.Record.{
   freeAt,
   namedTakeAt,
   namedFreeAt,
+  dropAt,
   commandByFirstByte,
   commandAt,
   HasNumbersOf,
@@ -52,6 +53,9 @@ fn command_by_first_byte(bytes: &[u8], at: usize) -> Command
     }
     if first == 4 {
         return named_free_at(bytes, at);
+    }
+    if first == 5 {
+        return drop_at(bytes, at);
     }
     refused(8, at)
 }
@@ -137,6 +141,26 @@ fn named_free_at(bytes: &[u8], at: usize) -> Command
         return Command::NamedFree {
             processor: bytes[at + 1],
             name: littleendian::two_at(bytes, at + 2),
+        };
+    }
+    refused(9, at)
+}
+
+// The count reads as 0 where the record ends before it; such a drop is cut all the same.
+fn drop_at(bytes: &[u8], at: usize) -> Command
+    requires { ⌜ (length (now bytes) ≤ 60000) × (at < length (now bytes)) ⌝ }
+    ensures { λ c. ⌜ c ≡ dropAt (now (bytes .entry)) at ⌝ }
+{
+    if at == 0 {
+        return refused(10, at);
+    }
+    let count = littleendian::byte_at(bytes, at + 2);
+    let size = 3 + 4 * (count as usize);
+    if at + size <= bytes.len() {
+        return Command::Drop {
+            processor: bytes[at + 1],
+            count,
+            first: (at + 3) as u32,
         };
     }
     refused(9, at)

@@ -2,20 +2,35 @@
 use mathlib.Core.Path.{_≡_, refl}
 use mathlib.Core.Bool.{true, false}
 use mathlib.Core.List.{List, [], _∷_, _++_}
-use Prim.Native.Nat.{ℕ, _+_}
+use Prim.Native.Nat.{ℕ, _+_, _*_}
 use lib.ListN.{getD, length, replicate, take}
 use Rattle.heap.specs.Table.{blank}
-use Rattle.formrules.specs.declared.Request.the-variants.{Setup, Take, Free, NamedTake, NamedFree}
+use Rattle.formrules.specs.declared.Request.the-variants.{Setup, Take, Free, NamedTake, NamedFree, Drop}
 use Rattle.laws.specs.Lists.{listed}
-use Rattle.formrules.specs.Form.{callIn, superblockIn, namesIn, totalsIn, stateIn, tableOffset, placesOffset, placeCount, wellFormed}
+use Rattle.littleendian.specs.Bytes.{byteAt, twoAt, foursAt}
+use Rattle.formrules.specs.Form.{callIn, superblockIn, namesIn, namesOffset, totalsIn, totalsOffset, stateIn, addressesIn, tableOffset, placesOffset, placeCount, placesIn, wellFormed}
 
 -- ---- the call, by its first byte; behind it every byte another
 abbrev distinct-bytes : List ℕ
 distinct-bytes = 1 ∷ 2 ∷ 3 ∷ 4 ∷ 5 ∷ 6 ∷ 7 ∷ 8 ∷ 9 ∷ 10 ∷ []
 
-call-in-cases : (callIn (0 ∷ distinct-bytes) ≡ Setup) × (callIn (1 ∷ distinct-bytes) ≡ Take 6 2055) × (callIn (2 ∷ distinct-bytes) ≡ Free 6 168364039) × (callIn (3 ∷ distinct-bytes) ≡ NamedTake 6 2055 2569) × (callIn (4 ∷ distinct-bytes) ≡ NamedFree 6 2055)
+call-in-cases : (callIn (0 ∷ distinct-bytes) ≡ Setup) × (callIn (1 ∷ distinct-bytes) ≡ Take 6 2055) × (callIn (2 ∷ distinct-bytes) ≡ Free 6 168364039) × (callIn (3 ∷ distinct-bytes) ≡ NamedTake 6 2055 2569) × (callIn (4 ∷ distinct-bytes) ≡ NamedFree 6 2055) × (callIn (5 ∷ distinct-bytes) ≡ Drop 6 2055)
 unfolding callIn
-call-in-cases = (refl, refl, refl, refl, refl)
+call-in-cases = (refl, refl, refl, refl, refl, refl)
+
+-- ---- a drop of C addresses: the bytes 10, 11, .. are those of its addresses and of what stands behind them
+abbrev drop-bytes : ℕ → ℕ → ℕ → List ℕ
+drop-bytes low high n = 5 ∷ 1 ∷ 2 ∷ 3 ∷ 4 ∷ 5 ∷ 6 ∷ low ∷ high ∷ listed (λ i. 10 + i) n
+
+-- C of 0, 1 and 3; one whose addresses read on into the state, and past the end 0
+addresses-in-cases : (addressesIn (drop-bytes 0 0 16) ≡ []) × (addressesIn (drop-bytes 1 0 16) ≡ 218893066 ∷ []) × (addressesIn (drop-bytes 3 0 16) ≡ 218893066 ∷ 286265102 ∷ 353637138 ∷ []) × (addressesIn (drop-bytes 4 0 13) ≡ 218893066 ∷ 286265102 ∷ 353637138 ∷ 22 ∷ [])
+unfolding addressesIn foursAt listed
+addresses-in-cases = (refl, refl, refl, refl)
+
+-- C has two bytes, the low one first
+drop-count-of-two-bytes : (callIn (drop-bytes 2 1 16) ≡ Drop 6 258) × (length (addressesIn (drop-bytes 2 1 16)) ≡ 258) × (tableOffset (drop-bytes 2 1 16) ≡ 1041)
+unfolding callIn addressesIn foursAt tableOffset listed
+drop-count-of-two-bytes = (refl, refl, refl)
 
 -- ---- the names: 1024, past the end 0
 names-in-cases : (take 4 (namesIn distinct-bytes 5) ≡ 1798 ∷ 2312 ∷ 10 ∷ 0 ∷ []) × (length (namesIn [] 0) ≡ 1024)
@@ -71,6 +86,11 @@ places-offset-cases : (placesOffset (0 ∷ []) ≡ 10) × (placesOffset (1 ∷ [
 unfolding placesOffset tableOffset
 places-offset-cases = (refl, refl, refl, refl, refl)
 
+-- where superblocks and order places begin, with C of 0, 1, 3 and the largest
+drop-offset-cases : (tableOffset (drop-bytes 0 0 0) ≡ 9) × (tableOffset (drop-bytes 1 0 0) ≡ 13) × (tableOffset (drop-bytes 3 0 0) ≡ 21) × (tableOffset (drop-bytes 255 255 0) ≡ 262149) × (placesOffset (drop-bytes 0 0 0) ≡ 5030) × (placesOffset (drop-bytes 1 0 0) ≡ 5034) × (placesOffset (drop-bytes 3 0 0) ≡ 5042)
+unfolding placesOffset tableOffset listed
+drop-offset-cases = (refl, refl, refl, refl, refl, refl, refl)
+
 -- ---- L: of a setup behind its numbers, of a call on a state behind the totals
 abbrev totals-then-length : List ℕ
 totals-then-length = replicate 5025 255 ++ (1 ∷ 2 ∷ 3 ∷ 4 ∷ 5 ∷ 6 ∷ [])
@@ -79,7 +99,23 @@ place-count-cases : (placeCount (0 ∷ distinct-bytes) ≡ 151521030) × (placeC
 unfolding placeCount tableOffset
 place-count-cases = (refl, refl, refl)
 
--- ---- the whole form: named calls without a place; a byte missing or left over; the length of the other; one place; 5 is no call
+-- ---- a drop of C addresses, whose superblocks begin with 10 and end with 11; then name 0, the first totals of superblocks and of live blocks, L and a
+-- place. Every other byte is 255
+abbrev drop-on-state : ℕ → List ℕ
+drop-on-state c =
+    5 ∷ (replicate 6 255 ++ (c ∷ 0 ∷ (replicate (4 * c) 255 ++ (10 ∷ (replicate 2238 255 ++ (11 ∷ 12 ∷ 13 ∷ (replicate 2046 255 ++ (14 ∷ (replicate 242 255 ++ (15 ∷ 16 ∷ (replicate 484 255 ++ (1 ∷ 0 ∷ 0 ∷ 0 ∷ 17 ∷ 18 ∷ []))))))))))))
+
+-- the first byte of the superblocks and the last, name 0, the first totals of superblocks and of live blocks, L, the places
+abbrev landmarks : List ℕ → ℕ → List ℕ
+landmarks b at =
+    byteAt b at ∷ byteAt b (at + 2239) ∷ twoAt b (namesOffset at) ∷ byteAt b (totalsOffset at) ∷ twoAt b (totalsOffset at + 243) ∷ placeCount b ∷ placesIn b (placesOffset b) (placeCount b)
+
+-- with C of 0, 1 and 3
+all-behind-addresses : (landmarks (drop-on-state 0) (tableOffset (drop-on-state 0)) ≡ 10 ∷ 11 ∷ 3340 ∷ 14 ∷ 4111 ∷ 1 ∷ 4625 ∷ []) × (landmarks (drop-on-state 1) (tableOffset (drop-on-state 1)) ≡ 10 ∷ 11 ∷ 3340 ∷ 14 ∷ 4111 ∷ 1 ∷ 4625 ∷ []) × (landmarks (drop-on-state 3) (tableOffset (drop-on-state 3)) ≡ 10 ∷ 11 ∷ 3340 ∷ 14 ∷ 4111 ∷ 1 ∷ 4625 ∷ [])
+unfolding tableOffset placesOffset placeCount placesIn listed
+all-behind-addresses = (refl, refl, refl)
+
+-- ---- the whole form: named calls without a place; a byte missing or left over; the length of the other; one place
 well-formed-named-take : (wellFormed (3 ∷ replicate 5031 0) ≡ true) × (wellFormed (3 ∷ replicate 5030 0) ≡ false) × (wellFormed (3 ∷ replicate 5032 0) ≡ false) × (wellFormed (3 ∷ replicate 5029 0) ≡ false)
 unfolding wellFormed placesOffset placeCount tableOffset
 well-formed-named-take = (refl, refl, refl, refl)
@@ -95,6 +131,17 @@ well-formed-with-place : (wellFormed (one-place-lent ++ (8 ∷ 9 ∷ [])) ≡ tr
 unfolding wellFormed placesOffset placeCount tableOffset
 well-formed-with-place = (refl, refl, refl)
 
-unknown-call-not-well-formed : (wellFormed (5 ∷ replicate 5031 0) ≡ false) × (wellFormed (5 ∷ replicate 5029 0) ≡ false)
+-- a drop of 0, 1 and 3 addresses with one place lent; a byte missing or left over
+well-formed-drop : (wellFormed (drop-on-state 0) ≡ true) × (wellFormed (drop-on-state 1) ≡ true) × (wellFormed (drop-on-state 3) ≡ true) × (wellFormed (take 5043 (drop-on-state 3)) ≡ false) × (wellFormed (drop-on-state 3 ++ (0 ∷ [])) ≡ false)
+unfolding wellFormed placesOffset placeCount tableOffset
+well-formed-drop = (refl, refl, refl, refl, refl)
+
+-- without a place: C one too large, so that the last address is read from the state; one too small; and 256
+drop-with-other-count : (wellFormed (drop-bytes 1 0 0 ++ replicate 5021 0) ≡ false) × (wellFormed (drop-bytes 0 0 0 ++ replicate 5025 0) ≡ false) × (wellFormed (drop-bytes 0 1 0 ++ replicate 5021 0) ≡ false)
+unfolding wellFormed placesOffset placeCount tableOffset listed
+drop-with-other-count = (refl, refl, refl)
+
+-- 6 is no call
+unknown-call-not-well-formed : (wellFormed (6 ∷ replicate 5031 0) ≡ false) × (wellFormed (6 ∷ replicate 5029 0) ≡ false)
 unfolding wellFormed placesOffset placeCount tableOffset
 unknown-call-not-well-formed = (refl, refl)

@@ -80,7 +80,7 @@ module _ (P : State → Type 0) (kept : (found : Found) (s : State) → P s → 
       (λ e. transfers-keep k h c (m + 1) (foundTransferred (emptiest h c s) s) (kept (emptiest h c s) s p))
       (λ e. p)
 
-  invariant-restored-keeps : (h c : ℕ) (s : State) → P s → P (invariantRestored h c s .state)
+  pub invariant-restored-keeps : (h c : ℕ) (s : State) → P s → P (invariantRestored h c s .state)
   unfolding invariantRestored excessTransferred
   invariant-restored-keeps h c s p = pick-elim (λ (w : Moved). P (w .state)) (eqb h 0) (record { moves = 0; state = s }) (transfersUpTo 64 h c 0 s) (λ e. p) (λ e. transfers-keep 64 h c 0 s p)
 

@@ -15,10 +15,10 @@ size-0-take = 1 ∷ 1 ∷ 0 ∷ 0 ∷ []
 abbrev free-0 : List ℕ
 free-0 = 2 ∷ 1 ∷ 0 ∷ 0 ∷ 0 ∷ 0 ∷ []
 
-abbrev take-name : ℕ → List ℕ
+abbrev pub take-name : ℕ → List ℕ
 take-name name = 3 ∷ 1 ∷ name ∷ 0 ∷ 0 ∷ 8 ∷ []
 
-abbrev free-name : ℕ → List ℕ
+abbrev pub free-name : ℕ → List ℕ
 free-name name = 4 ∷ 1 ∷ name ∷ 0 ∷ []
 
 -- a refused take prints its number and the record goes on, to its last state and `end`

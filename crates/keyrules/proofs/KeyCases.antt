@@ -11,7 +11,7 @@ use Rattle.heap.specs.States.{withNames}
 use Rattle.heap.proofs.CaseStates.{unnamedState}
 use Rattle.heap.proofs.TableCases.{of}
 use Rattle.calls.specs.Answers.{After, numberOf}
-use Rattle.commands.specs.declared.Command.the-variants.{Take, NamedTake, NamedFree}
+use Rattle.commands.specs.declared.Command.the-variants.{Take, NamedTake, NamedFree, Drop}
 use Rattle.textrules.specs.Text.{letters}
 use Rattle.calls.proofs.CallDefinitions.{callDefinitions}
 use Rattle.commands.proofs.CommandDefinitions.{commandDefinitions}
@@ -53,7 +53,7 @@ unfolding keyDefinitions
 key-of-setup-only-case = refl
 
 -- an unknown byte behind a setup and an accepted take: their lines, and the stop line with the byte's own offset, as the last line
-key-stopped-by-unknown-byte : keyOf (setup ++ take ++ (5 ∷ [])) storage ≡ letters "setup 1 1 1 1 2\n" ++ letters "take 1 2048 at 0\n" ++ letters "stopped 8 at 10\n"
+key-stopped-by-unknown-byte : keyOf (setup ++ take ++ (6 ∷ [])) storage ≡ letters "setup 1 1 1 1 2\n" ++ letters "take 1 2048 at 0\n" ++ letters "stopped 8 at 10\n"
 unfolding keyDefinitions
 key-stopped-by-unknown-byte = refl
 
@@ -68,21 +68,37 @@ with-name-5 marks j order =
     stateAndStorage (withNames (unnamedState (record { processors = 1; superblocks = 1; spare = 1; p = 1; q = 2 }) (of 1 26 marks ∷ replicate 63 unused)) (withName noNames 5 j)) order
 
 -- a named free lets go the block that the name holds, not the one at address 0: the take after it gets that block
-text-of-held-block-freed : textOf (with-name-5 3 1 (1 ∷ 0 ∷ replicate 254 0)) (NamedFree 1 5 ∷ Take 1 2048 ∷ [])
+text-of-held-block-freed : textOf [] (with-name-5 3 1 (1 ∷ 0 ∷ replicate 254 0)) (NamedFree 1 5 ∷ Take 1 2048 ∷ [])
     ≡ letters "free 1 name 5 moved 0\n" ++ letters "take 1 2048 at 2048\n" ++ letters "heap 1 class 26 superblocks 1 live 2\n" ++ letters "end\n"
 unfolding keyDefinitions
 text-of-held-block-freed = refl
 
 -- a named take binds its name, by which its block is freed
-text-of-bound-name : textOf (with-name-5 1 65535 (1 ∷ 0 ∷ replicate 254 0)) (NamedTake 1 5 2048 ∷ NamedFree 1 5 ∷ [])
+text-of-bound-name : textOf [] (with-name-5 1 65535 (1 ∷ 0 ∷ replicate 254 0)) (NamedTake 1 5 2048 ∷ NamedFree 1 5 ∷ [])
     ≡ letters "take 1 name 5 2048 at 2048\n" ++ letters "free 1 name 5 moved 0\n" ++ letters "heap 1 class 26 superblocks 1 live 1\n" ++ letters "end\n"
 unfolding keyDefinitions
 text-of-bound-name = refl
 
 -- and the storage is what the named free leaves: the block's number in the first place
-storage-after-named-free : orderAfter (with-name-5 3 0 (1 ∷ 0 ∷ replicate 255 7)) (NamedFree 1 5 ∷ []) ≡ 0 ∷ 0 ∷ replicate 255 7
+storage-after-named-free : orderAfter [] (with-name-5 3 0 (1 ∷ 0 ∷ replicate 255 7)) (NamedFree 1 5 ∷ []) ≡ 0 ∷ 0 ∷ replicate 255 7
 unfolding keyDefinitions
 storage-after-named-free = refl
+
+-- ---- a drop, on the same state, whose name 5 points at block 0 (document 02, item 5)
+-- its record, of which only the addresses are read: 2048 and 0, with a byte before and behind them
+abbrev both-blocks : List ℕ
+both-blocks = 9 ∷ 0 ∷ 8 ∷ 0 ∷ 0 ∷ 0 ∷ 0 ∷ 0 ∷ 0 ∷ 9 ∷ []
+
+-- the line has the count and the moves, the blocks are free, the last one first, and the name is let go
+text-of-drop : textOf both-blocks (with-name-5 3 0 (replicate 256 0)) (Drop 1 2 1 ∷ NamedFree 1 5 ∷ Take 1 2048 ∷ [])
+    ≡ letters "drop 1 count 2 moved 0\n" ++ letters "free 1 name 5 refused 15\n" ++ letters "take 1 2048 at 0\n" ++ letters "heap 1 class 26 superblocks 1 live 1\n" ++ letters "end\n"
+unfolding keyDefinitions
+text-of-drop = refl
+
+-- the storage is what the drop leaves: the numbers of its blocks, in the order written
+storage-after-drop : orderAfter both-blocks (with-name-5 3 0 (replicate 257 7)) (Drop 1 2 1 ∷ []) ≡ 1 ∷ 0 ∷ replicate 255 7
+unfolding keyDefinitions
+storage-after-drop = refl
 
 -- the storage that is left: the setup clears the places of its superblocks and no other, and a take of an unused superblock renews it
 storage-after-setup-and-take : storageOf (setup ++ take) (replicate 257 7) ≡ 1 ∷ 0 ∷ (replicate 254 0 ++ (7 ∷ []))
@@ -94,6 +110,6 @@ storage-after-refused-setup : storageOf (0 ∷ 0 ∷ 1 ∷ 1 ∷ 1 ∷ 2 ∷ tak
 unfolding keyDefinitions
 storage-after-refused-setup = refl
 
--- the room holds 8 bytes for each byte of a record of 60000, and 9 times 27 heap lines of 64 bytes with `end`
-room-enough : leb (60000 * 8 + 9 * 27 * 64 + 4) room ≡ true
+-- the room holds 10 bytes for each byte of a record of 60000, and 9 times 27 heap lines of 64 bytes with `end`
+room-enough : leb (60000 * 10 + 9 * 27 * 64 + 4) room ≡ true
 room-enough = refl

@@ -10,8 +10,9 @@ use Rattle.heap.specs.declared.Superblock.{Superblock}
 use Rattle.heap.specs.declared.State.{State}
 use Rattle.heap.specs.Table.{unused}
 use Rattle.heap.proofs.CaseStates.{unnamedState}
+use Rattle.calls.specs.declared.CallHeader.the-variants as header
 use Rattle.calls.specs.declared.Outcome.the-variants.{Address, Moves, Refused}
-use Rattle.linerules.specs.Lines.{setupLine, takeLine, freeLine, namedTakeLine, namedFreeLine, stopLine, heapLine, heapLineIf, classLines, finalLines, closingLines}
+use Rattle.linerules.specs.Lines.{setupLine, takeLine, freeLine, namedTakeLine, namedFreeLine, dropLine, callLine, stopLine, heapLine, heapLineIf, classLines, finalLines, closingLines}
 use Rattle.linerules.proofs.LineDefinitions.{lineDefinitions}
 
 -- ---- the whole case
@@ -90,6 +91,29 @@ named-free-line-case = refl
 named-line-limit-cases : (namedTakeLine 1 0 0 (Address 16) ≡ letters "take 1 name 0 0 at 16\n") × (namedFreeLine 1 65535 (Refused 15) ≡ letters "free 1 name 65535 refused 15\n")
 unfolding lineDefinitions
 named-line-limit-cases = (refl, refl)
+
+-- ---- drops (document 02, item 5): the page's line, a refused one, and numbers that all differ
+drop-printed : dropLine 1 3 (Moves 1) ≡ letters "drop 1 count 3 moved 1\n"
+unfolding lineDefinitions
+drop-printed = refl
+
+refused-drop-printed : dropLine 1 3 (Refused 7) ≡ letters "drop 1 count 3 refused 7\n"
+unfolding lineDefinitions
+refused-drop-printed = refl
+
+drop-line-case : dropLine 6 120 (Moves 57) ≡ letters "drop 6 count 120 moved 57\n"
+unfolding lineDefinitions
+drop-line-case = refl
+
+-- count 0 prints as 0; the longest line of a refused one
+drop-line-limit-cases : (dropLine 4 0 (Refused 16) ≡ letters "drop 4 count 0 refused 16\n") × (dropLine 255 255 (Refused 16) ≡ letters "drop 255 count 255 refused 16\n")
+unfolding lineDefinitions
+drop-line-limit-cases = (refl, refl)
+
+-- a drop's header with so many addresses beside it; no other call prints that number
+call-line-cases : (callLine (header.Drop 6) 120 (Moves 57) ≡ letters "drop 6 count 120 moved 57\n") × (callLine (header.Free 6 200704) 120 (Moves 5) ≡ letters "free 6 200704 moved 5\n")
+unfolding lineDefinitions
+call-line-cases = (refl, refl)
 
 -- ---- the lines at the end: P = 2, heap 0 too, two classes of heap 1, one of them with nothing live; the superblocks stand in another order,
 -- others are unused, owner 3 is no heap where P is 2, and some are ranked, which no line shows

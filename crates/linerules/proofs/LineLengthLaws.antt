@@ -7,13 +7,14 @@ use native.Mathlib.Omega.{arith}
 use lib.ListN.{length, length-append}
 use lib.Dec.{eqb}
 use Rattle.laws.specs.Sums.{pick}
-use Rattle.textrules.proofs.DigitLaws.{length-of-decimal-le-10, length-of-byte-decimal-le-3, length-of-u16-decimal-le-5}
+use Rattle.textrules.specs.Text.{decimal}
+use Rattle.textrules.proofs.DigitLaws.{length-of-digits-le-of-lt-pow, length-of-decimal-le-10, length-of-byte-decimal-le-3, length-of-u16-decimal-le-5}
 use Rattle.heap.specs.declared.Setup.{Setup}
 use Rattle.heap.specs.declared.State.{State}
 use Rattle.heap.specs.Counts.{superblocksOf, liveOf}
 use Rattle.calls.specs.declared.Outcome.{Outcome}
 use Rattle.calls.specs.declared.Outcome.the-variants.{Ready, Address, Moves, Refused}
-use Rattle.linerules.specs.Lines.{setupLine, result, takeLine, freeLine, namedTakeLine, namedFreeLine, stopLine, heapLine, heapLineIf, classLines, heapLines, finalLines}
+use Rattle.linerules.specs.Lines.{setupLine, result, takeLine, freeLine, namedTakeLine, namedFreeLine, dropLine, stopLine, heapLine, heapLineIf, classLines, heapLines, finalLines}
 -- the computed cases come first: a wrong definition fails there
 use Rattle.linerules.proofs.LineCases as cases
 
@@ -48,6 +49,20 @@ module _ (processor name : ℕ) (o : Outcome) (a : processor < 256) (b : name < 
   pub length-of-named-free-line-le : length (namedFreeLine processor name o) ≤ 20 + length (result o)
   unfolding namedFreeLine
   length-of-named-free-line-le = simp length-append (omega (arith, length-of-byte-decimal-le-3 processor a, length-of-u16-decimal-le-5 name b))
+
+-- a drop, of a result that is no address
+length-of-digit-decimal-le-1 : (n : ℕ) → n < 10 → length (decimal n) ≤ 1
+unfolding decimal
+length-of-digit-decimal-le-1 n h = length-of-digits-le-of-lt-pow 10 1 n (omega arith) (omega arith)
+
+module _ (processor count : ℕ) (o : Outcome) (a : processor < 256) (short : length (result o) ≤ 12) where
+  pub length-of-drop-line-le-31 : count < 256 → length (dropLine processor count o) ≤ 31
+  unfolding dropLine
+  length-of-drop-line-le-31 b = simp length-append (omega (arith, length-of-byte-decimal-le-3 processor a, length-of-byte-decimal-le-3 count b))
+
+  pub length-of-drop-line-le-29 : count < 10 → length (dropLine processor count o) ≤ 29
+  unfolding dropLine
+  length-of-drop-line-le-29 b = simp length-append (omega (arith, length-of-byte-decimal-le-3 processor a, length-of-digit-decimal-le-1 count b))
 
 pub length-of-stop-line-le-26 : (number offset : ℕ) → number < 256 → length (stopLine number offset) ≤ 26
 unfolding stopLine

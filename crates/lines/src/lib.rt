@@ -1,5 +1,5 @@
 // The lines of a record's commands, written into a lent buffer, as far as they reach.
-use calls::Call;
+use calls::CallHeader;
 use calls::Outcome;
 use fields::put_byte;
 use fields::put_last_field;
@@ -18,6 +18,7 @@ ghost use Rattle.linerules.specs.Lines.{
   processorAndName,
   namedTakeLine,
   namedFreeLine,
+  dropLine,
   callLine,
   stopLine,
 };
@@ -34,19 +35,22 @@ pub fn setup_line(out: &mut [u8], at: usize, u: Setup) -> usize
     put_text(out, e, b"\n")
 }
 
-// The line of a call.
-pub fn call_line(out: &mut [u8], at: usize, call: Call, outcome: Outcome) -> usize
-    ensures { λ r. ⌜ record { end = r; buffer = now (out .exit) } ≡ pasted (now (out .entry)) at (callLine call outcome) ⌝ }
+// The line of a call with this header and so many addresses beside it, which only a drop prints.
+pub fn call_line(out: &mut [u8], at: usize, call: CallHeader, count: u8, outcome: Outcome) -> usize
+    ensures { λ r. ⌜ record { end = r; buffer = now (out .exit) } ≡ pasted (now (out .entry)) at (callLine call count outcome) ⌝ }
 {
     match call {
-        Call::Take { processor, size } => take_line(out, at, processor, size, outcome),
-        Call::Free { processor, address } => free_line(out, at, processor, address, outcome),
-        Call::NamedTake {
+        CallHeader::Take { processor, size } => take_line(out, at, processor, size, outcome),
+        CallHeader::Free { processor, address } => free_line(out, at, processor, address, outcome),
+        CallHeader::NamedTake {
             processor,
             name,
             size,
         } => named_take_line(out, at, processor, name, size, outcome),
-        Call::NamedFree { processor, name } => named_free_line(out, at, processor, name, outcome),
+        CallHeader::NamedFree { processor, name } => {
+            named_free_line(out, at, processor, name, outcome)
+        }
+        CallHeader::Drop { processor } => drop_line(out, at, processor, count, outcome),
     }
 }
 
@@ -104,6 +108,15 @@ fn named_free_line(out: &mut [u8], at: usize, processor: u8, name: u16, outcome:
 {
     let a = put_processor_and_name(out, at, b"free ", processor, name);
     put_result_end(out, a, outcome)
+}
+
+// The line of a drop.
+fn drop_line(out: &mut [u8], at: usize, processor: u8, count: u8, outcome: Outcome) -> usize
+    ensures { λ r. ⌜ record { end = r; buffer = now (out .exit) } ≡ pasted (now (out .entry)) at (dropLine processor count outcome) ⌝ }
+{
+    let a = put_byte(out, at, b"drop ", processor);
+    let b = put_byte(out, a, b" count ", count);
+    put_result_end(out, b, outcome)
 }
 
 // The last line of a record that stops.

@@ -1,2 +1,3 @@
 pub mod LittleEndianCases
 pub mod PastEndLaws
+pub mod FoursLaws

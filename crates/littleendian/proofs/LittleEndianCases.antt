@@ -2,7 +2,8 @@
 use mathlib.Core.Path.{_≡_, refl}
 use mathlib.Core.List.{List, [], _∷_}
 use Prim.Native.Nat.{ℕ}
-use Rattle.littleendian.specs.Bytes.{byteAt, twoAt, fourAt, eightAt, positionAfter}
+use Rattle.laws.specs.Lists.{listed}
+use Rattle.littleendian.specs.Bytes.{byteAt, twoAt, fourAt, eightAt, positionAfter, foursAt}
 
 abbrev distinct-bytes : List ℕ
 distinct-bytes = 10 ∷ 1 ∷ 2 ∷ 3 ∷ 4 ∷ 5 ∷ 6 ∷ 7 ∷ 8 ∷ []
@@ -38,3 +39,17 @@ position-of-end = refl
 position-past-end : positionAfter distinct-bytes 4 6 ≡ 9
 unfolding positionAfter
 position-past-end = refl
+
+-- ---- several numbers of four bytes: the first byte of each stands four bytes after that of the one before it, and none, one, or one whose last three bytes
+-- are missing
+two-fours : foursAt distinct-bytes 1 2 ≡ 67305985 ∷ 134678021 ∷ []
+unfolding foursAt listed
+two-fours = refl
+
+no-fours : foursAt distinct-bytes 1 0 ≡ []
+unfolding foursAt listed
+no-fours = refl
+
+fours-past-the-end : foursAt distinct-bytes 4 3 ≡ 117835012 ∷ 8 ∷ 0 ∷ []
+unfolding foursAt listed
+fours-past-the-end = refl

@@ -43,3 +43,6 @@ read-at-position-after f z r at i past =
 
 pub two-at-position-after : (r : List ℕ) (at i position v : ℕ) → position ≡ positionAfter r at i → v ≡ twoAt r position → v ≡ twoAt r (at + i)
 two-at-position-after r at i position v p e = e ∙ ap (λ (n : ℕ). twoAt r n) p ∙ read-at-position-after (λ (n : ℕ). twoAt r n) 0 r at i (two-at-past-end r)
+
+pub four-at-position-after : (r : List ℕ) (at i position v : ℕ) → position ≡ positionAfter r at i → v ≡ fourAt r position → v ≡ fourAt r (at + i)
+four-at-position-after r at i position v p e = e ∙ ap (λ (n : ℕ). fourAt r n) p ∙ read-at-position-after (λ (n : ℕ). fourAt r n) 0 r at i (four-at-past-end r)

@@ -1,8 +1,16 @@
 // Numbers of several bytes, the low byte first, read at a position of a slice. Each function answers for any position: past the
 // slice's end a byte reads as 0.
 ghost use mathlib.Core.Path.{_≡_};
-ghost use Prim.Native.Nat.{_^_, _<_};
-ghost use Rattle.littleendian.specs.Bytes.{byteAt, twoAt, fourAt, eightAt, positionAfter};
+ghost use Prim.Native.Nat.{_-_, _^_, _<_};
+ghost use lib.ListN.{take, drop, replicate};
+ghost use Rattle.littleendian.specs.Bytes.{
+  byteAt,
+  twoAt,
+  fourAt,
+  eightAt,
+  positionAfter,
+  foursAt,
+};
 
 pub fn byte_at(bytes: &[u8], i: usize) -> u8
     ensures { λ v. ⌜ v ≡ byteAt (now (bytes .entry)) i ⌝ }
@@ -58,4 +66,19 @@ pub fn position_after(bytes: &[u8], at: usize, i: usize) -> usize
         return bytes.len();
     }
     at + i
+}
+
+// So many numbers of four bytes each, from a position on, and zeros behind them.
+pub fn fours_at(bytes: &[u8], at: usize, count: u8) -> [u32; 255]
+    ensures { λ r. ⌜ (take count r ≡ foursAt (now (bytes .entry)) at count) × (drop count r ≡ replicate (255 - count) 0) ⌝ }
+{
+    let mut numbers = [0u32; 255];
+    let n = count as usize;
+    let mut i = 0;
+    while i < n {
+        let number = four_at(bytes, position_after(bytes, at, 4 * i));
+        numbers[i] = number;
+        i += 1;
+    }
+    numbers
 }

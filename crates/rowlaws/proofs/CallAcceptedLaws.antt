@@ -1,56 +1,33 @@
--- A take or a free, plain or named, whichever it is: refused, it changes nothing; accepted, it leaves a state that passes, and as many superblocks. Assumes nothing.
+-- A take or a free, plain or named, or a drop, whichever it is: refused, it changes nothing; accepted, it leaves a state that passes, and as many superblocks. Assumes nothing.
 use mathlib.Core.Path.{_≡_, refl, sym, ap, _∙_, subst}
-use mathlib.Core.Bool.{Bool, true, false}
 use mathlib.Core.Logic.{_⊎_, inl, inr, ⊎-elim}
 use mathlib.Core.List.{List}
-use Prim.Native.Nat.{ℕ, zero, suc, _+_}
+use Prim.Native.Nat.{ℕ}
 use native.Mathlib.Omega.{arith}
 use lib.ListN.{length, length-set}
-use lib.Dec.{eqb}
-use Rattle.laws.specs.Sums.{pick}
 use Rattle.classes.specs.Classes.{classOf}
 use Rattle.heap.specs.declared.State.{State}
-use Rattle.heap.specs.Table.{superblockAt, withMarkAt, withoutMarkAt}
+use Rattle.heap.specs.Table.{superblockAt, withMarkAt}
 use Rattle.heap.specs.States.{withSuperblock}
-use Rattle.choicerules.specs.Choice.{emptiest}
-use Rattle.moverules.specs.Moves.{mustMove, foundTransferred, transfersUpTo, excessTransferred, invariantRestored}
 use Rattle.heaplaws.proofs.StateFacts.{Shape}
-use Rattle.heaplaws.proofs.MoveLaws.{length-of-found-transferred}
+use Rattle.heaplaws.proofs.OutsideGlobalLaws.{length-of-invariant-restored}
 use Rattle.calls.specs.declared.Outcome.{Outcome}
 use Rattle.calls.specs.declared.Outcome.the-variants.{Ready, Address, Moves, Refused}
 use Rattle.calls.specs.Answers.{After, refused}
-use Rattle.laws.proofs.ListedLaws.{length-listed}
-use Rattle.heap.specs.Ranks.{rankedLatest}
 use Rattle.calllaws.proofs.TakeSourceLaws.{length-unranked-if-empty}
 use Rattle.calls.specs.Take.{acquired, unrankedIfEmpty, nextBlock, takenFrom, takenFromOther, takeOf}
-use Rattle.calls.specs.Free.{superblockIndex, superblockHolding, blockOf, markCleared, blockFreed, freedAt, freeOf}
+use Rattle.calls.specs.Free.{superblockHolding, blockFreed, freedAt, freeOf}
+use Rattle.calls.specs.Drop.{droppedAll, dropOf}
 use Rattle.calls.specs.Named.{nameBound, boundBy, withNameBound, namedTakeOf, heldAddress, namedFreeOf}
-use Rattle.calls.specs.Calls.{Call, Take, Free, NamedTake, NamedFree, callOf}
+use Rattle.calls.specs.Calls.{Call, Take, Free, NamedTake, NamedFree, Drop, callOf}
 use Rattle.calllaws.proofs.CallEffects.{Passed, TakeAccepted, FreeAccepted, NamedTakeAccepted, NamedFreeAccepted}
 use Rattle.calllaws.proofs.TakeLaws.{take-refused-or-accepted, take-passed, take-shape}
 use Rattle.calllaws.proofs.FreeLaws.{free-refused-or-accepted, free-passed, free-shape}
+use Rattle.calllaws.proofs.DropLaws.{DropAccepted, drop-refused-or-accepted, drop-shape, drop-passed}
+use Rattle.calllaws.proofs.DropMoveLaws.{length-of-block-freed, length-of-drop-moves}
 use Rattle.calllaws.proofs.NamedCallLaws.{named-take-refused-or-accepted, named-take-passed, named-take-shape, named-free-refused-or-accepted}
 
--- ---- the moves
-length-of-transfers-up-to : (k h c m : ℕ) (s : State) → length (transfersUpTo k h c m s .state .table) ≡ length (s .table)
-unfolding transfersUpTo
-length-of-transfers-up-to zero h c m s = refl
-length-of-transfers-up-to (suc k) h c m s = go (mustMove h c s) (length-of-transfers-up-to k h c (m + 1) (foundTransferred (emptiest h c s) s) ∙ length-of-found-transferred (emptiest h c s) s)
-  where
-    go : (b : Bool) → length (transfersUpTo k h c (m + 1) (foundTransferred (emptiest h c s) s) .state .table) ≡ length (s .table)
-        → length (pick b (transfersUpTo k h c (m + 1) (foundTransferred (emptiest h c s) s)) (record { moves = m; state = s }) .state .table) ≡ length (s .table)
-    go true e = e
-    go false e = refl
-
-length-of-invariant-restored : (h c : ℕ) (s : State) → length (invariantRestored h c s .state .table) ≡ length (s .table)
-unfolding invariantRestored excessTransferred
-length-of-invariant-restored h c s = go (eqb h 0)
-  where
-    go : (b : Bool) → length (pick b (record { moves = 0; state = s }) (transfersUpTo 64 h c 0 s) .state .table) ≡ length (s .table)
-    go true = refl
-    go false = length-of-transfers-up-to 64 h c 0 s
-
--- ---- a take and a free that are accepted
+-- ---- calls that are accepted
 length-of-taken-from : (k : ℕ) (s : State) (order : List ℕ) → length (takenFrom k s order .answer .state .table) ≡ length (s .table)
 unfolding takenFrom
 length-of-taken-from k s order = length-set (s .table) k (withMarkAt (superblockAt s k) (nextBlock s order k))
@@ -61,12 +38,9 @@ length-of-taken-from-other i c k s order long =
     length-of-taken-from k (withSuperblock (unrankedIfEmpty k s) k (acquired i c (superblockAt s k))) _
     ∙ length-set (unrankedIfEmpty k s .table) k (acquired i c (superblockAt s k)) ∙ length-unranked-if-empty k s long
 
--- ranking a superblock makes a table of 64
 length-of-freed-at : (s : State) (order : List ℕ) (a : ℕ) → length (freedAt s order a .answer .state .table) ≡ 64
-unfolding freedAt blockFreed markCleared rankedLatest
-length-of-freed-at s order a =
-    length-of-invariant-restored (superblockHolding s a .owner) (superblockHolding s a .class) (blockFreed s a)
-    ∙ length-set (rankedLatest (superblockIndex a) s .table) (superblockIndex a) (withoutMarkAt (superblockHolding (rankedLatest (superblockIndex a) s) a) (blockOf (rankedLatest (superblockIndex a) s) a)) ∙ length-listed _ 64
+unfolding freedAt
+length-of-freed-at s order a = length-of-invariant-restored (superblockHolding s a .owner) (superblockHolding s a .class) (blockFreed s a) (length-of-block-freed s a)
 
 -- a name that is bound changes no superblock
 table-of-bound-by : (o : Outcome) (m : ℕ) (s : State) → boundBy o m s .table ≡ s .table
@@ -117,6 +91,12 @@ call-accepted-of-free s order i a acc =
     call-accepted-of-result s order (freeOf s order i a) (freedAt s order a) (acc .result-is) (acc .passed) (λ long. length-of-freed-at s order a) refl
     (λ shape. (free-passed s order i a shape acc, free-shape s order i a shape acc))
 
+call-accepted-of-drop : (s : State) (order : List ℕ) (i : ℕ) (addresses : List ℕ) → DropAccepted s order i addresses → CallAccepted s order (dropOf s order i addresses)
+unfolding isRefusal droppedAll
+call-accepted-of-drop s order i addresses acc =
+    call-accepted-of-result s order (dropOf s order i addresses) (droppedAll s order addresses) (acc .result-is) (acc .passed) (length-of-drop-moves s addresses) refl
+    (λ shape. (drop-passed s order i addresses shape acc, drop-shape s order i addresses shape acc))
+
 -- a named take is the plain one with the name bound, and a named free the free of the held address
 call-accepted-of-named-take : (s : State) (order : List ℕ) (i m size k : ℕ) → NamedTakeAccepted s order i m size k → CallAccepted s order (namedTakeOf s order i m size)
 unfolding withNameBound
@@ -140,3 +120,4 @@ call-refused-or-accepted s order (Free i a) = ⊎-elim inl (λ h. inr (call-acce
 call-refused-or-accepted s order (NamedTake i m size) =
     ⊎-elim inl (λ h. inr (call-accepted-of-named-take s order i m size (h .0) (h .1))) (named-take-refused-or-accepted s order i m size)
 call-refused-or-accepted s order (NamedFree i m) = ⊎-elim inl (λ h. inr (call-accepted-of-named-free s order i m h)) (named-free-refused-or-accepted s order i m)
+call-refused-or-accepted s order (Drop i addresses) = ⊎-elim inl (λ h. inr (call-accepted-of-drop s order i addresses h)) (drop-refused-or-accepted s order i addresses)

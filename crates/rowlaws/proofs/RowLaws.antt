@@ -1,4 +1,4 @@
--- Laws of a setup, and of a take or a free, plain or named, on a lent row. Assumes nothing.
+-- Laws of a setup, and of a take or a free, plain or named, or a drop, on a lent row. Assumes nothing.
 use mathlib.Core.Path.{_≡_, refl, sym, ap, _∙_, subst}
 use mathlib.Core.Bool.{Bool, true, false}
 use mathlib.Core.Logic.{_⊎_, inl, inr, ⊎-elim}

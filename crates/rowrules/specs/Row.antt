@@ -63,7 +63,7 @@ setupOn n u row order =
     (rowRefused 12 (controlOf noState) row order))
     (rowRefused 1 (controlOf noState) row order)
 
--- A take or a free, plain or named, where n records are lent: "13 for setup numbers, 12, the rest of 13", in which is "a lent row exactly
+-- A take or a free, plain or named, or a drop, where n records are lent: "13 for setup numbers, 12, the rest of 13", in which is "a lent row exactly
 -- 64 records long". What else is checked, and the call's own refusals, are those of the state.
 unfoldable pub callOn : ℕ → Control → List Superblock → List ℕ → Call → RowAfter
 callOn n control row order call =
@@ -78,6 +78,6 @@ callOn n control row order call =
 abbrev pub rowSetup : Setup → List Superblock → List ℕ → RowAfter
 rowSetup u row order = setupOn (length row) u row order
 
--- a take or a free on a lent row
+-- a take, a free or a drop on a lent row
 abbrev pub rowCall : Control → List Superblock → List ℕ → Call → RowAfter
 rowCall control row order call = callOn (length row) control row order call

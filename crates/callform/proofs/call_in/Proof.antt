@@ -1,5 +1,5 @@
 -- `callform::call_in` meets its contract. Assumes nothing.
-use Rattle.callform.proofs.FormLaws.{call-in-of-setup, call-in-of-take, call-in-of-free, call-in-of-named-take, call-in-of-named-free}
+use Rattle.callform.proofs.FormLaws.{call-in-of-setup, call-in-of-take, call-in-of-free, call-in-of-named-take, call-in-of-named-free, call-in-of-drop}
 use borrow.Author.Needs.{needs}
 use Rattle.callform.proofs.call_in.Statement.{statement}
 use Rattle.callform.proofs.call_in.Tie as tie
@@ -37,6 +37,12 @@ returns-4 c = search call-in-of-named-take
 returns-5 : tie.Need-returns-5
 returns-5 c = search call-in-of-named-free
 
+two-at-requires-4 : tie.Need-two-at-requires-4
+two-at-requires-4 c κs = search needs
+
+returns-6 : tie.Need-returns-6
+returns-6 c = search call-in-of-drop
+
 pub call-in-spec : {M : Type 1} → statement M
 call-in-spec =
     tie.close
@@ -51,4 +57,6 @@ call-in-spec =
     two-at-requires-2
     two-at-requires-3
     returns-4
-    returns-5)
+    returns-5
+    two-at-requires-4
+    returns-6)

@@ -11,7 +11,7 @@ byte-at-requires c κs = search needs
 
 returns : tie.Need-returns
 returns c =
-    let h : 4 < c .before .byte-at .result = omega arith in
+    let h : 5 < c .before .byte-at .result = omega arith in
     search well-formed-false-of-unknown
 
 places-offset-requires : tie.Need-places-offset-requires
@@ -28,7 +28,7 @@ add-result c = search needs
 
 returns-2 : tie.Need-returns-2
 returns-2 c =
-    let h : c .before .before .before .byte-at .result ≤ 4 = omega arith in
+    let h : c .before .before .before .byte-at .result ≤ 5 = omega arith in
     search well-formed-is-length-test
 
 pub well-formed-spec : {M : Type 1} → statement M

@@ -43,12 +43,19 @@ returns-5 : tie.Need-returns-5
 unfolding commandByFirstByte
 returns-5 c = search (eq-eqb, ne-eqb)
 
-refused-requires : tie.Need-refused-requires
-refused-requires c κs = search needs
+drop-at-requires : tie.Need-drop-at-requires
+drop-at-requires c κs = search needs
 
 returns-6 : tie.Need-returns-6
 unfolding commandByFirstByte
-returns-6 c = search (ne-eqb)
+returns-6 c = search (eq-eqb, ne-eqb)
+
+refused-requires : tie.Need-refused-requires
+refused-requires c κs = search needs
+
+returns-7 : tie.Need-returns-7
+unfolding commandByFirstByte
+returns-7 c = search (ne-eqb)
 
 pub command-by-first-byte-spec : {M : Type 1} → statement M
 command-by-first-byte-spec =
@@ -65,5 +72,7 @@ command-by-first-byte-spec =
     returns-4
     named-free-at-requires
     returns-5
+    drop-at-requires
+    returns-6
     refused-requires
-    returns-6)
+    returns-7)

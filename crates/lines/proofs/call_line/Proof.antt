@@ -1,6 +1,6 @@
 -- `lines::call_line` meets its contract. Assumes nothing.
 use borrow.Author.Needs.{needs}
-use Rattle.lines.proofs.CallLineLaws.{call-line-of-take, call-line-of-free, call-line-of-named-take, call-line-of-named-free}
+use Rattle.lines.proofs.CallLineLaws.{call-line-of-take, call-line-of-free, call-line-of-named-take, call-line-of-named-free, call-line-of-drop}
 use Rattle.lines.proofs.call_line.Statement.{statement}
 use Rattle.lines.proofs.call_line.Tie as tie
 
@@ -28,6 +28,12 @@ enum-known-call-4 c = search needs
 named-free-line-requires : tie.Need-named-free-line-requires
 named-free-line-requires c κs = search needs
 
+enum-known-call-5 : tie.Need-enum-known-call-5
+enum-known-call-5 c = search needs
+
+drop-line-requires : tie.Need-drop-line-requires
+drop-line-requires c κs = search needs
+
 same-length : tie.Need-same-length
 same-length c = search needs
 
@@ -52,6 +58,12 @@ same-length-4 c = search needs
 returns-4 : tie.Need-returns-4
 returns-4 c = search call-line-of-named-free
 
+same-length-5 : tie.Need-same-length-5
+same-length-5 c = search needs
+
+returns-5 : tie.Need-returns-5
+returns-5 c = search call-line-of-drop
+
 pub call-line-spec : {M : Type 1} → statement M
 call-line-spec =
     tie.close
@@ -64,6 +76,8 @@ call-line-spec =
     named-take-line-requires
     enum-known-call-4
     named-free-line-requires
+    enum-known-call-5
+    drop-line-requires
     same-length
     returns
     same-length-2
@@ -71,4 +85,6 @@ call-line-spec =
     same-length-3
     returns-3
     same-length-4
-    returns-4)
+    returns-4
+    same-length-5
+    returns-5)
