@@ -26,7 +26,9 @@ use Rattle.heaplaws.proofs.StateFacts.{Shape}
 use Rattle.calls.specs.declared.Outcome.the-variants.{Moves}
 use Rattle.calls.specs.Answers.{After, refused, isProcessor}
 use Rattle.calls.specs.Free.{superblockIndex, superblockHolding}
-use Rattle.calls.specs.Drop.{allFreed, allPushed, firstRefusal, isTouched, heapsRestored, dropMoves, droppedAll, dropUnchecked, dropOf}
+use Rattle.calls.specs.Drop.{allFreed, allPushed, firstRefusal, isTouched, dropMoves, droppedAll, dropUnchecked, dropOf}
+use Rattle.calls.specs.DropLoops.{heapsRestored}
+use Rattle.calls.proofs.TouchedPairLaws.{drop-moves-by-heaps}
 use Rattle.calllaws.proofs.CallEffects.{Passed, PassedAfterFrees}
 use Rattle.calllaws.proofs.CheckedLaws.{checked-refused-or-passed, bounds-of-is-processor, passed-of-passes}
 use Rattle.calllaws.proofs.TransferredLaws.{passed-after-no-frees, passed-of-no-frees-left}
@@ -98,11 +100,11 @@ module _ (s : State) (order addresses : List ℕ) (shape : Shape s) (start : Pas
   Below i d = (1 ≤ i) × (i ≤ s .setup .processors) × (d < 27)
 
   restored : PairsRestored (isTouched s addresses) (freedOf s addresses) (allFreed s addresses) (allPushed s order addresses) Below bound (dropMoves s addresses)
-  unfolding dropMoves
   restored =
-      subst (λ (p : ℕ). PairsRestored (isTouched s addresses) (freedOf s addresses) (allFreed s addresses) (allPushed s order addresses) (λ i d. (1 ≤ i) × (i ≤ p) × (d < 27)) (sumBelow (λ i. sumBelow (freedOf s addresses (suc i)) 27) p) (heapsRestored (isTouched s addresses) p (record { moves = 0; state = allFreed s addresses })))
+      subst (PairsRestored (isTouched s addresses) (freedOf s addresses) (allFreed s addresses) (allPushed s order addresses) Below bound) (sym (drop-moves-by-heaps s addresses))
+      (subst (λ (p : ℕ). PairsRestored (isTouched s addresses) (freedOf s addresses) (allFreed s addresses) (allPushed s order addresses) (λ i d. (1 ≤ i) × (i ≤ p) × (d < 27)) (sumBelow (λ i. sumBelow (freedOf s addresses (suc i)) 27) p) (heapsRestored (isTouched s addresses) p (record { moves = 0; state = allFreed s addresses })))
       (ap (λ (u : Setup). u .processors) (drop-frees .setup))
-      (all-pairs-restored (isTouched s addresses) (freedOf s addresses) (allFreed s addresses) (allPushed s order addresses) (freed-of-untouched s addresses) (drop-frees .shape) freed-passed)
+      (all-pairs-restored (isTouched s addresses) (freedOf s addresses) (allFreed s addresses) (allPushed s order addresses) (freed-of-untouched s addresses) (drop-frees .shape) freed-passed))
 
   pub drop-transfers : Transfers (isTouched s addresses) (allFreed s addresses) (dropMoves s addresses .state) (dropMoves s addresses .moves)
   drop-transfers = restored .transfers

@@ -13,7 +13,9 @@ use Rattle.heaplaws.proofs.OutsideGlobalLaws.{outsideGlobal, outside-global-le-
 use Rattle.laws.proofs.ListedLaws.{length-listed}
 use Rattle.heap.specs.Ranks.{rankedLatest}
 use Rattle.calls.specs.Free.{superblockIndex, markCleared, blockFreed}
-use Rattle.calls.specs.Drop.{allFreed, isTouched, thenRestored, classesRestored, heapsRestored, dropMoves}
+use Rattle.calls.specs.Drop.{allFreed, isTouched, thenRestored, dropMoves}
+use Rattle.calls.specs.DropLoops.{classesRestored, heapsRestored}
+use Rattle.calls.proofs.TouchedPairLaws.{drop-moves-by-heaps}
 
 -- ---- what the move rule of one heap and class keeps, that of all touched keeps
 module _ (P : Moved → Type 0) (kept : (h c : ℕ) (before : Moved) → P before → P (thenRestored h c before)) (touched : ℕ → ℕ → Bool) where
@@ -57,9 +59,9 @@ heaps-restored-leave-heaps touched n before long =
     heaps-restored-keep (MovedOrOutside (movesAndOutsideGlobal before)) (then-restored-moved-or-outside (movesAndOutsideGlobal before)) touched n before (long, refl) .1
 
 pub drop-moves-le-64 : (s : State) (addresses : List ℕ) → length (allFreed s addresses .table) ≡ 64 → dropMoves s addresses .moves ≤ 64
-unfolding dropMoves
 drop-moves-le-64 s addresses long =
-    omega (arith, heaps-restored-leave-heaps (isTouched s addresses) (s .setup .processors) (record { moves = 0; state = allFreed s addresses }) long, outside-global-le-64 (allFreed s addresses))
+    rw (drop-moves-by-heaps s addresses)
+    (omega (arith, heaps-restored-leave-heaps (isTouched s addresses) (s .setup .processors) (record { moves = 0; state = allFreed s addresses }) long, outside-global-le-64 (allFreed s addresses)))
 
 -- ---- the table has 64 superblocks
 -- ranking a superblock makes a table of 64
@@ -73,7 +75,8 @@ length-of-all-freed s [] long = long
 length-of-all-freed s (a ∷ addresses) long = length-of-all-freed (blockFreed s a) addresses (length-of-block-freed s a)
 
 pub length-of-drop-moves : (s : State) (addresses : List ℕ) → length (s .table) ≡ 64 → length (dropMoves s addresses .state .table) ≡ 64
-unfolding dropMoves thenRestored
+unfolding thenRestored
 length-of-drop-moves s addresses long =
-    heaps-restored-keep (λ m. length (m .state .table) ≡ 64) (λ h c before p. length-of-invariant-restored h c (before .state) p) (isTouched s addresses) (s .setup .processors)
-    (record { moves = 0; state = allFreed s addresses }) (length-of-all-freed s addresses long)
+    rw (drop-moves-by-heaps s addresses)
+    (heaps-restored-keep (λ m. length (m .state .table) ≡ 64) (λ h c before p. length-of-invariant-restored h c (before .state) p) (isTouched s addresses) (s .setup .processors)
+    (record { moves = 0; state = allFreed s addresses }) (length-of-all-freed s addresses long))

@@ -24,7 +24,8 @@ use Rattle.moverules.specs.Moves.{invariantRestored}
 use Rattle.heaplaws.proofs.StateFacts.{Shape, Sparse, TransferredFrom}
 use Rattle.heaplaws.proofs.MoveLaws.{owners-changed-self}
 use Rattle.heaplaws.proofs.CountLaws.{owner-and-class-of-belongs}
-use Rattle.calls.specs.Drop.{thenRestored, classesRestored, heapsRestored}
+use Rattle.calls.specs.Drop.{thenRestored}
+use Rattle.calls.specs.DropLoops.{classesRestored, heapsRestored}
 use Rattle.calllaws.proofs.CallEffects.{PassedAfterFrees}
 use Rattle.calllaws.proofs.TransferredLaws.{noneFreed, none-freed-of-pair, none-freed-le}
 use Rattle.calllaws.proofs.InvariantRestoredLaws.{InvariantRestored, restored-facts, restored-shape, restored-passed}

@@ -40,6 +40,7 @@ use Rattle.calls.specs.declared.Outcome.the-variants.{Address}
 use Rattle.calls.specs.Answers.{After, refused}
 use Rattle.calls.specs.Take.{otherPlaces, renewedFor, acquired, acquiredOrder, unrankedIfEmpty, addressOf, takenFrom, takenFromOther, takeOf}
 use Rattle.calls.specs.Free.{superblockIndex, offsetOf, superblockHolding, blockOf, addressRefusal, markCleared, orderPushed, blockFreed, freedAt, freeOf}
+use Rattle.calls.proofs.TouchedPairLaws.{drop-moves-by-heaps}
 use Rattle.calls.specs.Drop.{allFreed, allPushed, firstRefusal, isTouched, thenRestored, dropMoves, droppedAll, dropOf}
 use Rattle.calls.specs.Named.{namedTakeOf, heldAddress, namedFreeOf}
 use Rattle.calls.specs.Calls.{Call, Take, Free, NamedTake, NamedFree, Drop, callOf}
@@ -317,11 +318,12 @@ all-freed-push freed s order (a ∷ addresses) shape passed ok k =
 
 -- the moves of all its heaps and classes leave every stack
 drop-moves-keep-stacks : (s : State) (addresses order : List ℕ) (k : ℕ) → stackOf (dropMoves s addresses .state) order k ≡ stackOf (allFreed s addresses) order k
-unfolding dropMoves thenRestored
+unfolding thenRestored
 drop-moves-keep-stacks s addresses order k =
-    heaps-restored-keep (λ m. stackOf (m .state) order k ≡ stackOf (allFreed s addresses) order k)
+    rw (drop-moves-by-heaps s addresses)
+    (heaps-restored-keep (λ m. stackOf (m .state) order k ≡ stackOf (allFreed s addresses) order k)
     (λ h c before e. invariant-restored-keeps-stacks h c (before .state) order k ∙ e)
-    (isTouched s addresses) (s .setup .processors) (record { moves = 0; state = allFreed s addresses }) refl
+    (isTouched s addresses) (s .setup .processors) (record { moves = 0; state = allFreed s addresses }) refl)
 
 -- an accepted drop pushes its blocks in the order written, each on its superblock's stack, so that the last dropped is on top
 pub drop-pushes : (s : State) (order : List ℕ) (i : ℕ) (addresses : List ℕ) → Shape s → DropAccepted s order i addresses

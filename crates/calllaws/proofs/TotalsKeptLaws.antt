@@ -43,6 +43,7 @@ use Rattle.calls.specs.Calls.{Call, Take, Free, NamedTake, NamedFree, Drop, cal
 use Rattle.calls.proofs.CheckFirst.{call-of-checks-first}
 use Rattle.calllaws.proofs.CallEffects.{Passed}
 use Rattle.calllaws.proofs.NamedCallLaws.{name-bound-of-refused}
+use Rattle.calls.proofs.TouchedPairLaws.{drop-moves-by-heaps}
 use Rattle.heaplaws.proofs.OutsideGlobalLaws.{totals-kept-of-invariant-restored}
 use Rattle.calllaws.proofs.DropMoveLaws.{heaps-restored-keep, then-restored-keeps-totals}
 use Rattle.calllaws.proofs.AcceptedCallLaws.{call-passes-if-accepted}
@@ -74,8 +75,8 @@ all-freed-recounted s [] kept = kept
 all-freed-recounted s (a ∷ addresses) kept = all-freed-recounted (blockFreed s a) addresses refl
 
 drop-moves-recounted : (s : State) (addresses : List ℕ) → TotalsKept (allFreed s addresses) → TotalsKept (dropMoves s addresses .state)
-unfolding dropMoves
-drop-moves-recounted s addresses kept = heaps-restored-keep (λ m. TotalsKept (m .state)) then-restored-keeps-totals (isTouched s addresses) (s .setup .processors) (record { moves = 0; state = allFreed s addresses }) kept
+drop-moves-recounted s addresses kept =
+    rw (drop-moves-by-heaps s addresses) (heaps-restored-keep (λ m. TotalsKept (m .state)) then-restored-keeps-totals (isTouched s addresses) (s .setup .processors) (record { moves = 0; state = allFreed s addresses }) kept)
 
 -- a name bound leaves them as they are
 bound-recounted : (o : Outcome) (m : ℕ) (s : State) → TotalsKept s → TotalsKept (boundBy o m s)

@@ -5,3 +5,4 @@ pub mod NamedCases
 pub mod AnswerLaws
 pub mod CheckFirst
 pub mod AddressRefusalLaws
+pub mod TouchedPairLaws

@@ -1,7 +1,7 @@
 -- "Dropping a whole page" (document 02, item 5): "lets all blocks of a page go together".
 use Prim.Native.Nat.{ℕ, zero, suc, _+_}
 use mathlib.Core.Bool.{Bool, false, not}
-use mathlib.Core.List.{List, [], _∷_}
+use mathlib.Core.List.{List, [], _∷_, _++_}
 use lib.ListN.{length}
 use lib.Dec.{eqb}
 use Rattle.laws.specs.Sums.{pick, either}
@@ -40,19 +40,29 @@ isTouched s (a ∷ addresses) h c = either (belongs h c (superblockHolding s a))
 unfoldable pub thenRestored : ℕ → ℕ → Moved → Moved
 thenRestored h c before = record { moves = before .moves + invariantRestored h c (before .state) .moves; state = invariantRestored h c (before .state) .state }
 
--- "classes rising": those of heap h below c
-unfoldable pub classesRestored : (ℕ → ℕ → Bool) → ℕ → ℕ → Moved → Moved
-classesRestored touched h zero before = before
-classesRestored touched h (suc c) before = pick (touched h c) (thenRestored h c (classesRestored touched h c before)) (classesRestored touched h c before)
+-- a heap and a class
+pub record Pair : Type 0 where
+  pub heap : ℕ
+  pub class : ℕ
 
--- "heaps then classes rising": the processor heaps 1 to n, each with its 27 classes
-unfoldable pub heapsRestored : (ℕ → ℕ → Bool) → ℕ → Moved → Moved
-heapsRestored touched zero before = before
-heapsRestored touched (suc h) before = classesRestored touched (suc h) 27 (heapsRestored touched h before)
+-- "classes rising": the touched ones of heap h, of those below c
+unfoldable pub touchedClasses : (ℕ → ℕ → Bool) → ℕ → ℕ → List Pair
+touchedClasses touched h zero = []
+touchedClasses touched h (suc c) = touchedClasses touched h c ++ pick (touched h c) (record { heap = h; class = c } ∷ []) []
+
+-- "each processor heap and class touched, heaps then classes rising": those of the processor heaps 1 to n; heap 0 is none
+unfoldable pub touchedPairs : (ℕ → ℕ → Bool) → ℕ → List Pair
+touchedPairs touched zero = []
+touchedPairs touched (suc h) = touchedPairs touched h ++ touchedClasses touched (suc h) 27
+
+-- one after another
+unfoldable pub eachRestored : List Pair → Moved → Moved
+eachRestored [] before = before
+eachRestored (pair ∷ pairs) before = eachRestored pairs (thenRestored (pair .heap) (pair .class) before)
 
 -- all of them after the frees; what is touched is told by the state before the drop
 unfoldable pub dropMoves : State → List ℕ → Moved
-dropMoves s addresses = heapsRestored (isTouched s addresses) (s .setup .processors) (record { moves = 0; state = allFreed s addresses })
+dropMoves s addresses = eachRestored (touchedPairs (isTouched s addresses) (s .setup .processors)) (record { moves = 0; state = allFreed s addresses })
 
 -- ---- the call
 -- an accepted drop reports the superblocks that all its moves passed on

@@ -4,4 +4,5 @@ pub mod Take
 pub mod Free
 pub mod Named
 pub mod Drop
+pub mod DropLoops
 pub mod Calls
