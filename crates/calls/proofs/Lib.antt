@@ -6,3 +6,4 @@ pub mod AnswerLaws
 pub mod CheckFirst
 pub mod AddressRefusalLaws
 pub mod TouchedPairLaws
+pub mod DropCases

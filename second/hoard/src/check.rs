@@ -1,15 +1,12 @@
 //! The check of a state handed in.
 
 use crate::engine::over_emptiness_threshold;
-use crate::names::NOT_HELD;
+use crate::names::{any_held, NAMES_AT_ONCE, NOT_HELD};
 use crate::outcome::Refusal;
 use crate::ranking::ranks_are_sound;
 use crate::size_class::SIZE_CLASSES;
 use crate::state::{Setup, State, Superblock, GLOBAL_HEAP, ORDER_PLACES};
 use crate::totals::Totals;
-
-/// Names that are passed over together where none is held.
-const NAMES_AT_ONCE: usize = 16;
 
 /// Whether the five setup numbers are within their limits.
 pub fn setup_within_limits(setup: &Setup) -> bool {
@@ -29,7 +26,7 @@ pub(crate) fn check_setup(asked: &Setup, order: &[u16]) -> Result<(), Refusal> {
     check_storage(asked, order)
 }
 
-/// Checks the setup numbers and storage given to a take or free.
+/// Checks the setup numbers and storage given to a take, free or drop.
 pub(crate) fn check_numbers_and_storage(setup: &Setup, order: &[u16]) -> Result<(), Refusal> {
     if !setup_within_limits(setup) {
         return Err(Refusal::State);
@@ -44,7 +41,7 @@ fn check_storage(setup: &Setup, order: &[u16]) -> Result<(), Refusal> {
     Ok(())
 }
 
-/// Checks the state and storage given to a take or free, in the order of the
+/// Checks the state and storage given to a take, free or drop, in the order of the
 /// refusals: setup numbers, length of the storage, then the rest of the state.
 pub fn check_handed_in(state: &State, order: &[u16]) -> Result<(), Refusal> {
     check_numbers_and_storage(&state.control.setup, order)?;
@@ -107,14 +104,6 @@ fn names_are_sound(state: &State) -> bool {
         *word &= !bit;
         is_unnamed
     })
-}
-
-/// Whether any of a few names is held. There is no early end, so that the compiler
-/// compares them at once.
-fn any_held(group: &[u16]) -> bool {
-    group
-        .iter()
-        .fold(false, |held, &number| held | (number != NOT_HELD))
 }
 
 /// Whether no block at n or above is marked live.

@@ -1,4 +1,5 @@
-//! The calls: setup, take and free, the last two also by name.
+//! The calls: setup, take and free, the last two also by name, and the drop of many
+//! blocks.
 
 use crate::check::{check_handed_in, check_setup};
 use crate::names::BlockId;
@@ -6,8 +7,10 @@ use crate::outcome::{Answer, Outcome, Refusal};
 use crate::ranking::{rank_latest, take_out};
 use crate::record::Command;
 use crate::size_class::{class_of_size, SizeClass, SIZE_CLASSES, SUPERBLOCK_BYTES};
-use crate::state::{Setup, State, Superblock, GLOBAL_HEAP, ORDER_PLACES, UNUSED_OWNER};
-use crate::totals::Usage;
+use crate::state::{
+    Setup, State, Superblock, GLOBAL_HEAP, ORDER_PLACES, SUPERBLOCKS, UNUSED_OWNER,
+};
+use crate::totals::{Usage, CLASSES, HEAPS};
 
 /// Where a take finds its superblock.
 struct Offer {
@@ -27,6 +30,10 @@ pub fn run(command: &Command, state: &State, order: &mut [u16]) -> Answer {
             size,
         } => take_named(state, processor, name, size, order),
         Command::NamedFree { processor, name } => free_named(state, processor, name, order),
+        Command::Drop {
+            processor,
+            ref addresses,
+        } => drop(state, processor, addresses, order),
     }
 }
 
@@ -79,6 +86,18 @@ pub fn free_named(state: &State, processor: u8, name: u16, order: &mut [u16]) ->
         let held = next.control.names.block_of(name);
         let block = held.ok_or(Refusal::NameNotHeld)?;
         Ok(Outcome::Moved(free_block(next, block, order)))
+    })
+}
+
+/// Frees the blocks at all the addresses, or none where one of them cannot be freed.
+/// Only then do the heaps and classes that they were of give up superblocks.
+pub fn drop(state: &State, processor: u8, addresses: &[u32], order: &mut [u16]) -> Answer {
+    answer(state, processor, order, |next, order| {
+        if addresses.is_empty() {
+            return Err(Refusal::EmptyDrop);
+        }
+        let blocks = find_blocks(next, addresses)?;
+        Ok(Outcome::Moved(free_blocks(next, &blocks, order)))
     })
 }
 
@@ -145,18 +164,46 @@ fn acquire(state: &mut State, number: usize, processor: u8, class: u8, places: &
 /// The free itself, of a live block in a state that has passed. Returns the number
 /// of superblocks moved.
 fn free_block(state: &mut State, freed: BlockId, order: &mut [u16]) -> u32 {
+    let (owner, class) = give_back(state, freed, order);
+    state.control.names.release(freed);
+    if owner == GLOBAL_HEAP {
+        return 0;
+    }
+    transfer_excess(state, owner, class)
+}
+
+/// The drop itself, of live blocks in a state that has passed, each listed once. All
+/// are freed before any superblock moves, so a heap may be far over its threshold by
+/// then. Returns the number of superblocks moved.
+fn free_blocks(state: &mut State, freed: &[BlockId], order: &mut [u16]) -> u32 {
+    let mut touched = [[false; CLASSES]; HEAPS];
+    for &block in freed {
+        let (owner, class) = give_back(state, block, order);
+        touched[usize::from(owner)][usize::from(class)] = true;
+    }
+    state.control.names.release_freed(&state.superblocks);
+    let mut moves = 0;
+    for heap in 1..=state.control.setup.processors {
+        for class in 0..CLASSES as u8 {
+            if touched[usize::from(heap)][usize::from(class)] {
+                moves += transfer_excess(state, heap, class);
+            }
+        }
+    }
+    moves
+}
+
+/// Puts a live block back in its superblock's order, which is then the latest freed
+/// into. Returns the heap and class that the block was of.
+fn give_back(state: &mut State, freed: BlockId, order: &mut [u16]) -> (u8, u8) {
     let superblock = &mut state.superblocks[freed.superblock];
     let next_place = superblock.free_count();
     superblock.unmark(freed.block);
     places_of(order, freed.superblock)[next_place as usize] = freed.block as u16;
     let (owner, class) = (superblock.owner, superblock.class);
     rank_latest(&mut state.superblocks, freed.superblock);
-    state.control.names.release(freed);
     state.control.totals.remove_live(owner, class);
-    if owner == GLOBAL_HEAP {
-        return 0;
-    }
-    transfer_excess(state, owner, class)
+    (owner, class)
 }
 
 fn check_processor(setup: &Setup, processor: u8) -> Result<(), Refusal> {
@@ -252,6 +299,26 @@ fn find_block(state: &State, address: u32) -> Result<BlockId, Refusal> {
     })
 }
 
+/// The live blocks at the addresses, or the refusal of the first that a free would
+/// refuse after those before it. Moves make no difference to that: a superblock that
+/// passes to the global heap keeps its class and marks.
+fn find_blocks(state: &State, addresses: &[u32]) -> Result<Vec<BlockId>, Refusal> {
+    // Marks of the blocks listed so far, which are live no more for the next address.
+    let mut listed = [[0u64; 4]; SUPERBLOCKS];
+    let mut find = |&address| {
+        let found = find_block(state, address)?;
+        let BlockId { superblock, block } = found;
+        let marks = &mut listed[superblock][block as usize / 64];
+        let bit = 1 << (block % 64);
+        if *marks & bit != 0 {
+            return Err(Refusal::NotLive);
+        }
+        *marks |= bit;
+        Ok(found)
+    };
+    addresses.iter().map(&mut find).collect()
+}
+
 /// The order places of one superblock.
 fn places_of(order: &mut [u16], number: usize) -> &mut [u16] {
     &mut order[number * ORDER_PLACES..][..ORDER_PLACES]
@@ -260,11 +327,14 @@ fn places_of(order: &mut [u16], number: usize) -> &mut [u16] {
 /// Moves the emptiest superblock of a heap and class to the global heap, again
 /// and again while the heap is over the threshold. Returns the number moved.
 fn transfer_excess(state: &mut State, heap: u8, class: u8) -> u32 {
+    if !heap_is_over_threshold(state, heap, class) {
+        return 0;
+    }
     let mut moves = 0;
-    while heap_is_over_threshold(state, heap, class) {
-        let Some((number, live)) = emptiest(state, heap, class) else {
+    for (live, number) in emptiest_first(state, heap, class) {
+        if !heap_is_over_threshold(state, heap, class) {
             break;
-        };
+        }
         state.superblocks[number].owner = GLOBAL_HEAP;
         let totals = &mut state.control.totals;
         totals.remove(heap, class, live);
@@ -289,18 +359,15 @@ pub fn over_emptiness_threshold(setup: &Setup, class: &SizeClass, usage: &Usage)
     usage.live + spare_blocks < blocks && q * usage.live < (q - p) * blocks
 }
 
-/// The superblock of a heap and class with fewest live, the lower number among
-/// equals, and how many these are.
-fn emptiest(state: &State, heap: u8, class: u8) -> Option<(usize, u32)> {
-    let mut best: Option<(usize, u32)> = None;
-    for (number, superblock) in state.superblocks.iter().enumerate() {
-        if superblock.owner != heap || superblock.class != class {
-            continue;
-        }
-        let live = superblock.live_count();
-        if best.is_none_or(|(_, fewest)| live < fewest) {
-            best = Some((number, live));
-        }
-    }
-    best
+/// The superblocks of a heap and class by the order in which they move: how many blocks
+/// of each are live, fewest first, and its number, the lower among equals. A move
+/// changes neither for those that stay.
+fn emptiest_first(state: &State, heap: u8, class: u8) -> Vec<(u32, usize)> {
+    let superblocks = state.superblocks.iter().enumerate();
+    let owned = superblocks.filter(|(_, it)| it.owner == heap && it.class == class);
+    let mut emptiest: Vec<_> = owned
+        .map(|(number, it)| (it.live_count(), number))
+        .collect();
+    emptiest.sort_unstable();
+    emptiest
 }

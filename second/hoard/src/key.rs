@@ -72,7 +72,7 @@ fn print_line(text: &mut String, line: fmt::Arguments) {
     writeln!(text, "{line}").expect("writing to a string does not fail");
 }
 
-/// A command as in a paper: its word and numbers.
+/// A command as in the key: its word and numbers, for a drop how many addresses.
 impl Display for Command {
     fn fmt(&self, f: &mut fmt::Formatter) -> fmt::Result {
         match self {
@@ -85,6 +85,10 @@ impl Display for Command {
                 size,
             } => write!(f, "take {processor} name {name} {size}"),
             Command::NamedFree { processor, name } => write!(f, "free {processor} name {name}"),
+            Command::Drop {
+                processor,
+                addresses,
+            } => write!(f, "drop {processor} count {}", addresses.len()),
         }
     }
 }

@@ -1,11 +1,13 @@
 //! Blocks called by name.
 
-use crate::state::ORDER_PLACES;
+use crate::state::{Superblock, ORDER_PLACES, SUPERBLOCKS};
 
 /// Names that a state may hold: 0 to 1023.
 pub const NAMES: usize = 1024;
 /// Number that stands for no block: the name is not held.
 pub const NOT_HELD: u16 = u16::MAX;
+/// Names that are passed over together where none is held.
+pub(crate) const NAMES_AT_ONCE: usize = 16;
 
 /// A block, by its superblock and its number there.
 #[derive(Clone, Copy, Debug, PartialEq, Eq)]
@@ -68,4 +70,24 @@ impl Names {
             }
         }
     }
+
+    /// Lets the names go of blocks that are live no more, in one pass for all of them.
+    pub(crate) fn release_freed(&mut self, superblocks: &[Superblock; SUPERBLOCKS]) {
+        let groups = self.0.chunks_exact_mut(NAMES_AT_ONCE);
+        let numbers = groups.filter(|group| any_held(group)).flatten();
+        for number in numbers.filter(|number| **number != NOT_HELD) {
+            let BlockId { superblock, block } = BlockId::from_number(*number);
+            if !superblocks[superblock].is_live(block) {
+                *number = NOT_HELD;
+            }
+        }
+    }
+}
+
+/// Whether any of a few names is held. There is no early end, so that the compiler
+/// compares them at once.
+pub(crate) fn any_held(group: &[u16]) -> bool {
+    group
+        .iter()
+        .fold(false, |held, &number| held | (number != NOT_HELD))
 }

@@ -35,6 +35,8 @@ pub enum Refusal {
     TakenName = 14,
     /// A name to free that is not held.
     NameNotHeld = 15,
+    /// A drop of no block.
+    EmptyDrop = 16,
 }
 
 impl Refusal {
@@ -51,7 +53,7 @@ pub enum Outcome {
     Ready,
     /// A take: the address it got.
     At(u32),
-    /// A free: the superblocks it moved to the global heap.
+    /// A free or a drop: the superblocks it moved to the global heap.
     Moved(u32),
     /// A refused call.
     Refused(Refusal),

@@ -10,17 +10,22 @@ pub const SETUP_BYTE: u8 = 0;
 pub const TAKE_BYTE: u8 = 1;
 pub const FREE_BYTE: u8 = 2;
 pub const NAMED_TAKE_BYTE: u8 = 3;
-/// The last command byte; those above are unknown.
 pub const NAMED_FREE_BYTE: u8 = 4;
+/// The last command byte; those above are unknown.
+pub const DROP_BYTE: u8 = 5;
+
+/// Most addresses of a drop in a record, where their count is one byte.
+pub const MOST_DROPPED: usize = u8::MAX as usize;
 
 /// One command of a record.
-#[derive(Clone, Copy, Debug, PartialEq, Eq)]
+#[derive(Clone, Debug, PartialEq, Eq)]
 pub enum Command {
     Setup(Setup),
     Take { processor: u8, size: u16 },
     Free { processor: u8, address: u32 },
     NamedTake { processor: u8, name: u16, size: u16 },
     NamedFree { processor: u8, name: u16 },
+    Drop { processor: u8, addresses: Vec<u32> },
 }
 
 impl Command {
@@ -32,6 +37,7 @@ impl Command {
             Command::Free { .. } => FREE_BYTE,
             Command::NamedTake { .. } => NAMED_TAKE_BYTE,
             Command::NamedFree { .. } => NAMED_FREE_BYTE,
+            Command::Drop { .. } => DROP_BYTE,
         }
     }
 
@@ -57,11 +63,20 @@ impl Command {
                 processor: u8::from_le_bytes(bytes.read()?),
                 name: u16::from_le_bytes(bytes.read()?),
             },
+            DROP_BYTE => {
+                let [processor, count] = bytes.read()?;
+                let addresses = bytes.read_addresses(count.into())?;
+                Command::Drop {
+                    processor,
+                    addresses,
+                }
+            }
             _ => return None,
         })
     }
 
-    /// Appends the numbers that stand behind the command byte.
+    /// Appends the numbers that stand behind the command byte. A drop must have no
+    /// more addresses than a record can count.
     pub fn write_numbers(&self, bytes: &mut Vec<u8>) {
         match *self {
             Command::Setup(setup) => bytes.extend(setup.numbers()),
@@ -86,6 +101,14 @@ impl Command {
                 bytes.push(processor);
                 bytes.extend(name.to_le_bytes());
             }
+            Command::Drop {
+                processor,
+                ref addresses,
+            } => {
+                let count = u8::try_from(addresses.len()).expect("at most 255 addresses");
+                bytes.extend([processor, count]);
+                bytes.extend(addresses.iter().flat_map(|address| address.to_le_bytes()));
+            }
         }
     }
 }
@@ -99,6 +122,12 @@ impl Bytes<'_> {
         let (first, rest) = self.0.split_first_chunk()?;
         self.0 = rest;
         Some(*first)
+    }
+
+    /// The next addresses, if there are as many.
+    pub fn read_addresses(&mut self, count: usize) -> Option<Vec<u32>> {
+        let address = |_| Some(u32::from_le_bytes(self.read()?));
+        (0..count).map(address).collect()
     }
 }
 
@@ -114,7 +143,7 @@ pub struct Stop {
 pub fn decode(record: &[u8], offset: usize) -> Result<(Command, usize), Stop> {
     let stop = |refusal| Stop { refusal, offset };
     let byte = *record.get(offset).ok_or(stop(Refusal::MisplacedCommand))?;
-    if byte > NAMED_FREE_BYTE {
+    if byte > DROP_BYTE {
         return Err(stop(Refusal::UnknownCommand));
     }
     let is_setup = byte == SETUP_BYTE;
@@ -130,7 +159,7 @@ pub fn read_command(record: &[u8], offset: usize) -> Result<(Command, usize), St
     let stop = |refusal| Stop { refusal, offset };
     let bytes = &mut Bytes(&record[offset..]);
     let [byte] = bytes.read().ok_or(stop(Refusal::TruncatedCommand))?;
-    if byte > NAMED_FREE_BYTE {
+    if byte > DROP_BYTE {
         return Err(stop(Refusal::UnknownCommand));
     }
     let command = Command::read_numbers(byte, bytes).ok_or(stop(Refusal::TruncatedCommand))?;

@@ -3,7 +3,7 @@
 //! names and totals go in and come back by value.
 
 use crate::check::{check_numbers_and_storage, check_setup};
-use crate::engine::{run, setup};
+use crate::engine::{drop, free, free_named, run, setup, take, take_named};
 use crate::outcome::{Answer, Outcome, Refusal, RowAnswer};
 use crate::record::Command;
 use crate::state::{Control, Setup, State, Superblock, SUPERBLOCKS};
@@ -17,7 +17,9 @@ pub fn run_row(
 ) -> RowAnswer {
     match *command {
         Command::Setup(asked) => setup_row(asked, row, order),
-        _ => edit_row(command, control, row, order),
+        _ => edit_row(control, row, order, |state, order| {
+            run(command, state, order)
+        }),
     }
 }
 
@@ -48,7 +50,9 @@ pub fn take_row(
     size: u16,
     order: &mut [u16],
 ) -> RowAnswer {
-    edit_row(&Command::Take { processor, size }, control, row, order)
+    edit_row(control, row, order, |state, order| {
+        take(state, processor, size, order)
+    })
 }
 
 /// Takes a block by name, with the refusals of [`take_row`] and 14.
@@ -60,12 +64,9 @@ pub fn take_named_row(
     size: u16,
     order: &mut [u16],
 ) -> RowAnswer {
-    let take = Command::NamedTake {
-        processor,
-        name,
-        size,
-    };
-    edit_row(&take, control, row, order)
+    edit_row(control, row, order, |state, order| {
+        take_named(state, processor, name, size, order)
+    })
 }
 
 /// Frees a block on a lent row, with the refusals of [`take_row`] up to 2 and then
@@ -77,7 +78,9 @@ pub fn free_row(
     address: u32,
     order: &mut [u16],
 ) -> RowAnswer {
-    edit_row(&Command::Free { processor, address }, control, row, order)
+    edit_row(control, row, order, |state, order| {
+        free(state, processor, address, order)
+    })
 }
 
 /// Frees a block by name, with the refusals of [`take_row`] up to 2 and then 15.
@@ -88,15 +91,31 @@ pub fn free_named_row(
     name: u16,
     order: &mut [u16],
 ) -> RowAnswer {
-    edit_row(&Command::NamedFree { processor, name }, control, row, order)
+    edit_row(control, row, order, |state, order| {
+        free_named(state, processor, name, order)
+    })
 }
 
-/// Makes a take or free on the state in a row.
+/// Frees many blocks together, with the refusals of [`take_row`] up to 2, then 16 for
+/// none and the free's own of the first bad address.
+pub fn drop_row(
+    control: Control,
+    row: &mut [Superblock],
+    processor: u8,
+    addresses: &[u32],
+    order: &mut [u16],
+) -> RowAnswer {
+    edit_row(control, row, order, |state, order| {
+        drop(state, processor, addresses, order)
+    })
+}
+
+/// Makes a call other than a setup on the state in a row.
 fn edit_row(
-    command: &Command,
     control: Control,
     row: &mut [Superblock],
     order: &mut [u16],
+    call: impl FnOnce(&State, &mut [u16]) -> Answer,
 ) -> RowAnswer {
     if let Err(refusal) = check_numbers_and_storage(&control.setup, order) {
         return refused(control, refusal);
@@ -108,7 +127,7 @@ fn edit_row(
         control,
         superblocks,
     };
-    write_back(run(command, &state, order), row)
+    write_back(call(&state, order), row)
 }
 
 /// Puts the superblocks of an accepted call in the row, which is 64 long.

@@ -360,7 +360,7 @@ fn calls_on_a_row_are_those_on_a_state() {
             }
         }
         for free in frees {
-            match both.call(free) {
+            match both.call(free.clone()) {
                 Outcome::Moved(count) => moved += count,
                 other => panic!("{free:?}: {other:?}"),
             }

@@ -5,7 +5,7 @@ use std::fmt::Write;
 
 use hoard::{
     Answer, BlockId, Bytes, Command, Control, Outcome, Setup, State, Superblock, Totals, Usage,
-    CLASSES, HEAPS, SETUP_BYTE,
+    CLASSES, DROP_BYTE, HEAPS, SETUP_BYTE,
 };
 
 use crate::row_form::{answer_row_input, read_row_input, ROW_BYTE};
@@ -21,6 +21,9 @@ pub struct CallInput {
 
 /// The most order places of a call.
 pub const MOST_PLACES: usize = 17000;
+
+/// The most addresses of a drop.
+pub const MOST_ADDRESSES: usize = 512;
 
 /// What is printed for input that is no call.
 pub const BAD_INPUT: &str = "bad input\n";
@@ -129,7 +132,10 @@ fn read_setup(bytes: &mut Bytes) -> Option<(Command, State)> {
 /// the rest of it.
 fn read_call_on_state(kind: u8, bytes: &mut Bytes) -> Option<(Command, State)> {
     let mut state = State::new(Setup::from_numbers(bytes.read()?));
-    let call = Command::read_numbers(kind, bytes)?;
+    let call = match kind {
+        DROP_BYTE => read_drop(bytes)?,
+        _ => Command::read_numbers(kind, bytes)?,
+    };
     for superblock in &mut state.superblocks {
         *superblock = read_superblock(bytes)?;
     }
@@ -138,6 +144,21 @@ fn read_call_on_state(kind: u8, bytes: &mut Bytes) -> Option<(Command, State)> {
     }
     state.control.totals = read_totals(bytes)?;
     Some((call, state))
+}
+
+/// A drop, whose addresses are counted in two bytes: it may have more than one of a
+/// record.
+fn read_drop(bytes: &mut Bytes) -> Option<Command> {
+    let [processor] = bytes.read()?;
+    let count = usize::from(u16::from_le_bytes(bytes.read()?));
+    if count > MOST_ADDRESSES {
+        return None;
+    }
+    let addresses = bytes.read_addresses(count)?;
+    Some(Command::Drop {
+        processor,
+        addresses,
+    })
 }
 
 /// The totals, heaps then classes: all of superblocks, then all of live blocks.
@@ -188,7 +209,7 @@ pub fn write_input(input: &CallInput) -> Vec<u8> {
         call.write_numbers(&mut bytes);
     } else {
         bytes.extend(state.control.setup.numbers());
-        call.write_numbers(&mut bytes);
+        write_call(&mut bytes, call);
         write_superblocks(&mut bytes, &state.superblocks);
         write_numbers(&mut bytes, &state.control.names.0);
         bytes.extend(state.control.totals.superblocks.as_flattened());
@@ -197,6 +218,20 @@ pub fn write_input(input: &CallInput) -> Vec<u8> {
     bytes.extend((order.len() as u32).to_le_bytes());
     write_numbers(&mut bytes, order);
     bytes
+}
+
+/// The numbers of a call on a state, with two bytes to count the addresses of a drop.
+fn write_call(bytes: &mut Vec<u8>, call: &Command) {
+    let Command::Drop {
+        processor,
+        addresses,
+    } = call
+    else {
+        return call.write_numbers(bytes);
+    };
+    bytes.push(*processor);
+    bytes.extend((addresses.len() as u16).to_le_bytes());
+    bytes.extend(addresses.iter().flat_map(|address| address.to_le_bytes()));
 }
 
 fn write_superblocks(bytes: &mut Vec<u8>, superblocks: &[Superblock]) {

@@ -2,6 +2,9 @@
 //! single call, and generators of records and states.
 
 pub mod call_form;
+pub mod drop_records;
+pub mod drop_states;
+pub mod dropping;
 pub mod make_record;
 pub mod make_state;
 pub mod naming;

@@ -1,15 +1,22 @@
 //! Random records, the same on every run for a kind, seed and length.
 
 use hoard::{
-    read_command, write_command, Command, Outcome, Setup, Superblock, LONGEST_RECORD,
-    NAMED_FREE_BYTE, SIZE_CLASSES, SUPERBLOCK_BYTES,
+    read_command, write_command, Command, Outcome, Setup, Superblock, DROP_BYTE, LONGEST_RECORD,
+    SIZE_CLASSES, SUPERBLOCK_BYTES,
 };
 
+use crate::drop_records::{
+    drop_edges, drops, garbage_drops, longest_drops, many_drops, truncated_drops,
+};
 use crate::naming::{
     available_name, edge_name, free_of_live, held_name, name_to_bind, name_to_free,
 };
 use crate::run::{PickFrom, Run};
 use crate::xorshift::Xorshift;
+
+/// The last command byte of garbage. It was the first unknown one once and has stayed,
+/// so that the bytes do; the garbage of drops goes one further.
+const STRAY_BYTE: u8 = DROP_BYTE;
 
 /// Of 100 calls, how many are by name in records that have other aims.
 const NAMED_SHARES: [u32; 3] = [0, 30, 70];
@@ -41,10 +48,23 @@ pub enum Kind {
     ManyNamed,
     /// Many superblocks of a class equally full, freed into in a mixed order.
     Equals,
+    /// Blocks dropped together: of one heap and class or many, named, twice, or beside
+    /// bad addresses.
+    Drops,
+    /// As edges, with drops at and past each limit.
+    DropEdges,
+    /// A record with drops truncated at any byte, often inside a drop.
+    DropTruncated,
+    /// Random commands or damaged bytes, with drops.
+    DropGarbage,
+    /// 60000 bytes, with drops.
+    DropLongest,
+    /// Eight processors and all classes, most frees in drops.
+    ManyDrops,
 }
 
 /// Every kind with its name.
-pub const KINDS: [(&str, Kind); 12] = [
+pub const KINDS: [(&str, Kind); 18] = [
     ("uniform", Kind::Uniform),
     ("threshold", Kind::Threshold),
     ("small", Kind::Small),
@@ -57,6 +77,12 @@ pub const KINDS: [(&str, Kind); 12] = [
     ("names", Kind::Names),
     ("many-named", Kind::ManyNamed),
     ("equals", Kind::Equals),
+    ("drops", Kind::Drops),
+    ("drop-edges", Kind::DropEdges),
+    ("drop-truncated", Kind::DropTruncated),
+    ("drop-garbage", Kind::DropGarbage),
+    ("drop-longest", Kind::DropLongest),
+    ("many-drops", Kind::ManyDrops),
 ];
 
 /// The kind of a name.
@@ -80,6 +106,12 @@ pub fn make_record(kind: Kind, seed: u64, length: usize) -> Vec<u8> {
         Kind::Names => names(random, length).record,
         Kind::ManyNamed => many(random, length, &MOSTLY_NAMED).record,
         Kind::Equals => equals(random, length).record,
+        Kind::Drops => drops(random, length).record,
+        Kind::DropEdges => drop_edges(random, length).record,
+        Kind::DropTruncated => truncated_drops(random, length),
+        Kind::DropGarbage => garbage_drops(random, length),
+        Kind::DropLongest => longest_drops(random),
+        Kind::ManyDrops => many_drops(random, length).record,
     }
 }
 
@@ -109,7 +141,7 @@ pub fn setup_in_limits(random: &mut Xorshift, most_processors: u8, most_superblo
 
 /// The same with few spare superblocks and a fraction of at most a half, so that
 /// heaps give up superblocks early.
-fn setup_with_early_moves(
+pub(crate) fn setup_with_early_moves(
     random: &mut Xorshift,
     most_processors: u8,
     most_superblocks: u8,
@@ -188,7 +220,7 @@ fn odd_named_call(random: &mut Xorshift, run: &mut Run) {
 }
 
 /// An address that is likely to be unmapped, misaligned or not live.
-fn odd_address(random: &mut Xorshift, run: &Run) -> u32 {
+pub(crate) fn odd_address(random: &mut Xorshift, run: &Run) -> u32 {
     let end = u32::from(run.state.control.setup.superblocks) * SUPERBLOCK_BYTES;
     let near = run.any_live(random).unwrap_or(0);
     match random.below(8) {
@@ -204,7 +236,7 @@ fn odd_address(random: &mut Xorshift, run: &Run) -> u32 {
 }
 
 /// A take or a free, `takes` of 100 being takes, a few odd calls among them.
-fn mixed_call(random: &mut Xorshift, run: &mut Run, takes: u32, classes: (u8, u8)) {
+pub(crate) fn mixed_call(random: &mut Xorshift, run: &mut Run, takes: u32, classes: (u8, u8)) {
     if random.chance(1, 25) {
         return odd_call(random, run);
     }
@@ -340,7 +372,14 @@ fn threshold(random: &mut Xorshift, length: usize) -> Run {
 }
 
 /// Takes the blocks of one superblock or more, up to `most`.
-fn fill(random: &mut Xorshift, run: &mut Run, heap: u8, class: u8, most: u32, length: usize) {
+pub(crate) fn fill(
+    random: &mut Xorshift,
+    run: &mut Run,
+    heap: u8,
+    class: u8,
+    most: u32,
+    length: usize,
+) {
     let blocks = SIZE_CLASSES[usize::from(class)].blocks;
     for _ in 0..random.between(blocks, most * blocks) {
         if run.calls < length && run.has_room() {
@@ -422,14 +461,14 @@ fn random_commands(random: &mut Xorshift, length: usize) -> Vec<u8> {
         let command = random_command(random, processor);
         write_command(&mut record, &command);
         if random.chance(1, 100) {
-            record.push(random.byte_between(0, NAMED_FREE_BYTE + 1));
+            record.push(random.byte_between(0, STRAY_BYTE));
         }
     }
     record
 }
 
 /// A command with random numbers; few names, so that some are held.
-fn random_command(random: &mut Xorshift, processor: u8) -> Command {
+pub(crate) fn random_command(random: &mut Xorshift, processor: u8) -> Command {
     let name = match random.below(4) {
         0 => edge_name(random),
         _ => random.below(12) as u16,
@@ -460,10 +499,7 @@ fn damaged(random: &mut Xorshift, length: usize) -> Vec<u8> {
     for _ in 0..random.between(1, 4) {
         let (at, byte) = match random.below(2) {
             0 => (random.below(record.len() as u32) as usize, random.byte()),
-            _ => (
-                random.pick(&starts),
-                random.byte_between(0, NAMED_FREE_BYTE + 1),
-            ),
+            _ => (random.pick(&starts), random.byte_between(0, STRAY_BYTE)),
         };
         record[at] = byte;
     }
@@ -471,7 +507,7 @@ fn damaged(random: &mut Xorshift, length: usize) -> Vec<u8> {
 }
 
 /// The byte offsets of the commands of a sound record.
-fn command_starts(record: &[u8]) -> Vec<usize> {
+pub(crate) fn command_starts(record: &[u8]) -> Vec<usize> {
     let mut starts = Vec::new();
     let mut offset = 0;
     while let Ok((_, next_offset)) = read_command(record, offset) {
@@ -520,7 +556,7 @@ fn edges(random: &mut Xorshift, length: usize) -> Run {
             _ => {
                 let address = run.any_live(random).unwrap_or(0);
                 let free = free_of_live(random, &run.state, processor, address, run.named);
-                run.call(free);
+                run.call(free.clone());
                 if random.chance(1, 3) && run.has_room() {
                     run.call(free);
                 }
@@ -531,7 +567,7 @@ fn edges(random: &mut Xorshift, length: usize) -> Run {
 }
 
 /// A size at or one past a class limit.
-fn edge_size(random: &mut Xorshift) -> u16 {
+pub(crate) fn edge_size(random: &mut Xorshift) -> u16 {
     let limit = SIZE_CLASSES[random.below(27) as usize].block_size as u16;
     match random.below(4) {
         0 => random.pick(&[limit, limit, limit + 1]),

@@ -3,11 +3,13 @@
 //! same on lent rows.
 
 use hoard::{
-    BlockId, Command, Names, Setup, State, Superblock, CLASSES, GLOBAL_HEAP, NAMED_FREE_BYTE,
-    NAMES, NOT_HELD, ORDER_PLACES, SIZE_CLASSES, SUPERBLOCKS, SUPERBLOCK_BYTES, UNUSED_OWNER,
+    BlockId, Command, Names, Setup, State, Superblock, CLASSES, DROP_BYTE, GLOBAL_HEAP,
+    NAMED_FREE_BYTE, NAMES, NOT_HELD, ORDER_PLACES, SIZE_CLASSES, SUPERBLOCKS, SUPERBLOCK_BYTES,
+    UNUSED_OWNER,
 };
 
 use crate::call_form::{run_call, write_input, CallInput, MOST_PLACES};
+use crate::drop_states;
 use crate::make_record::{
     any_processor, any_run, edge_setup, equals as equals_run, setup_in_limits, size_of_class,
     zero_or_beside,
@@ -124,13 +126,21 @@ pub enum Kind {
     Equals,
     /// A sound state, or a setup, on a lent row that is mostly 64 long.
     Row,
-    /// A state or setup of any other kind on a lent row of any length, with
+    /// A state or setup of any kind before these two on a lent row of any length, with
     /// storage that is at times short.
     RowDamaged,
+    /// A drop on a sound state.
+    Drops,
+    /// A drop on a state of any kind before rows, sound or not.
+    DropsDamaged,
+    /// A drop on a lent row, sound or not.
+    DropsRow,
+    /// The bytes of a drop, made no call.
+    DropsBytes,
 }
 
 /// Every kind with its name.
-pub const KINDS: [(&str, Kind); 50] = [
+pub const KINDS: [(&str, Kind); 54] = [
     ("replayed", Kind::Replayed),
     ("built", Kind::Built),
     ("loose", Kind::Loose),
@@ -181,9 +191,14 @@ pub const KINDS: [(&str, Kind); 50] = [
     ("equals", Kind::Equals),
     ("row", Kind::Row),
     ("row-damaged", Kind::RowDamaged),
+    ("drops", Kind::Drops),
+    ("drops-damaged", Kind::DropsDamaged),
+    ("drops-row", Kind::DropsRow),
+    ("drops-bytes", Kind::DropsBytes),
 ];
 
-/// Kinds whose states pass the check and whose storage is enough.
+/// Kinds whose states pass the check and whose storage is enough. States are drawn from
+/// these, so they stay as they are; sound drops are a kind beside them.
 pub const SOUND_KINDS: [Kind; 10] = [
     Kind::Replayed,
     Kind::Built,
@@ -210,7 +225,7 @@ const NAME_FAULTS: [Kind; 5] = [
 const BLOCK_NUMBERS: u16 = (SUPERBLOCKS * ORDER_PLACES) as u16;
 
 /// Lengths of a row that is refused.
-const WRONG_LENGTHS: [u8; 4] = [0, 1, 63, 65];
+pub(crate) const WRONG_LENGTHS: [u8; 4] = [0, 1, 63, 65];
 
 /// The kind of a name.
 pub fn kind_of_name(name: &str) -> Option<Kind> {
@@ -223,6 +238,8 @@ pub fn make_state(kind: Kind, seed: u64) -> Vec<u8> {
     match kind {
         Kind::Row => write_row_input(&row(random)),
         Kind::RowDamaged => row_damaged(random),
+        Kind::DropsRow => drop_states::row(random),
+        Kind::DropsBytes => drop_states::bytes(random),
         Kind::Bytes => {
             let mut bytes = write_input(&make_input(kind, random));
             spoil_length(random, &mut bytes);
@@ -250,7 +267,7 @@ fn row(random: &mut Xorshift) -> RowInput {
     RowInput { length, input }
 }
 
-/// A call of any other kind on a row of any length. Setup numbers are at times
+/// A call of any kind before rows on a row of any length. Setup numbers are at times
 /// broken on top, storage is at times short, one in sixteen is no call at all.
 fn row_damaged(random: &mut Xorshift) -> Vec<u8> {
     let kind = match random.below(10) {
@@ -258,7 +275,7 @@ fn row_damaged(random: &mut Xorshift) -> Vec<u8> {
         4 => Kind::ZeroDamaged,
         5 => random.pick(&TOTAL_FAULTS),
         6 => random.pick(&RANK_FAULTS),
-        _ => random.pick(&KINDS[..KINDS.len() - 2]).1,
+        _ => random.pick(&KINDS[..Kind::Row as usize]).1,
     };
     let mut input = make_input(kind, random);
     input.order.truncate(MOST_PLACES);
@@ -290,7 +307,7 @@ fn row_damaged(random: &mut Xorshift) -> Vec<u8> {
 fn spoil_row(random: &mut Xorshift, bytes: &mut Vec<u8>) {
     match random.below(6) {
         0 => bytes[1] = random.pick(&[MOST_RECORDS + 1, 128, 255]),
-        1 => bytes[2] = random.byte_between(NAMED_FREE_BYTE + 1, 255),
+        1 => bytes[2] = unknown_call(random),
         2 => bytes.truncate(random.below(4) as usize),
         3 => bytes.truncate(random.below(bytes.len() as u32) as usize),
         4 => {
@@ -300,7 +317,14 @@ fn spoil_row(random: &mut Xorshift, bytes: &mut Vec<u8>) {
     }
 }
 
-fn make_input(kind: Kind, random: &mut Xorshift) -> CallInput {
+/// A byte that stands for no call, drawn as if drops were none: so the bytes stay the
+/// same but for those that would be a drop now.
+fn unknown_call(random: &mut Xorshift) -> u8 {
+    let byte = random.byte_between(NAMED_FREE_BYTE + 1, 255);
+    byte.max(DROP_BYTE + 1)
+}
+
+pub(crate) fn make_input(kind: Kind, random: &mut Xorshift) -> CallInput {
     match kind {
         Kind::Replayed => replayed(random),
         Kind::Built | Kind::Bytes => built(random),
@@ -318,6 +342,8 @@ fn make_input(kind: Kind, random: &mut Xorshift) -> CallInput {
         Kind::ZeroDamaged => zero_damaged(random),
         Kind::Named => named(random),
         Kind::Equals => equals(random),
+        Kind::Drops => drop_states::sound(random),
+        Kind::DropsDamaged => drop_states::damaged(random),
         kind if RANK_FAULTS.contains(&kind) => wrong_ranks(kind, random),
         _ => damaged(kind, random),
     }
@@ -334,7 +360,7 @@ fn replayed(random: &mut Xorshift) -> CallInput {
 
 /// Gives the first `count` superblocks to heaps at random, of few classes so that
 /// heaps have several of one.
-fn scatter(random: &mut Xorshift, setup: Setup, count: u8) -> Table {
+pub(crate) fn scatter(random: &mut Xorshift, setup: Setup, count: u8) -> Table {
     let mut table = Table::new(setup, random);
     let classes = [random.byte_between(0, 26), random.byte_between(8, 26)];
     let owned_of_ten = random.between(3, 10);
@@ -490,10 +516,9 @@ fn stale_totals(random: &mut Xorshift) -> CallInput {
     }
 }
 
-/// A take on a sound state with many superblocks in the global heap, in half of all
-/// cases of a class that it has there.
-fn take_from_many_global(random: &mut Xorshift) -> CallInput {
-    let setup = setup_in_limits(random, 8, 16);
+/// Sound superblocks with many in the global heap.
+pub(crate) fn with_global(random: &mut Xorshift, most_superblocks: u8) -> Table {
+    let setup = setup_in_limits(random, 8, most_superblocks);
     let mut table = scatter(random, setup, setup.superblocks);
     for superblock in &mut table.state.superblocks {
         if superblock.owner != UNUSED_OWNER && random.chance(1, 2) {
@@ -501,6 +526,14 @@ fn take_from_many_global(random: &mut Xorshift) -> CallInput {
         }
     }
     table.restore_invariants();
+    table
+}
+
+/// A take on a sound state with many superblocks in the global heap, in half of all
+/// cases of a class that it has there.
+fn take_from_many_global(random: &mut Xorshift) -> CallInput {
+    let mut table = with_global(random, 16);
+    let setup = table.state.control.setup;
     table.name_some_blocks(random);
     table.rank_some_superblocks(random);
     let global = table.state.superblocks.iter();
@@ -581,7 +614,7 @@ fn own_beyond(random: &mut Xorshift, table: &mut Table) {
 }
 
 /// Puts one setup number outside its limits.
-fn break_setup(random: &mut Xorshift, setup: &mut Setup) {
+pub(crate) fn break_setup(random: &mut Xorshift, setup: &mut Setup) {
     match random.below(5) {
         0 => setup.processors = random.pick(&[0, 9, 255]),
         1 => setup.superblocks = random.pick(&[0, 65, 255]),
@@ -640,7 +673,7 @@ fn around_global_limit(kind: Kind, random: &mut Xorshift, table: &mut Table) {
 
 /// A heap and class with the most live blocks at which it is still over its
 /// threshold, and `more` on top; the call is mostly a free from it.
-fn around_threshold(random: &mut Xorshift, more: u32) -> CallInput {
+pub(crate) fn around_threshold(random: &mut Xorshift, more: u32) -> CallInput {
     let (setup, class, count) = match random.below(2) {
         0 => any_threshold(random),
         _ => tight_threshold(random),
@@ -938,7 +971,7 @@ fn named(random: &mut Xorshift) -> CallInput {
 }
 
 /// Live blocks for every name: 18 superblocks or more of small blocks, nearly full.
-fn crowded(random: &mut Xorshift) -> Table {
+pub(crate) fn crowded(random: &mut Xorshift) -> Table {
     let mut setup = setup_in_limits(random, 8, 64);
     setup.superblocks = setup.superblocks.max(18);
     let mut table = Table::new(setup, random);
@@ -954,7 +987,7 @@ fn crowded(random: &mut Xorshift) -> Table {
 
 /// Gives most of the superblocks of a setup to heaps, of two classes and mostly with
 /// the same number of blocks live for each. Few or many are of the global heap.
-fn equal_superblocks(random: &mut Xorshift, setup: Setup, owned_of_ten: u32) -> Table {
+pub(crate) fn equal_superblocks(random: &mut Xorshift, setup: Setup, owned_of_ten: u32) -> Table {
     let mut table = Table::new(setup, random);
     let levels = [0, 0].map(|_| {
         let class = random.byte_between(0, 26);
@@ -1055,7 +1088,7 @@ fn spoil_length(random: &mut Xorshift, bytes: &mut Vec<u8>) {
             bytes.pop();
         }
         2 => bytes.push(random.byte()),
-        3 => bytes[0] = random.byte_between(NAMED_FREE_BYTE + 1, 255),
+        3 => bytes[0] = unknown_call(random),
         _ => bytes.truncate(random.below(5100) as usize),
     }
 }

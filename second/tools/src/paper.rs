@@ -1,4 +1,5 @@
-//! Papers as text: one command a line, as in the key but without the answers.
+//! Papers as text: one command a line, as in the key but without the answers. A drop
+//! has its addresses, where the key only counts them.
 
 use std::fmt::{self, Display};
 
@@ -61,10 +62,23 @@ pub fn to_text(record: &[u8]) -> Result<String, ByteError> {
                 _ => "the record ends inside this command".to_string(),
             },
         })?;
-        text += &format!("{command}\n");
+        text += &line_of(&command);
         offset = next_offset;
     }
     Ok(text)
+}
+
+/// The line of a command.
+fn line_of(command: &Command) -> String {
+    let Command::Drop {
+        processor,
+        addresses,
+    } = command
+    else {
+        return format!("{command}\n");
+    };
+    let addresses = addresses.iter().map(|address| format!(" {address}"));
+    format!("drop {processor}{}\n", addresses.collect::<String>())
 }
 
 /// The command of one line.
@@ -79,8 +93,9 @@ fn read_line(line: &[u8]) -> Result<Command, String> {
         ("take", fields) => take(fields),
         ("free", [processor, "name", rest @ ..]) => named_free(&[&[*processor], rest].concat()),
         ("free", fields) => free(fields),
+        ("drop", fields) => drop(fields),
         _ => Err(format!(
-            "unknown command \"{command}\" (setup, take or free)"
+            "unknown command \"{command}\" (setup, take, free or drop)"
         )),
     }
 }
@@ -108,7 +123,7 @@ fn free(fields: &[&str]) -> Result<Command, String> {
     let [processor, address] = exactly("free", "processor address", fields)?;
     Ok(Command::Free {
         processor: byte("processor", processor)?,
-        address: number("address", address, u64::from(u32::MAX))? as u32,
+        address: four_bytes("address", address)?,
     })
 }
 
@@ -126,6 +141,21 @@ fn named_free(fields: &[&str]) -> Result<Command, String> {
     Ok(Command::NamedFree {
         processor: byte("processor", processor)?,
         name: two_bytes("name", name)?,
+    })
+}
+
+/// A drop of as many addresses as there are, if a record can count them.
+fn drop(fields: &[&str]) -> Result<Command, String> {
+    let Some((processor, addresses)) = fields.split_first() else {
+        return Err("drop has a processor and its addresses, here are 0 numbers".to_string());
+    };
+    let processor = byte("processor", processor)?;
+    byte("count", &addresses.len().to_string())?;
+    let addresses = addresses.iter();
+    let addresses = addresses.map(|address| four_bytes("address", address));
+    Ok(Command::Drop {
+        processor,
+        addresses: addresses.collect::<Result<_, _>>()?,
     })
 }
 
@@ -149,6 +179,11 @@ fn byte(name: &str, digits: &str) -> Result<u8, String> {
 /// A field of two bytes.
 fn two_bytes(name: &str, digits: &str) -> Result<u16, String> {
     Ok(number(name, digits, u64::from(u16::MAX))? as u16)
+}
+
+/// A field of four bytes.
+fn four_bytes(name: &str, digits: &str) -> Result<u32, String> {
+    Ok(number(name, digits, u64::from(u32::MAX))? as u32)
 }
 
 /// A field of decimal digits, 0 to `most`.

@@ -2,8 +2,8 @@
 //! that the next one can be chosen by what is live.
 
 use hoard::{
-    write_command, Command, Outcome, Refusal, Setup, State, LONGEST_RECORD, ORDER_PLACES,
-    SUPERBLOCKS, SUPERBLOCK_BYTES,
+    write_command, Command, Outcome, Refusal, Setup, State, LONGEST_RECORD, MOST_DROPPED,
+    ORDER_PLACES, SUPERBLOCKS, SUPERBLOCK_BYTES,
 };
 
 use crate::naming::{free_of_live, name_to_bind};
@@ -59,18 +59,18 @@ impl Run {
         self.record.len() + 6 <= LONGEST_RECORD
     }
 
-    /// Writes and runs a take or free.
+    /// Writes and runs a take, free or drop.
     pub fn call(&mut self, command: Command) -> Outcome {
         write_command(&mut self.record, &command);
         self.calls += 1;
         if self.refuses_zero && matches!(command, Command::Take { size: 0, .. }) {
             return Outcome::Refused(Refusal::Size);
         }
-        let freed = self.address_freed(&command);
+        let freed = self.addresses_freed(&command);
         let answer = hoard::run(&command, &self.state, &mut self.order);
         match answer.outcome {
             Outcome::At(address) => self.live.push(address),
-            Outcome::Moved(_) => self.live.retain(|&live| Some(live) != freed),
+            Outcome::Moved(_) => self.live.retain(|live| !freed.contains(live)),
             _ => {}
         }
         self.state = answer.state;
@@ -81,12 +81,13 @@ impl Run {
         answer.outcome
     }
 
-    /// The address that a free, if it is accepted, frees.
-    fn address_freed(&self, command: &Command) -> Option<u32> {
-        match *command {
-            Command::Free { address, .. } => Some(address),
-            Command::NamedFree { name, .. } => self.address_of_name(name),
-            _ => None,
+    /// The addresses that a free or drop, if it is accepted, frees.
+    fn addresses_freed(&self, command: &Command) -> Vec<u32> {
+        match command {
+            Command::Free { address, .. } => vec![*address],
+            Command::NamedFree { name, .. } => self.address_of_name(*name).into_iter().collect(),
+            Command::Drop { addresses, .. } => addresses.clone(),
+            _ => Vec::new(),
         }
     }
 
@@ -112,6 +113,16 @@ impl Run {
     /// Writes and runs a free by name.
     pub fn free_named(&mut self, processor: u8, name: u16) -> Outcome {
         self.call(Command::NamedFree { processor, name })
+    }
+
+    /// Writes and runs a drop, of the first addresses where there is no room for all.
+    pub fn drop(&mut self, processor: u8, mut addresses: Vec<u32>) -> Outcome {
+        let room = (LONGEST_RECORD - self.record.len()).saturating_sub(3) / 4;
+        addresses.truncate(room.min(MOST_DROPPED));
+        self.call(Command::Drop {
+            processor,
+            addresses,
+        })
     }
 
     /// Takes, in the run's share of cases by a name.

@@ -204,21 +204,21 @@ fn made_plain(record: &[u8]) -> (Vec<u8>, String) {
     let mut key = String::new();
     replay(record, |step| {
         let outcome = step.answer.outcome;
-        let command = match (step.command, outcome) {
+        let command = match (&step.command, outcome) {
             (_, Outcome::Refused(Refusal::TakenName | Refusal::NameNotHeld)) => return,
             (
-                Command::NamedTake {
+                &Command::NamedTake {
                     processor, size, ..
                 },
                 _,
             ) => Command::Take { processor, size },
-            (Command::NamedFree { processor, name }, _) => {
+            (&Command::NamedFree { processor, name }, _) => {
                 let held = step.before.control.names.block_of(name);
                 // The processor is refused whatever the address.
                 let address = held.map_or(0, |block| step.before.address_of(block));
                 Command::Free { processor, address }
             }
-            (command, _) => command,
+            (command, _) => command.clone(),
         };
         write_command(&mut plain, &command);
         key += &match outcome {

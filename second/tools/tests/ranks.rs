@@ -202,7 +202,12 @@ fn nothing_but_the_ranks_is_wrong() {
 /// states have none, and some have many.
 #[test]
 fn other_states_have_right_ranks() {
-    let any_ranks = [Kind::Loose, Kind::TwoFaults, Kind::ZeroDamaged];
+    let any_ranks = [
+        Kind::Loose,
+        Kind::TwoFaults,
+        Kind::ZeroDamaged,
+        Kind::DropsDamaged,
+    ];
     for (_, kind) in KINDS {
         if RANK_FAULTS.contains(&kind) || any_ranks.contains(&kind) {
             continue;

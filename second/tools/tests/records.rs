@@ -32,10 +32,12 @@ fn the_record_of_the_figures_stays_the_same() {
 
 #[test]
 fn long_records_have_60000_bytes() {
-    for seed in 0..3 {
-        let record = make_record(Kind::Longest, seed, 0);
-        assert_eq!(record.len(), 60000);
-        assert!(hoard::key(&record).ends_with(b"\nend\n"));
+    for kind in [Kind::Longest, Kind::DropLongest] {
+        for seed in 0..3 {
+            let record = make_record(kind, seed, 0);
+            assert_eq!(record.len(), 60000);
+            assert!(hoard::key(&record).ends_with(b"\nend\n"));
+        }
     }
 }
 
@@ -48,6 +50,9 @@ fn other_records_stay_within_60000_bytes() {
         Kind::Zero,
         Kind::Names,
         Kind::Equals,
+        Kind::Drops,
+        Kind::DropEdges,
+        Kind::ManyDrops,
     ] {
         let length = make_record(kind, 1, 20_000).len();
         assert!((59_990..=60_000).contains(&length), "{length}");
@@ -116,20 +121,23 @@ struct Ledger {
 
 impl Ledger {
     fn note(&mut self, command: &Command, outcome: &Outcome) {
-        match (*command, *outcome) {
-            (Command::Take { size, .. }, Outcome::At(address)) => self.take(size, address),
-            (Command::NamedTake { name, size, .. }, Outcome::At(address)) => {
+        match (command, *outcome) {
+            (&Command::Take { size, .. }, Outcome::At(address)) => self.take(size, address),
+            (&Command::NamedTake { name, size, .. }, Outcome::At(address)) => {
                 assert!(name < 1024, "bound {name}");
                 assert!(self.names.insert(name, address).is_none(), "bound twice");
                 self.take(size, address);
             }
-            (Command::Free { address, .. }, Outcome::Moved(_)) => self.free(address),
-            (Command::NamedFree { name, .. }, Outcome::Moved(_)) => self.free(self.names[&name]),
+            (&Command::Free { address, .. }, Outcome::Moved(_)) => self.free(address),
+            (Command::NamedFree { name, .. }, Outcome::Moved(_)) => self.free(self.names[name]),
+            (Command::Drop { addresses, .. }, Outcome::Moved(_)) => {
+                addresses.iter().for_each(|&address| self.free(address));
+            }
             (Command::NamedTake { name, .. }, Outcome::Refused(Refusal::TakenName)) => {
-                assert!(name > 1023 || self.names.contains_key(&name));
+                assert!(*name > 1023 || self.names.contains_key(name));
             }
             (Command::NamedFree { name, .. }, Outcome::Refused(Refusal::NameNotHeld)) => {
-                assert!(!self.names.contains_key(&name));
+                assert!(!self.names.contains_key(name));
             }
             _ => {}
         }
@@ -199,7 +207,11 @@ fn check_run(record: &[u8]) {
         match *outcome {
             Outcome::Moved(moves) => {
                 assert_eq!(moves, changed);
-                assert!(moves <= u32::from(state.control.setup.q));
+                let addresses = match &step.command {
+                    Command::Drop { addresses, .. } => addresses.len() as u32,
+                    _ => 1,
+                };
+                assert!(moves <= addresses * u32::from(state.control.setup.q));
             }
             Outcome::At(_) => assert!(changed <= 1),
             _ => assert_eq!(changed, 0),
@@ -223,6 +235,8 @@ fn bound_moves_and_state_hold_after_every_call() {
         Kind::Names,
         Kind::ManyNamed,
         Kind::Equals,
+        Kind::Drops,
+        Kind::ManyDrops,
     ] {
         for seed in 100..110 {
             check_run(&make_record(kind, seed, 500));
@@ -249,9 +263,9 @@ fn met_by_take(state: &State, outcome: &Outcome) -> String {
 /// Counts what takes of size 0 and frees of class 0 met along a record.
 fn count_met(record: &[u8], met: &mut BTreeMap<String, u32>) {
     replay(record, |step| {
-        let what = match (step.command, step.answer.outcome) {
+        let what = match (&step.command, step.answer.outcome) {
             (Command::Take { size: 0, .. }, outcome) => Some(met_by_take(step.before, &outcome)),
-            (Command::Free { address, .. }, moved @ Outcome::Moved(1..)) => {
+            (&Command::Free { address, .. }, moved @ Outcome::Moved(1..)) => {
                 let number = (address / SUPERBLOCK_BYTES) as usize;
                 (step.before.superblocks[number].class == 0).then(|| moved.to_string())
             }

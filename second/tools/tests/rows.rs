@@ -140,7 +140,7 @@ fn rows_against_states() {
             };
             assert_eq!(on_row.outcome, Outcome::Refused(refusal));
         }
-        match (on_row.outcome, input.call) {
+        match (on_row.outcome, &input.call) {
             (Outcome::Refused(_), call) => {
                 assert_eq!((row, &row_order), (before, &input.order));
                 let handed_back = match call {

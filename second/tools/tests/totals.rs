@@ -79,7 +79,12 @@ fn nothing_but_the_totals_is_wrong() {
 /// the superblocks as they are.
 #[test]
 fn other_states_have_right_totals() {
-    let any_totals = [Kind::Loose, Kind::TwoFaults, Kind::ZeroDamaged];
+    let any_totals = [
+        Kind::Loose,
+        Kind::TwoFaults,
+        Kind::ZeroDamaged,
+        Kind::DropsDamaged,
+    ];
     for (_, kind) in KINDS {
         if WRONG.contains(&kind) || any_totals.contains(&kind) {
             continue;
