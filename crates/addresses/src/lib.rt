@@ -1,7 +1,8 @@
-// The block at an address, and the tests of an address: unmapped, misaligned, live. Each function is total, as the definitions are: past the
-// table's 64 superblocks nothing is live and no block has a number, and a class with no block size has no blocks.
+// The block at an address, and the tests of an address: unmapped, misaligned, live, and the refusal that they come to. Each function is total,
+// as the definitions are: past the table's 64 superblocks nothing is live and no block has a number, and a class with no block size has no
+// blocks.
 ghost use mathlib.Core.Path.{_≡_};
-ghost use Rattle.calls.specs.Free.{blockOf, isUnmapped, isMisaligned, isLiveAt, blockNumberAt};
+ghost use Rattle.calls.specs.Free.{blockOf, isUnmapped, isMisaligned, isLiveAt, addressRefusal, blockNumberAt};
 use heap::State;
 
 // The address is past superblocks 0 to N - 1, or in an unused one.
@@ -74,4 +75,20 @@ pub fn is_live_at(s: State, address: u32) -> bool
     let b = s.table[k];
     let live = b.live;
     bitmap::is_live(live, j)
+}
+
+// The refusal that the address meets: the first of 5, 6 and 7 that applies, or 0 where a live block starts there.
+pub fn refusal(s: State, address: u32) -> u8
+    ensures { λ r. ⌜ r ≡ addressRefusal s address ⌝ }
+{
+    if is_unmapped(s, address) {
+        return 5;
+    }
+    if is_misaligned(s, address) {
+        return 6;
+    }
+    if !is_live_at(s, address) {
+        return 7;
+    }
+    0
 }

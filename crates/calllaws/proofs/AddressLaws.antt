@@ -1,22 +1,26 @@
 -- From a block's address back to its superblock and block, and from any address to its superblock. Assumes nothing.
-use mathlib.Core.Path.{_≡_, ap, _∙_}
-use mathlib.Core.Bool.{Bool, false}
+use mathlib.Core.Path.{_≡_, sym, ap, _∙_}
+use mathlib.Core.Bool.{false}
 use mathlib.Core.Logic.{_⊎_, inl, inr}
 use mathlib.Core.List.{List}
 use Prim.Native.Nat.{ℕ, _*_, _/_, _%_, _<_}
+use native.Mathlib.Decide.{decLt}
 use native.Mathlib.Omega.{arith}
 use borrow.Author.Tests.{lt-ltb, leb-false}
+use lib.ListN.{length, List·getD-eq-default}
 use lib.Dec.{leb, ltb}
+use Rattle.laws.proofs.Inequalities.{le-of-not-below}
 use Rattle.laws.proofs.TestLaws.{pick-true, not-T-of-false, neither-left, neither-right}
 use Rattle.classes.specs.Classes.{sizeOf, blocksOf}
 use Rattle.classes.proofs.OffsetLaws.{offset-lt-4096, block-of-offset}
 use Rattle.names.specs.Names.{blockNumber}
+use Rattle.heap.specs.declared.Superblock.{Superblock}
 use Rattle.heap.specs.declared.State.{State}
-use Rattle.heap.specs.Table.{superblockAt, isUnused}
+use Rattle.heap.specs.Table.{blank, superblockAt, isUnused}
 use Rattle.heaplaws.proofs.StateFacts.{Unused, Owned, SoundWith}
 use Rattle.heaplaws.proofs.StateCheckLaws.{is-unused-of-facts}
 use Rattle.calls.specs.Take.{addressOf}
-use Rattle.calls.specs.Free.{superblockIndex, superblockHolding, blockOf, isUnmapped, blockNumberAt}
+use Rattle.calls.specs.Free.{superblockIndex, offsetOf, superblockHolding, blockOf, isUnmapped, blockNumberAt}
 
 module _ (c k j : ℕ) (known : c < 27) (block : j < blocksOf c) where
   pub address-superblock : addressOf k c j / 4096 ≡ k
@@ -55,3 +59,18 @@ module _ {Invariant : ℕ → ℕ → State → Type 0} (s : State) (order : Lis
       go : Unused (superblockHolding s a) ⊎ Owned (s .setup) order (superblockIndex a) (superblockHolding s a) → Owned (s .setup) order (superblockIndex a) (superblockHolding s a)
       go (inl u) = absurd (not-T-of-false (isUnused (superblockHolding s a)) (neither-right (leb (s .setup .superblocks * 4096) a) (isUnused (superblockHolding s a)) mapped) (is-unused-of-facts (superblockHolding s a) u))
       go (inr o) = o
+
+-- an address is of the same class, and so of the same block, in states whose superblocks have the same classes
+module _ (s t : State) (long : length (s .table) ≡ 64) (long-after : length (t .table) ≡ 64) (classes : (k : ℕ) → k < 64 → superblockAt t k .class ≡ superblockAt s k .class) (a : ℕ) where
+  pub class-at-address-same : superblockHolding t a .class ≡ superblockHolding s a .class
+  class-at-address-same = go (decLt (superblockIndex a) 64)
+    where
+      go : Dec (superblockIndex a < 64) → superblockHolding t a .class ≡ superblockHolding s a .class
+      go (yes l) = classes (superblockIndex a) l
+      go (no f) =
+          let g = le-of-not-below f in
+          ap (λ (b : Superblock). b .class) (List·getD-eq-default (t .table) blank (omega arith) ∙ sym (List·getD-eq-default (s .table) blank (omega arith)))
+
+  pub block-at-address-same : blockOf t a ≡ blockOf s a
+  unfolding blockOf
+  block-at-address-same = ap (λ (c : ℕ). offsetOf a / sizeOf c) class-at-address-same

@@ -23,6 +23,9 @@ pub mod AcceptedCallLaws
 pub mod NothingOfferedLaws
 pub mod RefusalConditions
 pub mod NamedRefusalConditions
+pub mod DropRefusalConditions
+pub mod DropAsFrees
+pub mod NameLifetime
 pub mod TotalsKeptLaws
 pub mod CallRankLaws
 pub mod OrderWriteLaws

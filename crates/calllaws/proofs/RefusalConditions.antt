@@ -253,7 +253,7 @@ module _ (s : State) (order : List ℕ) (i : ℕ) where
 
   -- ---- a free
   module _ (a : ℕ) where
-    decides-is-unmapped : Decides (isUnmapped s a) ((s .setup .superblocks * 4096 ≤ a) ⊎ Unused (superblockHolding s a)) (Mapped s a)
+    pub decides-is-unmapped : Decides (isUnmapped s a) ((s .setup .superblocks * 4096 ≤ a) ⊎ Unused (superblockHolding s a)) (Mapped s a)
     unfolding isUnmapped
     decides-is-unmapped =
         decides-as (λ h. h, λ h. h) (λ h. record { inside = h .0; used = h .1 }, λ h. (h .inside, h .used))
@@ -263,7 +263,7 @@ module _ (s : State) (order : List ℕ) (i : ℕ) where
     abbrev rest : ℕ
     rest = offsetOf a % sizeOf (superblockHolding s a .class)
 
-    decides-is-misaligned : Decides (isMisaligned s a) ((rest ≡ 0 → ⊥) ⊎ (blocksOf (superblockHolding s a .class) ≤ blockOf s a)) ((rest ≡ 0) × (blockOf s a < blocksOf (superblockHolding s a .class)))
+    pub decides-is-misaligned : Decides (isMisaligned s a) ((rest ≡ 0 → ⊥) ⊎ (blocksOf (superblockHolding s a .class) ≤ blockOf s a)) ((rest ≡ 0) × (blockOf s a < blocksOf (superblockHolding s a .class)))
     unfolding isMisaligned
     decides-is-misaligned = decides-either (not (eqb rest 0)) (leb (blocksOf (superblockHolding s a .class)) (blockOf s a)) (decides-differs rest 0) (decides-le (blocksOf (superblockHolding s a .class)) (blockOf s a))
 

@@ -4,7 +4,7 @@ use mathlib.Core.Bool.{Bool, true, false}
 use mathlib.Core.List.{List}
 use Prim.Native.Nat.{ℕ, _/_, _<_}
 use native.Mathlib.Omega.{arith}
-use borrow.Author.Tests.{not-true, not-false}
+use borrow.Author.Tests.{ne-eqb, not-true, not-false}
 use Rattle.laws.proofs.TestLaws.{T-of-true}
 use Rattle.heap.specs.declared.State.{State}
 use Rattle.heap.specs.declared.Moved.{Moved}
@@ -19,8 +19,9 @@ use Rattle.heaplaws.proofs.RankLaws.{ranks-fit-of-passes}
 use Rattle.calls.specs.declared.Answer.{Answer}
 use Rattle.calls.specs.declared.Outcome.the-variants.{Moves, Refused}
 use Rattle.calls.specs.Answers.{After, HasNumberAndValuesOf, isProcessor}
-use Rattle.calls.specs.Free.{superblockIndex, superblockHolding, isUnmapped, isMisaligned, isLiveAt, markCleared, orderPushed, blockFreed, freedAt, freeUnchecked}
+use Rattle.calls.specs.Free.{superblockIndex, superblockHolding, isUnmapped, addressRefusal, markCleared, orderPushed, blockFreed, freedAt, freeUnchecked}
 use Rattle.calllaws.proofs.AddressLaws.{mapped-below-64, mapped-is-owned}
+use Rattle.calls.proofs.AddressRefusalLaws.{mapped-of-no-refusal, free-unchecked-by-address-refusal}
 use Rattle.calls.proofs.AnswerLaws.{number-and-values-by-rules, refused-of-answer}
 
 abbrev answerAndOrder : Answer → List ℕ → After
@@ -37,34 +38,25 @@ module _ (s : State) (order : List ℕ) (i a : ℕ) (t : Bool) (p : t ≡ isProc
   unfolding freeUnchecked
   free-unchecked-refused-2 r f h = refused-of-answer s order 2 r h ∙ sym (rw (← p, f))
 
-  module _ (f : t ≡ true) (x : Bool) (g : x ≡ isUnmapped s a) where
-    pub free-unchecked-refused-5 : (r : Answer) → x ≡ true → r ≡ record { outcome = Refused 5; state = s } → answerAndOrder r order ≡ freeUnchecked s order i a
-    unfolding freeUnchecked
-    free-unchecked-refused-5 r k h = refused-of-answer s order 5 r h ∙ sym (rw (← p, f, ← g, k))
+  module _ (f : t ≡ true) (bad : ℕ) (g : bad ≡ addressRefusal s a) where
+    pub free-unchecked-refused-by-address : (r : Answer) → (bad ≡ 0 → ⊥) → r ≡ record { outcome = Refused bad; state = s } → answerAndOrder r order ≡ freeUnchecked s order i a
+    free-unchecked-refused-by-address r n h = refused-of-answer s order bad r h ∙ sym (free-unchecked-by-address-refusal s order i a ∙ rw (← p, f, ← g, ne-eqb bad 0 n))
 
-    module _ (k : x ≡ false) (y : Bool) (l : y ≡ isMisaligned s a) where
-      pub free-unchecked-refused-6 : (r : Answer) → y ≡ true → r ≡ record { outcome = Refused 6; state = s } → answerAndOrder r order ≡ freeUnchecked s order i a
-      unfolding freeUnchecked
-      free-unchecked-refused-6 r m h = refused-of-answer s order 6 r h ∙ sym (rw (← p, f, ← g, k, ← l, m))
-
-      module _ (m : y ≡ false) (w : Bool) (n : w ≡ isLiveAt s a) where
-        pub free-unchecked-refused-7 : (r : Answer) → w ≡ false → r ≡ record { outcome = Refused 7; state = s } → answerAndOrder r order ≡ freeUnchecked s order i a
-        unfolding freeUnchecked
-        free-unchecked-refused-7 r o h = refused-of-answer s order 7 r h ∙ sym (rw (← p, f, ← g, k, ← l, m, ← n, o))
-
-        pub free-unchecked-is-freed-at : (after : After) → w ≡ true → after ≡ freedAt s order a → after ≡ freeUnchecked s order i a
-        unfolding freeUnchecked
-        free-unchecked-is-freed-at after o h = h ∙ sym (rw (← p, f, ← g, k, ← l, m, ← n, o))
+    pub free-unchecked-is-freed-at : (after : After) → bad ≡ 0 → after ≡ freedAt s order a → after ≡ freeUnchecked s order i a
+    free-unchecked-is-freed-at after z h = h ∙ sym (free-unchecked-by-address-refusal s order i a ∙ rw (← p, f, ← g, z))
 
 -- ---- what the check and the tests of the address tell of the superblock
-module _ (s : State) (order : List ℕ) (a : ℕ) (p : passes s order ≡ true) (x : Bool) (g : x ≡ isUnmapped s a) (k : x ≡ false) where
+module _ (s : State) (order : List ℕ) (a : ℕ) (p : passes s order ≡ true) (bad : ℕ) (g : bad ≡ addressRefusal s a) (z : bad ≡ 0) where
   sound : Sound s order
   sound = sound-of-passes s order (T-of-true _ p)
 
+  mapped : isUnmapped s a ≡ false
+  mapped = mapped-of-no-refusal s a (sym g ∙ z)
+
   pub freed-superblock : (superblockIndex a < 64) × (superblockHolding s a .owner < 9) × (superblockHolding s a .class < 27) × TotalsKept s × RanksFit s
   freed-superblock =
-      let o = mapped-is-owned s order a sound (sym g ∙ k) in
-      (mapped-below-64 s order a sound (sym g ∙ k), omega (arith, o .owner, sound .numbers .processors-high), o .class, totals-kept-of-passes s order (T-of-true _ p), ranks-fit-of-passes s order (T-of-true _ p))
+      let o = mapped-is-owned s order a sound mapped in
+      (mapped-below-64 s order a sound mapped, omega (arith, o .owner, sound .numbers .processors-high), o .class, totals-kept-of-passes s order (T-of-true _ p), ranks-fit-of-passes s order (T-of-true _ p))
 
 -- so, of its owner and class as the code reads them
 pub freed-owner : (s : State) (a owner : ℕ) → owner ≡ superblockAt s (a / 4096) .owner → superblockHolding s a .owner < 9 → owner < 9
@@ -85,4 +77,4 @@ unfolding freedAt
 freed-at-by-steps s order new a owner class t m count next e f g h i j k = rw (j, k, i, h, g, e, f)
 
 -- ---- how a proof finds which way out it is at
-pub ruleset free-outcomes = (free-unchecked-refused-2, free-unchecked-refused-5, free-unchecked-refused-6, free-unchecked-refused-7, free-unchecked-is-freed-at, not-true, not-false)
+pub ruleset free-outcomes = (free-unchecked-refused-2, free-unchecked-refused-by-address, free-unchecked-is-freed-at, not-true, not-false)

@@ -20,14 +20,9 @@ pub fn free(s: State, order: &mut [u16], processor: u8, address: u32) -> Answer
     if !states::is_processor(s, processor) {
         return states::refuse(s, 2);
     }
-    if addresses::is_unmapped(s, address) {
-        return states::refuse(s, 5);
-    }
-    if addresses::is_misaligned(s, address) {
-        return states::refuse(s, 6);
-    }
-    if !addresses::is_live_at(s, address) {
-        return states::refuse(s, 7);
+    let bad = addresses::refusal(s, address);
+    if bad != 0 {
+        return states::refuse(s, bad);
     }
     free_at(s, order, address)
 }

@@ -13,8 +13,8 @@ refuse-requires c κs = search needs
 returns : tie.Need-returns
 returns c = free-unchecked-clauses _ _ _ _ (search free-outcomes)
 
-is-unmapped-requires : tie.Need-is-unmapped-requires
-is-unmapped-requires c κs = search needs
+refusal-requires : tie.Need-refusal-requires
+refusal-requires c κs = search needs
 
 refuse-requires-2 : tie.Need-refuse-requires-2
 refuse-requires-2 c κs = search needs
@@ -22,34 +22,14 @@ refuse-requires-2 c κs = search needs
 returns-2 : tie.Need-returns-2
 returns-2 c = free-unchecked-clauses _ _ _ _ (search free-outcomes)
 
-is-misaligned-requires : tie.Need-is-misaligned-requires
-is-misaligned-requires c κs = search needs
-
-refuse-requires-3 : tie.Need-refuse-requires-3
-refuse-requires-3 c κs = search needs
-
-returns-3 : tie.Need-returns-3
-returns-3 c = free-unchecked-clauses _ _ _ _ (search free-outcomes)
-
-is-live-at-requires : tie.Need-is-live-at-requires
-is-live-at-requires c κs = search needs
-
-refuse-requires-4 : tie.Need-refuse-requires-4
-refuse-requires-4 c κs = search needs
-
-returns-4 : tie.Need-returns-4
-returns-4 c = free-unchecked-clauses _ _ _ _ (search free-outcomes)
-
 free-at-requires : tie.Need-free-at-requires
-free-at-requires c κs =
-    let mapped = c .before .before .before .before .before in
-    freed-superblock _ _ _ (mapped .before .before .before .before .before .pre) _ (mapped .before .is-unmapped .ensures) (mapped .if2 .left)
+free-at-requires c κs = freed-superblock _ _ _ (c .before .before .before .before .before .before .pre) _ (c .before .before .refusal .ensures) (c .before .if2 .left)
 
 same-length : tie.Need-same-length
 same-length c = search needs
 
-returns-5 : tie.Need-returns-5
-returns-5 c = free-unchecked-clauses _ _ _ _ (search free-outcomes)
+returns-3 : tie.Need-returns-3
+returns-3 c = free-unchecked-clauses _ _ _ _ (search free-outcomes)
 
 pub free-spec : {M : Type 1} → statement M
 free-spec =
@@ -58,15 +38,9 @@ free-spec =
     is-processor-requires
     refuse-requires
     returns
-    is-unmapped-requires
+    refusal-requires
     refuse-requires-2
     returns-2
-    is-misaligned-requires
-    refuse-requires-3
-    returns-3
-    is-live-at-requires
-    refuse-requires-4
-    returns-4
     free-at-requires
     same-length
-    returns-5)
+    returns-3)

@@ -1,0 +1,104 @@
+-- The moves of a drop, heap by heap and class by class as the code goes. Assumes nothing.
+use mathlib.Core.Path.{_≡_, refl, ap, _∙_}
+use mathlib.Core.Bool.{Bool, true, false}
+use Prim.Native.Nat.{ℕ, zero, suc, _+_, _-_, _≤_, _<_}
+use native.Mathlib.Nat.{le-refl}
+use native.Mathlib.Numerals.{add-one}
+use native.Mathlib.Omega.{arith}
+use mir.Syntax.{w8}
+use mir.Val.{Fits}
+use lib.ListN.{length}
+use Rattle.heap.specs.declared.State.{State}
+use Rattle.heap.specs.declared.Moved.{Moved}
+use Rattle.heap.specs.Totals.{TotalsKept}
+use Rattle.moverules.specs.Moves.{invariantRestored}
+use Rattle.heaplaws.proofs.OutsideGlobalLaws.{outside-global-le-64, moves-leave-heaps, length-of-invariant-restored}
+use Rattle.calls.specs.Drop.{thenRestored}
+use Rattle.calls.specs.DropLoops.{classesRestored, heapsRestored}
+use Rattle.calllaws.proofs.DropMoveLaws.{classes-restored-keep, then-restored-keeps-totals, then-restored-leaves-heaps}
+use Rattle.dropunchecked.specs.DropSteps.{CanMove}
+
+-- ---- one heap and class
+module _ (h c : ℕ) (before m : Moved) (can : CanMove before) (e : m ≡ invariantRestored h c (before .state)) where
+  pub moves-added-fit-w8 : Fits w8 (before .moves + m .moves)
+  moves-added-fit-w8 = record { fits = rw e (omega (arith, can .moves-fit, moves-leave-heaps h c (before .state) (can .length-is))) }
+
+pub then-restored-by-steps : (h c : ℕ) (before m : Moved) (moves : ℕ) (next : State) → m ≡ invariantRestored h c (before .state) → moves ≡ before .moves + m .moves → next ≡ m .state
+    → _≡_ {A = Moved} (record { moves = moves; state = next }) (thenRestored h c before)
+unfolding thenRestored
+then-restored-by-steps h c before m moves next e em en = rw (em, en, e)
+
+-- ---- what the next heap and class asks
+can-move-after-pair : (h c : ℕ) (before : Moved) → CanMove before → CanMove (thenRestored h c before)
+unfolding thenRestored
+can-move-after-pair h c before can = record {
+  length-is = length-of-invariant-restored h c (before .state) (can .length-is);
+  totals = then-restored-keeps-totals h c before (can .totals);
+  moves-fit = omega (arith, can .moves-fit, then-restored-leaves-heaps h c before (can .length-is));
+}
+
+-- ---- a heap's classes: those below the class have made their moves
+pub record ClassesSettled (touched : ℕ → ℕ → Bool) (h : ℕ) (before : Moved) (c : ℕ) (m : Moved) : Type 0 where
+  pub settled-are : m ≡ classesRestored touched h c before
+  pub can-move : CanMove m
+
+module _ (touched : ℕ → ℕ → Bool) (h : ℕ) (before : Moved) where
+  pub no-class-settled : CanMove before → ClassesSettled touched h before 0 before
+  unfolding classesRestored
+  no-class-settled can = record { settled-are = refl; can-move = can }
+
+  module _ (c : ℕ) (m : Moved) (so : ClassesSettled touched h before c m) where
+    pub touched-class-settled : (next r : Moved) → touched h c ≡ true → r ≡ thenRestored h c m → next ≡ r → ClassesSettled touched h before (c + 1) next
+    unfolding classesRestored
+    touched-class-settled next r t er e = rw (add-one, e, er) (record { settled-are = rw t (ap (thenRestored h c) (so .settled-are)); can-move = can-move-after-pair h c m (so .can-move) })
+
+    pub untouched-class-settled : (next : Moved) → touched h c ≡ false → next ≡ m → ClassesSettled touched h before (c + 1) next
+    unfolding classesRestored
+    untouched-class-settled next f e = rw (add-one, e) (record { settled-are = rw f (so .settled-are); can-move = so .can-move })
+
+  pub all-classes-settled : (m : Moved) (c : ℕ) → ClassesSettled touched h before c m → c ≤ 27 → 27 ≤ c → m ≡ classesRestored touched h 27 before
+  all-classes-settled m c so high low = so .settled-are ∙ ap (λ (n : ℕ). classesRestored touched h n before) (omega arith)
+
+-- ---- the heaps: those from 1 to below the heap have made theirs
+pub record HeapsSettled (touched : ℕ → ℕ → Bool) (before : Moved) (h : ℕ) (m : Moved) : Type 0 where
+  pub heap-low : 1 ≤ h
+  pub settled-are : m ≡ heapsRestored touched (h - 1) before
+  pub can-move : CanMove m
+
+module _ (touched : ℕ → ℕ → Bool) where
+  pub no-heap-settled : (s : State) → length (s .table) ≡ 64 → TotalsKept s → HeapsSettled touched (record { moves = 0; state = s }) 1 (record { moves = 0; state = s })
+  unfolding heapsRestored
+  no-heap-settled s long kept = record { heap-low = le-refl 1; settled-are = refl; can-move = record { length-is = long; totals = kept; moves-fit = omega (arith, outside-global-le-64 s) } }
+
+  module _ (before m : Moved) (h : ℕ) (so : HeapsSettled touched before h m) where
+    pub heap-settled : (next : Moved) → next ≡ classesRestored touched h 27 m → HeapsSettled touched before (h + 1) next
+    unfolding heapsRestored
+    heap-settled next e = record {
+      heap-low = omega arith;
+      settled-are =
+          e ∙ ap (classesRestored touched h 27) (so .settled-are) ∙ ap (λ (n : ℕ). classesRestored touched n 27 (heapsRestored touched (h - 1) before)) (up (so .heap-low))
+          ∙ ap (λ (n : ℕ). heapsRestored touched n before) (same (so .heap-low));
+      can-move = rw e (classes-restored-keep CanMove can-move-after-pair touched h 27 m (so .can-move));
+    }
+      where
+        up : 1 ≤ h → h ≡ suc (h - 1)
+        up l = omega arith
+
+        same : 1 ≤ h → suc (h - 1) ≡ h + 1 - 1
+        same l = omega arith
+
+    pub all-heaps-settled : (n : ℕ) → h ≤ n + 1 → n < h → m ≡ heapsRestored touched n before
+    all-heaps-settled n high low = so .settled-are ∙ ap (λ (k : ℕ). heapsRestored touched k before) (omega arith)
+
+-- ---- what is touched, told in another way
+module _ (touched told : ℕ → ℕ → Bool) where
+  classes-restored-cong : (h c : ℕ) (before : Moved) → ((d : ℕ) → d < c → told h d ≡ touched h d) → classesRestored told h c before ≡ classesRestored touched h c before
+  unfolding classesRestored
+  classes-restored-cong h zero before e = refl
+  classes-restored-cong h (suc c) before e = rw (classes-restored-cong h c before (λ d l. e d (omega arith)), e c (le-refl (suc c)))
+
+  pub heaps-restored-cong : (n : ℕ) (before : Moved) → ((h c : ℕ) → h ≤ n → c < 27 → told h c ≡ touched h c) → heapsRestored told n before ≡ heapsRestored touched n before
+  unfolding heapsRestored
+  heaps-restored-cong zero before e = refl
+  heaps-restored-cong (suc h) before e =
+      ap (classesRestored told (suc h) 27) (heaps-restored-cong h before (λ i c l. e i c (omega arith))) ∙ classes-restored-cong (suc h) 27 (heapsRestored touched h before) (λ d l. e (suc h) d (le-refl (suc h)) l)

@@ -1,0 +1,147 @@
+// Drop behind the check, on a state by value and lent order storage that pass it: the check is the caller's to make.
+ghost use mathlib.Core.Path.{_≡_};
+ghost use mathlib.Core.Bool.{true};
+ghost use Prim.Native.Nat.{_≤_, _<_};
+ghost use Rattle.checkrules.specs.Check.{passes};
+ghost use Rattle.heap.specs.Totals.{TotalsKept};
+ghost use Rattle.calls.specs.Answers.{After, HasNumberAndValuesOf};
+ghost use Rattle.calls.specs.Drop.{allFreed, allPushed, firstRefusal, thenRestored, droppedAll, dropUnchecked};
+ghost use Rattle.calls.specs.DropLoops.{classesRestored, heapsRestored};
+ghost use Rattle.dropunchecked.specs.DropSteps.{FreesSafe, touchedIn, TellsTouched, CanMove};
+use calls::Answer;
+use calls::Outcome;
+use heap::Moved;
+use heap::State;
+
+// The blocks at the addresses are free again, and the move rule is followed in each processor heap and class touched; or refusal 2, 16, or
+// that of the first bad address.
+pub fn drop(s: State, order: &mut [u16], processor: u8, addresses: &[u32]) -> Answer
+    requires { ⌜ passes s (now order) ≡ true ⌝ }
+    ensures { λ r. ⌜ record { answer = r; order = now (order .exit) } ≡ dropUnchecked s (now (order .entry)) processor (now (addresses .entry)) ⌝ }
+    ensures number_and_values { λ r. ⌜ HasNumberAndValuesOf (r .outcome) (dropUnchecked s (now (order .entry)) processor (now (addresses .entry)) .answer .outcome) ⌝ }
+{
+    if !states::is_processor(s, processor) {
+        return states::refuse(s, 2);
+    }
+    if addresses.len() == 0 {
+        return states::refuse(s, 16);
+    }
+    let bad = first_refusal(s, addresses);
+    if bad != 0 {
+        return states::refuse(s, bad);
+    }
+    drop_all(s, order, addresses)
+}
+
+// The refusal of the first bad address, or 0. A free clears the mark of its block, and no later address tells the rest of it: a mark cleared
+// in a copy is enough to refuse a block that comes twice.
+fn first_refusal(s: State, addresses: &[u32]) -> u8
+    requires { ⌜ (s .setup .superblocks ≤ 64) × TotalsKept s ⌝ }
+    ensures { λ r. ⌜ r ≡ firstRefusal s (now (addresses .entry)) ⌝ }
+{
+    let mut t = s;
+    let mut i: usize = 0;
+    while i < addresses.len() {
+        let address = addresses[i];
+        let bad = addresses::refusal(t, address);
+        if bad != 0 {
+            return bad;
+        }
+        t = release::clear_mark(t, address);
+        i += 1;
+    }
+    0
+}
+
+// The frees, and then the moves.
+fn drop_all(s: State, order: &mut [u16], addresses: &[u32]) -> Answer
+    requires { ⌜ FreesSafe s (now addresses) × TotalsKept s × (s .setup .processors ≤ 8) ⌝ }
+    ensures { λ r. ⌜ record { answer = r; order = now (order .exit) } ≡ droppedAll s (now (order .entry)) (now (addresses .entry)) ⌝ }
+{
+    let touched = touched_pairs(s, addresses);
+    let t = free_all(s, order, addresses);
+    let m = settle_heaps(t, touched);
+    let next = m.state;
+    Answer {
+        outcome: Outcome::Moves(m.moves),
+        state: next,
+    }
+}
+
+// The heaps and classes of the superblocks that the addresses lie in, that of heap h and class c at h × 27 + c.
+fn touched_pairs(s: State, addresses: &[u32]) -> [bool; 243]
+    requires { ⌜ FreesSafe s (now addresses) ⌝ }
+    ensures { λ r. ⌜ TellsTouched r s (now (addresses .entry)) ⌝ }
+{
+    let mut touched = [false; 243];
+    let mut i: usize = 0;
+    while i < addresses.len() {
+        let k = (addresses[i] / 4096) as usize;
+        let owner = s.table[k].owner as usize;
+        let class = s.table[k].class as usize;
+        touched[owner * 27 + class] = true;
+        i += 1;
+    }
+    touched
+}
+
+// Each block is free again, in the order of the addresses, and its number in the next place of its superblock's order.
+fn free_all(s: State, order: &mut [u16], addresses: &[u32]) -> State
+    requires { ⌜ FreesSafe s (now addresses) ⌝ }
+    ensures { λ r. ⌜ (r ≡ allFreed s (now (addresses .entry))) × (now (order .exit) ≡ allPushed s (now (order .entry)) (now (addresses .entry))) ⌝ }
+{
+    let mut t = s;
+    let mut i: usize = 0;
+    while i < addresses.len() {
+        let address = addresses[i];
+        release::push_block(t, order, address);
+        t = release::free_block(t, address);
+        i += 1;
+    }
+    t
+}
+
+// The moves of the processor heaps, heaps rising.
+fn settle_heaps(s: State, touched: [bool; 243]) -> Moved
+    requires { ⌜ TotalsKept s × (s .setup .processors ≤ 8) ⌝ }
+    ensures { λ r. ⌜ r ≡ heapsRestored (touchedIn touched) (s .setup .processors) (record { moves = 0; state = s }) ⌝ }
+{
+    let processors = s.setup.processors;
+    let mut m = Moved { moves: 0, state: s };
+    let mut heap: u8 = 1;
+    while heap <= processors {
+        m = settle_classes(m, heap, touched);
+        heap += 1;
+    }
+    m
+}
+
+// The moves of a heap's touched classes, classes rising, after those before.
+fn settle_classes(before: Moved, heap: u8, touched: [bool; 243]) -> Moved
+    requires { ⌜ (heap < 9) × CanMove before ⌝ }
+    ensures { λ r. ⌜ r ≡ classesRestored (touchedIn touched) heap 27 before ⌝ }
+{
+    let mut m = before;
+    let mut class: u8 = 0;
+    while class < 27 {
+        if touched[heap as usize * 27 + class as usize] {
+            m = settle_pair(m, heap, class);
+        }
+        class += 1;
+    }
+    m
+}
+
+// The moves of a heap and class, added to those before.
+fn settle_pair(before: Moved, heap: u8, class: u8) -> Moved
+    requires { ⌜ (heap < 9) × (class < 27) × CanMove before ⌝ }
+    ensures { λ r. ⌜ r ≡ thenRestored heap class before ⌝ }
+{
+    let s = before.state;
+    let m = moves::restore_invariant(s, heap, class);
+    let next = m.state;
+    Moved {
+        moves: before.moves + m.moves,
+        state: next,
+    }
+}
