@@ -15,12 +15,15 @@ use Rattle.checkrules.specs.Check.{withinLimits, restValid, passes}
 use Rattle.heaplaws.proofs.StateFacts.{Shape}
 use Rattle.calls.specs.declared.Answer.{Answer}
 use Rattle.calls.specs.declared.Outcome.the-variants.{Ready, Refused}
+use Rattle.calls.specs.declared.CallHeader.{CallHeader}
+use Rattle.calls.specs.declared.CallHeader.the-variants as header
 use Rattle.calls.specs.Answers.{After, HasNumberAndValuesOf, PassesIfAccepted, refused, checked}
 use Rattle.calls.specs.Setup.{acceptedSetup, setupOf}
 use Rattle.calls.specs.Take.{takeUnchecked}
 use Rattle.calls.specs.Free.{freeUnchecked}
 use Rattle.calls.specs.Named.{namedTakeUnchecked, namedFreeUnchecked}
-use Rattle.calls.specs.Calls.{Call, Take, Free, NamedTake, NamedFree, callOf, callUnchecked}
+use Rattle.calls.specs.Drop.{dropUnchecked}
+use Rattle.calls.specs.Calls.{Call, callWith, callOf, callUnchecked}
 use Rattle.calls.proofs.AnswerLaws.{number-and-values-by-rules, passes-if-accepted-by-rules, refused-of-answer}
 use Rattle.calls.proofs.CheckFirst.{call-of-checks-first}
 use Rattle.calllaws.proofs.AcceptedCallLaws.{call-passes-if-accepted, setup-passes-if-accepted}
@@ -101,24 +104,28 @@ module _ (s : State) (order : List ℕ) (call : Call) (first : ℕ) (e : first �
   call-is-call-unchecked after z h = h ∙ sym (call-of-checks-first s order call ∙ checked-of-no-refusal s order first _ e z)
 
 -- and there, what each call answers
-module _ (s : State) (order : List ℕ) (call : Call) (after : After) (i : ℕ) where
-  pub unchecked-take : (size : ℕ) → call ≡ Take i size → after ≡ takeUnchecked s order i size → after ≡ callUnchecked s order call
-  unfolding callUnchecked
+module _ (s : State) (order : List ℕ) (c : CallHeader) (addresses : List ℕ) (after : After) (i : ℕ) where
+  pub unchecked-take : (size : ℕ) → c ≡ header.Take i size → after ≡ takeUnchecked s order i size → after ≡ callUnchecked s order (callWith c addresses)
+  unfolding callUnchecked callWith
   unchecked-take size e h = rw e h
 
-  pub unchecked-free : (a : ℕ) → call ≡ Free i a → after ≡ freeUnchecked s order i a → after ≡ callUnchecked s order call
-  unfolding callUnchecked
+  pub unchecked-free : (a : ℕ) → c ≡ header.Free i a → after ≡ freeUnchecked s order i a → after ≡ callUnchecked s order (callWith c addresses)
+  unfolding callUnchecked callWith
   unchecked-free a e h = rw e h
 
-  pub unchecked-named-take : (m size : ℕ) → call ≡ NamedTake i m size → after ≡ namedTakeUnchecked s order i m size → after ≡ callUnchecked s order call
-  unfolding callUnchecked
+  pub unchecked-named-take : (m size : ℕ) → c ≡ header.NamedTake i m size → after ≡ namedTakeUnchecked s order i m size → after ≡ callUnchecked s order (callWith c addresses)
+  unfolding callUnchecked callWith
   unchecked-named-take m size e h = rw e h
 
-  pub unchecked-named-free : (m : ℕ) → call ≡ NamedFree i m → after ≡ namedFreeUnchecked s order i m → after ≡ callUnchecked s order call
-  unfolding callUnchecked
+  pub unchecked-named-free : (m : ℕ) → c ≡ header.NamedFree i m → after ≡ namedFreeUnchecked s order i m → after ≡ callUnchecked s order (callWith c addresses)
+  unfolding callUnchecked callWith
   unchecked-named-free m e h = rw e h
+
+  pub unchecked-drop : c ≡ header.Drop i → after ≡ dropUnchecked s order i addresses → after ≡ callUnchecked s order (callWith c addresses)
+  unfolding callUnchecked callWith
+  unchecked-drop e h = rw e h
 
 -- ---- how a proof finds which way out it is at
 pub ruleset setup-outcomes = (setup-refused, setup-ready)
 
-pub ruleset call-outcomes = (call-refused-by-check, call-is-call-unchecked, unchecked-take, unchecked-free, unchecked-named-take, unchecked-named-free)
+pub ruleset call-outcomes = (call-refused-by-check, call-is-call-unchecked, unchecked-take, unchecked-free, unchecked-named-take, unchecked-named-free, unchecked-drop)

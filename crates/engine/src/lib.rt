@@ -1,14 +1,15 @@
-// The entries of the allocator: setup, take and free, plain and of a block called by name, on a state by value and lent order storage of
-// any length. Each checks the state handed in; none leaves a check to its caller.
+// The entries of the allocator: setup, take and free, plain and of a block called by name, and drop, on a state by value and lent order
+// storage of any length. Each checks the state handed in; none leaves a check to its caller.
 ghost use mathlib.Core.Path.{_≡_};
 ghost use Rattle.calls.specs.Answers.{After, HasNumberAndValuesOf, PassesIfAccepted};
 ghost use Rattle.calls.specs.Setup.{setupOf};
 ghost use Rattle.calls.specs.Take.{takeOf};
 ghost use Rattle.calls.specs.Free.{freeOf};
 ghost use Rattle.calls.specs.Named.{namedTakeOf, namedFreeOf};
-ghost use Rattle.calls.specs.Calls.{callOf};
+ghost use Rattle.calls.specs.Drop.{dropOf};
+ghost use Rattle.calls.specs.Calls.{callOf, callWith};
 use calls::Answer;
-use calls::Call;
+use calls::CallHeader;
 use calls::Outcome;
 use heap::Setup;
 use heap::State;
@@ -37,7 +38,7 @@ pub fn take(s: State, order: &mut [u16], processor: u8, size: u16) -> Answer
     ensures number_and_values { λ r. ⌜ HasNumberAndValuesOf (r .outcome) (takeOf s (now (order .entry)) processor size .answer .outcome) ⌝ }
     ensures passes { λ r. ⌜ PassesIfAccepted (r .outcome) (r .state) (now (order .exit)) ⌝ }
 {
-    call_state(s, order, Call::Take { processor, size })
+    call_state(s, order, CallHeader::Take { processor, size }, &[])
 }
 
 // The block at the address is free again, and the move rule is followed; or the first refusal.
@@ -46,7 +47,7 @@ pub fn free(s: State, order: &mut [u16], processor: u8, address: u32) -> Answer
     ensures number_and_values { λ r. ⌜ HasNumberAndValuesOf (r .outcome) (freeOf s (now (order .entry)) processor address .answer .outcome) ⌝ }
     ensures passes { λ r. ⌜ PassesIfAccepted (r .outcome) (r .state) (now (order .exit)) ⌝ }
 {
-    call_state(s, order, Call::Free { processor, address })
+    call_state(s, order, CallHeader::Free { processor, address }, &[])
 }
 
 // What take does, with the name bound to the block; or the first refusal.
@@ -58,11 +59,12 @@ pub fn named_take(s: State, order: &mut [u16], processor: u8, name: u16, size: u
     call_state(
         s,
         order,
-        Call::NamedTake {
+        CallHeader::NamedTake {
             processor,
             name,
             size,
         },
+        &[],
     )
 }
 
@@ -72,13 +74,22 @@ pub fn named_free(s: State, order: &mut [u16], processor: u8, name: u16) -> Answ
     ensures number_and_values { λ r. ⌜ HasNumberAndValuesOf (r .outcome) (namedFreeOf s (now (order .entry)) processor name .answer .outcome) ⌝ }
     ensures passes { λ r. ⌜ PassesIfAccepted (r .outcome) (r .state) (now (order .exit)) ⌝ }
 {
-    call_state(s, order, Call::NamedFree { processor, name })
+    call_state(s, order, CallHeader::NamedFree { processor, name }, &[])
 }
 
-// Any of these four: the check, then what the call answers behind it.
-pub fn call_state(s: State, order: &mut [u16], c: Call) -> Answer
-    ensures { λ r. ⌜ record { answer = r; order = now (order .exit) } ≡ callOf s (now (order .entry)) c ⌝ }
-    ensures number_and_values { λ r. ⌜ HasNumberAndValuesOf (r .outcome) (callOf s (now (order .entry)) c .answer .outcome) ⌝ }
+// The blocks at the addresses are free again, and the move rule is followed in each processor heap and class touched; or the first refusal.
+pub fn drop(s: State, order: &mut [u16], processor: u8, addresses: &[u32]) -> Answer
+    ensures { λ r. ⌜ record { answer = r; order = now (order .exit) } ≡ dropOf s (now (order .entry)) processor (now (addresses .entry)) ⌝ }
+    ensures number_and_values { λ r. ⌜ HasNumberAndValuesOf (r .outcome) (dropOf s (now (order .entry)) processor (now (addresses .entry)) .answer .outcome) ⌝ }
+    ensures passes { λ r. ⌜ PassesIfAccepted (r .outcome) (r .state) (now (order .exit)) ⌝ }
+{
+    call_state(s, order, CallHeader::Drop { processor }, addresses)
+}
+
+// Any of these five, a drop's addresses lent beside it: the check, then what the call answers behind it.
+pub fn call_state(s: State, order: &mut [u16], c: CallHeader, addresses: &[u32]) -> Answer
+    ensures { λ r. ⌜ record { answer = r; order = now (order .exit) } ≡ callOf s (now (order .entry)) (callWith c (now (addresses .entry))) ⌝ }
+    ensures number_and_values { λ r. ⌜ HasNumberAndValuesOf (r .outcome) (callOf s (now (order .entry)) (callWith c (now (addresses .entry))) .answer .outcome) ⌝ }
     ensures passes { λ r. ⌜ PassesIfAccepted (r .outcome) (r .state) (now (order .exit)) ⌝ }
 {
     let first = statecheck::first_refusal(s, order);
@@ -86,13 +97,19 @@ pub fn call_state(s: State, order: &mut [u16], c: Call) -> Answer
         return states::refuse(s, first);
     }
     match c {
-        Call::Take { processor, size } => takeunchecked::take(s, order, processor, size),
-        Call::Free { processor, address } => freeunchecked::free(s, order, processor, address),
-        Call::NamedTake {
+        CallHeader::Take { processor, size } => takeunchecked::take(s, order, processor, size),
+        CallHeader::Free { processor, address } => freeunchecked::free(
+            s,
+            order,
+            processor,
+            address,
+        ),
+        CallHeader::NamedTake {
             processor,
             name,
             size,
         } => namedcalls::take(s, order, processor, name, size),
-        Call::NamedFree { processor, name } => namedcalls::free(s, order, processor, name),
+        CallHeader::NamedFree { processor, name } => namedcalls::free(s, order, processor, name),
+        CallHeader::Drop { processor } => dropunchecked::drop(s, order, processor, addresses),
     }
 }

@@ -25,32 +25,41 @@ use Rattle.boundlaws.proofs.TotalsOverLists.{TotalsCountedOver, totals-kept-ove
 use Rattle.bound.specs.History.{RankedByLastFreeOver}
 use Rattle.boundlaws.proofs.RanksOverLists.{ranked-by-last-free-over-list}
 use Rattle.boundlaws.proofs.CallListLaws.{stepsBy, steps-linked}
+use Rattle.littleendian.proofs.FoursLaws.{length-of-fours-at}
 use Rattle.commands.specs.declared.Command.{Command}
 use Rattle.commands.specs.declared.Command.the-variants as command
-use Rattle.commands.specs.Record.{commandAt, sizeOfCommand, isRefused, commandsFrom, commandsOf}
-use Rattle.commandlaws.proofs.CommandLaws.{remaining, commands-of-is-commands-at-0, commands-setup, commands-refused, setup-first-and-inside, take-later-and-inside, free-later-and-inside, named-take-later-and-inside, named-free-later-and-inside}
-use Rattle.linerules.specs.Lines.{setupLine, callLine, stopLine, finalLines}
+use Rattle.commands.specs.Record.{addressesIn, commandAt, sizeOfCommand, isRefused, commandsFrom, commandsOf}
+use Rattle.commandlaws.proofs.CommandLaws.{remaining, commands-of-is-commands-at-0, commands-setup, commands-refused, setup-first-and-inside, take-later-and-inside, free-later-and-inside, named-take-later-and-inside, named-free-later-and-inside, drop-later-and-inside}
+use Rattle.linerules.specs.Lines.{setupLine, takeLine, freeLine, namedTakeLine, namedFreeLine, dropLine, stopLine, finalLines}
 use Rattle.keyrules.specs.Key.{beforeFirst, setupText, textOf, orderAfter, keyOf, storageOf}
 
 -- ---- the calls of a record
--- the takes and frees among commands, up to their end or stop; a setup among them is passed over
-unfoldable pub callsIn : List Command → List Call
-callsIn [] = []
-callsIn (command.Setup processors superblocks spare p q ∷ commands) = callsIn commands
-callsIn (command.Take processor size ∷ commands) = call.Take processor size ∷ callsIn commands
-callsIn (command.Free processor address ∷ commands) = call.Free processor address ∷ callsIn commands
-callsIn (command.NamedTake processor name size ∷ commands) = call.NamedTake processor name size ∷ callsIn commands
-callsIn (command.NamedFree processor name ∷ commands) = call.NamedFree processor name ∷ callsIn commands
-callsIn (command.Refused number offset ∷ commands) = []
+-- the takes, frees and drops among commands of record r, up to their end or stop; a setup among them is passed over
+unfoldable pub callsIn : List ℕ → List Command → List Call
+callsIn r [] = []
+callsIn r (command.Setup processors superblocks spare p q ∷ commands) = callsIn r commands
+callsIn r (command.Take processor size ∷ commands) = call.Take processor size ∷ callsIn r commands
+callsIn r (command.Free processor address ∷ commands) = call.Free processor address ∷ callsIn r commands
+callsIn r (command.NamedTake processor name size ∷ commands) = call.NamedTake processor name size ∷ callsIn r commands
+callsIn r (command.NamedFree processor name ∷ commands) = call.NamedFree processor name ∷ callsIn r commands
+callsIn r (command.Drop processor count first ∷ commands) = call.Drop processor (addressesIn r first count) ∷ callsIn r commands
+callsIn r (command.Refused number offset ∷ commands) = []
 
 -- those calls with what each left, one after the other
-unfoldable pub stepsIn : After → List Command → List Step
-stepsIn before commands = stepsBy callOf before (callsIn commands)
+unfoldable pub stepsIn : List ℕ → After → List Command → List Step
+stepsIn r before commands = stepsBy callOf before (callsIn r commands)
 
 -- ---- what is printed of them
+unfoldable pub lineOf : Call → Outcome → List ℕ
+lineOf (call.Take processor size) outcome = takeLine processor size outcome
+lineOf (call.Free processor address) outcome = freeLine processor address outcome
+lineOf (call.NamedTake processor name size) outcome = namedTakeLine processor name size outcome
+lineOf (call.NamedFree processor name) outcome = namedFreeLine processor name outcome
+lineOf (call.Drop processor addresses) outcome = dropLine processor (length addresses) outcome
+
 unfoldable pub stepLines : List Step → List ℕ
 stepLines [] = []
-stepLines (step ∷ steps) = callLine (step .call) (step .after .answer .outcome) ++ stepLines steps
+stepLines (step ∷ steps) = lineOf (step .call) (step .after .answer .outcome) ++ stepLines steps
 
 -- the stop line, or the final lines of the last state
 unfoldable pub endingLines : After → List Command → List ℕ
@@ -60,6 +69,7 @@ endingLines last (command.Take processor size ∷ commands) = endingLines last c
 endingLines last (command.Free processor address ∷ commands) = endingLines last commands
 endingLines last (command.NamedTake processor name size ∷ commands) = endingLines last commands
 endingLines last (command.NamedFree processor name ∷ commands) = endingLines last commands
+endingLines last (command.Drop processor count first ∷ commands) = endingLines last commands
 endingLines last (command.Refused number offset ∷ commands) = stopLine number offset
 
 -- ---- a setup comes first, and only there
@@ -70,6 +80,7 @@ NoSetup (command.Take processor size ∷ commands) = NoSetup commands
 NoSetup (command.Free processor address ∷ commands) = NoSetup commands
 NoSetup (command.NamedTake processor name size ∷ commands) = NoSetup commands
 NoSetup (command.NamedFree processor name ∷ commands) = NoSetup commands
+NoSetup (command.Drop processor count first ∷ commands) = NoSetup commands
 NoSetup (command.Refused number offset ∷ commands) = NoSetup commands
 
 no-setup-of-pick : (t : Bool) (commands : List Command) → NoSetup commands → NoSetup (pick t [] commands)
@@ -93,6 +104,7 @@ no-setup-in-commands-from (suc m) r at later = go (commandAt r at) refl (λ (k :
     go (command.Free processor address) e more = no-setup-of-pick (over (command.Free processor address)) (commandsFrom m r (at + 6)) (more 6)
     go (command.NamedTake processor name size) e more = no-setup-of-pick (over (command.NamedTake processor name size)) (commandsFrom m r (at + 6)) (more 6)
     go (command.NamedFree processor name) e more = no-setup-of-pick (over (command.NamedFree processor name)) (commandsFrom m r (at + 4)) (more 4)
+    go (command.Drop processor count first) e more = no-setup-of-pick (over (command.Drop processor count first)) (commandsFrom m r (at + (3 + 4 * count))) (more (3 + 4 * count))
     go (command.Refused number offset) e more = no-setup-of-pick (over (command.Refused number offset)) (commandsFrom m r (at + 0)) (more 0)
 
 tailOf : List Command → List Command
@@ -112,39 +124,46 @@ no-setup-after-first r = go (commandAt r 0)
     go (command.Free processor address) = after 6 (omega arith)
     go (command.NamedTake processor name size) = after 6 (omega arith)
     go (command.NamedFree processor name) = after 4 (omega arith)
+    go (command.Drop processor count first) = after (3 + 4 * count) (omega arith)
     go (command.Refused number offset) = tt
 
 -- ---- the lines are those of the calls
-module _ (before : After) (c : Call) (commands : List Command) where
+module _ (r : List ℕ) (before : After) (c : Call) (commands : List Command) where
   abbrev after-call : After
   after-call = callOf (before .answer .state) (before .order) c
 
   -- a call's line, before those of the calls after it
-  line-before-step-lines : textOf after-call commands ≡ stepLines (stepsIn after-call commands) ++ endingLines (lastAfter after-call (stepsIn after-call commands)) commands
-      → callLine c (after-call .answer .outcome) ++ textOf after-call commands
-      ≡ (callLine c (after-call .answer .outcome) ++ stepLines (stepsIn after-call commands)) ++ endingLines (lastAfter after-call (stepsIn after-call commands)) commands
-  line-before-step-lines e = let line = callLine c (after-call .answer .outcome) in ap (λ (l : List ℕ). line ++ l) e ∙ sym (append-assoc line _ _)
+  line-before-step-lines : textOf r after-call commands ≡ stepLines (stepsIn r after-call commands) ++ endingLines (lastAfter after-call (stepsIn r after-call commands)) commands
+      → lineOf c (after-call .answer .outcome) ++ textOf r after-call commands
+      ≡ (lineOf c (after-call .answer .outcome) ++ stepLines (stepsIn r after-call commands)) ++ endingLines (lastAfter after-call (stepsIn r after-call commands)) commands
+  line-before-step-lines e = let line = lineOf c (after-call .answer .outcome) in ap (λ (l : List ℕ). line ++ l) e ∙ sym (append-assoc line _ _)
 
-text-of-is-step-lines : (before : After) (commands : List Command) → NoSetup commands
-    → textOf before commands ≡ stepLines (stepsIn before commands) ++ endingLines (lastAfter before (stepsIn before commands)) commands
-unfolding NoSetup textOf stepsIn callsIn stepsBy callOf stepLines callLine lastAfter endingLines
-text-of-is-step-lines before [] n = refl
-text-of-is-step-lines before (command.Setup processors superblocks spare p q ∷ commands) n = absurd n
-text-of-is-step-lines before (command.Take processor size ∷ commands) n = let c = call.Take processor size in line-before-step-lines before c commands (text-of-is-step-lines (after-call before c commands) commands n)
-text-of-is-step-lines before (command.Free processor address ∷ commands) n = let c = call.Free processor address in line-before-step-lines before c commands (text-of-is-step-lines (after-call before c commands) commands n)
-text-of-is-step-lines before (command.NamedTake processor name size ∷ commands) n = let c = call.NamedTake processor name size in line-before-step-lines before c commands (text-of-is-step-lines (after-call before c commands) commands n)
-text-of-is-step-lines before (command.NamedFree processor name ∷ commands) n = let c = call.NamedFree processor name in line-before-step-lines before c commands (text-of-is-step-lines (after-call before c commands) commands n)
-text-of-is-step-lines before (command.Refused number offset ∷ commands) n = refl
+text-of-is-step-lines : (r : List ℕ) (before : After) (commands : List Command) → NoSetup commands
+    → textOf r before commands ≡ stepLines (stepsIn r before commands) ++ endingLines (lastAfter before (stepsIn r before commands)) commands
+unfolding NoSetup textOf stepsIn callsIn stepsBy callOf stepLines lineOf lastAfter endingLines
+text-of-is-step-lines r before [] n = refl
+text-of-is-step-lines r before (command.Setup processors superblocks spare p q ∷ commands) n = absurd n
+text-of-is-step-lines r before (command.Take processor size ∷ commands) n = let c = call.Take processor size in line-before-step-lines r before c commands (text-of-is-step-lines r (after-call r before c commands) commands n)
+text-of-is-step-lines r before (command.Free processor address ∷ commands) n = let c = call.Free processor address in line-before-step-lines r before c commands (text-of-is-step-lines r (after-call r before c commands) commands n)
+text-of-is-step-lines r before (command.NamedTake processor name size ∷ commands) n = let c = call.NamedTake processor name size in line-before-step-lines r before c commands (text-of-is-step-lines r (after-call r before c commands) commands n)
+text-of-is-step-lines r before (command.NamedFree processor name ∷ commands) n = let c = call.NamedFree processor name in line-before-step-lines r before c commands (text-of-is-step-lines r (after-call r before c commands) commands n)
+text-of-is-step-lines r before (command.Drop processor count first ∷ commands) n =
+    let c = call.Drop processor (addressesIn r first count) in
+    let after = after-call r before c commands in
+    ap (λ (k : ℕ). dropLine processor k (after .answer .outcome) ++ textOf r after commands) (sym (length-of-fours-at r first count))
+    ∙ line-before-step-lines r before c commands (text-of-is-step-lines r after commands n)
+text-of-is-step-lines r before (command.Refused number offset ∷ commands) n = refl
 
-order-after-is-last-order : (before : After) (commands : List Command) → NoSetup commands → orderAfter before commands ≡ lastAfter before (stepsIn before commands) .order
+order-after-is-last-order : (r : List ℕ) (before : After) (commands : List Command) → NoSetup commands → orderAfter r before commands ≡ lastAfter before (stepsIn r before commands) .order
 unfolding NoSetup orderAfter stepsIn callsIn stepsBy callOf lastAfter
-order-after-is-last-order before [] n = refl
-order-after-is-last-order before (command.Setup processors superblocks spare p q ∷ commands) n = absurd n
-order-after-is-last-order before (command.Take processor size ∷ commands) n = order-after-is-last-order (callOf (before .answer .state) (before .order) (call.Take processor size)) commands n
-order-after-is-last-order before (command.Free processor address ∷ commands) n = order-after-is-last-order (callOf (before .answer .state) (before .order) (call.Free processor address)) commands n
-order-after-is-last-order before (command.NamedTake processor name size ∷ commands) n = order-after-is-last-order (callOf (before .answer .state) (before .order) (call.NamedTake processor name size)) commands n
-order-after-is-last-order before (command.NamedFree processor name ∷ commands) n = order-after-is-last-order (callOf (before .answer .state) (before .order) (call.NamedFree processor name)) commands n
-order-after-is-last-order before (command.Refused number offset ∷ commands) n = refl
+order-after-is-last-order r before [] n = refl
+order-after-is-last-order r before (command.Setup processors superblocks spare p q ∷ commands) n = absurd n
+order-after-is-last-order r before (command.Take processor size ∷ commands) n = order-after-is-last-order r (callOf (before .answer .state) (before .order) (call.Take processor size)) commands n
+order-after-is-last-order r before (command.Free processor address ∷ commands) n = order-after-is-last-order r (callOf (before .answer .state) (before .order) (call.Free processor address)) commands n
+order-after-is-last-order r before (command.NamedTake processor name size ∷ commands) n = order-after-is-last-order r (callOf (before .answer .state) (before .order) (call.NamedTake processor name size)) commands n
+order-after-is-last-order r before (command.NamedFree processor name ∷ commands) n = order-after-is-last-order r (callOf (before .answer .state) (before .order) (call.NamedFree processor name)) commands n
+order-after-is-last-order r before (command.Drop processor count first ∷ commands) n = order-after-is-last-order r (callOf (before .answer .state) (before .order) (call.Drop processor (addressesIn r first count))) commands n
+order-after-is-last-order r before (command.Refused number offset ∷ commands) n = refl
 
 -- ---- the theorem
 -- a record that starts with the accepted setup u: the calls after it are a list as in demand 3 from what the setup left, the claim
@@ -152,11 +171,11 @@ order-after-is-last-order before (command.Refused number offset ∷ commands) n 
 pub record KeyClaims (r order : List ℕ) (u : Setup) (commands : List Command) : Type 0 where
   pub starts : commandsOf r ≡ command.Setup (u .processors) (u .superblocks) (u .spare) (u .p) (u .q) ∷ commands
   pub ready : setupOf u order .answer .outcome ≡ Ready
-  pub linked : Linked (setupOf u order) (stepsIn (setupOf u order) commands)
-  pub claims : Claims u (setupOf u order) [] (λ c. 0) (stepsIn (setupOf u order) commands)
+  pub linked : Linked (setupOf u order) (stepsIn r (setupOf u order) commands)
+  pub claims : Claims u (setupOf u order) [] (λ c. 0) (stepsIn r (setupOf u order) commands)
   pub printed : keyOf r order
-      ≡ setupLine u ++ (stepLines (stepsIn (setupOf u order) commands) ++ endingLines (lastAfter (setupOf u order) (stepsIn (setupOf u order) commands)) commands)
-  pub storage : storageOf r order ≡ lastAfter (setupOf u order) (stepsIn (setupOf u order) commands) .order
+      ≡ setupLine u ++ (stepLines (stepsIn r (setupOf u order) commands) ++ endingLines (lastAfter (setupOf u order) (stepsIn r (setupOf u order) commands)) commands)
+  pub storage : storageOf r order ≡ lastAfter (setupOf u order) (stepsIn r (setupOf u order) commands) .order
 
 module _ (r order : List ℕ) (u : Setup) (commands : List Command) (e : commandsOf r ≡ command.Setup (u .processors) (u .superblocks) (u .spare) (u .p) (u .q) ∷ commands) where
   pub key-claims-of-accepted-setup : setupOf u order .answer .outcome ≡ Ready → KeyClaims r order u commands
@@ -164,23 +183,23 @@ module _ (r order : List ℕ) (u : Setup) (commands : List Command) (e : command
   key-claims-of-accepted-setup ready =
       let after = setupOf u order in
       let n : NoSetup commands = subst NoSetup (ap tailOf e) (no-setup-after-first r) in
-      let linked = steps-linked after (callsIn commands) in
+      let linked = steps-linked after (callsIn r commands) in
       record {
         starts = e;
         ready = ready;
         linked = linked;
-        claims = demand-3 u order after refl ready (stepsBy callOf after (callsIn commands)) linked;
-        printed = ap (textOf (beforeFirst order)) e ∙ ap (λ (o : Outcome). setupText u o (textOf after commands)) ready ∙ ap (λ (l : List ℕ). setupLine u ++ l) (text-of-is-step-lines after commands n);
-        storage = ap (orderAfter (beforeFirst order)) e ∙ ap (λ (o : Outcome). pick (eqb (numberOf o) 0) (orderAfter after commands) (after .order)) ready ∙ order-after-is-last-order after commands n;
+        claims = demand-3 u order after refl ready (stepsBy callOf after (callsIn r commands)) linked;
+        printed = ap (textOf r (beforeFirst order)) e ∙ ap (λ (o : Outcome). setupText u o (textOf r after commands)) ready ∙ ap (λ (l : List ℕ). setupLine u ++ l) (text-of-is-step-lines r after commands n);
+        storage = ap (orderAfter r (beforeFirst order)) e ∙ ap (λ (o : Outcome). pick (eqb (numberOf o) 0) (orderAfter r after commands) (after .order)) ready ∙ order-after-is-last-order r after commands n;
       }
 
   -- a refused setup prints its stop line alone
   key-of-refused-setup : (number : ℕ) → setupOf u order .answer .outcome ≡ Refused (suc number) → keyOf r order ≡ stopLine (suc number) 0
   unfolding keyOf textOf setupText numberOf
   key-of-refused-setup number refused =
-      ap (textOf (beforeFirst order)) e
-      ∙ ap (λ (o : Outcome). setupText u o (textOf (setupOf u order) commands)) refused
-      ∙ ap (λ (t : Bool). pick t (setupLine u ++ textOf (setupOf u order) commands) (stopLine (suc number) 0)) (ne-eqb (suc number) 0 (λ (z : suc number ≡ 0). omega arith))
+      ap (textOf r (beforeFirst order)) e
+      ∙ ap (λ (o : Outcome). setupText u o (textOf r (setupOf u order) commands)) refused
+      ∙ ap (λ (t : Bool). pick t (setupLine u ++ textOf r (setupOf u order) commands) (stopLine (suc number) 0)) (ne-eqb (suc number) 0 (λ (z : suc number ≡ 0). omega arith))
 
 -- a setup is accepted, or refused with 1 or 12
 setup-ready-or-refused : (u : Setup) (order : List ℕ) → (setupOf u order .answer .outcome ≡ Ready) ⊎ ((number : ℕ) × (setupOf u order .answer .outcome ≡ Refused (suc number)))
@@ -216,20 +235,21 @@ key-demand-3 r order = go (commandAt r 0) refl
     go (command.Free processor address) e = let inside-record = free-later-and-inside r 0 (command.Free processor address) e processor address refl in absurd (omega arith)
     go (command.NamedTake processor name size) e = let inside-record = named-take-later-and-inside r 0 (command.NamedTake processor name size) e processor name size refl in absurd (omega arith)
     go (command.NamedFree processor name) e = let inside-record = named-free-later-and-inside r 0 (command.NamedFree processor name) e processor name refl in absurd (omega arith)
+    go (command.Drop processor count first) e = let inside-record = drop-later-and-inside r 0 (command.Drop processor count first) e processor count first refl in absurd (omega arith)
     go (command.Refused number offset) e =
-        inr (number, offset, ap (textOf (beforeFirst order)) (commands-of-is-commands-at-0 r ∙ commands-refused r 0 (command.Refused number offset) number offset e refl))
+        inr (number, offset, ap (textOf r (beforeFirst order)) (commands-of-is-commands-at-0 r ∙ commands-refused r 0 (command.Refused number offset) number offset e refl))
 
 -- Document 02, item 3: the totals are the recount after such a record's setup and after each of its calls
-pub key-totals-kept : (r order : List ℕ) (u : Setup) (commands : List Command) → KeyClaims r order u commands → TotalsCountedOver (setupOf u order) (stepsIn (setupOf u order) commands)
-key-totals-kept r order u commands h = totals-kept-over-list u order (setupOf u order) refl (stepsIn (setupOf u order) commands) (h .linked)
+pub key-totals-kept : (r order : List ℕ) (u : Setup) (commands : List Command) → KeyClaims r order u commands → TotalsCountedOver (setupOf u order) (stepsIn r (setupOf u order) commands)
+key-totals-kept r order u commands h = totals-kept-over-list u order (setupOf u order) refl (stepsIn r (setupOf u order) commands) (h .linked)
 
 -- .. and each class's live totals are the live blocks of the ledger that its calls and their answers make
 pub key-live-totals-agree-with-ledger : (r order : List ℕ) (u : Setup) (commands : List Command) → KeyClaims r order u commands
-    → LiveTotalsAgreeOver u (setupOf u order) [] (stepsIn (setupOf u order) commands)
-key-live-totals-agree-with-ledger r order u commands h = live-totals-agree-with-ledger u order (setupOf u order) refl (h .ready) (stepsIn (setupOf u order) commands) (h .linked)
+    → LiveTotalsAgreeOver u (setupOf u order) [] (stepsIn r (setupOf u order) commands)
+key-live-totals-agree-with-ledger r order u commands h = live-totals-agree-with-ledger u order (setupOf u order) refl (h .ready) (stepsIn r (setupOf u order) commands) (h .linked)
 
 -- Document 02, item 4: after its setup and after each of its calls the ranked superblocks are those freed into since they were last renewed, in the order of their last
 -- frees, the latest first
 pub key-ranked-by-last-free : (r order : List ℕ) (u : Setup) (commands : List Command) → KeyClaims r order u commands
-    → RankedByLastFreeOver (setupOf u order) [] (stepsIn (setupOf u order) commands)
-key-ranked-by-last-free r order u commands h = ranked-by-last-free-over-list u order (setupOf u order) refl (h .ready) (stepsIn (setupOf u order) commands) (h .linked)
+    → RankedByLastFreeOver (setupOf u order) [] (stepsIn r (setupOf u order) commands)
+key-ranked-by-last-free r order u commands h = ranked-by-last-free-over-list u order (setupOf u order) refl (h .ready) (stepsIn r (setupOf u order) commands) (h .linked)

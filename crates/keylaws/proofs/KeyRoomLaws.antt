@@ -1,10 +1,13 @@
--- The key of any record of bytes fits its room: a command prints at most 8 bytes for each of its own, and the final lines are those of
+-- The key of any record of bytes fits its room: a command prints at most 10 bytes for each of its own, and the final lines are those of
 -- at most 9 heaps and 27 classes. Assumes nothing.
 use mathlib.Core.Path.{_≡_, refl, sym, subst}
 use mathlib.Core.Bool.{not}
 use mathlib.Core.List.{List, [], _∷_}
 use Prim.Native.Nat.{ℕ, zero, suc, _+_, _*_, _≤_, _<_}
+use native.Mathlib.Nat.{lt-of-not-le}
+use native.Mathlib.Decide.{decLe}
 use native.Mathlib.Omega.{arith}
+use borrow.Author.Tests.{eqb-false}
 use lib.ListN.{length, length-append}
 use lib.Dec.{eqb, leb}
 use Rattle.laws.specs.Sums.{either}
@@ -24,19 +27,21 @@ use Rattle.calls.specs.declared.Outcome.the-variants.{Ready, Address, Moves, Re
 use Rattle.calls.specs.Answers.{After, numberOf, refused, checked, isProcessor}
 use Rattle.calls.specs.Setup.{setupOf}
 use Rattle.calls.specs.Take.{otherPlaces, takenFrom, takenFromOther, takenAt, takeUnchecked, takeOf}
-use Rattle.calls.specs.Free.{superblockHolding, isUnmapped, isMisaligned, isLiveAt, blockFreed, freedAt, freeUnchecked, freeOf}
+use Rattle.calls.specs.Free.{superblockHolding, isUnmapped, isMisaligned, isLiveAt, addressRefusal, blockFreed, freedAt, freeUnchecked, freeOf}
 use Rattle.calls.specs.Named.{namedTakeOf, heldAddress, namedFreeUnchecked, namedFreeOf}
+use Rattle.calls.specs.Drop.{allFreed, firstRefusal, dropMoves, droppedAll, dropUnchecked, dropOf}
+use Rattle.calllaws.proofs.DropMoveLaws.{drop-moves-le-64, length-of-block-freed, length-of-all-freed}
 use Rattle.commands.specs.declared.Command.{Command}
 use Rattle.commands.specs.declared.Command.the-variants as command
 use Rattle.littleendian.specs.Bytes.{byteAt}
-use Rattle.commands.specs.Record.{commandAt, sizeOfCommand, isRefused, commandsFrom, commandsOf}
-use Rattle.commandlaws.proofs.CommandLaws.{setup-fits, take-fits, named-take-fits, named-free-fits}
+use Rattle.commands.specs.Record.{addressesIn, commandAt, sizeOfCommand, isRefused, commandsFrom, commandsOf}
+use Rattle.commandlaws.proofs.CommandLaws.{setup-fits, take-fits, named-take-fits, named-free-fits, drop-fits}
 use Rattle.commandlaws.proofs.RefusalOffsets.{bytesIn, bytes-in-commands-le-60000}
 use Rattle.textrules.proofs.DigitLaws.{length-of-decimal-le-10, length-of-byte-decimal-le-3, length-of-u16-decimal-le-5}
-use Rattle.linerules.specs.Lines.{result, takeLine, freeLine, namedTakeLine, namedFreeLine, stopLine}
-use Rattle.linerules.proofs.LineLengthLaws.{length-of-setup-line-le-26, length-of-named-take-line-le, length-of-named-free-line-le, length-of-final-lines-le}
+use Rattle.linerules.specs.Lines.{result, takeLine, freeLine, namedTakeLine, namedFreeLine, dropLine, stopLine}
+use Rattle.linerules.proofs.LineLengthLaws.{length-of-setup-line-le-26, length-of-named-take-line-le, length-of-named-free-line-le, length-of-drop-line-le-31, length-of-drop-line-le-29, length-of-final-lines-le}
 use Rattle.keyrules.specs.Key.{beforeFirst, setupText, textOf, keyOf, room}
-use Rattle.keylaws.proofs.SetupKeptLaws.{setup-kept-by-take, setup-kept-by-free, setup-kept-by-named-take, setup-kept-by-named-free, processors-after-setup-le-8}
+use Rattle.keylaws.proofs.SetupKeptLaws.{setup-kept-by-take, setup-kept-by-free, setup-kept-by-named-take, setup-kept-by-named-free, setup-kept-by-drop, processors-after-setup-le-8}
 
 -- ---- the result of a take: an address, or a refusal of two digits at most
 ShortResult : ℕ → After → Type 0
@@ -114,7 +119,41 @@ short-result-of-named-free s order i m =
     (λ e. pick-elim (ShortResult 12) (not (isHeld (s .names) m)) _ _ (λ f. short-result-of-refused 12 15 s order (omega arith) (omega arith))
     (λ f. short-result-of-free-unchecked s order i (heldAddress s m))))
 
--- ---- the lines: 8 bytes for each byte of the command
+-- ---- the result of a drop: at most 64 moves too, or such a refusal
+moves-of-drop-le-64 : (s : State) (addresses : List ℕ) → (length addresses ≡ 0 → ⊥) → dropMoves s addresses .moves ≤ 64
+unfolding allFreed
+moves-of-drop-le-64 s [] some = absurd (some refl)
+moves-of-drop-le-64 s (a ∷ addresses) some = drop-moves-le-64 s (a ∷ addresses) (length-of-all-freed (blockFreed s a) addresses (length-of-block-freed s a))
+
+short-result-of-dropped-all : (s : State) (order addresses : List ℕ) → (length addresses ≡ 0 → ⊥) → ShortResult 12 (droppedAll s order addresses)
+unfolding ShortResult droppedAll result
+short-result-of-dropped-all s order addresses some =
+    let few = moves-of-drop-le-64 s addresses some in
+    omega (arith, length-of-byte-decimal-le-3 (dropMoves s addresses .moves) (omega arith))
+
+address-refusal-le-7 : (s : State) (a : ℕ) → addressRefusal s a ≤ 7
+unfolding addressRefusal
+address-refusal-le-7 s a =
+    pick-elim (λ (r : ℕ). r ≤ 7) (isUnmapped s a) _ _ (λ e. omega arith)
+    (λ e. pick-elim (λ (r : ℕ). r ≤ 7) (isMisaligned s a) _ _ (λ f. omega arith)
+    (λ f. pick-elim (λ (r : ℕ). r ≤ 7) (isLiveAt s a) 0 7 (λ g. omega arith) (λ g. omega arith)))
+
+first-refusal-le-7 : (s : State) (addresses : List ℕ) → firstRefusal s addresses ≤ 7
+unfolding firstRefusal
+first-refusal-le-7 s [] = omega arith
+first-refusal-le-7 s (a ∷ addresses) =
+    pick-elim (λ (r : ℕ). r ≤ 7) (eqb (addressRefusal s a) 0) _ _ (λ e. first-refusal-le-7 (blockFreed s a) addresses) (λ e. address-refusal-le-7 s a)
+
+short-result-of-drop : (s : State) (order : List ℕ) (i : ℕ) (addresses : List ℕ) → ShortResult 12 (dropOf s order i addresses)
+unfolding dropOf dropUnchecked
+short-result-of-drop s order i addresses =
+    short-result-of-checked 12 s order _ (omega arith)
+    (pick-elim (ShortResult 12) (not (isProcessor s i)) _ _ (λ e. short-result-of-refused 12 2 s order (omega arith) (omega arith))
+    (λ e. pick-elim (ShortResult 12) (eqb (length addresses) 0) _ _ (λ f. short-result-of-refused 12 16 s order (omega arith) (omega arith))
+    (λ f. pick-elim (ShortResult 12) (eqb (firstRefusal s addresses) 0) _ _ (λ g. short-result-of-dropped-all s order addresses (eqb-false (length addresses) 0 f))
+    (λ g. short-result-of-refused 12 (firstRefusal s addresses) s order (omega arith) (omega (arith, first-refusal-le-7 s addresses))))))
+
+-- ---- the lines: 10 bytes for each byte of the command
 length-of-take-line-le-32 : (s : State) (order : List ℕ) (i size : ℕ) → i < 256 → size < 65536 → length (takeLine i size (takeOf s order i size .answer .outcome)) ≤ 32
 unfolding takeLine ShortResult
 length-of-take-line-le-32 s order i size a b = simp length-append (omega (arith, length-of-byte-decimal-le-3 i a, length-of-u16-decimal-le-5 size b, short-result-of-take s order i size))
@@ -137,6 +176,19 @@ length-of-named-free-line-le-32 : (s : State) (order : List ℕ) (i m : ℕ) →
 unfolding ShortResult
 length-of-named-free-line-le-32 s order i m a b = omega (arith, length-of-named-free-line-le i m (namedFreeOf s order i m .answer .outcome) a b, short-result-of-named-free s order i m)
 
+-- a drop of no address has 3 bytes, and its count one digit
+length-of-drop-line-le-10-times : (s : State) (order : List ℕ) (i count : ℕ) (addresses : List ℕ) → i < 256 → count < 256
+    → length (dropLine i count (dropOf s order i addresses .answer .outcome)) ≤ 10 * (3 + 4 * count)
+unfolding ShortResult
+length-of-drop-line-le-10-times s order i count addresses a b = go (decLe 10 count)
+  where
+    short : length (result (dropOf s order i addresses .answer .outcome)) ≤ 12
+    short = short-result-of-drop s order i addresses
+
+    go : Dec (10 ≤ count) → length (dropLine i count (dropOf s order i addresses .answer .outcome)) ≤ 10 * (3 + 4 * count)
+    go (yes many) = omega (arith, length-of-drop-line-le-31 i count (dropOf s order i addresses .answer .outcome) a short b)
+    go (no few) = omega (arith, length-of-drop-line-le-29 i count (dropOf s order i addresses .answer .outcome) a short (lt-of-not-le few))
+
 length-of-stop-line-le-33 : (number offset : ℕ) → length (stopLine number offset) ≤ 33
 unfolding stopLine
 length-of-stop-line-le-33 number offset = simp length-append (omega (arith, length-of-decimal-le-10 number, length-of-decimal-le-10 offset))
@@ -148,6 +200,7 @@ CommandFits (command.Take processor size) = (processor < 256) × (size < 65536)
 CommandFits (command.Free processor address) = Unit {0}
 CommandFits (command.NamedTake processor name size) = (processor < 256) × (name < 65536) × (size < 65536)
 CommandFits (command.NamedFree processor name) = (processor < 256) × (name < 65536)
+CommandFits (command.Drop processor count first) = (processor < 256) × (count < 256)
 CommandFits (command.Refused number offset) = Unit {0}
 
 CommandsFit : List Command → Type 0
@@ -162,6 +215,7 @@ module _ (r : List ℕ) (bytes : (i : ℕ) → byteAt r i < 256) where
   command-at-fits at (command.Free processor address) e = tt
   command-at-fits at (command.NamedTake processor name size) e = named-take-fits r at (command.NamedTake processor name size) e bytes processor name size refl
   command-at-fits at (command.NamedFree processor name) e = named-free-fits r at (command.NamedFree processor name) e bytes processor name refl
+  command-at-fits at (command.Drop processor count first) e = let t = drop-fits r at (command.Drop processor count first) e bytes processor count first refl in (t .0, t .1)
   command-at-fits at (command.Refused number offset) e = tt
 
   commands-from-fit : (most at : ℕ) → CommandsFit (commandsFrom most r at)
@@ -174,13 +228,13 @@ module _ (r : List ℕ) (bytes : (i : ℕ) → byteAt r i < 256) where
   )
 
 -- ---- the text of commands, from a state of at most 8 processors
-length-of-text-of-le : (before : After) (commands : List Command) → before .answer .state .setup .processors ≤ 8 → CommandsFit commands
-    → length (textOf before commands) ≤ 8 * bytesIn commands + 15556
+length-of-text-of-le : (r : List ℕ) (before : After) (commands : List Command) → before .answer .state .setup .processors ≤ 8 → CommandsFit commands
+    → length (textOf r before commands) ≤ 10 * bytesIn commands + 15556
 unfolding textOf setupText bytesIn sizeOfCommand CommandsFit CommandFits
-length-of-text-of-le before [] h fit = let z = length-of-final-lines-le (before .answer .state) (omega arith) in omega arith
-length-of-text-of-le before (command.Setup processors superblocks spare p q ∷ commands) h fit =
-    pick-elim (λ (l : List ℕ). length l ≤ 8 * (6 + bytesIn commands) + 15556) (eqb (numberOf (after .answer .outcome)) 0) _ _
-    (λ e. simp length-append (omega (arith, length-of-setup-line-le-26 u (fit .0 .0) (fit .0 .1) (fit .0 .2) (fit .0 .3) (fit .0 .4), length-of-text-of-le after commands (processors-after-setup-le-8 u (before .order)) (fit .1))))
+length-of-text-of-le r before [] h fit = let z = length-of-final-lines-le (before .answer .state) (omega arith) in omega arith
+length-of-text-of-le r before (command.Setup processors superblocks spare p q ∷ commands) h fit =
+    pick-elim (λ (l : List ℕ). length l ≤ 10 * (6 + bytesIn commands) + 15556) (eqb (numberOf (after .answer .outcome)) 0) _ _
+    (λ e. simp length-append (omega (arith, length-of-setup-line-le-26 u (fit .0 .0) (fit .0 .1) (fit .0 .2) (fit .0 .3) (fit .0 .4), length-of-text-of-le r after commands (processors-after-setup-le-8 u (before .order)) (fit .1))))
     (λ e. let z = length-of-stop-line-le-33 (numberOf (after .answer .outcome)) 0 in omega arith)
   where
     u : Setup
@@ -188,32 +242,37 @@ length-of-text-of-le before (command.Setup processors superblocks spare p q ∷ 
 
     after : After
     after = setupOf u (before .order)
-length-of-text-of-le before (command.Take processor size ∷ commands) h fit =
+length-of-text-of-le r before (command.Take processor size ∷ commands) h fit =
     let after = takeOf (before .answer .state) (before .order) processor size in
     let kept = setup-kept-by-take (before .answer .state) (before .order) processor size in
     let heaps : after .answer .state .setup .processors ≤ 8 = subst (λ (u : Setup). u .processors ≤ 8) (sym kept) h in
-    simp length-append (omega (arith, length-of-take-line-le-32 (before .answer .state) (before .order) processor size (fit .0 .0) (fit .0 .1), length-of-text-of-le after commands heaps (fit .1)))
-length-of-text-of-le before (command.Free processor address ∷ commands) h fit =
+    simp length-append (omega (arith, length-of-take-line-le-32 (before .answer .state) (before .order) processor size (fit .0 .0) (fit .0 .1), length-of-text-of-le r after commands heaps (fit .1)))
+length-of-text-of-le r before (command.Free processor address ∷ commands) h fit =
     let after = freeOf (before .answer .state) (before .order) processor address in
     let kept = setup-kept-by-free (before .answer .state) (before .order) processor address in
     let heaps : after .answer .state .setup .processors ≤ 8 = subst (λ (u : Setup). u .processors ≤ 8) (sym kept) h in
-    simp length-append (omega (arith, length-of-free-line-le-48 processor address (after .answer .outcome), length-of-text-of-le after commands heaps (fit .1)))
-length-of-text-of-le before (command.NamedTake processor name size ∷ commands) h fit =
+    simp length-append (omega (arith, length-of-free-line-le-48 processor address (after .answer .outcome), length-of-text-of-le r after commands heaps (fit .1)))
+length-of-text-of-le r before (command.NamedTake processor name size ∷ commands) h fit =
     let after = namedTakeOf (before .answer .state) (before .order) processor name size in
     let kept = setup-kept-by-named-take (before .answer .state) (before .order) processor name size in
     let heaps : after .answer .state .setup .processors ≤ 8 = subst (λ (u : Setup). u .processors ≤ 8) (sym kept) h in
-    simp length-append (omega (arith, length-of-named-take-line-le-48 processor name size (after .answer .outcome) (fit .0 .0) (fit .0 .1) (fit .0 .2), length-of-text-of-le after commands heaps (fit .1)))
-length-of-text-of-le before (command.NamedFree processor name ∷ commands) h fit =
+    simp length-append (omega (arith, length-of-named-take-line-le-48 processor name size (after .answer .outcome) (fit .0 .0) (fit .0 .1) (fit .0 .2), length-of-text-of-le r after commands heaps (fit .1)))
+length-of-text-of-le r before (command.NamedFree processor name ∷ commands) h fit =
     let after = namedFreeOf (before .answer .state) (before .order) processor name in
     let kept = setup-kept-by-named-free (before .answer .state) (before .order) processor name in
     let heaps : after .answer .state .setup .processors ≤ 8 = subst (λ (u : Setup). u .processors ≤ 8) (sym kept) h in
-    simp length-append (omega (arith, length-of-named-free-line-le-32 (before .answer .state) (before .order) processor name (fit .0 .0) (fit .0 .1), length-of-text-of-le after commands heaps (fit .1)))
-length-of-text-of-le before (command.Refused number offset ∷ commands) h fit = let z = length-of-stop-line-le-33 number offset in omega arith
+    simp length-append (omega (arith, length-of-named-free-line-le-32 (before .answer .state) (before .order) processor name (fit .0 .0) (fit .0 .1), length-of-text-of-le r after commands heaps (fit .1)))
+length-of-text-of-le r before (command.Drop processor count first ∷ commands) h fit =
+    let after = dropOf (before .answer .state) (before .order) processor (addressesIn r first count) in
+    let kept = setup-kept-by-drop (before .answer .state) (before .order) processor (addressesIn r first count) in
+    let heaps : after .answer .state .setup .processors ≤ 8 = subst (λ (u : Setup). u .processors ≤ 8) (sym kept) h in
+    simp length-append (omega (arith, length-of-drop-line-le-10-times (before .answer .state) (before .order) processor count (addressesIn r first count) (fit .0 .0) (fit .0 .1), length-of-text-of-le r after commands heaps (fit .1)))
+length-of-text-of-le r before (command.Refused number offset ∷ commands) h fit = let z = length-of-stop-line-le-33 number offset in omega arith
 
 -- the key of every record of bytes, with any order storage, fits the room
 pub key-fits-room : (r order : List ℕ) → ((i : ℕ) → byteAt r i < 256) → length (keyOf r order) ≤ room
 unfolding keyOf commandsOf
 key-fits-room r order bytes =
-    let all = length-of-text-of-le (beforeFirst order) (commandsOf r) (omega arith) (commands-from-fit r bytes (suc (length r)) 0) in
+    let all = length-of-text-of-le r (beforeFirst order) (commandsOf r) (omega arith) (commands-from-fit r bytes (suc (length r)) 0) in
     let most = bytes-in-commands-le-60000 r in
     omega arith

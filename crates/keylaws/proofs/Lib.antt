@@ -5,3 +5,4 @@ pub mod RefusedSetupKey
 pub mod KeyClaims
 pub mod NamedCallKey
 pub mod WholeCaseKey
+pub mod DropKey

@@ -41,13 +41,13 @@ module _ (r : List ℕ) (at i m : ℕ) (o : Outcome) where
 
 -- ---- "A named call does what the plain one does, a free with the held address": it has the plain call's result in a line of its own, and the
 -- text goes on from what the plain call leaves
-module _ (s : State) (order : List ℕ) (i m : ℕ) (commands : List Command) (passed : Passed s order) (p : isProcessor s i ≡ true) where
+module _ (r : List ℕ) (s : State) (order : List ℕ) (i m : ℕ) (commands : List Command) (passed : Passed s order) (p : isProcessor s i ≡ true) where
   pub text-of-named-take-is-of-plain-take : (size : ℕ) → isUnavailable s m ≡ false
-      → textOf (stateAndStorage s order) (command.NamedTake i m size ∷ commands) ≡ namedTakeLine i m size (takeOf s order i size .answer .outcome) ++ textOf (withNameBound m (takeOf s order i size)) commands
+      → textOf r (stateAndStorage s order) (command.NamedTake i m size ∷ commands) ≡ namedTakeLine i m size (takeOf s order i size .answer .outcome) ++ textOf r (withNameBound m (takeOf s order i size)) commands
   unfolding textOf withNameBound
-  text-of-named-take-is-of-plain-take size u = ap (λ (z : After). namedTakeLine i m size (z .answer .outcome) ++ textOf z commands) (named-take-is-plain-take s order i m size passed p u)
+  text-of-named-take-is-of-plain-take size u = ap (λ (z : After). namedTakeLine i m size (z .answer .outcome) ++ textOf r z commands) (named-take-is-plain-take s order i m size passed p u)
 
   pub text-of-named-free-is-of-plain-free : isHeld (s .names) m ≡ true
-      → textOf (stateAndStorage s order) (command.NamedFree i m ∷ commands) ≡ namedFreeLine i m (freeOf s order i (heldAddress s m) .answer .outcome) ++ textOf (freeOf s order i (heldAddress s m)) commands
+      → textOf r (stateAndStorage s order) (command.NamedFree i m ∷ commands) ≡ namedFreeLine i m (freeOf s order i (heldAddress s m) .answer .outcome) ++ textOf r (freeOf s order i (heldAddress s m)) commands
   unfolding textOf
-  text-of-named-free-is-of-plain-free h = ap (λ (z : After). namedFreeLine i m (z .answer .outcome) ++ textOf z commands) (named-free-is-free-of-held-address s order i m passed p h)
+  text-of-named-free-is-of-plain-free h = ap (λ (z : After). namedFreeLine i m (z .answer .outcome) ++ textOf r z commands) (named-free-is-free-of-held-address s order i m passed p h)

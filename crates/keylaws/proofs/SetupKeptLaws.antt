@@ -2,7 +2,7 @@
 use mathlib.Core.Path.{_≡_, refl, sym, ap, _∙_, subst}
 use mathlib.Core.Bool.{Bool, true, false}
 use mathlib.Core.Logic.{⊎-elim}
-use mathlib.Core.List.{List}
+use mathlib.Core.List.{List, [], _∷_}
 use Prim.Native.Nat.{ℕ, zero, suc, _+_, _*_, _≤_}
 use native.Mathlib.Omega.{arith}
 use lib.ListN.{length}
@@ -10,6 +10,7 @@ use lib.Dec.{T, eqb, leb}
 use Rattle.laws.specs.Sums.{pick}
 use Rattle.heap.specs.declared.Setup.{Setup}
 use Rattle.heap.specs.declared.State.{State}
+use Rattle.heap.specs.declared.Moved.{Moved}
 use Rattle.heap.specs.declared.Found.{Found}
 use Rattle.heap.specs.declared.Found.the-variants.{At, Nothing}
 use Rattle.heap.specs.Table.{superblockAt, liveIn}
@@ -27,9 +28,11 @@ use Rattle.calls.specs.Setup.{acceptedSetup, setupOf}
 use Rattle.calls.specs.Take.{unrankedIfEmpty, takenFrom, takenFromOther, takeOf}
 use Rattle.calls.specs.Free.{markCleared, blockFreed, freedAt, freeOf}
 use Rattle.calls.specs.Named.{nameBound, boundBy, withNameBound, namedTakeOf, heldAddress, namedFreeOf}
+use Rattle.calls.specs.Drop.{allFreed, thenRestored, Pair, eachRestored, dropMoves, droppedAll, dropOf}
 use Rattle.calllaws.proofs.TakeLaws.{take-refused-or-accepted}
 use Rattle.calllaws.proofs.FreeLaws.{free-refused-or-accepted}
 use Rattle.calllaws.proofs.NamedCallLaws.{named-take-refused-or-accepted, named-free-refused-or-accepted}
+use Rattle.calllaws.proofs.DropLaws.{drop-refused-or-accepted}
 
 -- ---- the move rule
 setup-of-found-transferred : (f : Found) (s : State) → foundTransferred f s .setup ≡ s .setup
@@ -93,6 +96,24 @@ setup-kept-by-named-free s order i m =
     ⊎-elim (λ d. ap (λ (x : After). x .answer .state .setup) (d .1))
     (λ d. ap (λ (x : After). x .answer .state .setup) (d .result-is) ∙ setup-kept-by-free s order i (heldAddress s m))
     (named-free-refused-or-accepted s order i m)
+
+setup-of-all-freed : (s : State) (addresses : List ℕ) → allFreed s addresses .setup ≡ s .setup
+unfolding allFreed blockFreed markCleared rankedLatest
+setup-of-all-freed s [] = refl
+setup-of-all-freed s (a ∷ addresses) = setup-of-all-freed (blockFreed s a) addresses
+
+setup-of-each-restored : (pairs : List Pair) (before : Moved) → eachRestored pairs before .state .setup ≡ before .state .setup
+unfolding eachRestored thenRestored
+setup-of-each-restored [] before = refl
+setup-of-each-restored (pair ∷ pairs) before =
+    setup-of-each-restored pairs (thenRestored (pair .heap) (pair .class) before) ∙ setup-of-invariant-restored (pair .heap) (pair .class) (before .state)
+
+pub setup-kept-by-drop : (s : State) (order : List ℕ) (i : ℕ) (addresses : List ℕ) → dropOf s order i addresses .answer .state .setup ≡ s .setup
+unfolding droppedAll dropMoves
+setup-kept-by-drop s order i addresses =
+    ⊎-elim (λ d. ap (λ (x : After). x .answer .state .setup) (d .1))
+    (λ d. ap (λ (x : After). x .answer .state .setup) (d .result-is) ∙ setup-of-each-restored _ _ ∙ setup-of-all-freed s addresses)
+    (drop-refused-or-accepted s order i addresses)
 
 -- ---- a setup: five zeros, or numbers within their limits
 pub processors-after-setup-le-8 : (u : Setup) (order : List ℕ) → setupOf u order .answer .state .setup .processors ≤ 8

@@ -20,7 +20,7 @@ use Rattle.commands.specs.Record.{commandsOf}
 use Rattle.textrules.specs.Text.{letters}
 use Rattle.linerules.specs.Lines.{setupLine}
 use Rattle.keyrules.specs.Key.{keyOf}
-use Rattle.keylaws.proofs.KeyClaims.{callsIn, stepsIn, stepLines, endingLines, key-claims-of-accepted-setup}
+use Rattle.keylaws.proofs.KeyClaims.{callsIn, stepsIn, lineOf, stepLines, endingLines, key-claims-of-accepted-setup}
 
 abbrev pub whole-record : List ℕ
 whole-record =
@@ -74,13 +74,13 @@ whole-setup-ready = refl
 textBy : List Step → List ℕ
 textBy steps = setupLine setup ++ (stepLines steps ++ endingLines (lastAfter (setupOf setup storage) steps) commands)
 
-whole-key-is-text-by-steps : keyOf whole-record storage ≡ textBy (stepsBy callOf (setupOf setup storage) (callsIn commands))
+whole-key-is-text-by-steps : keyOf whole-record storage ≡ textBy (stepsBy callOf (setupOf setup storage) (callsIn whole-record commands))
 unfolding textBy stepsIn
 whole-key-is-text-by-steps = key-claims-of-accepted-setup whole-record storage setup commands whole-record-commands whole-setup-ready .printed
 
-whole-text-by-steps-computed : textBy (stepsBy callUnchecked (setupOf setup storage) (callsIn commands)) ≡ whole-text
-unfolding textBy callsIn stepLines lastAfter endingLines lineDefinitions stepsBy callDefinitions
+whole-text-by-steps-computed : textBy (stepsBy callUnchecked (setupOf setup storage) (callsIn whole-record commands)) ≡ whole-text
+unfolding textBy callsIn stepLines lineOf lastAfter endingLines lineDefinitions stepsBy callDefinitions
 whole-text-by-steps-computed = refl
 
 pub whole-case : keyOf whole-record storage ≡ whole-text
-whole-case = whole-key-is-text-by-steps ∙ ap textBy (steps-are-unchecked setup storage whole-setup-ready (callsIn commands)) ∙ whole-text-by-steps-computed
+whole-case = whole-key-is-text-by-steps ∙ ap textBy (steps-are-unchecked setup storage whole-setup-ready (callsIn whole-record commands)) ∙ whole-text-by-steps-computed

@@ -41,6 +41,12 @@ enum-known-c-4 c = search needs
 free-requires-2 : tie.Need-free-requires-2
 free-requires-2 c κs = search passes-of-no-refusal
 
+enum-known-c-5 : tie.Need-enum-known-c-5
+enum-known-c-5 c = search needs
+
+drop-requires : tie.Need-drop-requires
+drop-requires c κs = search passes-of-no-refusal
+
 same-length-2 : tie.Need-same-length-2
 same-length-2 c = search needs
 
@@ -65,6 +71,12 @@ same-length-5 c = search needs
 returns-5 : tie.Need-returns-5
 returns-5 c = call-clauses _ _ _ (search shape-of-state) (search call-outcomes)
 
+same-length-6 : tie.Need-same-length-6
+same-length-6 c = search needs
+
+returns-6 : tie.Need-returns-6
+returns-6 c = call-clauses _ _ _ (search shape-of-state) (search call-outcomes)
+
 pub call-state-spec : {M : Type 1} → statement M
 call-state-spec =
     tie.close
@@ -81,6 +93,8 @@ call-state-spec =
     take-requires-2
     enum-known-c-4
     free-requires-2
+    enum-known-c-5
+    drop-requires
     same-length-2
     returns-2
     same-length-3
@@ -88,4 +102,6 @@ call-state-spec =
     same-length-4
     returns-4
     same-length-5
-    returns-5)
+    returns-5
+    same-length-6
+    returns-6)

@@ -1,0 +1,18 @@
+-- `engine::drop` meets its contract. Assumes nothing.
+use Rattle.calls.specs.Calls.{callOf, callWith}
+use borrow.Author.Needs.{needs}
+use Rattle.engine.proofs.drop.Statement.{statement}
+use Rattle.engine.proofs.drop.Tie as tie
+
+call-state-requires : tie.Need-call-state-requires
+call-state-requires c κs = search needs
+
+same-length : tie.Need-same-length
+same-length c = search needs
+
+returns : tie.Need-returns
+unfolding callOf callWith
+returns c = search needs
+
+pub drop-spec : {M : Type 1} → statement M
+drop-spec = tie.close (tie.spec call-state-requires same-length returns)
