@@ -6,7 +6,7 @@ ghost use lib.ListN.{length};
 ghost use lib.ListN.{length as lengthOf};
 ghost use Rattle.io.specs.Counts.{Counts};
 use calls::Answer;
-use calls::Call;
+use calls::CallHeader;
 use calls::Outcome;
 use formrules::Request;
 use heap::Setup;
@@ -17,11 +17,11 @@ use rowrules::RecordsAnswer;
 use rowrules::RowAnswer;
 use stream::Input;
 
-// The longest input that the program takes has 39034 bytes: a free or a named take on a lent row, with 17000 places
-// (2 + 11 + 64 × 35 + 1024 × 2 + 243 × 3 + 4 + 2 × 17000). The buffer has one byte more, so that an input that it truncates is bad in
-// any case.
+// The longest input that the program takes has 41080 bytes: a drop of 512 addresses on a lent row, with 17000 places
+// (2 + 9 + 4 × 512 + 64 × 35 + 1024 × 2 + 243 × 3 + 4 + 2 × 17000). The buffer has one byte more, so that an input that it truncates is
+// bad in any case.
 fn main() {
-    let mut input = [0u8; 39035];
+    let mut input = [0u8; 41081];
     let read = stream::read_input(b"call", &mut input);
     let Input::Bytes(n) = read else {
         return;
@@ -45,7 +45,7 @@ fn reply_any(bytes: &[u8]) {
     reply_row(bytes[1], &bytes[2..]);
 }
 
-// Input that is not of the form, or that lends more places than the program has, calls nothing.
+// Input that is not of the form, or that lends more places or addresses than the program has, calls nothing.
 fn reply(bytes: &[u8]) {
     if !callform::well_formed(bytes) {
         write(b"bad input\n");
@@ -56,38 +56,62 @@ fn reply(bytes: &[u8]) {
         write(b"bad input\n");
         return;
     }
-    make_call(bytes, lent);
+    let count = address_count(bytes);
+    if count > 512 {
+        write(b"bad input\n");
+        return;
+    }
+    make_call(bytes, lent, count);
 }
 
-// The program's own storage, and as much for a copy, of which as many places are lent as the input asks.
-fn make_call(bytes: &[u8], lent: usize)
-    requires { ⌜ lent ≤ 17000 ⌝ }
+// How many addresses are lent: none where the call is no drop.
+fn address_count(bytes: &[u8]) -> usize {
+    let request = callform::call_in(bytes);
+    let Request::Drop {
+        processor: _,
+        count,
+    } = request
+    else {
+        return 0;
+    };
+    count as usize
+}
+
+// The program's own storage, and as much for a copy, of which as many places are lent as the input asks, and so with the addresses.
+fn make_call(bytes: &[u8], lent: usize, count: usize)
+    requires { ⌜ (lent ≤ 17000) × (count ≤ 512) ⌝ }
 {
     let mut storage = [0u16; 17000];
     let mut copy = [0u16; 17000];
-    call_on(bytes, &mut storage[0..lent], &mut copy[0..lent]);
+    let addresses = callload::load_addresses(bytes);
+    call_on(
+        bytes,
+        &mut storage[0..lent],
+        &mut copy[0..lent],
+        &addresses[0..count],
+    );
 }
 
 // The call, on order places as the input has them; a copy of these shows which of them changed.
-fn call_on(bytes: &[u8], order: &mut [u16], before: &mut [u16])
+fn call_on(bytes: &[u8], order: &mut [u16], before: &mut [u16], addresses: &[u32])
     requires { ⌜ length (now order) ≡ length (now before) ⌝ }
 {
     let from = callform::places_offset(bytes);
     callload::load_places(bytes, from, order);
     callload::load_places(bytes, from, before);
-    let a = answer_to(bytes, order);
+    let a = answer_to(bytes, order, addresses);
     if print_answer(a) {
         print_rest(before, order);
     }
 }
 
-// A setup, or a take or a free on the state that the input holds.
+// A setup, or a take, a free or a drop on the state that the input holds.
 enum Asked {
     Setup,
-    OnState(Call),
+    OnState(CallHeader),
 }
 
-fn answer_to(bytes: &[u8], order: &mut [u16]) -> Answer {
+fn answer_to(bytes: &[u8], order: &mut [u16], addresses: &[u32]) -> Answer {
     let asked = asked_in(bytes);
     match asked {
         Asked::Setup => {
@@ -96,7 +120,7 @@ fn answer_to(bytes: &[u8], order: &mut [u16]) -> Answer {
         }
         Asked::OnState(c) => {
             let s = state_in(bytes);
-            engine::call_state(s, order, c)
+            engine::call_state(s, order, c, addresses)
         }
     }
 }
@@ -105,21 +129,28 @@ fn asked_in(bytes: &[u8]) -> Asked {
     let request = callform::call_in(bytes);
     match request {
         Request::Setup => Asked::Setup,
-        Request::Take { processor, size } => Asked::OnState(Call::Take { processor, size }),
-        Request::Free { processor, address } => Asked::OnState(Call::Free { processor, address }),
+        Request::Take { processor, size } => Asked::OnState(CallHeader::Take { processor, size }),
+        Request::Free { processor, address } => Asked::OnState(CallHeader::Free {
+            processor,
+            address,
+        }),
         Request::NamedTake {
             processor,
             name,
             size,
-        } => Asked::OnState(Call::NamedTake {
+        } => Asked::OnState(CallHeader::NamedTake {
             processor,
             name,
             size,
         }),
-        Request::NamedFree { processor, name } => Asked::OnState(Call::NamedFree {
+        Request::NamedFree { processor, name } => Asked::OnState(CallHeader::NamedFree {
             processor,
             name,
         }),
+        Request::Drop {
+            processor,
+            count: _,
+        } => Asked::OnState(CallHeader::Drop { processor }),
     }
 }
 
@@ -143,31 +174,54 @@ fn reply_row(length: u8, bytes: &[u8]) {
         write(b"bad input\n");
         return;
     }
-    make_row_call(length as usize, bytes, lent);
+    let count = address_count(bytes);
+    if count > 512 {
+        write(b"bad input\n");
+        return;
+    }
+    make_row_call(length as usize, bytes, lent, count);
 }
 
-fn make_row_call(length: usize, bytes: &[u8], lent: usize)
-    requires { ⌜ (length ≤ 65) × (lent ≤ 17000) ⌝ }
+fn make_row_call(length: usize, bytes: &[u8], lent: usize, count: usize)
+    requires { ⌜ (length ≤ 65) × (lent ≤ 17000) × (count ≤ 512) ⌝ }
 {
     let mut storage = [0u16; 17000];
     let mut copy = [0u16; 17000];
-    row_call_on(length, bytes, &mut storage[0..lent], &mut copy[0..lent]);
+    let addresses = callload::load_addresses(bytes);
+    row_call_on(
+        length,
+        bytes,
+        &mut storage[0..lent],
+        &mut copy[0..lent],
+        &addresses[0..count],
+    );
 }
 
-fn row_call_on(length: usize, bytes: &[u8], order: &mut [u16], before: &mut [u16])
+fn row_call_on(
+    length: usize,
+    bytes: &[u8],
+    order: &mut [u16],
+    before: &mut [u16],
+    addresses: &[u32],
+)
     requires { ⌜ (length ≤ 65) × (lengthOf (now order) ≡ lengthOf (now before)) ⌝ }
 {
     let from = callform::places_offset(bytes);
     callload::load_places(bytes, from, order);
     callload::load_places(bytes, from, before);
-    let l = row_answer_to(length, bytes, order);
+    let l = row_answer_to(length, bytes, order, addresses);
     if print_row(length, l) {
         print_rest(before, order);
     }
 }
 
 // The superblocks go in as records, the setup numbers, the names and the totals by value.
-fn row_answer_to(length: usize, bytes: &[u8], order: &mut [u16]) -> RecordsAnswer {
+fn row_answer_to(
+    length: usize,
+    bytes: &[u8],
+    order: &mut [u16],
+    addresses: &[u32],
+) -> RecordsAnswer {
     let asked = asked_in(bytes);
     match asked {
         Asked::Setup => {
@@ -176,7 +230,14 @@ fn row_answer_to(length: usize, bytes: &[u8], order: &mut [u16]) -> RecordsAnswe
         }
         Asked::OnState(c) => {
             let s = state_in(bytes);
-            rowplain::call_by_row(length, records_of(s), order, tablecall::control_of(s), c)
+            rowplain::call_by_row(
+                length,
+                records_of(s),
+                order,
+                tablecall::control_of(s),
+                c,
+                addresses,
+            )
         }
     }
 }

@@ -1,5 +1,5 @@
 -- Several numbers of four bytes: how many there are, which stands where, and a loop that reads them into an array of zeros. Assumes nothing.
-use mathlib.Core.Path.{_≡_, _∙_}
+use mathlib.Core.Path.{_≡_, sym, ap, _∙_}
 use mathlib.Core.List.{List}
 use Prim.Native.Nat.{ℕ, suc, _+_, _-_, _*_, _≤_, _<_}
 use native.Mathlib.Omega.{arith}
@@ -34,3 +34,7 @@ module _ (count i : ℕ) (l : List ℕ) (h : i ≤ count) (g : count ≤ i) wher
 
   pub zeros-behind-fours : drop i l ≡ replicate (255 - i) 0 → drop count l ≡ replicate (255 - count) 0
   zeros-behind-fours e = let s : i ≡ count = omega arith in rw s at e
+
+-- so many of them may be lent
+pub fours-read-counted : (r : List ℕ) (at count : ℕ) (l : List ℕ) → take count l ≡ foursAt r at count → count ≡ length (take count l)
+fours-read-counted r at count l e = sym (ap length e ∙ length-of-fours-at r at count)
