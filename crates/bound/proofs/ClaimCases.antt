@@ -22,7 +22,7 @@ use Rattle.calls.specs.declared.Outcome.{Outcome}
 use Rattle.calls.specs.declared.Outcome.the-variants.{Ready, Address, Moves, Refused}
 use Rattle.calls.specs.Answers.{After, numberOf, checked}
 use Rattle.calls.specs.Take.{takeOf}
-use Rattle.calls.specs.Calls.{Call, Take, Free, NamedTake, NamedFree, callOf}
+use Rattle.calls.specs.Calls.{Call, Take, Free, NamedTake, NamedFree, Drop, callOf}
 use Rattle.bound.specs.Ledger.{Name, named, unnamed, Entry, ledgerAfter, entriesOf}
 use Rattle.bound.specs.Claim.{Step, Linked, Bounded, OwnerChanges, peakWith, Claims}
 use Rattle.bound.proofs.LedgerDefinitions.{ledgerDefinitions}
@@ -66,6 +66,13 @@ pub ledger-after-named-free-cases :
     ≡ (entry 4096 1100 unnamed ∷ entry 768 384 (named 7) ∷ []) ∷ three-entries ∷ three-entries ∷ three-entries ∷ []
 unfolding ledgerDefinitions
 ledger-after-named-free-cases = refl
+
+-- an accepted drop removes the blocks at each of its addresses, in any order, and no other; a refused one removes nothing
+pub ledger-after-drop-cases :
+    ledgerAfter three-entries (Drop 2 (9472 ∷ 768 ∷ [])) (Moves 1) ∷ ledgerAfter three-entries (Drop 2 (4096 ∷ 5 ∷ [])) (Moves 768) ∷ ledgerAfter three-entries (Drop 2 (9472 ∷ 768 ∷ [])) (Refused 7) ∷ ledgerAfter three-entries (Drop 768 []) (Moves 0) ∷ []
+    ≡ (entry 4096 1100 unnamed ∷ []) ∷ (entry 768 384 (named 7) ∷ entry 9472 1280 (named 9) ∷ []) ∷ three-entries ∷ three-entries ∷ []
+unfolding ledgerDefinitions
+ledger-after-drop-cases = refl
 
 -- M goes up with the live blocks of its class, and does not come down
 pub peak-with-cases : peakWith (λ c. 1) three-entries 23 ∷ peakWith (λ c. 5) three-entries 23 ∷ peakWith (λ c. c) three-entries 16 ∷ peakWith (λ c. 0) three-entries 17 ∷ [] ≡ 2 ∷ 5 ∷ 16 ∷ 0 ∷ []
@@ -152,6 +159,12 @@ pub refused-take-owner-change-fails : OwnerChanges 7 1 (Take 2 9) (Refused 4) �
 unfolding OwnerChanges
 refused-take-owner-change-fails k = let z = k 4 refl in omega arith
 
+-- a drop of two addresses may change 14 owners, and not 15; it is held to what it reports, and a refused one to none
+pub drop-owner-changes-fail :
+    (OwnerChanges 7 15 (Drop 2 (9 ∷ 25 ∷ [])) (Moves 15) → ⊥) × (OwnerChanges 7 5 (Drop 2 (9 ∷ 25 ∷ [])) (Moves 4) → ⊥) × (OwnerChanges 7 5 (Drop 2 (9 ∷ 25 ∷ [])) (Moves 6) → ⊥) × (OwnerChanges 7 1 (Drop 2 (9 ∷ 25 ∷ [])) (Refused 7) → ⊥)
+unfolding OwnerChanges
+drop-owner-changes-fail = (λ k. not-le-by-test (k .0) refl, λ k. let z = k .1 4 refl in omega arith, λ k. let z = k .1 6 refl in omega arith, λ k. let z = k .2 7 refl in omega arith)
+
 -- ---- lists of calls
 abbrev pub after-with : Outcome → State → After
 after-with outcome s = record { answer = record { outcome = outcome; state = s }; order = [] }
@@ -226,6 +239,11 @@ bound-holds-of-spare = (each-class-le-by-test _ _ refl, each-class-le-by-test _ 
 pub seven-owner-changes-hold : OwnerChanges 7 7 (Free 2 9) (Moves 7)
 unfolding OwnerChanges
 seven-owner-changes-hold = (omega arith, λ m e. Moves-injective e, λ r e. absurd (Moves-not-Refused e))
+
+-- a drop of two addresses that changed 14
+pub fourteen-owner-changes-of-drop-hold : OwnerChanges 7 14 (Drop 2 (9 ∷ 25 ∷ [])) (Moves 14)
+unfolding OwnerChanges
+fourteen-owner-changes-of-drop-hold = (omega arith, λ m e. Moves-injective e, λ r e. absurd (Moves-not-Refused e))
 
 -- refused calls that changed none
 pub refused-without-owner-change-holds : OwnerChanges 7 0 (Free 2 9) (Refused 5) × OwnerChanges 7 0 (Take 2 9) (Refused 4)
