@@ -9,7 +9,7 @@ use lib.Seq.{take-all, take-append-le}
 use Rattle.laws.specs.Lists.{listed}
 use Rattle.laws.proofs.ListedLaws.{length-listed, listed-end}
 use Rattle.littleendian.specs.Bytes.{twoAt, fourAt, foursAt}
-use Rattle.formrules.specs.Form.{addressesIn}
+use Rattle.formrules.specs.Form.{dropAddresses}
 
 -- all of a list by a rule
 take-of-as-many : {A : Type 0} (f : ℕ → A) (m n : ℕ) → n ≡ m → take m (listed f n) ≡ listed f m
@@ -34,8 +34,8 @@ take-of-either f m n = go (decLe m n)
     go (no g) = take-all m (listed f n) (omega (arith, length-listed f n)) ∙ sym (take-of-more f n m (omega arith))
 
 -- the addresses are read once 512 are
-pub addresses-in-of-all : (b addresses : List ℕ) (i : ℕ) → length addresses ≡ 512 → take i addresses ≡ listed (λ k. fourAt b (9 + 4 * k)) i → i ≤ 512 → 512 ≤ i → take (twoAt b 7) addresses ≡ take 512 (addressesIn b)
-unfolding addressesIn foursAt
+pub addresses-in-of-all : (b addresses : List ℕ) (i : ℕ) → length addresses ≡ 512 → take i addresses ≡ listed (λ k. fourAt b (9 + 4 * k)) i → i ≤ 512 → 512 ≤ i → take (twoAt b 7) addresses ≡ take 512 (dropAddresses b)
+unfolding dropAddresses foursAt
 addresses-in-of-all b addresses i long e h g =
     let all : addresses ≡ listed (λ k. fourAt b (9 + 4 * k)) 512 = listed-end (λ k. fourAt b (9 + 4 * k)) addresses i 512 long e h g in
     rw all (take-of-either (λ k. fourAt b (9 + 4 * k)) (twoAt b 7) 512)

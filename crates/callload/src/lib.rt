@@ -5,7 +5,7 @@ ghost use Prim.Native.Nat.{_^_, _<_};
 ghost use lib.ListN.{length, take};
 ghost use Rattle.littleendian.specs.Bytes.{twoAt};
 ghost use Rattle.formrules.specs.Form.{
-  addressesIn,
+  dropAddresses,
   superblockIn,
   namesIn,
   totalsIn,
@@ -23,7 +23,7 @@ use littleendian::two_at;
 
 // The addresses of a drop, or the first 512 of more. What stands past its count are other bytes of the input.
 pub fn load_addresses(bytes: &[u8]) -> [u32; 512]
-    ensures { λ r. ⌜ take (twoAt (now (bytes .entry)) 7) r ≡ take 512 (addressesIn (now (bytes .entry))) ⌝ }
+    ensures { λ r. ⌜ take (twoAt (now (bytes .entry)) 7) r ≡ take 512 (dropAddresses (now (bytes .entry))) ⌝ }
 {
     let mut addresses = [0u32; 512];
     let mut i = 0;

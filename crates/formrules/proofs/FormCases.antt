@@ -8,7 +8,7 @@ use Rattle.heap.specs.Table.{blank}
 use Rattle.formrules.specs.declared.Request.the-variants.{Setup, Take, Free, NamedTake, NamedFree, Drop}
 use Rattle.laws.specs.Lists.{listed}
 use Rattle.littleendian.specs.Bytes.{byteAt, twoAt, foursAt}
-use Rattle.formrules.specs.Form.{callIn, superblockIn, namesIn, namesOffset, totalsIn, totalsOffset, stateIn, addressesIn, tableOffset, placesOffset, placeCount, placesIn, wellFormed}
+use Rattle.formrules.specs.Form.{callIn, superblockIn, namesIn, namesOffset, totalsIn, totalsOffset, stateIn, dropAddresses, tableOffset, placesOffset, placeCount, placesIn, wellFormed}
 
 -- ---- the call, by its first byte; behind it every byte another
 abbrev distinct-bytes : List ℕ
@@ -23,13 +23,13 @@ abbrev drop-bytes : ℕ → ℕ → ℕ → List ℕ
 drop-bytes low high n = 5 ∷ 1 ∷ 2 ∷ 3 ∷ 4 ∷ 5 ∷ 6 ∷ low ∷ high ∷ listed (λ i. 10 + i) n
 
 -- C of 0, 1 and 3; one whose addresses read on into the state, and past the end 0
-addresses-in-cases : (addressesIn (drop-bytes 0 0 16) ≡ []) × (addressesIn (drop-bytes 1 0 16) ≡ 218893066 ∷ []) × (addressesIn (drop-bytes 3 0 16) ≡ 218893066 ∷ 286265102 ∷ 353637138 ∷ []) × (addressesIn (drop-bytes 4 0 13) ≡ 218893066 ∷ 286265102 ∷ 353637138 ∷ 22 ∷ [])
-unfolding addressesIn foursAt listed
+addresses-in-cases : (dropAddresses (drop-bytes 0 0 16) ≡ []) × (dropAddresses (drop-bytes 1 0 16) ≡ 218893066 ∷ []) × (dropAddresses (drop-bytes 3 0 16) ≡ 218893066 ∷ 286265102 ∷ 353637138 ∷ []) × (dropAddresses (drop-bytes 4 0 13) ≡ 218893066 ∷ 286265102 ∷ 353637138 ∷ 22 ∷ [])
+unfolding dropAddresses foursAt listed
 addresses-in-cases = (refl, refl, refl, refl)
 
 -- C has two bytes, the low one first
-drop-count-of-two-bytes : (callIn (drop-bytes 2 1 16) ≡ Drop 6 258) × (length (addressesIn (drop-bytes 2 1 16)) ≡ 258) × (tableOffset (drop-bytes 2 1 16) ≡ 1041)
-unfolding callIn addressesIn foursAt tableOffset listed
+drop-count-of-two-bytes : (callIn (drop-bytes 2 1 16) ≡ Drop 6 258) × (length (dropAddresses (drop-bytes 2 1 16)) ≡ 258) × (tableOffset (drop-bytes 2 1 16) ≡ 1041)
+unfolding callIn dropAddresses foursAt tableOffset listed
 drop-count-of-two-bytes = (refl, refl, refl)
 
 -- ---- the names: 1024, past the end 0

@@ -66,8 +66,8 @@ stateIn b at =
     }
 
 -- the addresses of a drop, as many as its count says, from byte 9 on
-unfoldable pub addressesIn : List ℕ → List ℕ
-addressesIn b = foursAt b 9 (twoAt b 7)
+unfoldable pub dropAddresses : List ℕ → List ℕ
+dropAddresses b = foursAt b 9 (twoAt b 7)
 
 -- where the superblocks begin: after the numbers of a take or a named free, of a free or a named take, or of a drop and its addresses
 unfoldable pub tableOffset : List ℕ → ℕ
