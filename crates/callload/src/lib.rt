@@ -21,7 +21,7 @@ use littleendian::four_at;
 use littleendian::position_after;
 use littleendian::two_at;
 
-// The addresses of a drop, or the first 512 of more. What stands past its count are other bytes of the input.
+// The addresses of a drop, or the first 512 of more. Where it has fewer, numbers made of the bytes behind them follow.
 pub fn load_addresses(bytes: &[u8]) -> [u32; 512]
     ensures { λ r. ⌜ take (twoAt (now (bytes .entry)) 7) r ≡ take 512 (dropAddresses (now (bytes .entry))) ⌝ }
 {

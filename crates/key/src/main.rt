@@ -16,7 +16,7 @@ fn main() {
 // The program's own order storage, and room for any key.
 fn print_key(record: &[u8]) {
     let mut storage = [0u16; 16384];
-    let mut text = [0u8; 524288];
+    let mut text = [0u8; 655360];
     let printed = replay::key(record, &mut storage, &mut text);
     match printed {
         Printed::Text(end) => print(&text, end),

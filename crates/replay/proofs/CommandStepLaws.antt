@@ -2,7 +2,7 @@
 use mathlib.Core.Path.{_≡_, refl, sym, ap, _∙_, subst}
 use mathlib.Core.Bool.{Bool, true, false}
 use mathlib.Core.List.{List, [], _∷_, _++_, append-nil}
-use Prim.Native.Nat.{ℕ, _+_, _-_, _≤_, _<_}
+use Prim.Native.Nat.{ℕ, _+_, _-_, _*_, _≤_, _<_}
 use native.Mathlib.Nat.{lt-of-not-le}
 use native.Mathlib.Decide.{decLe}
 use native.Mathlib.Omega.{arith}
@@ -10,6 +10,7 @@ use borrow.Author.Tests.{lt-ltb, le-ltb, eq-eqb, ne-eqb}
 use lib.ListN.{length}
 use lib.Dec.{eqb, ltb}
 use Rattle.laws.specs.Sums.{pick}
+use Rattle.laws.specs.Lists.{listed}
 use Rattle.textrules.specs.Text.{Pasted, pasted}
 use Rattle.textrules.proofs.PasteLaws.{paste-append, put-length, put-end-le}
 use Rattle.heap.specs.declared.Setup.{Setup}
@@ -22,90 +23,116 @@ use Rattle.calls.specs.Setup.{setupOf}
 use Rattle.calls.specs.Take.{takeOf}
 use Rattle.calls.specs.Free.{freeOf}
 use Rattle.calls.specs.Named.{namedTakeOf, namedFreeOf}
-use Rattle.calls.specs.Calls.{callOf}
+use Rattle.calls.specs.Drop.{dropOf}
+use Rattle.calls.specs.Calls.{Call, callWith, callOf}
+use Rattle.calls.specs.Calls as call
 use Rattle.calllaws.proofs.TotalsKeptLaws.{call-keeps-totals, new-or-refused-setup-totals-kept}
 use Rattle.commands.specs.declared.Command.{Command}
 use Rattle.commands.specs.declared.Command.the-variants as command
-use Rattle.commands.specs.Record.{commandAt, sizeOfCommand}
-use Rattle.commandlaws.proofs.CommandLaws.{commandsAt, remaining, remaining-inside, remaining-end, commands-refused, commands-setup, commands-take, commands-free, commands-named-take, commands-named-free, setup-first-and-inside, take-later-and-inside, free-later-and-inside, named-take-later-and-inside, named-free-later-and-inside}
-use Rattle.linerules.specs.Lines.{setupLine, takeLine, freeLine, namedTakeLine, namedFreeLine, callLine, stopLine, closingLines}
+use Rattle.littleendian.specs.Bytes.{foursAt}
+use Rattle.commands.specs.Record.{addressesIn, commandAt, sizeOfCommand}
+use Rattle.commandlaws.proofs.RefusalTable.{drop-iff-drop-at}
+use Rattle.commandlaws.proofs.CommandLaws.{commandsAt, remaining, remaining-inside, remaining-end, commands-refused, commands-setup, commands-take, commands-free, commands-named-take, commands-named-free, commands-drop, setup-first-and-inside, take-later-and-inside, free-later-and-inside, named-take-later-and-inside, named-free-later-and-inside, drop-later-and-inside}
+use Rattle.linerules.specs.Lines.{setupLine, takeLine, freeLine, namedTakeLine, namedFreeLine, dropLine, callLine, stopLine, closingLines}
 use Rattle.replay.specs.declared.Replay.{Replay}
 use Rattle.keyrules.specs.Key.{stateAndStorage, setupText, textOf, orderAfter}
-use Rattle.keylaws.proofs.SetupKeptLaws.{setup-kept-by-take, setup-kept-by-free, setup-kept-by-named-take, setup-kept-by-named-free, processors-after-setup-le-8}
-use Rattle.replay.specs.Steps.{TextAndOrder, textAhead, orderAhead, textAndOrderAhead, commandsLeft, TotalsReadable, InBounds, Stepped, nextOf, stopOf, Stopped, commandOf}
+use Rattle.keylaws.proofs.SetupKeptLaws.{setup-kept-by-take, setup-kept-by-free, setup-kept-by-named-take, setup-kept-by-named-free, setup-kept-by-drop, processors-after-setup-le-8}
+use Rattle.replay.specs.Steps.{TextAndOrder, textAhead, orderAhead, textAndOrderAhead, commandsLeft, TotalsReadable, InBounds, Stepped, nextOf, stopOf, Stopped, commandOf, CallAt}
 
 -- ---- of what a call left, the state and the storage count
-text-of-starting-from : (after : After) (cs : List Command) → textOf after cs ≡ textOf (stateAndStorage (after .answer .state) (after .order)) cs
+text-of-starting-from : (r : List ℕ) (after : After) (cs : List Command) → textOf r after cs ≡ textOf r (stateAndStorage (after .answer .state) (after .order)) cs
 unfolding textOf
-text-of-starting-from after [] = refl
-text-of-starting-from after (command.Setup processors superblocks spare p q ∷ cs) = refl
-text-of-starting-from after (command.Take processor size ∷ cs) = refl
-text-of-starting-from after (command.Free processor address ∷ cs) = refl
-text-of-starting-from after (command.NamedTake processor name size ∷ cs) = refl
-text-of-starting-from after (command.NamedFree processor name ∷ cs) = refl
-text-of-starting-from after (command.Refused number offset ∷ cs) = refl
+text-of-starting-from r after [] = refl
+text-of-starting-from r after (command.Setup processors superblocks spare p q ∷ cs) = refl
+text-of-starting-from r after (command.Take processor size ∷ cs) = refl
+text-of-starting-from r after (command.Free processor address ∷ cs) = refl
+text-of-starting-from r after (command.NamedTake processor name size ∷ cs) = refl
+text-of-starting-from r after (command.NamedFree processor name ∷ cs) = refl
+text-of-starting-from r after (command.Drop processor count first ∷ cs) = refl
+text-of-starting-from r after (command.Refused number offset ∷ cs) = refl
 
-order-after-starting-from : (after : After) (cs : List Command) → orderAfter after cs ≡ orderAfter (stateAndStorage (after .answer .state) (after .order)) cs
+order-after-starting-from : (r : List ℕ) (after : After) (cs : List Command) → orderAfter r after cs ≡ orderAfter r (stateAndStorage (after .answer .state) (after .order)) cs
 unfolding orderAfter
-order-after-starting-from after [] = refl
-order-after-starting-from after (command.Setup processors superblocks spare p q ∷ cs) = refl
-order-after-starting-from after (command.Take processor size ∷ cs) = refl
-order-after-starting-from after (command.Free processor address ∷ cs) = refl
-order-after-starting-from after (command.NamedTake processor name size ∷ cs) = refl
-order-after-starting-from after (command.NamedFree processor name ∷ cs) = refl
-order-after-starting-from after (command.Refused number offset ∷ cs) = refl
+order-after-starting-from r after [] = refl
+order-after-starting-from r after (command.Setup processors superblocks spare p q ∷ cs) = refl
+order-after-starting-from r after (command.Take processor size ∷ cs) = refl
+order-after-starting-from r after (command.Free processor address ∷ cs) = refl
+order-after-starting-from r after (command.NamedTake processor name size ∷ cs) = refl
+order-after-starting-from r after (command.NamedFree processor name ∷ cs) = refl
+order-after-starting-from r after (command.Drop processor count first ∷ cs) = refl
+order-after-starting-from r after (command.Refused number offset ∷ cs) = refl
 
 -- ---- a command in the arms of a match
 pub matched-command-is-command-at : (r : List ℕ) (at : ℕ) (c d : Command) → c ≡ commandAt r at → c ≡ d → d ≡ commandAt r at
 matched-command-is-command-at r at c d e f = sym f ∙ e
 
--- the bytes of a call's command, in the arms of a match on the call
-module _ (c : Call) where
-  pub size-of-take : (i size : ℕ) → c ≡ call.Take i size → 4 ≡ sizeOfCommand (commandOf c)
-  unfolding commandOf sizeOfCommand
-  size-of-take i size e = ap (λ (x : Call). sizeOfCommand (commandOf x)) (sym e)
+-- a drop's addresses begin at byte 3 of its command
+pub drop-call-at : (r : List ℕ) (at i count first : ℕ) (addresses : List ℕ) → command.Drop i count first ≡ commandAt r at → addresses ≡ addressesIn r first count → CallAt r at (header.Drop i) addresses count
+unfolding commandOf
+drop-call-at r at i count first addresses e same =
+    let begin = drop-iff-drop-at r at i count first .0 (sym e) .6 in
+    record { command-is = ap (command.Drop i count) (sym begin) ∙ e; addresses-are = same ∙ ap (λ (n : ℕ). addressesIn r n count) begin }
 
-  pub size-of-free : (i a : ℕ) → c ≡ call.Free i a → 6 ≡ sizeOfCommand (commandOf c)
-  unfolding commandOf sizeOfCommand
-  size-of-free i a e = ap (λ (x : Call). sizeOfCommand (commandOf x)) (sym e)
+-- no other call has addresses
+pub no-addresses : (r : List ℕ) (at : ℕ) → [] ≡ addressesIn r at 0
+unfolding foursAt listed
+no-addresses r at = refl
 
-  pub size-of-named-take : (i m size : ℕ) → c ≡ call.NamedTake i m size → 6 ≡ sizeOfCommand (commandOf c)
-  unfolding commandOf sizeOfCommand
-  size-of-named-take i m size e = ap (λ (x : Call). sizeOfCommand (commandOf x)) (sym e)
+pub call-at-of-named-take : (r : List ℕ) (at : ℕ) (call : CallHeader) (i m size : ℕ) → call ≡ header.NamedTake i m size → command.NamedTake i m size ≡ commandAt r at → CallAt r at call [] 0
+unfolding commandOf
+call-at-of-named-take r at call i m size is e = rw is (record { command-is = e; addresses-are = no-addresses r (at + 3) })
 
-  pub size-of-named-free : (i m : ℕ) → c ≡ call.NamedFree i m → 4 ≡ sizeOfCommand (commandOf c)
+-- the bytes of a call's command, in the arms of a match on its header
+module _ (c : CallHeader) (count : ℕ) where
+  pub size-of-take : (i size : ℕ) → c ≡ header.Take i size → (first : ℕ) → 4 ≡ sizeOfCommand (commandOf c count first)
   unfolding commandOf sizeOfCommand
-  size-of-named-free i m e = ap (λ (x : Call). sizeOfCommand (commandOf x)) (sym e)
+  size-of-take i size e first = ap (λ (h : CallHeader). sizeOfCommand (commandOf h count first)) (sym e)
+
+  pub size-of-free : (i a : ℕ) → c ≡ header.Free i a → (first : ℕ) → 6 ≡ sizeOfCommand (commandOf c count first)
+  unfolding commandOf sizeOfCommand
+  size-of-free i a e first = ap (λ (h : CallHeader). sizeOfCommand (commandOf h count first)) (sym e)
+
+  pub size-of-named-take : (i m size : ℕ) → c ≡ header.NamedTake i m size → (first : ℕ) → 6 ≡ sizeOfCommand (commandOf c count first)
+  unfolding commandOf sizeOfCommand
+  size-of-named-take i m size e first = ap (λ (h : CallHeader). sizeOfCommand (commandOf h count first)) (sym e)
+
+  pub size-of-named-free : (i m : ℕ) → c ≡ header.NamedFree i m → (first : ℕ) → 4 ≡ sizeOfCommand (commandOf c count first)
+  unfolding commandOf sizeOfCommand
+  size-of-named-free i m e first = ap (λ (h : CallHeader). sizeOfCommand (commandOf h count first)) (sym e)
+
+  pub size-of-drop : (i : ℕ) → c ≡ header.Drop i → (first : ℕ) → 3 + 4 * count ≡ sizeOfCommand (commandOf c count first)
+  unfolding commandOf sizeOfCommand
+  size-of-drop i e first = ap (λ (h : CallHeader). sizeOfCommand (commandOf h count first)) (sym e)
 
 -- ---- a text in the buffer with the storage
 abbrev text-and-order : Pasted → List ℕ → TextAndOrder
 text-and-order text order = record { text = text; order = order }
 
 -- what is to come after a command that left this
-ahead-of-next : (r : List ℕ) (after : After) (at end : ℕ) → (textAhead r (nextOf r (after .answer .state) at end) (after .order) ≡ textOf after (remaining r at))
-    × (orderAhead r (nextOf r (after .answer .state) at end) (after .order) ≡ orderAfter after (remaining r at))
+ahead-of-next : (r : List ℕ) (after : After) (at end : ℕ) → (textAhead r (nextOf r (after .answer .state) at end) (after .order) ≡ textOf r after (remaining r at))
+    × (orderAhead r (nextOf r (after .answer .state) at end) (after .order) ≡ orderAfter r after (remaining r at))
 unfolding textAhead orderAhead closingLines textOf orderAfter
 ahead-of-next r after at end = go (decLe (length r) at)
   where
     Next : Type 0
-    Next = (textAhead r (nextOf r (after .answer .state) at end) (after .order) ≡ textOf after (remaining r at))
-        × (orderAhead r (nextOf r (after .answer .state) at end) (after .order) ≡ orderAfter after (remaining r at))
+    Next = (textAhead r (nextOf r (after .answer .state) at end) (after .order) ≡ textOf r after (remaining r at))
+        × (orderAhead r (nextOf r (after .answer .state) at end) (after .order) ≡ orderAfter r after (remaining r at))
 
     go : Dec (length r ≤ at) → Next
     go (yes h) = rw (le-ltb at (length r) h, remaining-end r at h) (refl, refl)
-    go (no f) = rw (lt-ltb at (length r) (lt-of-not-le f), remaining-inside r at (lt-of-not-le f)) (sym (text-of-starting-from after (commandsAt r at)), sym (order-after-starting-from after (commandsAt r at)))
+    go (no f) = rw (lt-ltb at (length r) (lt-of-not-le f), remaining-inside r at (lt-of-not-le f)) (sym (text-of-starting-from r after (commandsAt r at)), sym (order-after-starting-from r after (commandsAt r at)))
 
 text-and-order-ahead-of-next : (r : List ℕ) (after : After) (at end : ℕ) (text : List ℕ)
-    → textAndOrderAhead r (nextOf r (after .answer .state) at end) (after .order) text ≡ text-and-order (pasted text end (textOf after (remaining r at))) (orderAfter after (remaining r at))
+    → textAndOrderAhead r (nextOf r (after .answer .state) at end) (after .order) text ≡ text-and-order (pasted text end (textOf r after (remaining r at))) (orderAfter r after (remaining r at))
 unfolding textAndOrderAhead
 text-and-order-ahead-of-next r after at end text =
     let next = ahead-of-next r after at end in
     ap (λ (l : List ℕ). text-and-order (pasted text end l) (orderAhead r (nextOf r (after .answer .state) at end) (after .order))) (next .0)
-    ∙ ap (text-and-order (pasted text end (textOf after (remaining r at)))) (next .1)
+    ∙ ap (text-and-order (pasted text end (textOf r after (remaining r at)))) (next .1)
 
 module _ (r : List ℕ) (x : Replay) (order out : List ℕ) (bounds : InBounds x out) (going : x .going ≡ true) where
   -- so far this stands and is to come
-  text-and-order-ahead-of-going : textAndOrderAhead r x order out ≡ text-and-order (pasted out (x .end) (textOf (stateAndStorage (x .state) order) (commandsAt r (x .at)))) (orderAfter (stateAndStorage (x .state) order) (commandsAt r (x .at)))
+  text-and-order-ahead-of-going : textAndOrderAhead r x order out ≡ text-and-order (pasted out (x .end) (textOf r (stateAndStorage (x .state) order) (commandsAt r (x .at)))) (orderAfter r (stateAndStorage (x .state) order) (commandsAt r (x .at)))
   unfolding textAndOrderAhead textAhead orderAhead
   text-and-order-ahead-of-going = rw going
 
@@ -114,7 +141,7 @@ module _ (r : List ℕ) (x : Replay) (order out : List ℕ) (bounds : InBounds x
   commands-left-of-going = rw going
 
   -- ---- a command that was read whole, of k bytes, and prints a line
-  module _ (line : List ℕ) (after : After) (k end : ℕ) (text : List ℕ) (put : record { end = end; buffer = text } ≡ pasted out (x .end) line) (some : 4 ≤ k)
+  module _ (line : List ℕ) (after : After) (k end : ℕ) (text : List ℕ) (put : record { end = end; buffer = text } ≡ pasted out (x .end) line) (some : 0 < k)
       (inside : x .at + k ≤ length r) (short : length r ≤ 60000) (readable : TotalsReadable (after .answer .state)) where
     abbrev nextReplay : Replay
     nextReplay = nextOf r (after .answer .state) (x .at + k) end
@@ -130,8 +157,8 @@ module _ (r : List ℕ) (x : Replay) (order out : List ℕ) (bounds : InBounds x
         go true = omega arith
         go false = omega arith
 
-    stepped-of-line : textOf (stateAndStorage (x .state) order) (commandsAt r (x .at)) ≡ line ++ textOf after (remaining r (x .at + k))
-        → orderAfter (stateAndStorage (x .state) order) (commandsAt r (x .at)) ≡ orderAfter after (remaining r (x .at + k))
+    stepped-of-line : textOf r (stateAndStorage (x .state) order) (commandsAt r (x .at)) ≡ line ++ textOf r after (remaining r (x .at + k))
+        → orderAfter r (stateAndStorage (x .state) order) (commandsAt r (x .at)) ≡ orderAfter r after (remaining r (x .at + k))
         → Stepped r x order out nextReplay (after .order) text
     stepped-of-line e f = record { text-and-order-same = same; in-bounds = next-replay-in-bounds; fewer-commands-left = commands-left-of-next-lt }
       where
@@ -141,15 +168,15 @@ module _ (r : List ℕ) (x : Replay) (order out : List ℕ) (bounds : InBounds x
         same : textAndOrderAhead r (nextOf r (after .answer .state) (x .at + k) end) (after .order) text ≡ textAndOrderAhead r x order out
         same =
             text-and-order-ahead-of-next r after (x .at + k) end text
-            ∙ ap (λ (z : Pasted). text-and-order (pasted (z .buffer) (z .end) (textOf after rest)) (orderAfter after rest)) put
-            ∙ ap (λ (z : Pasted). text-and-order z (orderAfter after rest)) (paste-append out (x .end) line (textOf after rest))
-            ∙ ap (λ (l : List ℕ). text-and-order (pasted out (x .end) l) (orderAfter after rest)) (sym e)
-            ∙ ap (text-and-order (pasted out (x .end) (textOf (stateAndStorage (x .state) order) (commandsAt r (x .at))))) (sym f)
+            ∙ ap (λ (z : Pasted). text-and-order (pasted (z .buffer) (z .end) (textOf r after rest)) (orderAfter r after rest)) put
+            ∙ ap (λ (z : Pasted). text-and-order z (orderAfter r after rest)) (paste-append out (x .end) line (textOf r after rest))
+            ∙ ap (λ (l : List ℕ). text-and-order (pasted out (x .end) l) (orderAfter r after rest)) (sym e)
+            ∙ ap (text-and-order (pasted out (x .end) (textOf r (stateAndStorage (x .state) order) (commandsAt r (x .at))))) (sym f)
             ∙ sym text-and-order-ahead-of-going
 
   -- ---- a stop line
-  stepped-of-stop-line : (number offset : ℕ) (y : Replay) (new text : List ℕ) → textOf (stateAndStorage (x .state) order) (commandsAt r (x .at)) ≡ stopLine number offset
-      → orderAfter (stateAndStorage (x .state) order) (commandsAt r (x .at)) ≡ new → Stopped x out number offset y text → Stepped r x order out y new text
+  stepped-of-stop-line : (number offset : ℕ) (y : Replay) (new text : List ℕ) → textOf r (stateAndStorage (x .state) order) (commandsAt r (x .at)) ≡ stopLine number offset
+      → orderAfter r (stateAndStorage (x .state) order) (commandsAt r (x .at)) ≡ new → Stopped x out number offset y text → Stepped r x order out y new text
   unfolding textAndOrderAhead textAhead orderAhead closingLines commandsLeft
   stepped-of-stop-line number offset y new text e f s = subst (λ (z : Replay). Stepped r x order out z new text) (sym (s .replay-is)) (record { text-and-order-same = same; in-bounds = stays; fewer-commands-left = fewer })
     where
@@ -161,7 +188,7 @@ module _ (r : List ℕ) (x : Replay) (order out : List ℕ) (bounds : InBounds x
           ap (λ (z : Pasted). text-and-order (pasted (z .buffer) (z .end) []) new) (s .line-written)
           ∙ ap (λ (z : Pasted). text-and-order z new) (paste-append out (x .end) line [])
           ∙ ap (λ (l : List ℕ). text-and-order (pasted out (x .end) l) new) (append-nil line ∙ sym e)
-          ∙ ap (text-and-order (pasted out (x .end) (textOf (stateAndStorage (x .state) order) (commandsAt r (x .at))))) (sym f)
+          ∙ ap (text-and-order (pasted out (x .end) (textOf r (stateAndStorage (x .state) order) (commandsAt r (x .at))))) (sym f)
           ∙ sym text-and-order-ahead-of-going
 
       stays : InBounds (stopOf x (y .end)) text
@@ -172,15 +199,15 @@ module _ (r : List ℕ) (x : Replay) (order out : List ℕ) (bounds : InBounds x
 
   -- ---- the commands
   -- a call keeps the totals and the setup numbers, so that the totals can be read after it too
-  totals-readable-after-call : (call : Call) → callOf (x .state) order call .answer .state .setup ≡ x .state .setup → TotalsReadable (callOf (x .state) order call .answer .state)
-  totals-readable-after-call call same =
-      (call-keeps-totals (x .state) order call (bounds .totals-readable .0), subst (λ (u : Setup). u .processors ≤ 8) (sym same) (bounds .totals-readable .1))
+  totals-readable-after-call : (c : Call) → callOf (x .state) order c .answer .state .setup ≡ x .state .setup → TotalsReadable (callOf (x .state) order c .answer .state)
+  totals-readable-after-call c same =
+      (call-keeps-totals (x .state) order c (bounds .totals-readable .0), subst (λ (u : Setup). u .processors ≤ 8) (sym same) (bounds .totals-readable .1))
 
   -- a call, of k bytes, that left this and prints its outcome so
-  module _ (d : Command) (k : ℕ) (line : Outcome → List ℕ) (left : After) (readable : TotalsReadable (left .answer .state)) (inside-record : (length r ≤ 60000) × (0 < x .at) × (x .at + k ≤ length r)) (some : 4 ≤ k)
+  module _ (d : Command) (k : ℕ) (line : Outcome → List ℕ) (left : After) (readable : TotalsReadable (left .answer .state)) (inside-record : (length r ≤ 60000) × (0 < x .at) × (x .at + k ≤ length r)) (some : 0 < k)
       (commands : commandsAt r (x .at) ≡ d ∷ remaining r (x .at + k))
-      (text-is : textOf (stateAndStorage (x .state) order) (d ∷ remaining r (x .at + k)) ≡ line (left .answer .outcome) ++ textOf left (remaining r (x .at + k)))
-      (order-is : orderAfter (stateAndStorage (x .state) order) (d ∷ remaining r (x .at + k)) ≡ orderAfter left (remaining r (x .at + k))) where
+      (text-is : textOf r (stateAndStorage (x .state) order) (d ∷ remaining r (x .at + k)) ≡ line (left .answer .outcome) ++ textOf r left (remaining r (x .at + k)))
+      (order-is : orderAfter r (stateAndStorage (x .state) order) (d ∷ remaining r (x .at + k)) ≡ orderAfter r left (remaining r (x .at + k))) where
     stepped-of-line-and-answer : (a : Answer) (new : List ℕ) → record { answer = a; order = new } ≡ left
         → (end : ℕ) (text : List ℕ) → record { end = end; buffer = text } ≡ pasted out (x .end) (line (a .outcome))
         → (y : Replay) → y ≡ nextOf r (a .state) (x .at + k) end → Stepped r x order out y new text
@@ -189,30 +216,37 @@ module _ (r : List ℕ) (x : Replay) (order out : List ℕ) (bounds : InBounds x
         let rest = remaining r (x .at + k) in
         subst (λ (z : Replay). Stepped r x order out z new text) (sym is)
         (stepped-of-line (line (a .outcome)) after k end text put some (inside-record .2) (inside-record .0) (subst (λ (z : After). TotalsReadable (z .answer .state)) (sym e) readable)
-        (ap (textOf (stateAndStorage (x .state) order)) commands ∙ text-is ∙ ap (λ (z : After). line (z .answer .outcome) ++ textOf z rest) (sym e))
-        (ap (orderAfter (stateAndStorage (x .state) order)) commands ∙ order-is ∙ ap (λ (z : After). orderAfter z rest) (sym e)))
+        (ap (textOf r (stateAndStorage (x .state) order)) commands ∙ text-is ∙ ap (λ (z : After). line (z .answer .outcome) ++ textOf r z rest) (sym e))
+        (ap (orderAfter r (stateAndStorage (x .state) order)) commands ∙ order-is ∙ ap (λ (z : After). orderAfter r z rest) (sym e)))
 
   -- what a call's command is in the record: where it ends, the commands after it, and what is printed and left
-  pub stepped-of-call : (call : Call) → commandOf call ≡ commandAt r (x .at) → (a : Answer) (new : List ℕ) → record { answer = a; order = new } ≡ callOf (x .state) order call
-      → (end : ℕ) (text : List ℕ) → record { end = end; buffer = text } ≡ pasted out (x .end) (callLine call (a .outcome))
-      → (n : ℕ) → n ≡ sizeOfCommand (commandOf call) → (y : Replay) → y ≡ nextOf r (a .state) (x .at + n) end → Stepped r x order out y new text
-  unfolding callOf callLine commandOf sizeOfCommand textOf orderAfter
-  stepped-of-call (call.Take i size) c a new e end text put n size-is y is =
+  pub stepped-of-call : (call : CallHeader) (addresses : List ℕ) (count : ℕ) → CallAt r (x .at) call addresses count
+      → (a : Answer) (new : List ℕ) → record { answer = a; order = new } ≡ callOf (x .state) order (callWith call addresses)
+      → (end : ℕ) (text : List ℕ) → record { end = end; buffer = text } ≡ pasted out (x .end) (callLine call count (a .outcome))
+      → (n : ℕ) → ((first : ℕ) → n ≡ sizeOfCommand (commandOf call count first)) → (y : Replay) → y ≡ nextOf r (a .state) (x .at + n) end → Stepped r x order out y new text
+  unfolding callWith callOf callLine commandOf sizeOfCommand textOf orderAfter
+  stepped-of-call (header.Take i size) addresses count c a new e end text put n size-is y is =
       let d = command.Take i size in
-      stepped-of-line-and-answer d 4 (takeLine i size) (takeOf (x .state) order i size) (totals-readable-after-call (call.Take i size) (setup-kept-by-take (x .state) order i size)) (take-later-and-inside r (x .at) d c i size refl) (omega arith) (commands-take r (x .at) d c i size refl) refl refl a new e end text put y
-      (is ∙ ap (λ (k : ℕ). nextOf r (a .state) (x .at + k) end) size-is)
-  stepped-of-call (call.Free i address) c a new e end text put n size-is y is =
+      stepped-of-line-and-answer d 4 (takeLine i size) (takeOf (x .state) order i size) (totals-readable-after-call (call.Take i size) (setup-kept-by-take (x .state) order i size)) (take-later-and-inside r (x .at) d (c .command-is) i size refl) (omega arith) (commands-take r (x .at) d (c .command-is) i size refl) refl refl a new e end text put y
+      (is ∙ ap (λ (k : ℕ). nextOf r (a .state) (x .at + k) end) (size-is 0))
+  stepped-of-call (header.Free i address) addresses count c a new e end text put n size-is y is =
       let d = command.Free i address in
-      stepped-of-line-and-answer d 6 (freeLine i address) (freeOf (x .state) order i address) (totals-readable-after-call (call.Free i address) (setup-kept-by-free (x .state) order i address)) (free-later-and-inside r (x .at) d c i address refl) (omega arith) (commands-free r (x .at) d c i address refl) refl refl a new e end text put y
-      (is ∙ ap (λ (k : ℕ). nextOf r (a .state) (x .at + k) end) size-is)
-  stepped-of-call (call.NamedTake i m size) c a new e end text put n size-is y is =
+      stepped-of-line-and-answer d 6 (freeLine i address) (freeOf (x .state) order i address) (totals-readable-after-call (call.Free i address) (setup-kept-by-free (x .state) order i address)) (free-later-and-inside r (x .at) d (c .command-is) i address refl) (omega arith) (commands-free r (x .at) d (c .command-is) i address refl) refl refl a new e end text put y
+      (is ∙ ap (λ (k : ℕ). nextOf r (a .state) (x .at + k) end) (size-is 0))
+  stepped-of-call (header.NamedTake i m size) addresses count c a new e end text put n size-is y is =
       let d = command.NamedTake i m size in
-      stepped-of-line-and-answer d 6 (namedTakeLine i m size) (namedTakeOf (x .state) order i m size) (totals-readable-after-call (call.NamedTake i m size) (setup-kept-by-named-take (x .state) order i m size)) (named-take-later-and-inside r (x .at) d c i m size refl) (omega arith) (commands-named-take r (x .at) d c i m size refl) refl refl a new e end text put y
-      (is ∙ ap (λ (k : ℕ). nextOf r (a .state) (x .at + k) end) size-is)
-  stepped-of-call (call.NamedFree i m) c a new e end text put n size-is y is =
+      stepped-of-line-and-answer d 6 (namedTakeLine i m size) (namedTakeOf (x .state) order i m size) (totals-readable-after-call (call.NamedTake i m size) (setup-kept-by-named-take (x .state) order i m size)) (named-take-later-and-inside r (x .at) d (c .command-is) i m size refl) (omega arith) (commands-named-take r (x .at) d (c .command-is) i m size refl) refl refl a new e end text put y
+      (is ∙ ap (λ (k : ℕ). nextOf r (a .state) (x .at + k) end) (size-is 0))
+  stepped-of-call (header.NamedFree i m) addresses count c a new e end text put n size-is y is =
       let d = command.NamedFree i m in
-      stepped-of-line-and-answer d 4 (namedFreeLine i m) (namedFreeOf (x .state) order i m) (totals-readable-after-call (call.NamedFree i m) (setup-kept-by-named-free (x .state) order i m)) (named-free-later-and-inside r (x .at) d c i m refl) (omega arith) (commands-named-free r (x .at) d c i m refl) refl refl a new e end text put y
-      (is ∙ ap (λ (k : ℕ). nextOf r (a .state) (x .at + k) end) size-is)
+      stepped-of-line-and-answer d 4 (namedFreeLine i m) (namedFreeOf (x .state) order i m) (totals-readable-after-call (call.NamedFree i m) (setup-kept-by-named-free (x .state) order i m)) (named-free-later-and-inside r (x .at) d (c .command-is) i m refl) (omega arith) (commands-named-free r (x .at) d (c .command-is) i m refl) refl refl a new e end text put y
+      (is ∙ ap (λ (k : ℕ). nextOf r (a .state) (x .at + k) end) (size-is 0))
+  stepped-of-call (header.Drop i) addresses count c a new e end text put n size-is y is =
+      let first = x .at + 3 in
+      let d = command.Drop i count first in
+      let all = addressesIn r first count in
+      stepped-of-line-and-answer d (3 + 4 * count) (dropLine i count) (dropOf (x .state) order i all) (totals-readable-after-call (call.Drop i all) (setup-kept-by-drop (x .state) order i all)) (drop-later-and-inside r (x .at) d (c .command-is) i count first refl) (omega arith) (commands-drop r (x .at) d (c .command-is) i count first refl) refl refl a new (e ∙ ap (dropOf (x .state) order i) (c .addresses-are)) end text put y
+      (is ∙ ap (λ (k : ℕ). nextOf r (a .state) (x .at + k) end) (size-is 0))
 
   module _ (u : Setup) (c : command.Setup (u .processors) (u .superblocks) (u .spare) (u .p) (u .q) ≡ commandAt r (x .at))
       (a : Answer) (new : List ℕ) (e : record { answer = a; order = new } ≡ setupOf u order) (number : ℕ) (n : number ≡ numberOf (a .outcome)) where
@@ -226,19 +260,19 @@ module _ (r : List ℕ) (x : Replay) (order out : List ℕ) (bounds : InBounds x
     unfolding setup-rest
     commands-at-setup = commands-setup r (x .at) (command.Setup (u .processors) (u .superblocks) (u .spare) (u .p) (u .q)) c (u .processors) (u .superblocks) (u .spare) (u .p) (u .q) refl
 
-    text-of-setup-command : textOf (stateAndStorage (x .state) order) (commandsAt r (x .at)) ≡ pick (eqb number 0) (setupLine u ++ textOf setup-after setup-rest) (stopLine number 0)
+    text-of-setup-command : textOf r (stateAndStorage (x .state) order) (commandsAt r (x .at)) ≡ pick (eqb number 0) (setupLine u ++ textOf r setup-after setup-rest) (stopLine number 0)
     unfolding textOf setupText setup-after
     text-of-setup-command =
-        ap (textOf (stateAndStorage (x .state) order)) commands-at-setup
-        ∙ ap (λ (z : After). setupText u (z .answer .outcome) (textOf z setup-rest)) (sym e)
-        ∙ ap (λ (m : ℕ). pick (eqb m 0) (setupLine u ++ textOf setup-after setup-rest) (stopLine m 0)) (sym n)
+        ap (textOf r (stateAndStorage (x .state) order)) commands-at-setup
+        ∙ ap (λ (z : After). setupText u (z .answer .outcome) (textOf r z setup-rest)) (sym e)
+        ∙ ap (λ (m : ℕ). pick (eqb m 0) (setupLine u ++ textOf r setup-after setup-rest) (stopLine m 0)) (sym n)
 
-    order-after-setup-command : orderAfter (stateAndStorage (x .state) order) (commandsAt r (x .at)) ≡ pick (eqb number 0) (orderAfter setup-after setup-rest) new
+    order-after-setup-command : orderAfter r (stateAndStorage (x .state) order) (commandsAt r (x .at)) ≡ pick (eqb number 0) (orderAfter r setup-after setup-rest) new
     unfolding orderAfter setup-after
     order-after-setup-command =
-        ap (orderAfter (stateAndStorage (x .state) order)) commands-at-setup
-        ∙ ap (λ (z : After). pick (eqb (numberOf (z .answer .outcome)) 0) (orderAfter z setup-rest) (z .order)) (sym e)
-        ∙ ap (λ (m : ℕ). pick (eqb m 0) (orderAfter setup-after setup-rest) new) (sym n)
+        ap (orderAfter r (stateAndStorage (x .state) order)) commands-at-setup
+        ∙ ap (λ (z : After). pick (eqb (numberOf (z .answer .outcome)) 0) (orderAfter r z setup-rest) (z .order)) (sym e)
+        ∙ ap (λ (m : ℕ). pick (eqb m 0) (orderAfter r setup-after setup-rest) new) (sym n)
 
     totals-readable-after-setup : TotalsReadable (a .state)
     totals-readable-after-setup = subst (λ (z : After). TotalsReadable (z .answer .state)) (sym e) (new-or-refused-setup-totals-kept u order, processors-after-setup-le-8 u order)
@@ -263,4 +297,4 @@ module _ (r : List ℕ) (x : Replay) (order out : List ℕ) (bounds : InBounds x
   unfolding textOf orderAfter
   stepped-of-refused-command number offset c y text s =
       let commands = commands-refused r (x .at) (command.Refused number offset) number offset c refl in
-      stepped-of-stop-line number offset y order text (ap (textOf (stateAndStorage (x .state) order)) commands) (ap (orderAfter (stateAndStorage (x .state) order)) commands) s
+      stepped-of-stop-line number offset y order text (ap (textOf r (stateAndStorage (x .state) order)) commands) (ap (orderAfter r (stateAndStorage (x .state) order)) commands) s

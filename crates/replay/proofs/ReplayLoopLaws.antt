@@ -63,6 +63,6 @@ key-written-of-finished r order out x new mid text n bytes big finished-of-not-g
       },
     )
 
-pub key-or-no-room-of-short-buffer : (r order out : List ℕ) (n : ℕ) → length out < n → n ≤ 524288 → KeyOrNoRoom r order out NoRoom order out
+pub key-or-no-room-of-short-buffer : (r order out : List ℕ) (n : ℕ) → length out < n → n ≤ 655360 → KeyOrNoRoom r order out NoRoom order out
 unfolding KeyOrNoRoom
 key-or-no-room-of-short-buffer r order out n small few = (omega arith, refl, refl)

@@ -2,7 +2,7 @@
 use mathlib.Core.Path.{_≡_}
 use mathlib.Core.Bool.{true, false}
 use mathlib.Core.List.{List}
-use Prim.Native.Nat.{ℕ, suc, _-_, _≤_, _<_}
+use Prim.Native.Nat.{ℕ, suc, _+_, _-_, _≤_, _<_}
 use lib.ListN.{length}
 use lib.Dec.{ltb}
 use Rattle.laws.specs.Sums.{pick}
@@ -13,18 +13,18 @@ use Rattle.calls.specs.declared.CallHeader.{CallHeader}
 use Rattle.calls.specs.declared.CallHeader.the-variants as header
 use Rattle.commands.specs.declared.Command.{Command}
 use Rattle.commands.specs.declared.Command.the-variants as command
-use Rattle.commands.specs.Record.{commandsFrom}
+use Rattle.commands.specs.Record.{addressesIn, commandAt, commandsFrom}
 use Rattle.linerules.specs.Lines.{stopLine, closingLines}
 use Rattle.replay.specs.declared.Replay.{Replay}
 use Rattle.keyrules.specs.Key.{stateAndStorage, textOf, orderAfter, keyOf, storageOf}
 
 -- the text still to come
 unfoldable pub textAhead : List ℕ → Replay → List ℕ → List ℕ
-textAhead r x order = pick (x .going) (textOf (stateAndStorage (x .state) order) (commandsFrom (suc (length r)) r (x .at))) (closingLines (x .stopped) (x .state))
+textAhead r x order = pick (x .going) (textOf r (stateAndStorage (x .state) order) (commandsFrom (suc (length r)) r (x .at))) (closingLines (x .stopped) (x .state))
 
 -- the storage that the commands still to be read leave
 unfoldable pub orderAhead : List ℕ → Replay → List ℕ → List ℕ
-orderAhead r x order = pick (x .going) (orderAfter (stateAndStorage (x .state) order) (commandsFrom (suc (length r)) r (x .at))) order
+orderAhead r x order = pick (x .going) (orderAfter r (stateAndStorage (x .state) order) (commandsFrom (suc (length r)) r (x .at))) order
 
 -- a text in the buffer, and the order storage beside it
 pub record TextAndOrder : Type 0 where
@@ -77,9 +77,15 @@ pub record Stopped (x : Replay) (out : List ℕ) (number offset : ℕ) (y : Repl
   pub line-written : record { end = y .end; buffer = text } ≡ pasted out (x .end) (stopLine number offset)
   pub replay-is : y ≡ stopOf x (y .end)
 
--- the command of a call
-unfoldable pub commandOf : Call → Command
-commandOf (call.Take processor size) = command.Take processor size
-commandOf (call.Free processor address) = command.Free processor address
-commandOf (call.NamedTake processor name size) = command.NamedTake processor name size
-commandOf (call.NamedFree processor name) = command.NamedFree processor name
+-- the command of a call with this header; of a drop, with so many addresses, the first of which stands at an offset of the record
+unfoldable pub commandOf : CallHeader → ℕ → ℕ → Command
+commandOf (header.Take processor size) count first = command.Take processor size
+commandOf (header.Free processor address) count first = command.Free processor address
+commandOf (header.NamedTake processor name size) count first = command.NamedTake processor name size
+commandOf (header.NamedFree processor name) count first = command.NamedFree processor name
+commandOf (header.Drop processor) count first = command.Drop processor count first
+
+-- a call's command stands at a position of the record, and its addresses, so many, are lent beside its header
+pub record CallAt (r : List ℕ) (at : ℕ) (call : CallHeader) (addresses : List ℕ) (count : ℕ) : Type 0 where
+  pub command-is : commandOf call count (at + 3) ≡ commandAt r at
+  pub addresses-are : addresses ≡ addressesIn r (at + 3) count

@@ -1,19 +1,29 @@
 // The printed key of a record.
 ghost use mathlib.Core.Path.{_≡_};
 ghost use mathlib.Core.Bool.{true};
-ghost use Prim.Native.Nat.{_≤_};
+ghost use mathlib.Core.List.{[]};
+ghost use Prim.Native.Nat.{ℕ, _≤_};
+ghost use Rattle.calls.specs.declared.CallHeader.the-variants as header;
 ghost use Rattle.commands.specs.Record.{commandAt, sizeOfCommand};
 ghost use Rattle.commands.specs.declared.Command.the-variants as command;
 ghost use Rattle.keyrules.specs.Key.{KeyOrNoRoom};
-ghost use Rattle.replay.specs.Steps.{InBounds, Stepped, Finished, Stopped, commandOf, nextOf};
-use calls::Call;
+ghost use Rattle.replay.specs.Steps.{
+  InBounds,
+  Stepped,
+  Finished,
+  Stopped,
+  commandOf,
+  CallAt,
+  nextOf,
+};
+use calls::CallHeader;
 use commands::Command;
 use heap::Setup;
 use heap::State;
 use keyrules::Printed;
 
 // Bytes that hold the key of any record.
-pub const ROOM: usize = 524288;
+pub const ROOM: usize = 655360;
 
 // Where the replay of a record stands: the state, the position in the record, the end of the text, and whether it goes on, or has
 // printed its stop line.
@@ -70,52 +80,64 @@ fn step(bytes: &[u8], order: &mut [u16], out: &mut [u8], x: Replay) -> Replay
             spare,
             p,
             q,
-        } => setup_step(
-            bytes,
-            order,
-            out,
-            x,
-            Setup {
-                processors,
-                superblocks,
-                spare,
-                p,
-                q,
-            },
-        ),
+        } => setup_step(bytes, order, out, x, processors, superblocks, spare, p, q),
         Command::Take { processor, size } => {
-            call_step(bytes, order, out, x, Call::Take { processor, size })
+            block_step(bytes, order, out, x, CallHeader::Take { processor, size })
         }
         Command::Free { processor, address } => {
-            call_step(bytes, order, out, x, Call::Free { processor, address })
+            let call = CallHeader::Free { processor, address };
+            block_step(bytes, order, out, x, call)
         }
         Command::NamedTake {
             processor,
             name,
             size,
-        } => call_step(
-            bytes,
-            order,
-            out,
-            x,
-            Call::NamedTake {
-                processor,
-                name,
-                size,
-            },
-        ),
+        } => block_step(bytes, order, out, x, named_take(processor, name, size)),
         Command::NamedFree { processor, name } => {
-            call_step(bytes, order, out, x, Call::NamedFree { processor, name })
+            let call = CallHeader::NamedFree { processor, name };
+            block_step(bytes, order, out, x, call)
         }
+        Command::Drop {
+            processor,
+            count,
+            first,
+        } => drop_step(bytes, order, out, x, processor, count, first),
         Command::Refused { number, offset } => stop_step(out, x, number, offset),
     }
 }
 
+fn named_take(processor: u8, name: u16, size: u16) -> CallHeader
+    ensures { λ c. ⌜ c ≡ header.NamedTake processor name size ⌝ }
+{
+    CallHeader::NamedTake {
+        processor,
+        name,
+        size,
+    }
+}
+
 // A setup, whose refusal stops the record.
-fn setup_step(bytes: &[u8], order: &mut [u16], out: &mut [u8], x: Replay, u: Setup) -> Replay
-    requires { ⌜ InBounds x (now out) × (x .going ≡ true) × (command.Setup (u .processors) (u .superblocks) (u .spare) (u .p) (u .q) ≡ commandAt (now bytes) (x .at)) ⌝ }
+fn setup_step(
+    bytes: &[u8],
+    order: &mut [u16],
+    out: &mut [u8],
+    x: Replay,
+    processors: u8,
+    superblocks: u8,
+    spare: u8,
+    p: u8,
+    q: u8,
+) -> Replay
+    requires { ⌜ InBounds x (now out) × (x .going ≡ true) × (command.Setup processors superblocks spare p q ≡ commandAt (now bytes) (x .at)) ⌝ }
     ensures { λ y. ⌜ Stepped (now (bytes .entry)) x (now (order .entry)) (now (out .entry)) y (now (order .exit)) (now (out .exit)) ⌝ }
 {
+    let u = Setup {
+        processors,
+        superblocks,
+        spare,
+        p,
+        q,
+    };
     let a = engine::setup(u, order);
     let outcome = a.outcome;
     let number = states::number_of(outcome);
@@ -127,32 +149,74 @@ fn setup_step(bytes: &[u8], order: &mut [u16], out: &mut [u8], x: Replay, u: Set
     next(bytes, s, x.at + 6, end)
 }
 
-// A call prints its outcome, a refusal too, and the record goes on.
-fn call_step(bytes: &[u8], order: &mut [u16], out: &mut [u8], x: Replay, call: Call) -> Replay
-    requires { ⌜ InBounds x (now out) × (x .going ≡ true) × (commandOf call ≡ commandAt (now bytes) (x .at)) ⌝ }
+// A take or a free, which has no addresses beside its header.
+fn block_step(
+    bytes: &[u8],
+    order: &mut [u16],
+    out: &mut [u8],
+    x: Replay,
+    call: CallHeader,
+) -> Replay
+    requires { ⌜ InBounds x (now out) × (x .going ≡ true) × CallAt (now bytes) (x .at) call [] 0 ⌝ }
+    ensures { λ y. ⌜ Stepped (now (bytes .entry)) x (now (order .entry)) (now (out .entry)) y (now (order .exit)) (now (out .exit)) ⌝ }
+{
+    call_step(bytes, order, out, x, call, &[], 0)
+}
+
+// A drop, with its addresses out of the record. No other command makes this array.
+fn drop_step(
+    bytes: &[u8],
+    order: &mut [u16],
+    out: &mut [u8],
+    x: Replay,
+    processor: u8,
+    count: u8,
+    first: u32,
+) -> Replay
+    requires { ⌜ InBounds x (now out) × (x .going ≡ true) × (command.Drop processor count first ≡ commandAt (now bytes) (x .at)) ⌝ }
+    ensures { λ y. ⌜ Stepped (now (bytes .entry)) x (now (order .entry)) (now (out .entry)) y (now (order .exit)) (now (out .exit)) ⌝ }
+{
+    let addresses = littleendian::fours_at(bytes, first as usize, count);
+    let n = count as usize;
+    let call = CallHeader::Drop { processor };
+    call_step(bytes, order, out, x, call, &addresses[..n], count)
+}
+
+// A call prints its outcome, a refusal too, and the record goes on. Only a drop has addresses, so many.
+fn call_step(
+    bytes: &[u8],
+    order: &mut [u16],
+    out: &mut [u8],
+    x: Replay,
+    call: CallHeader,
+    addresses: &[u32],
+    count: u8,
+) -> Replay
+    requires { ⌜ InBounds x (now out) × (x .going ≡ true) × CallAt (now bytes) (x .at) call (now addresses) count ⌝ }
     ensures { λ y. ⌜ Stepped (now (bytes .entry)) x (now (order .entry)) (now (out .entry)) y (now (order .exit)) (now (out .exit)) ⌝ }
 {
     let s = x.state;
-    let a = engine::call_state(s, order, call);
+    let a = engine::call_state(s, order, call, addresses);
     let outcome = a.outcome;
-    let end = lines::call_line(out, x.end, call, outcome);
+    let end = lines::call_line(out, x.end, call, count, outcome);
     let t = a.state;
-    next(bytes, t, x.at + call_size(call), end)
+    next(bytes, t, x.at + call_size(call, count), end)
 }
 
 // The bytes of a call's command.
-fn call_size(call: Call) -> usize
-    ensures { λ r. ⌜ (r ≡ sizeOfCommand (commandOf call)) × (r ≤ 6) ⌝ }
+fn call_size(call: CallHeader, count: u8) -> usize
+    ensures { λ r. ⌜ ((first : ℕ) → r ≡ sizeOfCommand (commandOf call count first)) × (r ≤ 1023) ⌝ }
 {
     match call {
-        Call::Take { processor, size } => 4,
-        Call::Free { processor, address } => 6,
-        Call::NamedTake {
+        CallHeader::Take { processor, size } => 4,
+        CallHeader::Free { processor, address } => 6,
+        CallHeader::NamedTake {
             processor,
             name,
             size,
         } => 6,
-        Call::NamedFree { processor, name } => 4,
+        CallHeader::NamedFree { processor, name } => 4,
+        CallHeader::Drop { processor } => 3 + 4 * (count as usize),
     }
 }
 

@@ -1,5 +1,5 @@
 -- `replay::step` meets its contract. Assumes nothing.
-use Rattle.replay.proofs.CommandStepLaws.{matched-command-is-command-at, stepped-of-refused-command}
+use Rattle.replay.proofs.CommandStepLaws.{matched-command-is-command-at, call-at-of-named-take, no-addresses, stepped-of-refused-command}
 use borrow.Author.Needs.{needs}
 use Rattle.replay.specs.Steps.{commandOf}
 use Rattle.replay.proofs.step.Statement.{statement}
@@ -17,33 +17,41 @@ setup-step-requires c κs = search (needs, matched-command-is-command-at)
 enum-known-command-2 : tie.Need-enum-known-command-2
 enum-known-command-2 c = search needs
 
-call-step-requires : tie.Need-call-step-requires
+block-step-requires : tie.Need-block-step-requires
 unfolding commandOf
-call-step-requires c κs = search (needs, matched-command-is-command-at)
+block-step-requires c κs = search (needs, matched-command-is-command-at, no-addresses)
 
 enum-known-command-3 : tie.Need-enum-known-command-3
 enum-known-command-3 c = search needs
 
-call-step-requires-2 : tie.Need-call-step-requires-2
+block-step-requires-2 : tie.Need-block-step-requires-2
 unfolding commandOf
-call-step-requires-2 c κs = search (needs, matched-command-is-command-at)
+block-step-requires-2 c κs = search (needs, matched-command-is-command-at, no-addresses)
 
 enum-known-command-4 : tie.Need-enum-known-command-4
 enum-known-command-4 c = search needs
 
-call-step-requires-3 : tie.Need-call-step-requires-3
-unfolding commandOf
-call-step-requires-3 c κs = search (needs, matched-command-is-command-at)
+named-take-requires : tie.Need-named-take-requires
+named-take-requires c κs = search needs
+
+block-step-requires-3 : tie.Need-block-step-requires-3
+block-step-requires-3 c κs = search (needs, call-at-of-named-take, matched-command-is-command-at)
 
 enum-known-command-5 : tie.Need-enum-known-command-5
 enum-known-command-5 c = search needs
 
-call-step-requires-4 : tie.Need-call-step-requires-4
+block-step-requires-4 : tie.Need-block-step-requires-4
 unfolding commandOf
-call-step-requires-4 c κs = search (needs, matched-command-is-command-at)
+block-step-requires-4 c κs = search (needs, matched-command-is-command-at, no-addresses)
 
 enum-known-command-6 : tie.Need-enum-known-command-6
 enum-known-command-6 c = search needs
+
+drop-step-requires : tie.Need-drop-step-requires
+drop-step-requires c κs = search (needs, matched-command-is-command-at)
+
+enum-known-command-7 : tie.Need-enum-known-command-7
+enum-known-command-7 c = search needs
 
 stop-step-requires : tie.Need-stop-step-requires
 stop-step-requires c κs = search needs
@@ -96,8 +104,17 @@ returns-5 c = search needs
 same-length-11 : tie.Need-same-length-11
 same-length-11 c = search needs
 
+same-length-12 : tie.Need-same-length-12
+same-length-12 c = search needs
+
 returns-6 : tie.Need-returns-6
-returns-6 c = search (stepped-of-refused-command, matched-command-is-command-at)
+returns-6 c = search needs
+
+same-length-13 : tie.Need-same-length-13
+same-length-13 c = search needs
+
+returns-7 : tie.Need-returns-7
+returns-7 c = search (stepped-of-refused-command, matched-command-is-command-at)
 
 pub step-spec : {M : Type 1} → statement M
 step-spec =
@@ -107,14 +124,17 @@ step-spec =
     enum-known-command
     setup-step-requires
     enum-known-command-2
-    call-step-requires
+    block-step-requires
     enum-known-command-3
-    call-step-requires-2
+    block-step-requires-2
     enum-known-command-4
-    call-step-requires-3
+    named-take-requires
+    block-step-requires-3
     enum-known-command-5
-    call-step-requires-4
+    block-step-requires-4
     enum-known-command-6
+    drop-step-requires
+    enum-known-command-7
     stop-step-requires
     same-length
     same-length-2
@@ -132,4 +152,7 @@ step-spec =
     same-length-10
     returns-5
     same-length-11
-    returns-6)
+    same-length-12
+    returns-6
+    same-length-13
+    returns-7)
