@@ -10,7 +10,7 @@ use Rattle.checkrules.specs.Check.{withinLimits}
 use Rattle.calls.specs.declared.Outcome.{Outcome}
 use Rattle.calls.specs.declared.Outcome.the-variants.{Ready, Address, Moves, Refused}
 use Rattle.calls.specs.Setup.{setupOf}
-use Rattle.calls.specs.Calls.{Call, Take, Free, NamedTake, NamedFree, callOf, callUnchecked}
+use Rattle.calls.specs.Calls.{Call, Take, Free, NamedTake, NamedFree, Drop, callOf, callUnchecked}
 use Rattle.calls.proofs.CallDefinitions.{callDefinitions}
 use Rattle.calls.proofs.RuleCases.{setup-with}
 use Rattle.bound.specs.Ledger.{Entry, ledgerAfter, entriesOf}
@@ -112,9 +112,18 @@ named-list = list-case (setup-with 1 2 1 1 4) (26, 0)
     ∷ row (Refused 15) 0 (1, 0) (1, 0) ∷ row (Address 0) 0 (2, 0) (1, 0) ∷ row (Refused 3) 0 (2, 0) (1, 0) ∷ row (Refused 15) 0 (2, 0) (1, 0) ∷ row (Address 4096) 1 (3, 0) (2, 0)
     ∷ row (Moves 0) 0 (2, 0) (2, 0) ∷ row (Moves 1) 1 (1, 0) (2, 0) ∷ [])
 
+-- ---- document 02, item 5: seven blocks of class 26 fill superblocks 0 to 2 and half of 3. A drop of one block of 0 and the one of 3 empties 3, which passes on, and
+-- no other; the frees one by one would have passed on 0 and then 3. A double, no address and a bad one last are refused; the next drop frees a block of heap 0's and
+-- passes on superblock 0.
+abbrev pub drop-list : ListCase
+drop-list = list-case (setup-with 1 4 1 1 4) (26, 0)
+    (replicate 7 (Take 1 2048) ++ Free 1 8192 ∷ Drop 1 (0 ∷ 12288 ∷ []) ∷ Drop 1 (2048 ∷ 2048 ∷ []) ∷ Drop 1 [] ∷ Drop 1 (2048 ∷ 4096 ∷ 4097 ∷ []) ∷ Drop 1 (2048 ∷ 6144 ∷ []) ∷ []) 6
+    (row (Address 12288) 1 (7, 0) (4, 0) ∷ row (Moves 0) 0 (6, 0) (4, 0) ∷ row (Moves 1) 1 (4, 0) (4, 0) ∷ row (Refused 7) 0 (4, 0) (4, 0) ∷ row (Refused 16) 0 (4, 0) (4, 0) ∷ row (Refused 6) 0 (4, 0) (4, 0)
+    ∷ row (Moves 1) 1 (2, 0) (4, 0) ∷ [])
+
 -- ---- all of them, computed
 abbrev pub list-cases : List ListCase
-list-cases = whole-list ∷ refused-list ∷ two-moves-list ∷ spare-list ∷ size-0-list ∷ named-list ∷ []
+list-cases = whole-list ∷ refused-list ∷ two-moves-list ∷ spare-list ∷ size-0-list ∷ named-list ∷ drop-list ∷ []
 
 abbrev pub outcome-of-setup : ListCase → Outcome
 outcome-of-setup k = setupOf (k .setup) (order-of k) .answer .outcome

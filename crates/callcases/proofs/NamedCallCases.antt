@@ -7,7 +7,7 @@ use Rattle.heap.specs.declared.State.{State}
 use Rattle.heap.specs.States.{withNames}
 use Rattle.calls.specs.declared.Outcome.{Outcome}
 use Rattle.calls.specs.declared.Outcome.the-variants.{Refused}
-use Rattle.calls.specs.Calls.{Call, Take, Free, NamedTake, NamedFree, callOf}
+use Rattle.calls.specs.Calls.{Call, Take, Free, NamedTake, NamedFree, Drop, callOf}
 use Rattle.calls.proofs.CallDefinitions.{callDefinitions}
 use Rattle.callcases.proofs.WholeCallCases.{SuperblockAndPlaces, CallCase, Seen, seen, expected-of, state-of, order-of, from-place-2, three-moves, nothing-offered}
 
@@ -41,19 +41,24 @@ named-three-moves = record { named-call = NamedFree 1 5; effect = three-moves; n
 abbrev pub plain-three-moves : NamedCallCase
 plain-three-moves = record { named-call = Free 1 4096; effect = three-moves; names = naming ((5, 256) ∷ (6, 1) ∷ []); names-after = naming ((6, 1) ∷ []) }
 
+-- and so does a drop of that address alone (document 02, item 5)
+abbrev pub drop-three-moves : NamedCallCase
+drop-three-moves = record { named-call = Drop 1 (4096 ∷ []); effect = three-moves; names = naming ((5, 256) ∷ (6, 1) ∷ []); names-after = naming ((6, 1) ∷ []) }
+
 -- ---- refused calls keep their names
 abbrev pub refused-with : Call → ℕ → List SuperblockAndPlaces → List (ℕ × ℕ) → NamedCallCase
 refused-with call r before l = record { named-call = call; effect = record { before = before; call = call; outcome = Refused r; after = before }; names = naming l; names-after = naming l }
 
--- 13 for a name at a free block and for two names at one block, for a plain call too and before 2; 14 before 4, and 4; 15
+-- 13 for a name at a free block and for two names at one block, for a plain call too and before 2; 14 before 4, and 4; 15; 13 before a drop's 2 and 16, and a drop's double
 abbrev pub refused-named-calls : List NamedCallCase
 refused-named-calls =
     refused-with (NamedFree 0 5) 13 (three-moves .before) ((5, 0) ∷ []) ∷ refused-with (Take 1 2048) 13 (three-moves .before) ((5, 256) ∷ (6, 256) ∷ [])
-    ∷ refused-with (NamedTake 1 5 2048) 14 nothing-offered ((5, 256) ∷ []) ∷ refused-with (NamedTake 1 6 2048) 4 nothing-offered ((5, 256) ∷ []) ∷ refused-with (NamedFree 1 6) 15 nothing-offered ((5, 256) ∷ []) ∷ []
+    ∷ refused-with (NamedTake 1 5 2048) 14 nothing-offered ((5, 256) ∷ []) ∷ refused-with (NamedTake 1 6 2048) 4 nothing-offered ((5, 256) ∷ []) ∷ refused-with (NamedFree 1 6) 15 nothing-offered ((5, 256) ∷ [])
+    ∷ refused-with (Drop 0 []) 13 (three-moves .before) ((5, 0) ∷ []) ∷ refused-with (Drop 1 (4096 ∷ 4096 ∷ [])) 7 (three-moves .before) ((5, 256) ∷ (6, 1) ∷ []) ∷ []
 
 -- ---- the rules leave what is expected
 abbrev pub named-calls : List NamedCallCase
-named-calls = named-from-place-2 ∷ named-three-moves ∷ plain-three-moves ∷ refused-named-calls
+named-calls = named-from-place-2 ∷ named-three-moves ∷ plain-three-moves ∷ drop-three-moves ∷ refused-named-calls
 
 pub named-call-cases : map named-result-of named-calls ≡ map named-expected-of named-calls
 unfolding callDefinitions

@@ -15,7 +15,8 @@ use Rattle.calls.specs.declared.Outcome.{Outcome}
 use Rattle.calls.specs.declared.Outcome.the-variants.{Ready, Refused}
 use Rattle.calls.specs.Answers.{checked}
 use Rattle.calls.specs.Take.{takeOf}
-use Rattle.calls.specs.Calls.{Call, Take, Free, NamedTake, NamedFree, callOf}
+use Rattle.calls.specs.Drop.{dropOf}
+use Rattle.calls.specs.Calls.{Call, Take, Free, NamedTake, NamedFree, Drop, callOf}
 use Rattle.rowrules.specs.declared.Control.{Control}
 use Rattle.rowrules.specs.Row.{RowAfter, setupOn, callOn, rowSetup, rowCall}
 use Rattle.rowrules.specs.RowClaim.{RowStep, RowLinked}
@@ -113,10 +114,11 @@ abbrev pub row-call-cases : List CallCase
 row-call-cases =
     call-refused-case 13 control-with-p-equal-q (replicate 63 ranked-superblock) storage-of-255 (Take 2 2048) ∷ call-refused-case 12 example-control (replicate 63 ranked-superblock) storage-of-255 (Take 2 2048) ∷ call-refused-case 13 example-control (replicate 63 ranked-superblock) storage-of-258 (Take 2 2048)
     ∷ call-refused-case 13 example-control (replicate 65 ranked-superblock) storage-of-258 (Free 2 0) ∷ call-refused-case 13 example-control (replicate 64 invalid-superblock) storage-of-258 (Take 2 2048)
-    ∷ call-refused-case 12 example-control (replicate 65 ranked-superblock) storage-of-255 (NamedTake 2 10 2048) ∷ call-refused-case 13 example-control (replicate 63 ranked-superblock) storage-of-258 (NamedFree 2 6) ∷ []
+    ∷ call-refused-case 12 example-control (replicate 65 ranked-superblock) storage-of-255 (NamedTake 2 10 2048) ∷ call-refused-case 13 example-control (replicate 63 ranked-superblock) storage-of-258 (NamedFree 2 6)
+    ∷ call-refused-case 12 example-control (replicate 65 ranked-superblock) storage-of-255 (Drop 0 []) ∷ call-refused-case 13 example-control (replicate 65 ranked-superblock) storage-of-258 (Drop 0 []) ∷ call-refused-case 13 example-control (replicate 64 invalid-superblock) storage-of-258 (Drop 0 []) ∷ []
 
 pub row-call-cases-are-computed : map (λ (k : CallCase). rowCall (k .control) (k .row) (k .order) (k .call)) row-call-cases ≡ map (λ (k : CallCase). k .after) row-call-cases
-unfolding callOn callOf takeOf checked withinLimits restValid superblockValid isUnused allBelow
+unfolding callOn callOf takeOf dropOf checked withinLimits restValid superblockValid isUnused allBelow
 row-call-cases-are-computed = refl
 
 -- a call on 64 records leaves what the call on their state leaves: outcome, setup numbers, names, totals, row and storage, whatever the names, the totals, the
