@@ -82,20 +82,20 @@ fn step(bytes: &[u8], order: &mut [u16], out: &mut [u8], x: Replay) -> Replay
             q,
         } => setup_step(bytes, order, out, x, processors, superblocks, spare, p, q),
         Command::Take { processor, size } => {
-            block_step(bytes, order, out, x, CallHeader::Take { processor, size })
+            call_step(bytes, order, out, x, CallHeader::Take { processor, size }, &[], 0)
         }
         Command::Free { processor, address } => {
             let call = CallHeader::Free { processor, address };
-            block_step(bytes, order, out, x, call)
+            call_step(bytes, order, out, x, call, &[], 0)
         }
         Command::NamedTake {
             processor,
             name,
             size,
-        } => block_step(bytes, order, out, x, named_take(processor, name, size)),
+        } => call_step(bytes, order, out, x, named_take(processor, name, size), &[], 0),
         Command::NamedFree { processor, name } => {
             let call = CallHeader::NamedFree { processor, name };
-            block_step(bytes, order, out, x, call)
+            call_step(bytes, order, out, x, call, &[], 0)
         }
         Command::Drop {
             processor,
@@ -147,20 +147,6 @@ fn setup_step(
     let end = lines::setup_line(out, x.end, u);
     let s = a.state;
     next(bytes, s, x.at + 6, end)
-}
-
-// A take or a free, which has no addresses beside its header.
-fn block_step(
-    bytes: &[u8],
-    order: &mut [u16],
-    out: &mut [u8],
-    x: Replay,
-    call: CallHeader,
-) -> Replay
-    requires { ⌜ InBounds x (now out) × (x .going ≡ true) × CallAt (now bytes) (x .at) call [] 0 ⌝ }
-    ensures { λ y. ⌜ Stepped (now (bytes .entry)) x (now (order .entry)) (now (out .entry)) y (now (order .exit)) (now (out .exit)) ⌝ }
-{
-    call_step(bytes, order, out, x, call, &[], 0)
 }
 
 // A drop, with its addresses out of the record. No other command makes this array.

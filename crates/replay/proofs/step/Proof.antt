@@ -17,16 +17,22 @@ setup-step-requires c κs = search (needs, matched-command-is-command-at)
 enum-known-command-2 : tie.Need-enum-known-command-2
 enum-known-command-2 c = search needs
 
-block-step-requires : tie.Need-block-step-requires
+slice-aggregate-call-step : tie.Need-slice-aggregate-call-step
+slice-aggregate-call-step c = search needs
+
+call-step-requires : tie.Need-call-step-requires
 unfolding commandOf
-block-step-requires c κs = search (needs, matched-command-is-command-at, no-addresses)
+call-step-requires c κs = search (needs, matched-command-is-command-at, no-addresses)
 
 enum-known-command-3 : tie.Need-enum-known-command-3
 enum-known-command-3 c = search needs
 
-block-step-requires-2 : tie.Need-block-step-requires-2
+slice-aggregate-call-step-2 : tie.Need-slice-aggregate-call-step-2
+slice-aggregate-call-step-2 c = search needs
+
+call-step-requires-2 : tie.Need-call-step-requires-2
 unfolding commandOf
-block-step-requires-2 c κs = search (needs, matched-command-is-command-at, no-addresses)
+call-step-requires-2 c κs = search (needs, matched-command-is-command-at, no-addresses)
 
 enum-known-command-4 : tie.Need-enum-known-command-4
 enum-known-command-4 c = search needs
@@ -34,15 +40,21 @@ enum-known-command-4 c = search needs
 named-take-requires : tie.Need-named-take-requires
 named-take-requires c κs = search needs
 
-block-step-requires-3 : tie.Need-block-step-requires-3
-block-step-requires-3 c κs = search (needs, call-at-of-named-take, matched-command-is-command-at)
+slice-aggregate-call-step-3 : tie.Need-slice-aggregate-call-step-3
+slice-aggregate-call-step-3 c = search needs
+
+call-step-requires-3 : tie.Need-call-step-requires-3
+call-step-requires-3 c κs = search (needs, call-at-of-named-take, matched-command-is-command-at)
 
 enum-known-command-5 : tie.Need-enum-known-command-5
 enum-known-command-5 c = search needs
 
-block-step-requires-4 : tie.Need-block-step-requires-4
+slice-aggregate-call-step-4 : tie.Need-slice-aggregate-call-step-4
+slice-aggregate-call-step-4 c = search needs
+
+call-step-requires-4 : tie.Need-call-step-requires-4
 unfolding commandOf
-block-step-requires-4 c κs = search (needs, matched-command-is-command-at, no-addresses)
+call-step-requires-4 c κs = search (needs, matched-command-is-command-at, no-addresses)
 
 enum-known-command-6 : tie.Need-enum-known-command-6
 enum-known-command-6 c = search needs
@@ -124,14 +136,18 @@ step-spec =
     enum-known-command
     setup-step-requires
     enum-known-command-2
-    block-step-requires
+    slice-aggregate-call-step
+    call-step-requires
     enum-known-command-3
-    block-step-requires-2
+    slice-aggregate-call-step-2
+    call-step-requires-2
     enum-known-command-4
     named-take-requires
-    block-step-requires-3
+    slice-aggregate-call-step-3
+    call-step-requires-3
     enum-known-command-5
-    block-step-requires-4
+    slice-aggregate-call-step-4
+    call-step-requires-4
     enum-known-command-6
     drop-step-requires
     enum-known-command-7
