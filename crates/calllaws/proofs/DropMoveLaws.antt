@@ -9,7 +9,8 @@ use Rattle.laws.proofs.TestLaws.{pick-elim}
 use Rattle.heap.specs.declared.State.{State}
 use Rattle.heap.specs.declared.Moved.{Moved}
 use Rattle.heap.specs.Totals.{TotalsKept}
-use Rattle.heaplaws.proofs.OutsideGlobalLaws.{outsideGlobal, outside-global-le-64, movesAndOutsideGlobal, moves-leave-heaps, length-of-invariant-restored, totals-kept-of-invariant-restored}
+use Rattle.heaplaws.proofs.MovesKeepLaws.{length-of-invariant-restored, totals-kept-of-invariant-restored}
+use Rattle.heaplaws.proofs.OutsideGlobalLaws.{outsideGlobal, outside-global-le-64, movesAndOutsideGlobal, moves-leave-heaps}
 use Rattle.laws.proofs.ListedLaws.{length-listed}
 use Rattle.heap.specs.Ranks.{rankedLatest}
 use Rattle.calls.specs.Free.{superblockIndex, markCleared, blockFreed}

@@ -31,7 +31,8 @@ use Rattle.laws.proofs.ListedLaws.{length-listed}
 use Rattle.heaplaws.proofs.RerankedLaws.{reranked-class, reranked-live, reranked-keeps}
 use Rattle.heap.specs.States.{withSuperblock}
 use Rattle.choicerules.specs.Choice.{fullest, emptiest}
-use Rattle.moverules.specs.Moves.{mustMove, transferred, foundTransferred, transfersUpTo, excessTransferred, invariantRestored}
+use Rattle.moverules.specs.Moves.{transferred, foundTransferred, invariantRestored}
+use Rattle.heaplaws.proofs.MovesKeepLaws.{invariant-restored-keeps}
 use Rattle.heaplaws.proofs.StateFacts.{Shape}
 use Rattle.heaplaws.proofs.StateCheckLaws.{live-le-blocks-of-owned}
 use Rattle.heaplaws.proofs.ChoiceLaws.{best-of-fullest, facts-of-has-free}
@@ -158,25 +159,15 @@ transferred-same-class-and-marks k s m = go (ℕ-discrete m k) (decLt k (length 
 same-trans : (s t u : State) (m : ℕ) → SameClassAndMarks s t m → SameClassAndMarks t u m → SameClassAndMarks s u m
 same-trans s t u m a b = record { class = b .class ∙ a .class; live = b .live ∙ a .live }
 
-transfers-same-class-and-marks : (n h c j : ℕ) (s : State) (m : ℕ) → SameClassAndMarks s (transfersUpTo n h c j s .state) m
-unfolding transfersUpTo foundTransferred
-transfers-same-class-and-marks zero h c j s m = record { class = refl; live = refl }
-transfers-same-class-and-marks (suc n) h c j s m = go (mustMove h c s) (emptiest h c s) (λ t. transfers-same-class-and-marks n h c (j + 1) t m)
-  where
-    go : (b : Bool) (f : Found) → ((t : State) → SameClassAndMarks t (transfersUpTo n h c (j + 1) t .state) m)
-        → SameClassAndMarks s (pick b (transfersUpTo n h c (j + 1) (foundTransferred f s)) (record { moves = j; state = s }) .state) m
-    go false f ih = record { class = refl; live = refl }
-    go true (At k) ih = same-trans s (transferred k s) (transfersUpTo n h c (j + 1) (transferred k s) .state) m (transferred-same-class-and-marks k s m) (ih (transferred k s))
-    go true Nothing ih = ih s
+found-transferred-same-class-and-marks : (found : Found) (s : State) (m : ℕ) → SameClassAndMarks s (foundTransferred found s) m
+unfolding foundTransferred
+found-transferred-same-class-and-marks (At k) s m = transferred-same-class-and-marks k s m
+found-transferred-same-class-and-marks Nothing s m = record { class = refl; live = refl }
 
--- the moves of a heap and class change no superblock's class or marks
+-- the moves of a free change no superblock's class or marks
 pub invariant-restored-same-class-and-marks : (h c : ℕ) (s : State) (m : ℕ) → SameClassAndMarks s (invariantRestored h c s .state) m
-unfolding invariantRestored excessTransferred
-invariant-restored-same-class-and-marks h c s m = go (eqb h 0)
-  where
-    go : (b : Bool) → SameClassAndMarks s (pick b (record { moves = 0; state = s }) (transfersUpTo 64 h c 0 s) .state) m
-    go true = record { class = refl; live = refl }
-    go false = transfers-same-class-and-marks 64 h c 0 s m
+invariant-restored-same-class-and-marks h c s m =
+    invariant-restored-keeps (λ t. SameClassAndMarks s t m) (λ found t e. same-trans s t (foundTransferred found t) m e (found-transferred-same-class-and-marks found t m)) h c s (record { class = refl; live = refl })
 
 -- and so leave every stack, in every state
 pub invariant-restored-keeps-stacks : (h c : ℕ) (s : State) (order : List ℕ) (m : ℕ) → stackOf (invariantRestored h c s .state) order m ≡ stackOf s order m

@@ -44,7 +44,7 @@ use Rattle.calls.proofs.CheckFirst.{call-of-checks-first}
 use Rattle.calllaws.proofs.CallEffects.{Passed}
 use Rattle.calllaws.proofs.NamedCallLaws.{name-bound-of-refused}
 use Rattle.calls.proofs.TouchedPairLaws.{drop-moves-by-heaps}
-use Rattle.heaplaws.proofs.OutsideGlobalLaws.{totals-kept-of-invariant-restored}
+use Rattle.heaplaws.proofs.MovesKeepLaws.{totals-kept-of-invariant-restored}
 use Rattle.calllaws.proofs.DropMoveLaws.{heaps-restored-keep, then-restored-keeps-totals}
 use Rattle.calllaws.proofs.AcceptedCallLaws.{call-passes-if-accepted}
 use Rattle.calllaws.proofs.RefusalConditions.{address-not-refused, moves-not-refused, rest-fails, check-fails-refused-13}

@@ -12,7 +12,8 @@ use Rattle.heap.specs.declared.State.{State}
 use Rattle.heap.specs.declared.Moved.{Moved}
 use Rattle.heap.specs.Totals.{TotalsKept}
 use Rattle.moverules.specs.Moves.{invariantRestored}
-use Rattle.heaplaws.proofs.OutsideGlobalLaws.{outside-global-le-64, moves-leave-heaps, length-of-invariant-restored}
+use Rattle.heaplaws.proofs.MovesKeepLaws.{length-of-invariant-restored}
+use Rattle.heaplaws.proofs.OutsideGlobalLaws.{outside-global-le-64, moves-leave-heaps}
 use Rattle.calls.specs.Drop.{thenRestored}
 use Rattle.calls.specs.DropLoops.{classesRestored, heapsRestored}
 use Rattle.calllaws.proofs.DropMoveLaws.{classes-restored-keep, then-restored-keeps-totals, then-restored-leaves-heaps}

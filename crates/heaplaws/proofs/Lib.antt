@@ -9,4 +9,5 @@ pub mod CheckReadsLaws
 pub mod RerankedLaws
 pub mod Pigeonhole
 pub mod RankLaws
+pub mod MovesKeepLaws
 pub mod OutsideGlobalLaws

@@ -11,17 +11,15 @@ use Rattle.laws.proofs.TestLaws.{T-of-true, one-le-one, pick-elim}
 use Rattle.laws.proofs.Counting.{sum-le-of-terms-le-one}
 use Rattle.heap.specs.declared.Superblock.{Superblock}
 use Rattle.heap.specs.declared.State.{State}
-use Rattle.heap.specs.declared.Found.{Found}
 use Rattle.heap.specs.declared.Found.the-variants.{At}
 use Rattle.heap.specs.declared.Moved.{Moved}
 use Rattle.heap.specs.Table.{superblockAt, withOwner}
 use Rattle.heap.specs.Counts.{total}
-use Rattle.heap.specs.Totals.{TotalsKept}
 use Rattle.choicerules.specs.Choice.{emptiest}
 use Rattle.moverules.specs.Moves.{mustMove, transferred, foundTransferred, transfersUpTo, excessTransferred, invariantRestored}
 use Rattle.heaplaws.proofs.ChoiceLaws.{best-of-emptiest}
 use Rattle.heaplaws.proofs.CountLaws.{total-with-superblock, owner-and-class-of-belongs}
-use Rattle.heaplaws.proofs.MoveLaws.{emptiest-found-of-must-move, length-of-found-transferred, totals-kept-of-found-transferred}
+use Rattle.heaplaws.proofs.MoveLaws.{emptiest-found-of-must-move, length-of-found-transferred}
 
 -- 1 for a superblock that is not heap 0's, and how many there are
 abbrev pub oneIfOutsideGlobal : Superblock → ℕ
@@ -69,23 +67,3 @@ moves-leave-heaps h c s long =
     pick-elim (λ (w : Moved). movesAndOutsideGlobal w ≡ outsideGlobal s) (eqb h 0) (record { moves = 0; state = s }) (transfersUpTo 64 h c 0 s)
     (λ e. omega arith)
     (λ e. transfers-leave-heaps 64 h c 0 s long (let f = eqb-false h 0 e in omega arith) ∙ omega arith)
-
--- ---- what each move keeps, all moves keep
-module _ (P : State → Type 0) (kept : (found : Found) (s : State) → P s → P (foundTransferred found s)) where
-  transfers-keep : (k h c m : ℕ) (s : State) → P s → P (transfersUpTo k h c m s .state)
-  unfolding transfersUpTo
-  transfers-keep zero h c m s p = p
-  transfers-keep (suc k) h c m s p =
-      pick-elim (λ (w : Moved). P (w .state)) (mustMove h c s) (transfersUpTo k h c (m + 1) (foundTransferred (emptiest h c s) s)) (record { moves = m; state = s })
-      (λ e. transfers-keep k h c (m + 1) (foundTransferred (emptiest h c s) s) (kept (emptiest h c s) s p))
-      (λ e. p)
-
-  pub invariant-restored-keeps : (h c : ℕ) (s : State) → P s → P (invariantRestored h c s .state)
-  unfolding invariantRestored excessTransferred
-  invariant-restored-keeps h c s p = pick-elim (λ (w : Moved). P (w .state)) (eqb h 0) (record { moves = 0; state = s }) (transfersUpTo 64 h c 0 s) (λ e. p) (λ e. transfers-keep 64 h c 0 s p)
-
-pub length-of-invariant-restored : (h c : ℕ) (s : State) → length (s .table) ≡ 64 → length (invariantRestored h c s .state .table) ≡ 64
-length-of-invariant-restored = invariant-restored-keeps (λ s. length (s .table) ≡ 64) (λ found s e. length-of-found-transferred found s ∙ e)
-
-pub totals-kept-of-invariant-restored : (h c : ℕ) (s : State) → TotalsKept s → TotalsKept (invariantRestored h c s .state)
-totals-kept-of-invariant-restored = invariant-restored-keeps TotalsKept totals-kept-of-found-transferred

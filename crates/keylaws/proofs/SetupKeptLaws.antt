@@ -18,7 +18,8 @@ use Rattle.heap.specs.States.{noState}
 use Rattle.heap.specs.Ranks.{rankedLatest, unranked}
 use Rattle.laws.proofs.TestLaws.{pick-elim}
 use Rattle.choicerules.specs.Choice.{emptiest}
-use Rattle.moverules.specs.Moves.{mustMove, transferred, foundTransferred, transfersUpTo, excessTransferred, invariantRestored}
+use Rattle.moverules.specs.Moves.{transferred, foundTransferred, invariantRestored}
+use Rattle.heaplaws.proofs.MovesKeepLaws.{invariant-restored-keeps}
 use Rattle.checkrules.specs.Check.{withinLimits}
 use Rattle.heaplaws.proofs.StateCheckLaws.{facts-of-within-limits}
 use Rattle.calls.specs.declared.Outcome.{Outcome}
@@ -40,23 +41,8 @@ unfolding foundTransferred transferred
 setup-of-found-transferred (At k) s = refl
 setup-of-found-transferred Nothing s = refl
 
-setup-of-transfers-up-to : (k h c m : ℕ) (s : State) → transfersUpTo k h c m s .state .setup ≡ s .setup
-unfolding transfersUpTo
-setup-of-transfers-up-to zero h c m s = refl
-setup-of-transfers-up-to (suc k) h c m s = go (mustMove h c s) (setup-of-transfers-up-to k h c (m + 1) (foundTransferred (emptiest h c s) s) ∙ setup-of-found-transferred (emptiest h c s) s)
-  where
-    go : (t : Bool) → transfersUpTo k h c (m + 1) (foundTransferred (emptiest h c s) s) .state .setup ≡ s .setup
-        → pick t (transfersUpTo k h c (m + 1) (foundTransferred (emptiest h c s) s)) (record { moves = m; state = s }) .state .setup ≡ s .setup
-    go true e = e
-    go false e = refl
-
 setup-of-invariant-restored : (h c : ℕ) (s : State) → invariantRestored h c s .state .setup ≡ s .setup
-unfolding invariantRestored excessTransferred
-setup-of-invariant-restored h c s = go (eqb h 0)
-  where
-    go : (t : Bool) → pick t (record { moves = 0; state = s }) (transfersUpTo 64 h c 0 s) .state .setup ≡ s .setup
-    go true = refl
-    go false = setup-of-transfers-up-to 64 h c 0 s
+setup-of-invariant-restored h c s = invariant-restored-keeps (λ t. t .setup ≡ s .setup) (λ found t e. setup-of-found-transferred found t ∙ e) h c s refl
 
 setup-of-unranked-if-empty : (k : ℕ) (s : State) → unrankedIfEmpty k s .setup ≡ s .setup
 unfolding unrankedIfEmpty unranked

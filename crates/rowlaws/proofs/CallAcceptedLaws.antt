@@ -10,7 +10,7 @@ use Rattle.heap.specs.declared.State.{State}
 use Rattle.heap.specs.Table.{superblockAt, withMarkAt}
 use Rattle.heap.specs.States.{withSuperblock}
 use Rattle.heaplaws.proofs.StateFacts.{Shape}
-use Rattle.heaplaws.proofs.OutsideGlobalLaws.{length-of-invariant-restored}
+use Rattle.heaplaws.proofs.MovesKeepLaws.{length-of-invariant-restored}
 use Rattle.calls.specs.declared.Outcome.{Outcome}
 use Rattle.calls.specs.declared.Outcome.the-variants.{Ready, Address, Moves, Refused}
 use Rattle.calls.specs.Answers.{After, refused}
