@@ -1,16 +1,12 @@
 -- What holds after the setup and after each call of a list: the state passes, the ledger lists its live blocks, and the bound holds. Assumes nothing.
-use mathlib.Core.Path.{_≡_, refl, sym, ap, ap₂, _∙_, subst}
-use mathlib.Core.Bool.{Bool}
-use mathlib.Core.Logic.{_⊎_, inl, inr, ⊎-elim}
+use mathlib.Core.Path.{_≡_, refl, sym, ap, _∙_, subst}
+use mathlib.Core.Logic.{_⊎_, inl, ⊎-elim}
 use mathlib.Core.List.{List, _∷_}
 use Prim.Native.Nat.{ℕ, _+_, _-_, _*_, _≤_, _<_}
 use native.Mathlib.Nat.{le-refl, le-trans, le-of-eq, le-max-left, le-max-right, mul-le-mul-left}
 use native.Mathlib.Decide.{ℕ-discrete}
 use native.Mathlib.Omega.{arith}
-use borrow.Author.Tests.{eq-eqb, ne-eqb}
 use lib.ListN.{length}
-use lib.Dec.{eqb}
-use Rattle.laws.specs.Sums.{both, one}
 use Rattle.classes.specs.Classes.{blocksOf, classOf}
 use Rattle.heap.specs.declared.Setup.{Setup}
 use Rattle.heap.specs.declared.State.{State}
@@ -26,15 +22,14 @@ use Rattle.calls.specs.Named.{namedTakeOf, heldAddress, namedFreeOf}
 use Rattle.calls.specs.Drop.{allFreed, isTouched, dropMoves, dropOf}
 use Rattle.calls.specs.Calls.{Call, Take, Free, NamedTake, NamedFree, Drop, callOf}
 use Rattle.calllaws.proofs.CallEffects.{Passed, TakeAccepted, FreeAccepted, NamedTakeAccepted, NamedFreeAccepted, TakeEffect, FreeEffect}
-use Rattle.bound.specs.Ledger.{Name, named, unnamed, Entry, classOfEntry, isAt, isAtOneOf, removed, afterTake, afterFree, ledgerAfter, entriesOf}
+use Rattle.bound.specs.Ledger.{Name, named, unnamed, Entry, isAt, isAtOneOf, removed, afterTake, afterFree, ledgerAfter, entriesOf}
 use Rattle.bound.specs.Claim.{Step, Bounded, TakeOwnerChanges, FreeOwnerChanges, OwnerChanges, peakWith}
 use Rattle.calllaws.proofs.TakeLaws.{take-refused-or-accepted, taken-block, take-address, take-effect, take-names, take-shape, take-passed}
 use Rattle.calllaws.proofs.FreeLaws.{free-refused-or-accepted, moves, free-outcome, free-address, free-effect, free-names, free-shape, free-passed}
 use Rattle.calllaws.proofs.TransferredLaws.{passed-after-no-frees}
 use Rattle.calllaws.proofs.DropLaws.{DropAccepted, DropEffect, drop-refused-or-accepted, drop-frees, drop-transfers, dropped-shape, drop-outcome, drop-state-is, drop-effect, drop-shape, drop-passed}
 use Rattle.calllaws.proofs.NamedCallLaws.{facts-of-available, named-take-refused-or-accepted, named-taken-block, named-take-address, named-take-effect, named-take-names, named-take-shape, named-take-passed, named-free-refused-or-accepted}
-use Rattle.boundlaws.proofs.LedgerLaws.{entriesAt, entries-at-added, entries-of-added, entries-at-removed, entries-at-others-removed, entries-of-removed}
-use Rattle.boundlaws.proofs.LiveAtLaws.{liveAt, OneMoreLive, live-at-before-is-zero, live-at-one-more, one-more-live-of-take, one-more-live-of-free}
+use Rattle.boundlaws.proofs.LiveAtLaws.{OneMoreLive, live-at-before-is-zero, one-more-live-of-take, one-more-live-of-free}
 use Rattle.boundlaws.proofs.LedgerNames.{EachEntry, each-entry-map, each-entry-cons, EntryAgrees, plain-take-keeps-agreement, plain-take-entry-agrees, named-take-keeps-agreement, named-take-entry-agrees, no-entry-at, agreement-after-free, agreement-of-same-names-and-classes, removed-by-name-is-removed-by-address}
 use Rattle.boundlaws.proofs.ListedLaws.{Listed, listed-added, listed-removed, Agreement, all-freed-agreement, transfers-class, listed-after-transfers}
 use Rattle.boundlaws.proofs.BoundLaws.{bound-of-none-in-global}

@@ -4,7 +4,7 @@ use mathlib.Core.Path.{_≡_, refl, sym, ap, ap₂, _∙_, subst}
 use mathlib.Core.Bool.{Bool, true, false}
 use mathlib.Core.Logic.{_⊎_, inl, inr}
 use mathlib.Core.List.{List, [], _∷_}
-use Prim.Native.Nat.{ℕ, _+_, _*_, _/_, _%_, _<_}
+use Prim.Native.Nat.{ℕ, _*_, _/_, _%_, _<_}
 use native.Mathlib.Decide.{ℕ-discrete, decLt}
 use native.Mathlib.Omega.{arith}
 use borrow.Author.Tests.{eq-eqb, ne-eqb, eqb-false}
@@ -33,7 +33,7 @@ use Rattle.calllaws.proofs.AddressLaws.{address-superblock, address-offset}
 use Rattle.calllaws.proofs.NamesKeptLaws.{live-block-in-table}
 use Rattle.calllaws.proofs.MarkClearedLaws.{LiveBlock}
 use Rattle.calllaws.proofs.NamedCallLaws.{held-block-is-live, live-class-lt-27}
-use Rattle.bound.specs.Ledger.{Name, named, unnamed, Entry, classOfEntry, isAt, isCalled, hasName, removed}
+use Rattle.bound.specs.Ledger.{named, unnamed, Entry, classOfEntry, isAt, isCalled, hasName, removed}
 use Rattle.boundlaws.proofs.LedgerLaws.{entriesAt}
 
 -- ---- what is so of each entry

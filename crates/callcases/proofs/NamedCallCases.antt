@@ -3,9 +3,7 @@ use mathlib.Core.Path.{_≡_, refl}
 use mathlib.Core.List.{List, [], _∷_, map}
 use Prim.Native.Nat.{ℕ}
 use Rattle.names.specs.Names.{noNames, withName}
-use Rattle.heap.specs.declared.State.{State}
 use Rattle.heap.specs.States.{withNames}
-use Rattle.calls.specs.declared.Outcome.{Outcome}
 use Rattle.calls.specs.declared.Outcome.the-variants.{Refused}
 use Rattle.calls.specs.Calls.{Call, Take, Free, NamedTake, NamedFree, Drop, callOf}
 use Rattle.calls.proofs.CallDefinitions.{callDefinitions}

@@ -8,13 +8,12 @@ use native.Mathlib.Omega.{arith}
 use borrow.Author.Tests.{eqb-true, eqb-false}
 use lib.ListN.{length, getD, take, List·getD-eq-default}
 use lib.Dec.{eqb}
-use Rattle.laws.specs.Sums.{pick, both, either, one, sumBelow}
+use Rattle.laws.specs.Sums.{pick, both, one, sumBelow}
 use Rattle.laws.proofs.Inequalities.{le-of-not-below}
 use Rattle.laws.proofs.TestLaws.{neither-left, neither-right}
 use Rattle.laws.proofs.SumLaws.{sum-cong, sum-of-zeros, sum-le-of-terms-le}
 use Rattle.laws.proofs.Counting.{sum-add, indicator-sum-inside, indicator-sum-outside}
 use Rattle.heap.specs.declared.Superblock.{Superblock}
-use Rattle.heap.specs.declared.Setup.{Setup}
 use Rattle.heap.specs.declared.State.{State}
 use Rattle.heap.specs.Table.{blank, superblockAt}
 use Rattle.heap.specs.Counts.{belongs, superblocksOfClass}

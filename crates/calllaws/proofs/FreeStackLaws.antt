@@ -30,7 +30,7 @@ use Rattle.heap.specs.Ranks.{rankAfterFree, reranked, rankedLatest, unranked}
 use Rattle.laws.proofs.ListedLaws.{length-listed}
 use Rattle.heaplaws.proofs.RerankedLaws.{reranked-class, reranked-live, reranked-keeps}
 use Rattle.heap.specs.States.{withSuperblock}
-use Rattle.choicerules.specs.Choice.{fullest, emptiest}
+use Rattle.choicerules.specs.Choice.{fullest}
 use Rattle.moverules.specs.Moves.{transferred, foundTransferred, invariantRestored}
 use Rattle.heaplaws.proofs.MovesKeepLaws.{invariant-restored-keeps}
 use Rattle.heaplaws.proofs.StateFacts.{Shape}

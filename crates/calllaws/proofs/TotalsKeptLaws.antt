@@ -4,7 +4,7 @@ use mathlib.Core.Path.{_≡_, refl, sym, ap, ap₂, _∙_, subst}
 use mathlib.Core.Bool.{Bool, true, false, not}
 use mathlib.Core.Logic.{_↔_, _⊎_, inl, inr, ⊎-elim}
 use mathlib.Core.List.{List, [], _∷_}
-use Prim.Native.Nat.{ℕ, zero, suc, _+_, _*_, _≤_, _<_}
+use Prim.Native.Nat.{ℕ, suc, _+_, _*_, _≤_, _<_}
 use native.Mathlib.Nat.{pos-of-ne-zero}
 use native.Mathlib.Omega.{arith}
 use borrow.Author.Tests.{eqb-false}
@@ -23,13 +23,11 @@ use Rattle.heap.specs.Table.{superblockAt}
 use Rattle.heap.specs.Counts.{superblocksOf, liveOf, superblocksOfClass, liveOfClass}
 use Rattle.heap.specs.Totals.{heapCount, totalCount, totalIndex, superblocksKept, liveKept, TotalsKept}
 use Rattle.heap.specs.States.{noState, newState}
-use Rattle.choicerules.specs.Choice.{fullest, emptiest}
+use Rattle.choicerules.specs.Choice.{fullest}
 use Rattle.checkrules.specs.Check.{withinLimits, restValid}
-use Rattle.moverules.specs.Moves.{mustMove, foundTransferred, transfersUpTo, excessTransferred, invariantRestored}
 use Rattle.heaplaws.proofs.StateFacts.{Shape, WithinLimits}
 use Rattle.heaplaws.proofs.StateCheckLaws.{sound-of-passes, owned-of-owner}
 use Rattle.heaplaws.proofs.CountLaws.{owned-is-sum-over-heaps, live-is-sum-over-heaps}
-use Rattle.heaplaws.proofs.MoveLaws.{totals-kept-of-found-transferred}
 use Rattle.heaplaws.proofs.TotalsLaws.{new-state-totals-kept, recounted-superblocks, recounted-live, superblocks-kept-are-counted, live-kept-is-counted, totals-equal-of-each, length-recounted-superblocks, length-recounted-live, superblocks-kept-above-processors, live-kept-above-processors}
 use Rattle.calls.specs.declared.Outcome.{Outcome}
 use Rattle.calls.specs.declared.Outcome.the-variants.{Ready, Address, Moves, Refused}

@@ -8,7 +8,7 @@ use native.Mathlib.Omega.{arith}
 use lib.Dec.{eqb}
 use Rattle.laws.specs.Sums.{pick}
 use Rattle.heap.specs.declared.State.{State}
-use Rattle.calls.specs.Answers.{After, refused, isProcessor}
+use Rattle.calls.specs.Answers.{refused, isProcessor}
 use Rattle.calls.specs.Free.{isUnmapped, isMisaligned, isLiveAt, addressRefusal, freedAt, freeUnchecked}
 
 -- ---- the tests, as in the definition

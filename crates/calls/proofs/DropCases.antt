@@ -1,7 +1,6 @@
 -- Drops in cases that tell them from near misses, by computation (document 02, item 5). Assumes nothing.
 use mathlib.Core.Path.{_≡_, refl}
-use mathlib.Core.Bool.{Bool, true, false}
-use mathlib.Core.List.{List, [], _∷_, _++_, map}
+use mathlib.Core.List.{List, [], _∷_, map}
 use Prim.Native.Nat.{ℕ}
 use lib.Dec.{eqb}
 use lib.ListN.{replicate}
@@ -15,7 +14,7 @@ use Rattle.heap.proofs.TableCases.{ranked}
 use Rattle.calls.specs.declared.Outcome.the-variants.{Moves}
 use Rattle.calls.specs.Answers.{After, refused}
 use Rattle.calls.specs.Free.{addressRefusal}
-use Rattle.calls.specs.Drop.{Pair, allFreed, allPushed, firstRefusal, isTouched, thenRestored, touchedPairs, eachRestored, dropMoves, dropUnchecked}
+use Rattle.calls.specs.Drop.{Pair, allFreed, allPushed, firstRefusal, isTouched, touchedPairs, dropMoves}
 use Rattle.calls.specs.Calls.{Call, Free, Drop, callUnchecked}
 use Rattle.calls.proofs.CallDefinitions.{uncheckedCallDefinitions}
 use Rattle.calls.proofs.RuleCases.{setup-with, after-with}

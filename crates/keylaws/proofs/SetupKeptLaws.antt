@@ -3,7 +3,7 @@ use mathlib.Core.Path.{_≡_, refl, sym, ap, _∙_, subst}
 use mathlib.Core.Bool.{Bool, true, false}
 use mathlib.Core.Logic.{⊎-elim}
 use mathlib.Core.List.{List, [], _∷_}
-use Prim.Native.Nat.{ℕ, zero, suc, _+_, _*_, _≤_}
+use Prim.Native.Nat.{ℕ, _*_, _≤_}
 use native.Mathlib.Omega.{arith}
 use lib.ListN.{length}
 use lib.Dec.{T, eqb, leb}
@@ -17,7 +17,6 @@ use Rattle.heap.specs.Table.{superblockAt, liveIn}
 use Rattle.heap.specs.States.{noState}
 use Rattle.heap.specs.Ranks.{rankedLatest, unranked}
 use Rattle.laws.proofs.TestLaws.{pick-elim}
-use Rattle.choicerules.specs.Choice.{emptiest}
 use Rattle.moverules.specs.Moves.{transferred, foundTransferred, invariantRestored}
 use Rattle.heaplaws.proofs.MovesKeepLaws.{invariant-restored-keeps}
 use Rattle.checkrules.specs.Check.{withinLimits}
