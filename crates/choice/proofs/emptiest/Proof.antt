@@ -1,6 +1,7 @@
 -- `choice::emptiest` meets its contract. Assumes nothing.
 use Rattle.choicerules.specs.Choice.{emptiest}
-use Rattle.choice.specs.Criteria.{meetsCriterion, preferredBy}
+use Rattle.criteria.specs.Criteria.{meetsCriterion}
+use Rattle.preference.specs.Preference.{preferredBy}
 use borrow.Author.Needs.{needs}
 use Rattle.choice.proofs.emptiest.Statement.{statement}
 use Rattle.choice.proofs.emptiest.Tie as tie

@@ -1,6 +1,7 @@
 -- `choice::fullest` meets its contract. Assumes nothing.
 use Rattle.choicerules.specs.Choice.{fullest}
-use Rattle.choice.specs.Criteria.{meetsCriterion, preferredBy}
+use Rattle.criteria.specs.Criteria.{meetsCriterion}
+use Rattle.preference.specs.Preference.{preferredBy}
 use borrow.Author.Needs.{needs}
 use Rattle.choice.proofs.fullest.Statement.{statement}
 use Rattle.choice.proofs.fullest.Tie as tie

@@ -1,6 +1,7 @@
 -- `choice::lowest_empty` meets its contract. Assumes nothing.
 use Rattle.choicerules.specs.Choice.{lowestEmpty}
-use Rattle.choice.specs.Criteria.{meetsCriterion, preferredBy}
+use Rattle.criteria.specs.Criteria.{meetsCriterion}
+use Rattle.preference.specs.Preference.{preferredBy}
 use borrow.Author.Needs.{needs}
 use Rattle.choice.proofs.lowest_empty.Statement.{statement}
 use Rattle.choice.proofs.lowest_empty.Tie as tie

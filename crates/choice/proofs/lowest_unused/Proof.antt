@@ -2,7 +2,8 @@
 use native.Mathlib.Omega.{arith}
 use Rattle.laws.proofs.ReplacedElement.{length-of-length-map}
 use Rattle.choicerules.specs.Choice.{lowestUnused}
-use Rattle.choice.specs.Criteria.{meetsCriterion, preferredBy}
+use Rattle.criteria.specs.Criteria.{meetsCriterion}
+use Rattle.preference.specs.Preference.{preferredBy}
 use Rattle.choice.proofs.ScanLaws.{chosen-unused-past-table}
 use borrow.Author.Needs.{needs}
 use Rattle.choice.proofs.lowest_unused.Statement.{statement}
