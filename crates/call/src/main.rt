@@ -155,7 +155,7 @@ fn asked_in(bytes: &[u8]) -> Asked {
 }
 
 fn state_in(bytes: &[u8]) -> State {
-    callload::state_at(bytes, callform::table_offset(bytes))
+    stateload::state_at(bytes, callform::table_offset(bytes))
 }
 
 // ---- a call on a lent row

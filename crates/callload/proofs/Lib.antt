@@ -1,2 +1,1 @@
-pub mod StateInLaws
 pub mod AddressesInLaws

@@ -1,4 +1,4 @@
--- `callload::names_at` meets its contract. The loop's invariant: the names passed are as the bytes have them. The measure is what is left of the names.
+-- `namesload::names_at` meets its contract. The loop's invariant: the names passed are as the bytes have them. The measure is what is left of the names.
 -- Assumes nothing.
 use mathlib.Core.Path.{_≡_, refl}
 use Prim.Native.Nat.{_+_, _-_, _*_, _≤_, _<_, zero-le}
@@ -9,9 +9,9 @@ use Rattle.littleendian.specs.Bytes.{twoAt}
 use Rattle.littleendian.proofs.PastEndLaws.{two-at-position-after}
 use Rattle.laws.specs.Lists.{listed}
 use Rattle.laws.proofs.ListedLaws.{listed-none, listed-step}
-use Rattle.callload.proofs.StateInLaws.{names-in-of-all-names}
-use Rattle.callload.proofs.names_at.Statement.{statement}
-use Rattle.callload.proofs.names_at.Tie as tie
+use Rattle.namesload.proofs.NamesInLaws.{names-in-of-all-names}
+use Rattle.namesload.proofs.names_at.Statement.{statement}
+use Rattle.namesload.proofs.names_at.Tie as tie
 
 abbrev Inv-loop : tie.InvT-loop
 Inv-loop bytes at names₀ m₀ names m = (m ≤ 1024) × (length names ≡ 1024) × (take m names ≡ listed (λ i. twoAt bytes (at + 2 * i)) m)

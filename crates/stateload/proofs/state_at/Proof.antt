@@ -1,4 +1,4 @@
--- `callload::state_at` meets its contract. The loop's invariant: the superblocks passed are as the bytes have them. The measure is what is left of the table.
+-- `stateload::state_at` meets its contract. The loop's invariant: the superblocks passed are as the bytes have them. The measure is what is left of the table.
 -- Assumes nothing.
 use mathlib.Core.Path.{_≡_, refl}
 use Prim.Native.Nat.{_+_, _-_, _*_, _≤_, zero-le}
@@ -8,9 +8,11 @@ use lib.ListN.{length, take, length-set}
 use Rattle.laws.specs.Lists.{listed}
 use Rattle.formrules.specs.Form.{superblockIn}
 use Rattle.laws.proofs.ListedLaws.{listed-none, listed-step}
-use Rattle.callload.proofs.StateInLaws.{superblock-in-position-after, names-in-position-after, totals-in-position-after, state-in-of-all-superblocks}
-use Rattle.callload.proofs.state_at.Statement.{statement}
-use Rattle.callload.proofs.state_at.Tie as tie
+use Rattle.namesload.proofs.NamesInLaws.{names-in-position-after}
+use Rattle.totalsload.proofs.TotalsInLaws.{totals-in-position-after}
+use Rattle.stateload.proofs.StateInLaws.{superblock-in-position-after, state-in-of-all-superblocks}
+use Rattle.stateload.proofs.state_at.Statement.{statement}
+use Rattle.stateload.proofs.state_at.Tie as tie
 
 abbrev Inv-loop : tie.InvT-loop
 Inv-loop bytes at table₀ k₀ table k = (k ≤ 64) × (length table ≡ 64) × (take k table ≡ listed (λ j. superblockIn bytes (at + 35 * j)) k)

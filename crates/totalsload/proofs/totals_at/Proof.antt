@@ -1,4 +1,4 @@
--- `callload::totals_at` meets its contract. The loop's invariant: the totals passed are as the bytes have them. The measure is what is left of the totals.
+-- `totalsload::totals_at` meets its contract. The loop's invariant: the totals passed are as the bytes have them. The measure is what is left of the totals.
 -- Assumes nothing.
 use mathlib.Core.Path.{_≡_, refl}
 use Prim.Native.Nat.{_+_, _-_, _*_, _≤_, _<_, zero-le}
@@ -9,9 +9,9 @@ use Rattle.littleendian.specs.Bytes.{byteAt, twoAt}
 use Rattle.littleendian.proofs.PastEndLaws.{two-at-position-after}
 use Rattle.laws.specs.Lists.{listed}
 use Rattle.laws.proofs.ListedLaws.{listed-none, listed-step}
-use Rattle.callload.proofs.StateInLaws.{byte-at-position-after, totals-in-of-all-totals}
-use Rattle.callload.proofs.totals_at.Statement.{statement}
-use Rattle.callload.proofs.totals_at.Tie as tie
+use Rattle.totalsload.proofs.TotalsInLaws.{byte-at-position-after, totals-in-of-all-totals}
+use Rattle.totalsload.proofs.totals_at.Statement.{statement}
+use Rattle.totalsload.proofs.totals_at.Tie as tie
 
 abbrev Inv-loop : tie.InvT-loop
 Inv-loop bytes at superblocks₀ live₀ x₀ superblocks live x = (x ≤ 243) × (length superblocks ≡ 243) × (length live ≡ 243) × (take x superblocks ≡ listed (λ i. byteAt bytes (at + i)) x) × (take x live ≡ listed (λ i. twoAt bytes (at + (243 + 2 * i))) x)

@@ -1,8 +1,8 @@
--- `callload::superblock_in` meets its contract. Assumes nothing.
+-- `stateload::superblock_in` meets its contract. Assumes nothing.
 use Rattle.formrules.specs.Form.{superblockIn}
 use borrow.Author.Needs.{needs}
-use Rattle.callload.proofs.superblock_in.Statement.{statement}
-use Rattle.callload.proofs.superblock_in.Tie as tie
+use Rattle.stateload.proofs.superblock_in.Statement.{statement}
+use Rattle.stateload.proofs.superblock_in.Tie as tie
 
 byte-at-requires : tie.Need-byte-at-requires
 byte-at-requires c κs = search needs
