@@ -4,12 +4,9 @@ ghost use mathlib.Core.Path.{_≡_};
 ghost use mathlib.Core.Bool.{true};
 ghost use Rattle.checkrules.specs.Check.{passes};
 ghost use Rattle.calls.specs.Answers.{After, HasNumberAndValuesOf};
-ghost use Rattle.calls.specs.Named.{nameBound, boundBy, namedTakeUnchecked, heldAddress, namedFreeUnchecked};
+ghost use Rattle.calls.specs.Named.{namedTakeUnchecked, namedFreeUnchecked};
 use calls::Answer;
-use calls::Outcome;
 use heap::State;
-
-// ---- take
 
 // The address of a block for the size, with the name bound to it; or refusal 2, 14, 3 or 4.
 pub fn take(s: State, order: &mut [u16], processor: u8, name: u16, size: u16) -> Answer
@@ -27,38 +24,12 @@ pub fn take(s: State, order: &mut [u16], processor: u8, name: u16, size: u16) ->
     let plain = takeunchecked::take(s, order, processor, size);
     let outcome = plain.outcome;
     let taken = plain.state;
-    let bound = bound_by(outcome, name, taken);
+    let bound = namedblocks::bound_by(outcome, name, taken);
     Answer {
         outcome,
         state: bound,
     }
 }
-
-// The state after a take for the name, by its outcome: only an accepted one binds it.
-fn bound_by(outcome: Outcome, name: u16, s: State) -> State
-    ensures { λ r. ⌜ r ≡ boundBy outcome name s ⌝ }
-{
-    match outcome {
-        Outcome::Ready => s,
-        Outcome::Address(address) => bind_name(name, address, s),
-        Outcome::Moves(moves) => s,
-        Outcome::Refused(number) => s,
-    }
-}
-
-// The state in which the name points at the block at the address.
-fn bind_name(name: u16, address: u32, s: State) -> State
-    ensures { λ r. ⌜ r ≡ nameBound name address s ⌝ }
-{
-    let block = addresses::block_number_at(s, address);
-    let old = s.names;
-    let names = nametable::bind(old, name, block);
-    let mut t = s;
-    t.names = names;
-    t
-}
-
-// ---- free
 
 // The block that the name points at is free again, its name let go, and the move rule is followed; or refusal 2, 15, 5, 6 or 7.
 pub fn free(s: State, order: &mut [u16], processor: u8, name: u16) -> Answer
@@ -73,17 +44,6 @@ pub fn free(s: State, order: &mut [u16], processor: u8, name: u16) -> Answer
     if !nametable::is_held(held, name) {
         return states::refuse(s, 15);
     }
-    let address = held_address(s, name);
+    let address = namedblocks::held_address(s, name);
     freeunchecked::free(s, order, processor, address)
-}
-
-// Where the block that the name points at starts.
-fn held_address(s: State, name: u16) -> u32
-    ensures { λ r. ⌜ r ≡ heldAddress s name ⌝ }
-{
-    let blocks = s.names;
-    let block = nametable::block_named(blocks, name);
-    let k = block / 256;
-    let class = table::class_at(s, k as usize);
-    allocation::address_of(k as u8, class, block % 256)
 }

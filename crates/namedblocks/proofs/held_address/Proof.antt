@@ -1,8 +1,8 @@
--- `namedcalls::held_address` meets its contract. Assumes nothing.
-use Rattle.namedcalls.proofs.NamedCallSteps.{held-address-by-steps}
+-- `namedblocks::held_address` meets its contract. Assumes nothing.
+use Rattle.namedblocks.proofs.NamedBlockSteps.{held-address-by-steps}
 use borrow.Author.Needs.{needs}
-use Rattle.namedcalls.proofs.held_address.Statement.{statement}
-use Rattle.namedcalls.proofs.held_address.Tie as tie
+use Rattle.namedblocks.proofs.held_address.Statement.{statement}
+use Rattle.namedblocks.proofs.held_address.Tie as tie
 
 block-named-requires : tie.Need-block-named-requires
 block-named-requires c κs = search needs

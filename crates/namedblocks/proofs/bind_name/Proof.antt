@@ -1,8 +1,8 @@
--- `namedcalls::bind_name` meets its contract. Assumes nothing.
-use Rattle.namedcalls.proofs.NamedCallSteps.{name-bound-by-steps}
+-- `namedblocks::bind_name` meets its contract. Assumes nothing.
+use Rattle.namedblocks.proofs.NamedBlockSteps.{name-bound-by-steps}
 use borrow.Author.Needs.{needs}
-use Rattle.namedcalls.proofs.bind_name.Statement.{statement}
-use Rattle.namedcalls.proofs.bind_name.Tie as tie
+use Rattle.namedblocks.proofs.bind_name.Statement.{statement}
+use Rattle.namedblocks.proofs.bind_name.Tie as tie
 
 block-number-at-requires : tie.Need-block-number-at-requires
 block-number-at-requires c κs = search needs

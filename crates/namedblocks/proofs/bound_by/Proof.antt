@@ -1,8 +1,8 @@
--- `namedcalls::bound_by` meets its contract. Assumes nothing.
-use Rattle.namedcalls.proofs.NamedCallSteps.{bound-by-outcomes}
+-- `namedblocks::bound_by` meets its contract. Assumes nothing.
+use Rattle.namedblocks.proofs.NamedBlockSteps.{bound-by-outcomes}
 use borrow.Author.Needs.{needs}
-use Rattle.namedcalls.proofs.bound_by.Statement.{statement}
-use Rattle.namedcalls.proofs.bound_by.Tie as tie
+use Rattle.namedblocks.proofs.bound_by.Statement.{statement}
+use Rattle.namedblocks.proofs.bound_by.Tie as tie
 
 enum-told : tie.Need-enum-told
 enum-told c = search needs
