@@ -1,11 +1,11 @@
--- `lines::put_processor_and_name` meets its contract: the fields one after another. Assumes nothing.
+-- `namedlines::put_processor_and_name` meets its contract: the fields one after another. Assumes nothing.
 use mathlib.Core.Path.{refl}
 use Rattle.textrules.specs.Text.{letters}
 use Rattle.textrules.proofs.PasteLaws.{paste-then-paste}
 use Rattle.fields.proofs.FieldLaws.{field-put}
 use borrow.Author.Needs.{needs}
-use Rattle.lines.proofs.put_processor_and_name.Statement.{statement}
-use Rattle.lines.proofs.put_processor_and_name.Tie as tie
+use Rattle.namedlines.proofs.put_processor_and_name.Statement.{statement}
+use Rattle.namedlines.proofs.put_processor_and_name.Tie as tie
 
 put-byte-requires : tie.Need-put-byte-requires
 put-byte-requires c κs = search needs

@@ -1,11 +1,11 @@
--- `lines::named_free_line` meets its contract: the fields one after another. Assumes nothing.
+-- `namedlines::named_free_line` meets its contract: the fields one after another. Assumes nothing.
 use mathlib.Core.Path.{refl}
 use Rattle.textrules.specs.Text.{letters}
 use Rattle.fields.proofs.FieldLaws.{word-put, put-then-last-field}
 use Rattle.linerules.specs.Lines.{processorAndName, namedFreeLine}
 use borrow.Author.Needs.{needs}
-use Rattle.lines.proofs.named_free_line.Statement.{statement}
-use Rattle.lines.proofs.named_free_line.Tie as tie
+use Rattle.namedlines.proofs.named_free_line.Statement.{statement}
+use Rattle.namedlines.proofs.named_free_line.Tie as tie
 
 slice-aggregate-put-processor-and-name : tie.Need-slice-aggregate-put-processor-and-name
 slice-aggregate-put-processor-and-name c = search needs

@@ -1,4 +1,4 @@
--- `lines::named_take_line` meets its contract: the fields one after another. Assumes nothing.
+-- `namedlines::named_take_line` meets its contract: the fields one after another. Assumes nothing.
 use native.Mathlib.Omega.{arith}
 use mathlib.Core.Path.{refl}
 use Rattle.textrules.specs.Text.{letters}
@@ -6,8 +6,8 @@ use Rattle.textrules.proofs.PasteLaws.{paste-then-paste}
 use Rattle.fields.proofs.FieldLaws.{word-put, field-put, put-then-last-field}
 use Rattle.linerules.specs.Lines.{processorAndName, namedTakeLine}
 use borrow.Author.Needs.{needs}
-use Rattle.lines.proofs.named_take_line.Statement.{statement}
-use Rattle.lines.proofs.named_take_line.Tie as tie
+use Rattle.namedlines.proofs.named_take_line.Statement.{statement}
+use Rattle.namedlines.proofs.named_take_line.Tie as tie
 
 slice-aggregate-put-processor-and-name : tie.Need-slice-aggregate-put-processor-and-name
 slice-aggregate-put-processor-and-name c = search needs
