@@ -1,4 +1,4 @@
--- `finallines::heap_line` meets its contract: the fields one after another. Assumes nothing.
+-- `heapline::heap_line` meets its contract: the fields one after another. Assumes nothing.
 use native.Mathlib.Omega.{arith}
 use mathlib.Core.Path.{refl}
 use Rattle.textrules.specs.Text.{letters}
@@ -6,8 +6,8 @@ use Rattle.textrules.proofs.PasteLaws.{paste-then-paste}
 use Rattle.fields.proofs.FieldLaws.{field-put, last-field-put, put-then-last-field}
 use Rattle.linerules.specs.Lines.{heapLine}
 use borrow.Author.Needs.{needs}
-use Rattle.finallines.proofs.heap_line.Statement.{statement}
-use Rattle.finallines.proofs.heap_line.Tie as tie
+use Rattle.heapline.proofs.heap_line.Statement.{statement}
+use Rattle.heapline.proofs.heap_line.Tie as tie
 
 slice-aggregate-put-byte : tie.Need-slice-aggregate-put-byte
 slice-aggregate-put-byte c = search needs

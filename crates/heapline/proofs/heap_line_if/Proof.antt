@@ -1,8 +1,8 @@
--- `finallines::heap_line_if` meets its contract: by the number of superblocks that is kept. Assumes nothing.
-use Rattle.finallines.proofs.FinalLinesLaws.{heap-line-if-of-no-superblock-kept, heap-line-if-of-superblocks-kept}
+-- `heapline::heap_line_if` meets its contract: by the number of superblocks that is kept. Assumes nothing.
+use Rattle.heapline.proofs.HeapLineLaws.{heap-line-if-of-no-superblock-kept, heap-line-if-of-superblocks-kept}
 use borrow.Author.Needs.{needs}
-use Rattle.finallines.proofs.heap_line_if.Statement.{statement}
-use Rattle.finallines.proofs.heap_line_if.Tie as tie
+use Rattle.heapline.proofs.heap_line_if.Statement.{statement}
+use Rattle.heapline.proofs.heap_line_if.Tie as tie
 
 mul-x : tie.Need-mul-x
 mul-x c = search needs
