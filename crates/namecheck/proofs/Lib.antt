@@ -1,2 +1,1 @@
-pub mod MarksOfTableLaws
 pub mod NameScanLaws

@@ -1,13 +1,13 @@
--- `namecheck::marks_of_table` meets its contract. The loop's invariant: the numbers of the superblocks passed are copied. The measure is what is
+-- `tablemarks::marks_of_table` meets its contract. The loop's invariant: the numbers of the superblocks passed are copied. The measure is what is
 -- left of the table. Assumes nothing.
 use mathlib.Core.Path.{refl}
 use Prim.Native.Nat.{_-_, _*_, _≤_}
 use native.Mathlib.Omega.{arith}
 use borrow.Author.Needs.{needs}
 use Rattle.laws.proofs.ReplacedElement.{length-of-length-map}
-use Rattle.namecheck.proofs.MarksOfTableLaws.{NumbersBelow, numbers-none, numbers-of-superblock, marks-are-live-blocks}
-use Rattle.namecheck.proofs.marks_of_table.Statement.{statement}
-use Rattle.namecheck.proofs.marks_of_table.Tie as tie
+use Rattle.tablemarks.proofs.MarksOfTableLaws.{NumbersBelow, numbers-none, numbers-of-superblock, marks-are-live-blocks}
+use Rattle.tablemarks.proofs.marks_of_table.Statement.{statement}
+use Rattle.tablemarks.proofs.marks_of_table.Tie as tie
 
 abbrev Inv-loop : tie.InvT-loop
 Inv-loop s marks₀ k₀ marks k = (k ≤ 64) × NumbersBelow (s .table) (4 * k) marks

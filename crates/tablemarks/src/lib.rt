@@ -1,0 +1,25 @@
+// The live marks of all superblocks of a state in one list.
+ghost use mathlib.Core.Path.{_≡_};
+ghost use Prim.Native.Nat.{ℕ};
+ghost use Rattle.marks.specs.Marks.{isMarked};
+ghost use Rattle.heap.specs.Table.{isLiveBlock};
+use heap::State;
+
+// A mark for each live block of the table: the numbers of superblock k are 4 × k to 4 × k + 3.
+pub fn marks_of_table(s: State) -> [u64; 256]
+    ensures { λ r. ⌜ ((b : ℕ) → isMarked r b ≡ isLiveBlock s b) ⌝ }
+{
+    let mut marks = [0u64; 256];
+    let mut k: usize = 0;
+    while k < 64 {
+        let b = s.table[k];
+        let live = b.live;
+        let at = 4 * k;
+        marks[at] = live[0];
+        marks[at + 1] = live[1];
+        marks[at + 2] = live[2];
+        marks[at + 3] = live[3];
+        k += 1;
+    }
+    marks
+}
