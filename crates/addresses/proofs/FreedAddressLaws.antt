@@ -7,17 +7,17 @@ use native.Mathlib.Decide.{decLt}
 use native.Mathlib.Omega.{arith}
 use borrow.Author.Tests.{le-leb, lt-leb, lt-ltb, le-ltb, eq-eqb, ne-eqb}
 use lib.Dec.{eqb, leb}
-use lib.ListN.{length}
 use Rattle.laws.specs.Sums.{either}
 use Rattle.laws.proofs.Inequalities.{le-of-not-below}
 use Rattle.classes.specs.Classes.{sizeOf, blocksOf}
 use Rattle.classes.proofs.ClassTableLaws.{size-of-ge-16, size-of-no-class, blocks-of-no-class}
 use Rattle.marks.specs.Marks.{isMarked}
 use Rattle.names.specs.Names.{notHeld}
+use Rattle.heap.specs.declared.Superblock.{Superblock}
 use Rattle.heap.specs.declared.State.{State}
 use Rattle.heap.specs.Table.{superblockAt, isUnused}
-use Rattle.calls.specs.Free.{superblockHolding, blockOf, isUnmapped, isMisaligned, isLiveAt, blockNumberAt}
-use Rattle.table.proofs.PastTableLaws.{not-unused-past-table}
+use Rattle.calls.specs.Free.{superblockHolding, blockOf, isUnmapped, isMisaligned, isLiveAt, addressRefusal, blockNumberAt}
+use Rattle.calls.proofs.AddressRefusalLaws.{address-refusal-5}
 
 -- a class with no block size has no blocks
 pub blocks-of-size-0 : (class : ℕ) → sizeOf class ≡ 0 → blocksOf class ≡ 0
@@ -31,44 +31,53 @@ either-true-right : (t : Bool) → true ≡ either t true
 either-true-right true = refl
 either-true-right false = refl
 
--- refusal 5: past superblocks 0 to N - 1, or unused; what stands past the table is not
-pub is-unmapped-past-end : (s : State) (a : ℕ) → s .setup .superblocks * 4096 ≤ a → true ≡ isUnmapped s a
-unfolding isUnmapped
-is-unmapped-past-end s a l = rw (le-leb (s .setup .superblocks * 4096) a l)
+-- the block of an address, from the block size that the code reads
+pub block-of-size-0 : (a class size : ℕ) → size ≡ sizeOf class → size ≡ 0 → 0 ≡ a % 4096 / sizeOf class
+block-of-size-0 a class size es e = sym (ap (λ (n : ℕ). a % 4096 / n) (sym es ∙ e) ∙ div-zero (a % 4096))
 
-module _ (s : State) (a : ℕ) (l : a < s .setup .superblocks * 4096) where
-  pub is-unmapped-is-unused : (r : Bool) → r ≡ isUnused (superblockAt s (a / 4096)) → r ≡ isUnmapped s a
-  unfolding isUnmapped
-  is-unmapped-is-unused r e = rw (lt-leb (s .setup .superblocks * 4096) a l) e
+pub block-of-is-quotient : (a class size : ℕ) → size ≡ sizeOf class → a % 4096 / size ≡ a % 4096 / sizeOf class
+block-of-is-quotient a class size es = ap (λ (n : ℕ). a % 4096 / n) es
 
-  pub is-unmapped-false-past-table : length (s .table) ≡ 64 → 64 ≤ a / 4096 → false ≡ isUnmapped s a
-  is-unmapped-false-past-table long h = is-unmapped-is-unused false (sym (not-unused-past-table s (a / 4096) long h))
+pub block-of-by-class : (s : State) (a class j : ℕ) → class ≡ superblockAt s (a / 4096) .class → j ≡ a % 4096 / sizeOf class → j ≡ blockOf s a
+unfolding blockOf
+block-of-by-class s a class j ec e = e ∙ ap (λ (n : ℕ). a % 4096 / sizeOf n) ec
 
--- the block of an address and refusal 6, from the class and the block size that the code reads
-module _ (s : State) (a class size : ℕ) (ec : class ≡ superblockAt s (a / 4096) .class) (es : size ≡ sizeOf class) where
-  size-of-superblock-holding : size ≡ sizeOf (superblockHolding s a .class)
-  size-of-superblock-holding = es ∙ ap sizeOf ec
+-- the tests, in a state that has the superblock there
+module _ (s : State) (a : ℕ) (b : Superblock) (eb : superblockHolding s a ≡ b) where
+  -- refusal 5: past superblocks 0 to N - 1, or unused
+  module _ (n : ℕ) (en : s .setup .superblocks ≡ n) where
+    pub is-unmapped-past-end : n * 4096 ≤ a → true ≡ isUnmapped s a
+    unfolding isUnmapped
+    is-unmapped-past-end l = rw (en, le-leb (n * 4096) a l)
 
-  pub block-of-is-quotient : a % 4096 / size ≡ blockOf s a
-  unfolding blockOf
-  block-of-is-quotient = ap (λ (n : ℕ). a % 4096 / n) size-of-superblock-holding
+    pub is-unmapped-is-unused : (r : Bool) → a < n * 4096 → r ≡ isUnused b → r ≡ isUnmapped s a
+    unfolding isUnmapped
+    is-unmapped-is-unused r l e = rw (en, lt-leb (n * 4096) a l, eb) e
 
-  pub block-of-size-0 : size ≡ 0 → 0 ≡ blockOf s a
-  block-of-size-0 e = sym (ap (λ (n : ℕ). a % 4096 / n) e ∙ div-zero (a % 4096)) ∙ block-of-is-quotient
+  -- refusal 6
+  module _ (size : ℕ) (es : size ≡ sizeOf (b .class)) where
+    pub is-misaligned-of-size-0 : size ≡ 0 → true ≡ isMisaligned s a
+    unfolding isMisaligned
+    is-misaligned-of-size-0 e =
+        let n : blocksOf (b .class) ≡ 0 = blocks-of-size-0 (b .class) (sym es ∙ e) in
+        rw (eb, n, le-leb 0 (blockOf s a) zero-le) (either-true-right (not (eqb (a % 4096 % sizeOf (b .class)) 0)))
 
-  pub is-misaligned-of-size-0 : size ≡ 0 → true ≡ isMisaligned s a
-  unfolding isMisaligned
-  is-misaligned-of-size-0 e =
-      let n : blocksOf (superblockHolding s a .class) ≡ 0 = blocks-of-size-0 (superblockHolding s a .class) (sym size-of-superblock-holding ∙ e) in
-      rw (n, le-leb 0 (blockOf s a) zero-le) (either-true-right (not (eqb (a % 4096 % sizeOf (superblockHolding s a .class)) 0)))
+    pub is-misaligned-of-remainder : (a % 4096 % size ≡ 0 → ⊥) → true ≡ isMisaligned s a
+    unfolding isMisaligned
+    is-misaligned-of-remainder f = rw (eb, ← es, ne-eqb (a % 4096 % size) 0 f)
 
-  pub is-misaligned-of-remainder : (a % 4096 % size ≡ 0 → ⊥) → true ≡ isMisaligned s a
-  unfolding isMisaligned
-  is-misaligned-of-remainder f = rw (← size-of-superblock-holding, ne-eqb (a % 4096 % size) 0 f)
+    pub is-misaligned-is-past-last-block : (n : ℕ) → a % 4096 % size ≡ 0 → n ≡ blocksOf (b .class) → leb n (a % 4096 / size) ≡ isMisaligned s a
+    unfolding isMisaligned blockOf
+    is-misaligned-is-past-last-block n e en = rw (eb, ← es, eq-eqb (a % 4096 % size) 0 e, ← en)
 
-  pub is-misaligned-is-past-last-block : (n : ℕ) → a % 4096 % size ≡ 0 → n ≡ blocksOf class → leb n (a % 4096 / size) ≡ isMisaligned s a
-  unfolding isMisaligned
-  is-misaligned-is-past-last-block n e en = rw (← block-of-is-quotient, ← size-of-superblock-holding, eq-eqb (a % 4096 % size) 0 e, ← ec, ← en)
+  -- refusal 7: the block's mark
+  pub is-live-at-is-mark : (j : ℕ) (r : Bool) → j ≡ a % 4096 / sizeOf (b .class) → r ≡ isMarked (b .live) j → r ≡ isLiveAt s a
+  unfolding isLiveAt blockOf
+  is-live-at-is-mark j r ej e = rw (eb, ← ej) e
+
+-- the refusal of an address past the table, which has no more than 64 superblocks
+pub address-refusal-past-table : (s : State) (a : ℕ) → s .setup .superblocks ≤ 64 → 64 ≤ a / 4096 → 5 ≡ addressRefusal s a
+address-refusal-past-table s a high h = address-refusal-5 s a true (is-unmapped-past-end s a (superblockHolding s a) refl (s .setup .superblocks) refl (omega arith)) refl
 
 -- the block's number: a block is one of 256, whatever the class
 block-of-offset-lt-256 : (a class : ℕ) → a % 4096 / sizeOf class < 256
@@ -93,9 +102,3 @@ module _ (s : State) (a : ℕ) where
   pub block-number-in-table : (j : ℕ) → a / 4096 < 64 → j ≡ blockOf s a → a / 4096 * 256 + j ≡ blockNumberAt s a
   unfolding blockNumberAt
   block-number-in-table j h e = rw (lt-ltb (a / 4096) 64 h, e)
-
--- the block's mark
-module _ (s : State) (a j : ℕ) (ej : j ≡ blockOf s a) where
-  pub is-live-at-is-mark : (r : Bool) → r ≡ isMarked (superblockAt s (a / 4096) .live) j → r ≡ isLiveAt s a
-  unfolding isLiveAt
-  is-live-at-is-mark r e = e ∙ ap (isMarked (superblockAt s (a / 4096) .live)) ej

@@ -1,38 +1,33 @@
-// The block at an address, and the tests of an address: unmapped, misaligned, live, and the refusal that they come to. Each function is total,
-// as the definitions are: past the table's 64 superblocks nothing is live and no block has a number, and a class with no block size has no
-// blocks.
+// The block at an address, and the tests of an address: unmapped, misaligned, live, and the refusal that they come to. The tests take the
+// superblock that the address lies in, and not the state: a state by value is a copy of six kilobytes. The functions of the block are total, as
+// the definitions are: past the table's 64 superblocks no block has a number, and a class with no block size has no blocks.
 ghost use mathlib.Core.Path.{_≡_};
-ghost use Rattle.calls.specs.Free.{blockOf, isUnmapped, isMisaligned, isLiveAt, addressRefusal, blockNumberAt};
+ghost use Prim.Native.Nat.{_/_, _≤_};
+ghost use Rattle.classes.specs.Classes.{sizeOf};
+ghost use Rattle.calls.specs.Free.{offsetOf, blockOf, isUnmapped, isMisaligned, isLiveAt, addressRefusal, blockNumberAt};
+ghost use Rattle.addresses.specs.Holding.{TellsIn, TellsOf};
 use heap::State;
+use heap::Superblock;
 
-// The address is past superblocks 0 to N - 1, or in an unused one.
-pub fn is_unmapped(s: State, address: u32) -> bool
-    ensures { λ r. ⌜ r ≡ isUnmapped s address ⌝ }
+// The block of a superblock of the class that the address lies in; 0 where the class has no block size.
+pub fn block_in(class: u8, address: u32) -> u16
+    ensures { λ r. ⌜ r ≡ offsetOf address / sizeOf class ⌝ }
 {
-    let end = s.setup.superblocks as u32 * 4096;
-    if end <= address {
-        return true;
-    }
-    let k = (address / 4096) as usize;
-    if k >= 64 {
-        return false;
-    }
-    let b = s.table[k];
-    predicates::is_unused(b)
-}
-
-// The block that the address lies in; 0 where its superblock's class has no block size.
-pub fn block_at(s: State, address: u32) -> u16
-    ensures { λ r. ⌜ r ≡ blockOf s address ⌝ }
-{
-    let k = (address / 4096) as usize;
-    let class = table::class_at(s, k);
     let size = classes::block_size(class);
     if size == 0 {
         return 0;
     }
     let offset = (address % 4096) as u16;
     offset / size
+}
+
+// The block that the address lies in.
+pub fn block_at(s: State, address: u32) -> u16
+    ensures { λ r. ⌜ r ≡ blockOf s address ⌝ }
+{
+    let k = (address / 4096) as usize;
+    let class = table::class_at(s, k);
+    block_in(class, address)
 }
 
 // The number by which a name points at that block, superblock × 256 + block; 65535 past the table.
@@ -46,13 +41,22 @@ pub fn block_number_at(s: State, address: u32) -> u16
     k as u16 * 256 + block_at(s, address)
 }
 
-// No block of its superblock starts at the address.
-pub fn is_misaligned(s: State, address: u32) -> bool
-    ensures { λ r. ⌜ r ≡ isMisaligned s address ⌝ }
+// The address is past superblocks 0 to N - 1, or in an unused one.
+fn is_unmapped(superblocks: u8, b: Superblock, address: u32) -> bool
+    ensures { λ r. ⌜ TellsOf r isUnmapped superblocks b address ⌝ }
 {
-    let k = (address / 4096) as usize;
-    let class = table::class_at(s, k);
-    let size = classes::block_size(class);
+    let end = superblocks as u32 * 4096;
+    if end <= address {
+        return true;
+    }
+    predicates::is_unused(b)
+}
+
+// No block of its superblock starts at the address.
+fn is_misaligned(b: Superblock, address: u32) -> bool
+    ensures { λ r. ⌜ TellsIn r isMisaligned b address ⌝ }
+{
+    let size = classes::block_size(b.class);
     if size == 0 {
         return true;
     }
@@ -60,35 +64,44 @@ pub fn is_misaligned(s: State, address: u32) -> bool
     if offset % size != 0 {
         return true;
     }
-    classes::block_count(class) <= offset / size
+    classes::block_count(b.class) <= offset / size
 }
 
 // The block at the address is live.
-pub fn is_live_at(s: State, address: u32) -> bool
-    ensures { λ r. ⌜ r ≡ isLiveAt s address ⌝ }
+fn is_live_in(b: Superblock, address: u32) -> bool
+    ensures { λ r. ⌜ TellsIn r isLiveAt b address ⌝ }
 {
-    let k = (address / 4096) as usize;
-    if k >= 64 {
-        return false;
-    }
-    let j = block_at(s, address) as usize;
-    let b = s.table[k];
+    let j = block_in(b.class, address) as usize;
     let live = b.live;
     bitmap::is_live(live, j)
 }
 
-// The refusal that the address meets: the first of 5, 6 and 7 that applies, or 0 where a live block starts there.
-pub fn refusal(s: State, address: u32) -> u8
-    ensures { λ r. ⌜ r ≡ addressRefusal s address ⌝ }
+// The refusal that the address meets, by N and the superblock that it lies in: the first of 5, 6 and 7 that applies, or 0 where a live block
+// starts there.
+pub fn refusal_in(superblocks: u8, b: Superblock, address: u32) -> u8
+    ensures { λ r. ⌜ TellsOf r addressRefusal superblocks b address ⌝ }
 {
-    if is_unmapped(s, address) {
+    if is_unmapped(superblocks, b, address) {
         return 5;
     }
-    if is_misaligned(s, address) {
+    if is_misaligned(b, address) {
         return 6;
     }
-    if !is_live_at(s, address) {
+    if !is_live_in(b, address) {
         return 7;
     }
     0
+}
+
+// The refusal that the address meets in a state. What lies past the table lies past N superblocks too.
+pub fn refusal(s: State, address: u32) -> u8
+    requires { ⌜ s .setup .superblocks ≤ 64 ⌝ }
+    ensures { λ r. ⌜ r ≡ addressRefusal s address ⌝ }
+{
+    let k = (address / 4096) as usize;
+    if k >= 64 {
+        return 5;
+    }
+    let b = s.table[k];
+    refusal_in(s.setup.superblocks, b, address)
 }

@@ -59,8 +59,8 @@ module _ (s : State) (order : List ℕ) (p : passes s order ≡ true) where
   sound : Sound s order
   sound = sound-of-passes s order (T-of-true _ p)
 
-  pub addresses-can-be-tested : (s .setup .superblocks ≤ 64) × TotalsKept s
-  addresses-can-be-tested = (sound .numbers .superblocks-high, totals-kept-of-passes s order (T-of-true _ p))
+  pub addresses-can-be-tested : s .setup .superblocks ≤ 64
+  addresses-can-be-tested = sound .numbers .superblocks-high
 
   pub blocks-can-be-dropped : (addresses : List ℕ) (bad : ℕ) → Shape s → bad ≡ firstRefusal s addresses → bad ≡ 0 → FreesSafe s addresses × TotalsKept s × (s .setup .processors ≤ 8)
   blocks-can-be-dropped addresses bad shape g z = (frees-safe-of-passes s order addresses shape p (sym g ∙ z), totals-kept-of-passes s order (T-of-true _ p), sound .numbers .processors-high)

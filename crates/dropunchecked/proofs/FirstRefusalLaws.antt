@@ -1,26 +1,27 @@
 -- The refusals that the frees of a drop would meet, told by the marks alone. Assumes nothing.
 use mathlib.Core.Path.{_≡_, refl, sym, ap, _∙_}
 use mathlib.Core.List.{List}
-use Prim.Native.Nat.{ℕ, suc, _+_, _*_, _/_, _≤_, _<_}
+use Prim.Native.Nat.{ℕ, suc, _+_, _/_, _%_, _≤_, _<_}
 use native.Mathlib.Numerals.{add-one}
 use native.Mathlib.Decide.{ℕ-discrete}
 use native.Mathlib.Omega.{arith}
-use borrow.Author.Tests.{leb-false, ne-eqb}
-use lib.ListN.{length, getD, take, drop, length-set, drop-of-length-le}
+use borrow.Author.Tests.{ne-eqb}
+use lib.ListN.{length, getD, set, take, drop, length-set, drop-of-length-le}
 use lib.Seq.{drop-cons}
-use lib.Dec.{leb}
 use Rattle.laws.proofs.ListedLaws.{length-listed}
-use Rattle.laws.proofs.TestLaws.{neither-left}
+use Rattle.classes.specs.Classes.{sizeOf}
+use Rattle.marks.specs.Marks.{withoutMark}
 use Rattle.heap.specs.declared.Superblock.{Superblock}
 use Rattle.heap.specs.declared.State.{State}
-use Rattle.heap.specs.Table.{superblockAt, isUnused, withRank, withoutMarkAt}
-use Rattle.heap.specs.Totals.{TotalsKept}
+use Rattle.heap.specs.Table.{blank, superblockAt, isUnused, withRank, withoutMarkAt}
+use Rattle.heap.specs.Totals.{recounted}
 use Rattle.heap.specs.Ranks.{rankAfterFree, rankedLatest}
 use Rattle.heaplaws.proofs.CountLaws.{superblock-at-replaced, superblock-at-others}
 use Rattle.heaplaws.proofs.RerankedLaws.{superblock-keeps-all-but-rank}
 use Rattle.calls.specs.Free.{superblockIndex, superblockHolding, blockOf, isUnmapped, isMisaligned, isLiveAt, addressRefusal, markCleared, blockFreed}
 use Rattle.calls.specs.Drop.{allFreed, firstRefusal}
-use Rattle.calls.proofs.AddressRefusalLaws.{mapped-of-no-refusal}
+use Rattle.addresses.specs.Holding.{TellsOf}
+use Rattle.addresses.proofs.FreedAddressLaws.{address-refusal-past-table}
 use Rattle.dropunchecked.proofs.FreesLaws.{all-freed-at-next}
 
 -- ---- two states alike but for ranks, names and totals
@@ -29,6 +30,10 @@ pub record SameBlocks (t u : State) : Type 0 where
   pub first-length : length (t .table) ≡ 64
   pub second-length : length (u .table) ≡ 64
   pub each : (k : ℕ) → superblockAt t k ≡ withRank (superblockAt t k .rank) (superblockAt u k)
+
+-- a superblock with other marks
+abbrev pub withMarks : List ℕ → Superblock → Superblock
+withMarks live b = record { owner = b .owner; class = b .class; live = live; rank = b .rank }
 
 -- the superblock of an address with the mark there cleared
 abbrev clearedIn : State → ℕ → Superblock
@@ -87,40 +92,43 @@ module _ (u : State) (addresses : List ℕ) (i : ℕ) (l : i < length addresses)
   unfolding firstRefusal
   first-refusal-past-good e = rw (drop-cons addresses i 0 l, e)
 
--- ---- the loop: the addresses below i meet no refusal, and t has lost their marks
-pub record NoneRefused (s : State) (addresses : List ℕ) (i : ℕ) (t : State) : Type 0 where
+-- ---- the loop: the addresses below i meet no refusal, and t is the table without their marks
+-- the state with that table, and the totals that it comes to: no address tells them
+abbrev withTable : State → List Superblock → State
+withTable s t = record { setup = s .setup; table = t; names = s .names; totals = recounted t }
+
+pub record NoneRefused (s : State) (addresses : List ℕ) (i : ℕ) (t : List Superblock) : Type 0 where
   pub refusal-left : firstRefusal (allFreed s (take i addresses)) (drop i addresses) ≡ firstRefusal s addresses
-  pub same : SameBlocks t (allFreed s (take i addresses))
-  pub superblocks-high : t .setup .superblocks ≤ 64
-  pub totals : TotalsKept t
+  pub same : SameBlocks (withTable s t) (allFreed s (take i addresses))
 
-pub none-refused-yet : (s : State) (addresses : List ℕ) → length (s .table) ≡ 64 → s .setup .superblocks ≤ 64 → TotalsKept s → NoneRefused s addresses 0 s
+pub none-refused-yet : (s : State) (addresses : List ℕ) → length (s .table) ≡ 64 → NoneRefused s addresses 0 (s .table)
 unfolding allFreed
-none-refused-yet s addresses long high kept = record { refusal-left = refl; same = record { setup-is = refl; first-length = long; second-length = long; each = λ k. refl }; superblocks-high = high; totals = kept }
+none-refused-yet s addresses long = record { refusal-left = refl; same = record { setup-is = refl; first-length = long; second-length = long; each = λ k. refl } }
 
-module _ (s t : State) (addresses : List ℕ) (i : ℕ) (so : NoneRefused s addresses i t) where
-  module _ (l : i < length addresses) (bad : ℕ) (e : bad ≡ addressRefusal t (getD addresses i 0)) where
-    refusal-of-free : bad ≡ addressRefusal (allFreed s (take i addresses)) (getD addresses i 0)
-    refusal-of-free = e ∙ same-refusal t (allFreed s (take i addresses)) (so .same) (getD addresses i 0)
+module _ (s : State) (t : List Superblock) (addresses : List ℕ) (i : ℕ) (so : NoneRefused s addresses i t) where
+  module _ (l : i < length addresses) where
+    refused-of-bad : (bad : ℕ) → bad ≡ addressRefusal (withTable s t) (getD addresses i 0) → (bad ≡ 0 → ⊥) → bad ≡ firstRefusal s addresses
+    refused-of-bad bad e n =
+        let at : bad ≡ addressRefusal (allFreed s (take i addresses)) (getD addresses i 0) = e ∙ same-refusal (withTable s t) (allFreed s (take i addresses)) (so .same) (getD addresses i 0) in
+        at ∙ sym (first-refusal-at-bad (allFreed s (take i addresses)) addresses i l (λ z. n (at ∙ z))) ∙ so .refusal-left
 
-    pub first-bad-refused : (bad ≡ 0 → ⊥) → bad ≡ firstRefusal s addresses
-    first-bad-refused n = refusal-of-free ∙ sym (first-refusal-at-bad (allFreed s (take i addresses)) addresses i l (λ z. n (refusal-of-free ∙ z))) ∙ so .refusal-left
+    pub past-table-refused : s .setup .superblocks ≤ 64 → 64 ≤ getD addresses i 0 / 4096 → 5 ≡ firstRefusal s addresses
+    past-table-refused high h = refused-of-bad 5 (address-refusal-past-table (withTable s t) (getD addresses i 0) high h) (λ z. omega arith)
 
-    module _ (z : bad ≡ 0) where
-      pub good-in-table : superblockIndex (getD addresses i 0) < 64
-      unfolding isUnmapped
-      good-in-table =
-          let below = leb-false (t .setup .superblocks * 4096) (getD addresses i 0) (neither-left (leb (t .setup .superblocks * 4096) (getD addresses i 0)) _ (mapped-of-no-refusal t (getD addresses i 0) (sym e ∙ z))) in
-          omega (arith, so .superblocks-high)
+    module _ (bad : ℕ) (e : TellsOf bad addressRefusal (s .setup .superblocks) (getD t (getD addresses i 0 / 4096) blank) (getD addresses i 0)) where
+      pub first-bad-refused : (bad ≡ 0 → ⊥) → bad ≡ firstRefusal s addresses
+      first-bad-refused = refused-of-bad bad (e (withTable s t) refl refl)
 
-      pub none-refused-at-next : (next : State) → next ≡ markCleared t (getD addresses i 0) → NoneRefused s addresses (i + 1) next
-      unfolding markCleared
-      none-refused-at-next next en = rw (en, add-one) (record {
-        refusal-left = rw (all-freed-at-next s addresses i l) (sym (first-refusal-past-good (allFreed s (take i addresses)) addresses i l (sym refusal-of-free ∙ z)) ∙ so .refusal-left);
-        same = rw (all-freed-at-next s addresses i l) (same-of-block-freed t (allFreed s (take i addresses)) (so .same) (getD addresses i 0) good-in-table);
-        superblocks-high = so .superblocks-high;
-        totals = refl;
-      })
+      pub none-refused-at-next : bad ≡ 0 → getD addresses i 0 / 4096 < 64 → (block : ℕ) (freed : List ℕ) → block ≡ getD addresses i 0 % 4096 / sizeOf (getD t (getD addresses i 0 / 4096) blank .class)
+          → freed ≡ withoutMark (getD t (getD addresses i 0 / 4096) blank .live) block
+          → NoneRefused s addresses (i + 1) (set t (getD addresses i 0 / 4096) (withMarks freed (getD t (getD addresses i 0 / 4096) blank)))
+      unfolding markCleared blockOf
+      none-refused-at-next z below block freed eb ef =
+          let none : addressRefusal (allFreed s (take i addresses)) (getD addresses i 0) ≡ 0 = sym (e (withTable s t) refl refl ∙ same-refusal (withTable s t) (allFreed s (take i addresses)) (so .same) (getD addresses i 0)) ∙ z in
+          rw (ef, eb, add-one) (record {
+            refusal-left = rw (all-freed-at-next s addresses i l) (sym (first-refusal-past-good (allFreed s (take i addresses)) addresses i l none) ∙ so .refusal-left);
+            same = rw (all-freed-at-next s addresses i l) (same-of-block-freed (withTable s t) (allFreed s (take i addresses)) (so .same) (getD addresses i 0) below);
+          })
 
   pub none-refused-at-end : length addresses ≤ i → 0 ≡ firstRefusal s addresses
   unfolding firstRefusal

@@ -34,20 +34,29 @@ pub fn drop(s: State, order: &mut [u16], processor: u8, addresses: &[u32]) -> An
 }
 
 // The refusal of the first bad address, or 0. A free clears the mark of its block, and no later address tells the rest of it: a mark cleared
-// in a copy is enough to refuse a block that comes twice.
+// in a copy of the table is enough to refuse a block that comes twice. What lies past the table lies past N superblocks too.
 fn first_refusal(s: State, addresses: &[u32]) -> u8
-    requires { ⌜ (s .setup .superblocks ≤ 64) × TotalsKept s ⌝ }
+    requires { ⌜ s .setup .superblocks ≤ 64 ⌝ }
     ensures { λ r. ⌜ r ≡ firstRefusal s (now (addresses .entry)) ⌝ }
 {
-    let mut t = s;
+    let mut t = s.table;
     let mut i: usize = 0;
     while i < addresses.len() {
         let address = addresses[i];
-        let bad = addresses::refusal(t, address);
+        let k = (address / 4096) as usize;
+        if k >= 64 {
+            return 5;
+        }
+        let mut b = t[k];
+        let bad = addresses::refusal_in(s.setup.superblocks, b, address);
         if bad != 0 {
             return bad;
         }
-        t = release::clear_mark(t, address);
+        let block = addresses::block_in(b.class, address) as usize;
+        let old = b.live;
+        let freed = bitmap::clear_live(old, block);
+        b.live = freed;
+        t[k] = b;
         i += 1;
     }
     0

@@ -2,7 +2,7 @@
 use mathlib.Core.Path.{_≡_, refl, sym, _∙_}
 use mathlib.Core.Bool.{Bool, true, false}
 use mathlib.Core.List.{List}
-use Prim.Native.Nat.{ℕ, _/_, _<_}
+use Prim.Native.Nat.{ℕ, _/_, _≤_, _<_}
 use native.Mathlib.Omega.{arith}
 use borrow.Author.Tests.{ne-eqb, not-true, not-false}
 use Rattle.laws.proofs.TestLaws.{T-of-true}
@@ -44,6 +44,10 @@ module _ (s : State) (order : List ℕ) (i a : ℕ) (t : Bool) (p : t ≡ isProc
 
     pub free-unchecked-is-freed-at : (after : After) → bad ≡ 0 → after ≡ freedAt s order a → after ≡ freeUnchecked s order i a
     free-unchecked-is-freed-at after z h = h ∙ sym (free-unchecked-by-address-refusal s order i a ∙ rw (← p, f, ← g, z))
+
+-- ---- what the check tells of the setup numbers
+pub superblocks-in-table : (s : State) (order : List ℕ) → passes s order ≡ true → s .setup .superblocks ≤ 64
+superblocks-in-table s order p = sound-of-passes s order (T-of-true _ p) .numbers .superblocks-high
 
 -- ---- what the check and the tests of the address tell of the superblock
 module _ (s : State) (order : List ℕ) (a : ℕ) (p : passes s order ≡ true) (bad : ℕ) (g : bad ≡ addressRefusal s a) (z : bad ≡ 0) where

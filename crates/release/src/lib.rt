@@ -8,7 +8,7 @@ use heap::State;
 use heap::Superblock;
 
 // The state with the block at the address no longer live.
-pub fn clear_mark(s: State, address: u32) -> State
+fn clear_mark(s: State, address: u32) -> State
     requires { ⌜ (superblockIndex address < 64) × TotalsKept s ⌝ }
     ensures { λ r. ⌜ r ≡ markCleared s address ⌝ }
 {

@@ -1,6 +1,6 @@
--- `addresses::block_at` meets its contract: a quotient by 0 is 0. Assumes nothing.
+-- `addresses::block_at` meets its contract. Assumes nothing.
 use borrow.Author.Needs.{needs}
-use Rattle.addresses.proofs.FreedAddressLaws.{block-of-is-quotient, block-of-size-0}
+use Rattle.addresses.proofs.FreedAddressLaws.{block-of-by-class}
 use Rattle.addresses.proofs.block_at.Statement.{statement}
 use Rattle.addresses.proofs.block_at.Tie as tie
 
@@ -10,29 +10,11 @@ cast-k c = search needs
 class-at-requires : tie.Need-class-at-requires
 class-at-requires c κs = search needs
 
-block-size-requires : tie.Need-block-size-requires
-block-size-requires c κs = search needs
+block-in-requires : tie.Need-block-in-requires
+block-in-requires c κs = search needs
 
 returns : tie.Need-returns
-returns c = search block-of-size-0
-
-cast-offset : tie.Need-cast-offset
-cast-offset c = search needs
-
-div-result : tie.Need-div-result
-div-result c = search needs
-
-returns-2 : tie.Need-returns-2
-returns-2 c = search block-of-is-quotient
+returns c = search block-of-by-class
 
 pub block-at-spec : {M : Type 1} → statement M
-block-at-spec =
-    tie.close
-    (tie.spec
-    cast-k
-    class-at-requires
-    block-size-requires
-    returns
-    cast-offset
-    div-result
-    returns-2)
+block-at-spec = tie.close (tie.spec cast-k class-at-requires block-in-requires returns)

@@ -4,17 +4,11 @@ use Rattle.addresses.proofs.FreedAddressLaws.{is-misaligned-of-size-0, 
 use Rattle.addresses.proofs.is_misaligned.Statement.{statement}
 use Rattle.addresses.proofs.is_misaligned.Tie as tie
 
-cast-k : tie.Need-cast-k
-cast-k c = search needs
-
-class-at-requires : tie.Need-class-at-requires
-class-at-requires c κs = search needs
-
 block-size-requires : tie.Need-block-size-requires
 block-size-requires c κs = search needs
 
 returns : tie.Need-returns
-returns c = search is-misaligned-of-size-0
+returns c s eb = search is-misaligned-of-size-0
 
 cast-offset : tie.Need-cast-offset
 cast-offset c = search needs
@@ -23,7 +17,7 @@ rem-if2 : tie.Need-rem-if2
 rem-if2 c = search needs
 
 returns-2 : tie.Need-returns-2
-returns-2 c = search is-misaligned-of-remainder
+returns-2 c s eb = search is-misaligned-of-remainder
 
 block-count-requires : tie.Need-block-count-requires
 block-count-requires c κs = search needs
@@ -32,14 +26,12 @@ div-result : tie.Need-div-result
 div-result c = search needs
 
 returns-3 : tie.Need-returns-3
-returns-3 c = search is-misaligned-is-past-last-block
+returns-3 c s eb = search is-misaligned-is-past-last-block
 
 pub is-misaligned-spec : {M : Type 1} → statement M
 is-misaligned-spec =
     tie.close
     (tie.spec
-    cast-k
-    class-at-requires
     block-size-requires
     returns
     cast-offset

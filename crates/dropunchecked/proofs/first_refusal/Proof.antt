@@ -1,18 +1,18 @@
 -- `dropunchecked::first_refusal` meets its contract. The loop's invariant: the addresses passed meet no refusal. The measure is what is left of them. Assumes nothing.
+use borrow.Author.Needs.{needs}
 use Prim.Native.Nat.{_-_, _≤_}
 use native.Mathlib.Omega.{arith}
 use lib.ListN.{length}
 use Rattle.laws.proofs.ReplacedElement.{length-of-length-map}
-use Rattle.dropunchecked.proofs.FirstRefusalLaws.{NoneRefused, none-refused-yet, first-bad-refused, good-in-table, none-refused-at-next, none-refused-at-end}
-use borrow.Author.Needs.{needs}
+use Rattle.dropunchecked.proofs.FirstRefusalLaws.{NoneRefused, none-refused-yet, past-table-refused, first-bad-refused, none-refused-at-next, none-refused-at-end}
 use Rattle.dropunchecked.proofs.first_refusal.Statement.{statement}
 use Rattle.dropunchecked.proofs.first_refusal.Tie as tie
 
 abbrev Inv-loop : tie.InvT-loop
-Inv-loop addresses t₀ i₀ t i = (i ≤ length addresses) × NoneRefused t₀ addresses i t
+Inv-loop s addresses t₀ i₀ t i = (i ≤ length addresses) × NoneRefused s addresses i t
 
 abbrev μ-loop : tie.MeasureT-loop
-μ-loop addresses t₀ i₀ t i = length addresses - i
+μ-loop s addresses t₀ i₀ t i = length addresses - i
 
 loop-holds : tie.Need-loop-holds Inv-loop μ-loop
 loop-holds c = (omega arith, search (none-refused-yet, length-of-length-map))
@@ -23,14 +23,38 @@ mul-address c = search needs
 shared-slice-read-address : tie.Need-shared-slice-read-address Inv-loop μ-loop
 shared-slice-read-address c = search needs
 
-refusal-requires : tie.Need-refusal-requires Inv-loop μ-loop
-refusal-requires c κs = search needs
+cast-k : tie.Need-cast-k Inv-loop μ-loop
+cast-k c = omega (arith, c .shared-slice-known2 .given (c .before .before .loop .i))
 
 returns : tie.Need-returns Inv-loop μ-loop
-returns c = search first-bad-refused
+returns c = search (past-table-refused, needs)
 
-clear-mark-requires : tie.Need-clear-mark-requires Inv-loop μ-loop
-clear-mark-requires c κs = (search good-in-table, search needs)
+mul-b : tie.Need-mul-b Inv-loop μ-loop
+mul-b c = search needs
+
+array-copy-out-b : tie.Need-array-copy-out-b Inv-loop μ-loop
+array-copy-out-b c = search needs
+
+refusal-in-requires : tie.Need-refusal-in-requires Inv-loop μ-loop
+refusal-in-requires c κs = search needs
+
+returns-2 : tie.Need-returns-2 Inv-loop μ-loop
+returns-2 c = search first-bad-refused
+
+block-in-requires : tie.Need-block-in-requires Inv-loop μ-loop
+block-in-requires c κs = search needs
+
+cast-block : tie.Need-cast-block Inv-loop μ-loop
+cast-block c = search needs
+
+clear-live-requires : tie.Need-clear-live-requires Inv-loop μ-loop
+clear-live-requires c κs = search needs
+
+mul-t : tie.Need-mul-t Inv-loop μ-loop
+mul-t c = search needs
+
+array-set-from-t : tie.Need-array-set-from-t Inv-loop μ-loop
+array-set-from-t c = search needs
 
 add-i : tie.Need-add-i Inv-loop μ-loop
 add-i c = search needs
@@ -39,10 +63,13 @@ loop-less : tie.Need-loop-less Inv-loop μ-loop
 loop-less c = search needs
 
 loop-again : tie.Need-loop-again Inv-loop μ-loop
-loop-again c = (omega arith, search none-refused-at-next)
+loop-again c =
+    let tested = c .before .before .before .before in
+    let read = tested .before .before .before in
+    (omega arith, none-refused-at-next _ _ _ _ (read .before .before .loop .inv .1) (read .before .loop-test .taken) _ (tested .refusal-in .ensures) (c .before .before .before .if2 .left) (omega arith) _ _ (c .before .before .block-in .ensures) (c .clear-live .ensures))
 
-returns-2 : tie.Need-returns-2 Inv-loop μ-loop
-returns-2 c = search none-refused-at-end
+returns-3 : tie.Need-returns-3 Inv-loop μ-loop
+returns-3 c = search none-refused-at-end
 
 pub first-refusal-spec : {M : Type 1} → statement M
 first-refusal-spec =
@@ -53,10 +80,18 @@ first-refusal-spec =
     loop-holds
     mul-address
     shared-slice-read-address
-    refusal-requires
+    cast-k
     returns
-    clear-mark-requires
+    mul-b
+    array-copy-out-b
+    refusal-in-requires
+    returns-2
+    block-in-requires
+    cast-block
+    clear-live-requires
+    mul-t
+    array-set-from-t
     add-i
     loop-less
     loop-again
-    returns-2)
+    returns-3)

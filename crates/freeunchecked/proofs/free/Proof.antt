@@ -1,5 +1,5 @@
 -- `freeunchecked::free` meets its contract. Assumes nothing.
-use Rattle.freeunchecked.proofs.FreeUncheckedLaws.{free-unchecked-clauses, free-outcomes, freed-superblock}
+use Rattle.freeunchecked.proofs.FreeUncheckedLaws.{free-unchecked-clauses, free-outcomes, superblocks-in-table, freed-superblock}
 use borrow.Author.Needs.{needs}
 use Rattle.freeunchecked.proofs.free.Statement.{statement}
 use Rattle.freeunchecked.proofs.free.Tie as tie
@@ -14,7 +14,7 @@ returns : tie.Need-returns
 returns c = free-unchecked-clauses _ _ _ _ (search free-outcomes)
 
 refusal-requires : tie.Need-refusal-requires
-refusal-requires c κs = search needs
+refusal-requires c κs = search superblocks-in-table
 
 refuse-requires-2 : tie.Need-refuse-requires-2
 refuse-requires-2 c κs = search needs

@@ -1,0 +1,20 @@
+-- `addresses::is_live_in` meets its contract. Assumes nothing.
+use borrow.Author.Needs.{needs}
+use Rattle.addresses.proofs.FreedAddressLaws.{is-live-at-is-mark}
+use Rattle.addresses.proofs.is_live_in.Statement.{statement}
+use Rattle.addresses.proofs.is_live_in.Tie as tie
+
+block-in-requires : tie.Need-block-in-requires
+block-in-requires c κs = search needs
+
+cast-j : tie.Need-cast-j
+cast-j c = search needs
+
+is-live-requires : tie.Need-is-live-requires
+is-live-requires c κs = search needs
+
+returns : tie.Need-returns
+returns c s eb = search is-live-at-is-mark
+
+pub is-live-in-spec : {M : Type 1} → statement M
+is-live-in-spec = tie.close (tie.spec block-in-requires cast-j is-live-requires returns)
