@@ -160,7 +160,6 @@ module _ (s : State) (order : List ℕ) (events : List Event) (shape : Shape s) 
           let a : ℕ = heldAddress s m in
           after-free a (moves s order i a shape (acc .freed)) (namedFreeOf s order i m) (below-64 (superblockIndex a) (free-effect s order i a shape (acc .freed) .below))
           (ap (λ (x : After). x .answer .outcome) (acc .result-is) ∙ free-outcome s order i a shape (acc .freed)) (named-free-ranks s order i m shape acc)
-
   ranked-by-last-free-after-call (Drop i addresses) = ⊎-elim (after-refused (Drop i addresses)) accepted (drop-refused-or-accepted s order i addresses)
     where
       accepted : DropAccepted s order i addresses → RankedByLastFree (dropOf s order i addresses .answer .state) (eventsAfterDrop events addresses (dropOf s order i addresses .answer .outcome))

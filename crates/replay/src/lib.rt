@@ -82,7 +82,15 @@ fn step(bytes: &[u8], order: &mut [u16], out: &mut [u8], x: Replay) -> Replay
             q,
         } => setup_step(bytes, order, out, x, processors, superblocks, spare, p, q),
         Command::Take { processor, size } => {
-            call_step(bytes, order, out, x, CallHeader::Take { processor, size }, &[], 0)
+            call_step(
+                bytes,
+                order,
+                out,
+                x,
+                CallHeader::Take { processor, size },
+                &[],
+                0,
+            )
         }
         Command::Free { processor, address } => {
             let call = CallHeader::Free { processor, address };
@@ -92,7 +100,15 @@ fn step(bytes: &[u8], order: &mut [u16], out: &mut [u8], x: Replay) -> Replay
             processor,
             name,
             size,
-        } => call_step(bytes, order, out, x, named_take(processor, name, size), &[], 0),
+        } => call_step(
+            bytes,
+            order,
+            out,
+            x,
+            named_take(processor, name, size),
+            &[],
+            0,
+        ),
         Command::NamedFree { processor, name } => {
             let call = CallHeader::NamedFree { processor, name };
             call_step(bytes, order, out, x, call, &[], 0)
