@@ -15,8 +15,8 @@ use Rattle.heap.specs.Counts.{superblocksOf, liveOf}
 use Rattle.calls.specs.declared.Outcome.{Outcome}
 use Rattle.calls.specs.declared.Outcome.the-variants.{Ready, Address, Moves, Refused}
 use Rattle.linerules.specs.Lines.{setupLine, result, takeLine, freeLine, namedTakeLine, namedFreeLine, dropLine, stopLine, heapLine, heapLineIf, classLines, heapLines, finalLines}
-
 -- the computed cases come first: a wrong definition fails there
+use Rattle.linerules.proofs.LineCases as cases
 
 pub length-of-setup-line-le-26 : (u : Setup) → u .processors < 256 → u .superblocks < 256 → u .spare < 256 → u .p < 256 → u .q < 256 → length (setupLine u) ≤ 26
 unfolding setupLine

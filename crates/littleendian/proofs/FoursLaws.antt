@@ -8,8 +8,8 @@ use lib.Seq.{drop-set-lt, drop-drop}
 use Rattle.laws.specs.Lists.{listed}
 use Rattle.laws.proofs.ListedLaws.{length-listed, getD-listed}
 use Rattle.littleendian.specs.Bytes.{fourAt, foursAt}
-
 -- the computed cases come first: a wrong definition fails there
+use Rattle.littleendian.proofs.LittleEndianCases as cases
 
 pub length-of-fours-at : (r : List ℕ) (at n : ℕ) → length (foursAt r at n) ≡ n
 unfolding foursAt

@@ -9,8 +9,8 @@ use lib.ListN.{length, List·getD-eq-default}
 use lib.Dec.{ltb}
 use Rattle.laws.proofs.TestLaws.{pick-elim}
 use Rattle.littleendian.specs.Bytes.{byteAt, twoAt, fourAt, eightAt, positionAfter}
-
 -- the computed cases come first: a wrong definition fails there
+use Rattle.littleendian.proofs.LittleEndianCases as cases
 
 pub byte-at-past-end : (r : List ℕ) (i : ℕ) → length r ≤ i → 0 ≡ byteAt r i
 byte-at-past-end r i past = sym (List·getD-eq-default r 0 past)

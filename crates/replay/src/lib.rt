@@ -1,7 +1,6 @@
 // The printed key of a record.
 ghost use mathlib.Core.Path.{_≡_};
 ghost use mathlib.Core.Bool.{true};
-ghost use mathlib.Core.List.{[]};
 ghost use Prim.Native.Nat.{ℕ, _≤_};
 ghost use Rattle.calls.specs.declared.CallHeader.the-variants as header;
 ghost use Rattle.commands.specs.Record.{commandAt, sizeOfCommand};
@@ -82,15 +81,8 @@ fn step(bytes: &[u8], order: &mut [u16], out: &mut [u8], x: Replay) -> Replay
             q,
         } => setup_step(bytes, order, out, x, processors, superblocks, spare, p, q),
         Command::Take { processor, size } => {
-            call_step(
-                bytes,
-                order,
-                out,
-                x,
-                CallHeader::Take { processor, size },
-                &[],
-                0,
-            )
+            let call = CallHeader::Take { processor, size };
+            call_step(bytes, order, out, x, call, &[], 0)
         }
         Command::Free { processor, address } => {
             let call = CallHeader::Free { processor, address };
@@ -100,15 +92,7 @@ fn step(bytes: &[u8], order: &mut [u16], out: &mut [u8], x: Replay) -> Replay
             processor,
             name,
             size,
-        } => call_step(
-            bytes,
-            order,
-            out,
-            x,
-            named_take(processor, name, size),
-            &[],
-            0,
-        ),
+        } => call_step(bytes, order, out, x, named(processor, name, size), &[], 0),
         Command::NamedFree { processor, name } => {
             let call = CallHeader::NamedFree { processor, name };
             call_step(bytes, order, out, x, call, &[], 0)
@@ -122,7 +106,8 @@ fn step(bytes: &[u8], order: &mut [u16], out: &mut [u8], x: Replay) -> Replay
     }
 }
 
-fn named_take(processor: u8, name: u16, size: u16) -> CallHeader
+// The header of a take by name.
+fn named(processor: u8, name: u16, size: u16) -> CallHeader
     ensures { λ c. ⌜ c ≡ header.NamedTake processor name size ⌝ }
 {
     CallHeader::NamedTake {

@@ -37,8 +37,8 @@ call-step-requires-2 c κs = search (needs, matched-command-is-command-at, no-ad
 enum-known-command-4 : tie.Need-enum-known-command-4
 enum-known-command-4 c = search needs
 
-named-take-requires : tie.Need-named-take-requires
-named-take-requires c κs = search needs
+named-requires : tie.Need-named-requires
+named-requires c κs = search needs
 
 slice-aggregate-call-step-3 : tie.Need-slice-aggregate-call-step-3
 slice-aggregate-call-step-3 c = search needs
@@ -142,7 +142,7 @@ step-spec =
     slice-aggregate-call-step-2
     call-step-requires-2
     enum-known-command-4
-    named-take-requires
+    named-requires
     slice-aggregate-call-step-3
     call-step-requires-3
     enum-known-command-5
