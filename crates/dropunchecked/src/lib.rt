@@ -103,8 +103,7 @@ fn free_all(s: State, order: &mut [u16], addresses: &[u32]) -> State
     let mut i: usize = 0;
     while i < addresses.len() {
         let address = addresses[i];
-        release::push_block(t, order, address);
-        t = release::free_block(t, address);
+        t = release::release_block(t, order, address);
         i += 1;
     }
     t

@@ -36,8 +36,7 @@ fn free_at(s: State, order: &mut [u16], address: u32) -> Answer
     let k = (address / 4096) as usize;
     let owner = table::owner_at(s, k);
     let class = table::class_at(s, k);
-    release::push_block(s, order, address);
-    let t = release::free_block(s, address);
+    let t = release::release_block(s, order, address);
     let m = moves::restore_invariant(t, owner, class);
     let next = m.state;
     Answer {

@@ -7,6 +7,16 @@ ghost use Rattle.calls.specs.Free.{superblockIndex, markCleared, orderPushed, b
 use heap::State;
 use heap::Superblock;
 
+// The block at the address is free again, and its number in the next place of its superblock's order: both in one function, so that its callers
+// hand the state over once.
+pub fn release_block(s: State, order: &mut [u16], address: u32) -> State
+    requires { ⌜ (superblockIndex address < 64) × TotalsKept s × RanksFit s ⌝ }
+    ensures { λ r. ⌜ (r ≡ blockFreed s address) × (now (order .exit) ≡ orderPushed s (now (order .entry)) address) ⌝ }
+{
+    push_block(s, order, address);
+    free_block(s, address)
+}
+
 // The state with the block at the address no longer live.
 fn clear_mark(s: State, address: u32) -> State
     requires { ⌜ (superblockIndex address < 64) × TotalsKept s ⌝ }
@@ -27,7 +37,7 @@ fn clear_mark(s: State, address: u32) -> State
 }
 
 // The state with that, with its superblock the last freed into, and with no name that points at the block.
-pub fn free_block(s: State, address: u32) -> State
+fn free_block(s: State, address: u32) -> State
     requires { ⌜ (superblockIndex address < 64) × TotalsKept s × RanksFit s ⌝ }
     ensures { λ r. ⌜ r ≡ blockFreed s address ⌝ }
 {
@@ -42,7 +52,7 @@ pub fn free_block(s: State, address: u32) -> State
 }
 
 // Puts the number of the block at the address in the next place of its superblock's order.
-pub fn push_block(s: State, order: &mut [u16], address: u32)
+fn push_block(s: State, order: &mut [u16], address: u32)
     requires { ⌜ superblockIndex address < 64 ⌝ }
     ensures { λ _. ⌜ now (order .exit) ≡ orderPushed s (now (order .entry)) address ⌝ }
 {

@@ -23,11 +23,8 @@ mul-address c = search needs
 shared-slice-read-address : tie.Need-shared-slice-read-address Inv-loop μ-loop
 shared-slice-read-address c = search needs
 
-push-block-requires : tie.Need-push-block-requires Inv-loop μ-loop
-push-block-requires c κs = let at = c .before .before .before in free-can-be-made _ _ _ _ _ _ (at .loop .inv .2) (at .before .before .before .pre) (c .before .before .loop-test .taken) .0
-
-free-block-requires : tie.Need-free-block-requires Inv-loop μ-loop
-free-block-requires c κs = let at = c .before .before .before .before .before .before in free-can-be-made _ _ _ _ _ _ (at .loop .inv .2) (at .before .before .before .pre) (c .before .before .before .before .before .loop-test .taken)
+release-block-requires : tie.Need-release-block-requires Inv-loop μ-loop
+release-block-requires c κs = let at = c .before .before .before in free-can-be-made _ _ _ _ _ _ (at .loop .inv .2) (at .before .before .before .pre) (c .before .before .loop-test .taken)
 
 add-i : tie.Need-add-i Inv-loop μ-loop
 add-i c = search needs
@@ -53,8 +50,7 @@ free-all-spec =
     loop-holds
     mul-address
     shared-slice-read-address
-    push-block-requires
-    free-block-requires
+    release-block-requires
     add-i
     loop-less
     loop-again

@@ -13,11 +13,8 @@ owner-at-requires c κs = search needs
 class-at-requires : tie.Need-class-at-requires
 class-at-requires c κs = search needs
 
-push-block-requires : tie.Need-push-block-requires
-push-block-requires c κs = search needs
-
-free-block-requires : tie.Need-free-block-requires
-free-block-requires c κs = search needs
+release-block-requires : tie.Need-release-block-requires
+release-block-requires c κs = search needs
 
 restore-invariant-requires : tie.Need-restore-invariant-requires
 restore-invariant-requires c κs = (search freed-owner, search freed-class, search block-freed-totals-kept)
@@ -35,8 +32,7 @@ free-at-spec =
     cast-k
     owner-at-requires
     class-at-requires
-    push-block-requires
-    free-block-requires
+    release-block-requires
     restore-invariant-requires
     same-length
     returns)
