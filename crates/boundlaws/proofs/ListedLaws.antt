@@ -18,7 +18,7 @@ use Rattle.heap.specs.Counts.{isOwnedOfClass, liveOfClass}
 use Rattle.heaplaws.proofs.StateFacts.{Shape}
 use Rattle.calls.specs.Take.{addressOf}
 use Rattle.calls.specs.Free.{superblockIndex, superblockHolding, blockOf, addressRefusal, orderPushed, blockFreed}
-use Rattle.calls.specs.Drop.{allFreed, firstRefusal}
+use Rattle.calls.specs.Drop.{allFreed, firstAddressRefusal}
 use Rattle.calllaws.proofs.CallEffects.{PassedAfterFrees}
 use Rattle.calllaws.proofs.BlockFreedLaws.{freed-address, freed-superblock-lt-64, block-freed-effect, block-freed-names, block-freed-shape, block-freed-passed}
 use Rattle.calllaws.proofs.AllFreedLaws.{first-refusal-of-cons}
@@ -128,7 +128,7 @@ block-freed-agreement freed s order a ledger shape passed ok g =
           (agreement-after-free c k j 0 s (blockFreed s a) (shape .length-is) (passed .names) effect (block-freed-names freed s order a shape passed ok) ledger (g .names));
     }
 
-all-freed-each-removed : (freed : ℕ → ℕ → ℕ) (s : State) (order addresses : List ℕ) (ledger : List Entry) → Shape s → PassedAfterFrees freed s order → firstRefusal s addresses ≡ 0 → Agreement s ledger
+all-freed-each-removed : (freed : ℕ → ℕ → ℕ) (s : State) (order addresses : List ℕ) (ledger : List Entry) → Shape s → PassedAfterFrees freed s order → firstAddressRefusal s addresses ≡ 0 → Agreement s ledger
     → Agreement (allFreed s addresses) (removedEach addresses ledger)
 unfolding allFreed removedEach
 all-freed-each-removed freed s order [] ledger shape passed ok g = g
@@ -138,7 +138,7 @@ all-freed-each-removed freed s order (a ∷ addresses) ledger shape passed ok g 
     (block-freed-agreement freed s order a ledger shape passed (first .0) g)
 
 -- all of a drop's
-pub all-freed-agreement : (freed : ℕ → ℕ → ℕ) (s : State) (order addresses : List ℕ) (ledger : List Entry) → Shape s → PassedAfterFrees freed s order → firstRefusal s addresses ≡ 0 → Agreement s ledger
+pub all-freed-agreement : (freed : ℕ → ℕ → ℕ) (s : State) (order addresses : List ℕ) (ledger : List Entry) → Shape s → PassedAfterFrees freed s order → firstAddressRefusal s addresses ≡ 0 → Agreement s ledger
     → Agreement (allFreed s addresses) (removed (isAtOneOf addresses) ledger)
 all-freed-agreement freed s order addresses ledger shape passed ok g = subst (Agreement (allFreed s addresses)) (removed-each-is-removed addresses ledger) (all-freed-each-removed freed s order addresses ledger shape passed ok g)
 

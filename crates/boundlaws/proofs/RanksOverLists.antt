@@ -23,7 +23,7 @@ use Rattle.calls.specs.Setup.{setupOf}
 use Rattle.calls.specs.Take.{addressOf, takeOf}
 use Rattle.calls.specs.Free.{superblockIndex, orderPushed, blockFreed, freeOf}
 use Rattle.calls.specs.Named.{namedTakeOf, heldAddress, namedFreeOf}
-use Rattle.calls.specs.Drop.{allFreed, firstRefusal, isTouched, dropMoves, dropOf}
+use Rattle.calls.specs.Drop.{allFreed, firstAddressRefusal, isTouched, dropMoves, dropOf}
 use Rattle.calls.specs.Calls.{Call, Take, Free, NamedTake, NamedFree, Drop, callOf}
 use Rattle.calllaws.proofs.CallEffects.{Passed, PassedAfterFrees, TakeAccepted, FreeAccepted, NamedTakeAccepted, NamedFreeAccepted, RankedLatest, Renews, RenewsNot, TakeRanks}
 use Rattle.calllaws.proofs.AddressLaws.{address-superblock}
@@ -75,7 +75,7 @@ after-refused-drop s r events [] before = before
 after-refused-drop s r events (a ∷ addresses) before = after-refused-drop s r (neither ∷ events) addresses (after-nothing s events before)
 
 -- the frees of a drop, one after another
-after-frees : (freed : ℕ → ℕ → ℕ) (s : State) (order addresses : List ℕ) (events : List Event) (m : ℕ) → Shape s → PassedAfterFrees freed s order → firstRefusal s addresses ≡ 0 → RankedByLastFree s events
+after-frees : (freed : ℕ → ℕ → ℕ) (s : State) (order addresses : List ℕ) (events : List Event) (m : ℕ) → Shape s → PassedAfterFrees freed s order → firstAddressRefusal s addresses ≡ 0 → RankedByLastFree s events
     → RankedByLastFree (allFreed s addresses) (eventsAfterDrop events addresses (Moves m))
 unfolding eventsAfterDrop eventOfFree allFreed
 after-frees freed s order [] events m shape passed ok before = before

@@ -30,7 +30,7 @@ use Rattle.calls.specs.Setup.{acceptedSetup, setupOf}
 use Rattle.calls.specs.Take.{otherPlaces, takenFrom, takenFromOther, takenAt, takeUnchecked}
 use Rattle.calls.specs.Free.{isUnmapped, isMisaligned, isLiveAt, freedAt, freeUnchecked}
 use Rattle.calls.specs.Named.{isUnavailable, withNameBound, namedTakeUnchecked, heldAddress, namedFreeUnchecked}
-use Rattle.calls.specs.Drop.{firstRefusal, droppedAll, dropUnchecked}
+use Rattle.calls.specs.Drop.{firstAddressRefusal, droppedAll, dropUnchecked}
 use Rattle.calls.specs.Calls.{Call, Take, Free, NamedTake, NamedFree, Drop, callOf, callUnchecked}
 use Rattle.calls.proofs.CheckFirst.{call-of-checks-first}
 use Rattle.calllaws.proofs.CallEffects.{Passed}
@@ -94,11 +94,11 @@ unfolding dropUnchecked droppedAll
 drop-not-refused-0 s order i addresses =
     pick-not-refused-0 (not (isProcessor s i)) _ _ (refused-not-refused-0 2 s order (λ e. omega arith))
     (pick-not-refused-0 (eqb (length addresses) 0) _ _ (refused-not-refused-0 16 s order (λ e. omega arith))
-    (go (eqb (firstRefusal s addresses) 0) refl))
+    (go (eqb (firstAddressRefusal s addresses) 0) refl))
   where
-    go : (t : Bool) → eqb (firstRefusal s addresses) 0 ≡ t → NotRefused0 (pick t (droppedAll s order addresses) (refused (firstRefusal s addresses) s order))
+    go : (t : Bool) → eqb (firstAddressRefusal s addresses) 0 ≡ t → NotRefused0 (pick t (droppedAll s order addresses) (refused (firstAddressRefusal s addresses) s order))
     go true e = moves-not-refused-0 _
-    go false e = refused-not-refused-0 (firstRefusal s addresses) s order (eqb-false (firstRefusal s addresses) 0 e)
+    go false e = refused-not-refused-0 (firstAddressRefusal s addresses) s order (eqb-false (firstAddressRefusal s addresses) 0 e)
 
 unchecked-not-refused-0 : (s : State) (order : List ℕ) (call : Call) → NotRefused0 (callUnchecked s order call)
 unfolding callUnchecked namedTakeUnchecked withNameBound namedFreeUnchecked

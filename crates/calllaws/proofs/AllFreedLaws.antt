@@ -23,7 +23,7 @@ use Rattle.heaplaws.proofs.StateFacts.{Shape, InvariantBeforeFrees}
 use Rattle.heaplaws.proofs.CountLaws.{sum-from-heap-0}
 use Rattle.heaplaws.proofs.RankLaws.{ranks-fit-of-sound}
 use Rattle.calls.specs.Free.{superblockIndex, superblockHolding, addressRefusal, orderPushed, blockFreed}
-use Rattle.calls.specs.Drop.{allFreed, allPushed, firstRefusal, isTouched}
+use Rattle.calls.specs.Drop.{allFreed, allPushed, firstAddressRefusal, isTouched}
 use Rattle.calllaws.proofs.CallEffects.{PassedAfterFrees}
 use Rattle.calllaws.proofs.TransferredLaws.{oneMoreFreed}
 use Rattle.calllaws.proofs.BlockFreedLaws.{freed-superblock-lt-64, freed-superblock-owner-le, block-freed-effect, block-freed-owner, block-freed-shape, block-freed-passed}
@@ -110,9 +110,9 @@ refusal-of-first-zero r n e = go (eqb r 0) refl e
     go true q z = (eqb-true r 0 q, z)
     go false q z = absurd (eqb-false r 0 q z)
 
-pub first-refusal-of-cons : (s : State) (a : ℕ) (addresses : List ℕ) → firstRefusal s (a ∷ addresses) ≡ 0 → (addressRefusal s a ≡ 0) × (firstRefusal (blockFreed s a) addresses ≡ 0)
-unfolding firstRefusal
-first-refusal-of-cons s a addresses e = refusal-of-first-zero (addressRefusal s a) (firstRefusal (blockFreed s a) addresses) e
+pub first-refusal-of-cons : (s : State) (a : ℕ) (addresses : List ℕ) → firstAddressRefusal s (a ∷ addresses) ≡ 0 → (addressRefusal s a ≡ 0) × (firstAddressRefusal (blockFreed s a) addresses ≡ 0)
+unfolding firstAddressRefusal
+first-refusal-of-cons s a addresses e = refusal-of-first-zero (addressRefusal s a) (firstAddressRefusal (blockFreed s a) addresses) e
 
 -- as many frees in another way of counting
 pub passed-after-frees-cong : (f g : ℕ → ℕ → ℕ) (s : State) (order : List ℕ) → ((h c : ℕ) → f h c ≡ g h c) → PassedAfterFrees f s order → PassedAfterFrees g s order
@@ -148,7 +148,7 @@ counted-with-first : (freed : ℕ → ℕ → ℕ) (s t : State) (a : ℕ) (addr
 unfolding oneMoreFreed belongs
 counted-with-first freed s t a addresses long long-after owners classes h c = omega (arith, freed-of-same s t long long-after owners classes addresses h c)
 
-pub all-freed : (freed : ℕ → ℕ → ℕ) (s : State) (order addresses : List ℕ) → Shape s → PassedAfterFrees freed s order → firstRefusal s addresses ≡ 0 → AllFreed freed s order addresses
+pub all-freed : (freed : ℕ → ℕ → ℕ) (s : State) (order addresses : List ℕ) → Shape s → PassedAfterFrees freed s order → firstAddressRefusal s addresses ≡ 0 → AllFreed freed s order addresses
 unfolding allFreed allPushed freedOf
 all-freed freed s order [] shape passed ok =
     record {
@@ -176,7 +176,7 @@ all-freed freed s order (a ∷ addresses) shape passed ok =
     }
 
 -- each address of a drop that meets no refusal lies in the table, in a superblock that a heap owns, and the state before its free keeps its totals and ranks
-pub frees-in-table : (freed : ℕ → ℕ → ℕ) (s : State) (order addresses : List ℕ) → Shape s → PassedAfterFrees freed s order → firstRefusal s addresses ≡ 0 → (i : ℕ) → i < length addresses
+pub frees-in-table : (freed : ℕ → ℕ → ℕ) (s : State) (order addresses : List ℕ) → Shape s → PassedAfterFrees freed s order → firstAddressRefusal s addresses ≡ 0 → (i : ℕ) → i < length addresses
     → (superblockIndex (getD addresses i 0) < 64) × (superblockHolding s (getD addresses i 0) .owner < 9) × (superblockHolding s (getD addresses i 0) .class < 27)
     × TotalsKept (allFreed s (take i addresses)) × RanksFit (allFreed s (take i addresses))
 unfolding allFreed

@@ -29,7 +29,7 @@ use Rattle.calls.specs.Answers.{After, numberOf, refused, checked, isProcessor}
 use Rattle.calls.specs.Free.{superblockIndex, offsetOf, superblockHolding, blockOf, addressRefusal, orderPushed, blockFreed, freedAt, freeUnchecked, freeOf}
 use Rattle.calls.specs.DropLoops.{classesRestored, heapsRestored}
 use Rattle.calls.proofs.TouchedPairLaws.{drop-moves-by-heaps}
-use Rattle.calls.specs.Drop.{allFreed, allPushed, firstRefusal, isTouched, thenRestored, dropMoves, droppedAll, dropUnchecked, dropOf}
+use Rattle.calls.specs.Drop.{allFreed, allPushed, firstAddressRefusal, isTouched, thenRestored, dropMoves, droppedAll, dropUnchecked, dropOf}
 use Rattle.calls.proofs.AddressRefusalLaws.{mapped-of-no-refusal, aligned-of-no-refusal, live-of-no-refusal, free-unchecked-by-address-refusal}
 use Rattle.calllaws.proofs.CallEffects.{Passed, PassedAfterFrees, FreeAccepted, FreeEffect}
 use Rattle.calllaws.proofs.CheckedLaws.{bounds-of-is-processor, passed-of-passes}
@@ -137,8 +137,8 @@ module _ (s : State) (order : List ℕ) (a : ℕ) (passed : Passed s order) (acc
   unfolding droppedAll freedAt allPushed
   dropped-one-is-freed = ap (λ (m : Moved). record { answer = record { outcome = Moves (m .moves); state = m .state }; order = orderPushed s order a }) moves-of-one
 
-first-refusal-of-one : (s : State) (a : ℕ) → firstRefusal s (a ∷ []) ≡ addressRefusal s a
-unfolding firstRefusal
+first-refusal-of-one : (s : State) (a : ℕ) → firstAddressRefusal s (a ∷ []) ≡ addressRefusal s a
+unfolding firstAddressRefusal
 first-refusal-of-one s a = go (ℕ-discrete (addressRefusal s a) 0)
   where
     go : Dec (addressRefusal s a ≡ 0) → pick (eqb (addressRefusal s a) 0) 0 (addressRefusal s a) ≡ addressRefusal s a
@@ -284,11 +284,11 @@ module _ (freed : ℕ → ℕ → ℕ) (s : State) (order : List ℕ) (b : ℕ) 
       go (no f) q = other (λ r. f (r .0))
 
 -- the frees before an address meet no refusal where those of the whole list meet none
-no-refusal-before : (s : State) (x y : List ℕ) → firstRefusal s (x ++ y) ≡ 0 → firstRefusal s x ≡ 0
+no-refusal-before : (s : State) (x y : List ℕ) → firstAddressRefusal s (x ++ y) ≡ 0 → firstAddressRefusal s x ≡ 0
 no-refusal-before s x y ok = no-refusal-iff-each-meets-none s x .1 (λ v a w e. no-refusal-iff-each-meets-none s (x ++ y) .0 ok v a (w ++ y) (ap (λ (l : List ℕ). l ++ y) e ∙ append-assoc v (a ∷ w) y))
 
 -- an address that meets 7 meets it after all further frees
-refused-7-stays-so : (freed : ℕ → ℕ → ℕ) (s : State) (order x : List ℕ) (a : ℕ) → Shape s → PassedAfterFrees freed s order → firstRefusal s x ≡ 0 → addressRefusal s a ≡ 7 → addressRefusal (allFreed s x) a ≡ 7
+refused-7-stays-so : (freed : ℕ → ℕ → ℕ) (s : State) (order x : List ℕ) (a : ℕ) → Shape s → PassedAfterFrees freed s order → firstAddressRefusal s x ≡ 0 → addressRefusal s a ≡ 7 → addressRefusal (allFreed s x) a ≡ 7
 unfolding allFreed
 refused-7-stays-so freed s order [] a shape passed ok e = e
 refused-7-stays-so freed s order (b ∷ x) a shape passed ok e =
@@ -296,7 +296,7 @@ refused-7-stays-so freed s order (b ∷ x) a shape passed ok e =
     refused-7-stays-so _ (blockFreed s b) (orderPushed s order b) x a (block-freed-shape freed s order b shape passed (first .0)) (block-freed-passed freed s order b shape passed (first .0)) (first .1)
     (refused-7-stays freed s order b shape passed (first .0) a e)
 
-freed-among-refused-7 : (freed : ℕ → ℕ → ℕ) (s : State) (order x : List ℕ) (a : ℕ) → Shape s → PassedAfterFrees freed s order → firstRefusal s x ≡ 0 → List·Memᴰ a x → addressRefusal (allFreed s x) a ≡ 7
+freed-among-refused-7 : (freed : ℕ → ℕ → ℕ) (s : State) (order x : List ℕ) (a : ℕ) → Shape s → PassedAfterFrees freed s order → firstAddressRefusal s x ≡ 0 → List·Memᴰ a x → addressRefusal (allFreed s x) a ≡ 7
 unfolding allFreed
 freed-among-refused-7 freed s order [] a shape passed ok among = absurd (List·Memᴰ·not-nil among)
 freed-among-refused-7 freed s order (b ∷ x) a shape passed ok among =
@@ -310,11 +310,11 @@ freed-among-refused-7 freed s order (b ∷ x) a shape passed ok among =
 
 module _ (s : State) (order : List ℕ) (shape : Shape s) where
   -- an address whose block an earlier free of the list has freed meets 7
-  pub address-freed-before-refused-7 : Passed s order → (x : List ℕ) (a : ℕ) → firstRefusal s x ≡ 0 → List·Memᴰ a x → addressRefusal (allFreed s x) a ≡ 7
+  pub address-freed-before-refused-7 : Passed s order → (x : List ℕ) (a : ℕ) → firstAddressRefusal s x ≡ 0 → List·Memᴰ a x → addressRefusal (allFreed s x) a ≡ 7
   address-freed-before-refused-7 passed x a = freed-among-refused-7 (λ h c. 0) s order x a shape (passed-after-no-frees s order passed)
 
   -- so that no address stands twice in a list whose frees meet no refusal
-  pub no-address-twice : Passed s order → (x : List ℕ) (a : ℕ) (y : List ℕ) → firstRefusal s (x ++ (a ∷ y)) ≡ 0 → List·Memᴰ a x → ⊥
+  pub no-address-twice : Passed s order → (x : List ℕ) (a : ℕ) (y : List ℕ) → firstAddressRefusal s (x ++ (a ∷ y)) ≡ 0 → List·Memᴰ a x → ⊥
   no-address-twice passed x a y ok among =
       let none = no-refusal-before s x (a ∷ y) ok in
       let seven = address-freed-before-refused-7 passed x a none among in
@@ -326,7 +326,7 @@ module _ (s : State) (order : List ℕ) (shape : Shape s) where
   drop-of-address-twice-refused i x a y among = ⊎-elim (λ r. r) (λ acc. absurd (no-address-twice (acc .passed) x a y (acc .no-refusal) among)) (drop-refused-or-accepted s order i (x ++ (a ∷ y)))
 
   -- with 7, where the frees before it meet no refusal
-  pub drop-of-address-twice-refused-7 : (i : ℕ) → Passed s order → IsProcessor s i → (x : List ℕ) (a : ℕ) (y : List ℕ) → firstRefusal s x ≡ 0 → List·Memᴰ a x → dropOf s order i (x ++ (a ∷ y)) .answer .outcome ≡ Refused 7
+  pub drop-of-address-twice-refused-7 : (i : ℕ) → Passed s order → IsProcessor s i → (x : List ℕ) (a : ℕ) (y : List ℕ) → firstAddressRefusal s x ≡ 0 → List·Memᴰ a x → dropOf s order i (x ++ (a ∷ y)) .answer .outcome ≡ Refused 7
   drop-of-address-twice-refused-7 i passed processor x a y ok among =
       drop-refused-7 s order i (x ++ (a ∷ y)) .1
       (record {
@@ -415,8 +415,8 @@ module _ (i : ℕ) (freed : ℕ → ℕ → ℕ) (s : State) (order : List ℕ) 
         }
 
 -- what 5, 6 and 7 read is the same in both, so they meet the same refusal
-one-by-one-beside : (i : ℕ) (freed : ℕ → ℕ → ℕ) (s : State) (order : List ℕ) (t : State) (places addresses : List ℕ) → Beside i freed s order t places → oneByOneRefusal s order i addresses ≡ firstRefusal t addresses
-unfolding oneByOneRefusal firstRefusal numberOf
+one-by-one-beside : (i : ℕ) (freed : ℕ → ℕ → ℕ) (s : State) (order : List ℕ) (t : State) (places addresses : List ℕ) → Beside i freed s order t places → oneByOneRefusal s order i addresses ≡ firstAddressRefusal t addresses
+unfolding oneByOneRefusal firstAddressRefusal numberOf
 one-by-one-beside i freed s order t places [] b = refl
 one-by-one-beside i freed s order t places (a ∷ addresses) b =
     go (ℕ-discrete (addressRefusal s a) 0) (λ e. one-by-one-beside i _ (freeOf s order i a .answer .state) (freeOf s order i a .order) (blockFreed t a) (orderPushed t places a) addresses (next i freed s order t places b a e))
@@ -424,8 +424,8 @@ one-by-one-beside i freed s order t places (a ∷ addresses) b =
     x : After
     x = freeOf s order i a
 
-    go : Dec (addressRefusal s a ≡ 0) → (addressRefusal s a ≡ 0 → oneByOneRefusal (x .answer .state) (x .order) i addresses ≡ firstRefusal (blockFreed t a) addresses)
-        → pick (eqb (numberOf (x .answer .outcome)) 0) (oneByOneRefusal (x .answer .state) (x .order) i addresses) (numberOf (x .answer .outcome)) ≡ pick (eqb (addressRefusal t a) 0) (firstRefusal (blockFreed t a) addresses) (addressRefusal t a)
+    go : Dec (addressRefusal s a ≡ 0) → (addressRefusal s a ≡ 0 → oneByOneRefusal (x .answer .state) (x .order) i addresses ≡ firstAddressRefusal (blockFreed t a) addresses)
+        → pick (eqb (numberOf (x .answer .outcome)) 0) (oneByOneRefusal (x .answer .state) (x .order) i addresses) (numberOf (x .answer .outcome)) ≡ pick (eqb (addressRefusal t a) 0) (firstAddressRefusal (blockFreed t a) addresses) (addressRefusal t a)
     go (yes e) rest =
         pick-true (eqb (numberOf (x .answer .outcome)) 0) _ _ (eq-eqb (numberOf (x .answer .outcome)) 0 (ap numberOf (free-outcome s order i a (b .shape) (accepted i freed s order t places b a e))))
         ∙ rest e ∙ sym (pick-true (eqb (addressRefusal t a) 0) _ _ (eq-eqb (addressRefusal t a) 0 (refusal-beside i freed s order t places b a ∙ e)))
@@ -436,7 +436,7 @@ one-by-one-beside i freed s order t places (a ∷ addresses) b =
         ∙ sym (pick-false (eqb (addressRefusal t a) 0) _ _ (ne-eqb (addressRefusal t a) 0 (λ z. f (sym (refusal-beside i freed s order t places b a) ∙ z))))
 
 -- On a state that passes, and for a processor in range, the frees one by one, each with its moves, meet the refusal by which a drop goes, or none as it does.
-pub one-by-one-refusal-is-first-refusal : (s : State) (order : List ℕ) (i : ℕ) (addresses : List ℕ) → Shape s → Passed s order → isProcessor s i ≡ true → oneByOneRefusal s order i addresses ≡ firstRefusal s addresses
+pub one-by-one-refusal-is-first-refusal : (s : State) (order : List ℕ) (i : ℕ) (addresses : List ℕ) → Shape s → Passed s order → isProcessor s i ≡ true → oneByOneRefusal s order i addresses ≡ firstAddressRefusal s addresses
 one-by-one-refusal-is-first-refusal s order i addresses shape passed known =
     one-by-one-beside i (λ h c. 0) s order s order addresses
     (record {
@@ -450,13 +450,13 @@ one-by-one-refusal-is-first-refusal s order i addresses shape passed known =
     })
 
 -- the number of a drop behind the check, for a processor in range
-drop-number-is-first-refusal : (s : State) (order : List ℕ) (i a : ℕ) (addresses : List ℕ) → isProcessor s i ≡ true → numberOf (dropUnchecked s order i (a ∷ addresses) .answer .outcome) ≡ firstRefusal s (a ∷ addresses)
+drop-number-is-first-refusal : (s : State) (order : List ℕ) (i a : ℕ) (addresses : List ℕ) → isProcessor s i ≡ true → numberOf (dropUnchecked s order i (a ∷ addresses) .answer .outcome) ≡ firstAddressRefusal s (a ∷ addresses)
 unfolding dropUnchecked droppedAll numberOf
-drop-number-is-first-refusal s order i a addresses known = rw (known, ne-eqb (length (a ∷ addresses)) 0 (λ e. omega arith)) (go (eqb (firstRefusal s (a ∷ addresses)) 0) refl)
+drop-number-is-first-refusal s order i a addresses known = rw (known, ne-eqb (length (a ∷ addresses)) 0 (λ e. omega arith)) (go (eqb (firstAddressRefusal s (a ∷ addresses)) 0) refl)
   where
-    go : (f : Bool) → eqb (firstRefusal s (a ∷ addresses)) 0 ≡ f
-        → numberOf (pick f (droppedAll s order (a ∷ addresses)) (refused (firstRefusal s (a ∷ addresses)) s order) .answer .outcome) ≡ firstRefusal s (a ∷ addresses)
-    go true e = sym (eqb-true (firstRefusal s (a ∷ addresses)) 0 e)
+    go : (f : Bool) → eqb (firstAddressRefusal s (a ∷ addresses)) 0 ≡ f
+        → numberOf (pick f (droppedAll s order (a ∷ addresses)) (refused (firstAddressRefusal s (a ∷ addresses)) s order) .answer .outcome) ≡ firstAddressRefusal s (a ∷ addresses)
+    go true e = sym (eqb-true (firstAddressRefusal s (a ∷ addresses)) 0 e)
     go false e = refl
 
 -- "accepted only if the frees one by one, in the order written, would meet none", and else refused as the first of them that is refused: on every state, for

@@ -24,7 +24,7 @@ use Rattle.heaplaws.proofs.StateFacts.{Shape}
 use Rattle.calls.specs.declared.Outcome.the-variants.{Moves}
 use Rattle.calls.specs.Answers.{After, refused, isProcessor}
 use Rattle.calls.specs.Free.{superblockIndex, superblockHolding}
-use Rattle.calls.specs.Drop.{allFreed, allPushed, firstRefusal, isTouched, dropMoves, droppedAll, dropUnchecked, dropOf}
+use Rattle.calls.specs.Drop.{allFreed, allPushed, firstAddressRefusal, isTouched, dropMoves, droppedAll, dropUnchecked, dropOf}
 use Rattle.calls.specs.DropLoops.{heapsRestored}
 use Rattle.calls.proofs.TouchedPairLaws.{drop-moves-by-heaps}
 use Rattle.calllaws.proofs.CallEffects.{Passed, PassedAfterFrees}
@@ -38,7 +38,7 @@ pub record DropAccepted (s : State) (order : List ℕ) (i : ℕ) (addresses : Li
   pub passed : Passed s order
   pub processor : (1 ≤ i) × (i ≤ s .setup .processors)
   pub some : 0 < length addresses
-  pub no-refusal : firstRefusal s addresses ≡ 0
+  pub no-refusal : firstAddressRefusal s addresses ≡ 0
   pub result-is : dropOf s order i addresses ≡ droppedAll s order addresses
 
 -- a drop is refused and changes nothing, or is accepted
@@ -47,26 +47,26 @@ unfolding dropOf dropUnchecked
 drop-refused-or-accepted s order i addresses = by-check (checked-refused-or-passed s order (dropUnchecked s order i addresses))
   where
     tests : (p e f : Bool) → After
-    tests p e f = pick (not p) (refused 2 s order) (pick e (refused 16 s order) (pick f (droppedAll s order addresses) (refused (firstRefusal s addresses) s order)))
+    tests p e f = pick (not p) (refused 2 s order) (pick e (refused 16 s order) (pick f (droppedAll s order addresses) (refused (firstAddressRefusal s addresses) s order)))
 
-    by-tests : (p e f : Bool) → isProcessor s i ≡ p → eqb (length addresses) 0 ≡ e → eqb (firstRefusal s addresses) 0 ≡ f → Passed s order → dropOf s order i addresses ≡ tests p e f
+    by-tests : (p e f : Bool) → isProcessor s i ≡ p → eqb (length addresses) 0 ≡ e → eqb (firstAddressRefusal s addresses) 0 ≡ f → Passed s order → dropOf s order i addresses ≡ tests p e f
         → ((r : ℕ) × (dropOf s order i addresses ≡ refused r s order)) ⊎ DropAccepted s order i addresses
     by-tests false e f ep ee ef passed q = inl (2, q)
     by-tests true true f ep ee ef passed q = inl (16, q)
-    by-tests true false false ep ee ef passed q = inl (firstRefusal s addresses, q)
+    by-tests true false false ep ee ef passed q = inl (firstAddressRefusal s addresses, q)
     by-tests true false true ep ee ef passed q =
         inr (record {
           passed = passed;
           processor = bounds-of-is-processor s i (T-of-true (isProcessor s i) ep);
           some = pos-of-ne-zero (eqb-false (length addresses) 0 ee);
-          no-refusal = eqb-true (firstRefusal s addresses) 0 ef;
+          no-refusal = eqb-true (firstAddressRefusal s addresses) 0 ef;
           result-is = q;
         })
 
     by-check : ((r : ℕ) × (dropOf s order i addresses ≡ refused r s order)) ⊎ (Passed s order × (dropOf s order i addresses ≡ dropUnchecked s order i addresses))
         → ((r : ℕ) × (dropOf s order i addresses ≡ refused r s order)) ⊎ DropAccepted s order i addresses
     by-check (inl r) = inl r
-    by-check (inr (passed, e)) = by-tests (isProcessor s i) (eqb (length addresses) 0) (eqb (firstRefusal s addresses) 0) refl refl refl passed e
+    by-check (inr (passed, e)) = by-tests (isProcessor s i) (eqb (length addresses) 0) (eqb (firstAddressRefusal s addresses) 0) refl refl refl passed e
 
 -- what an accepted drop does to owners and classes: the superblocks of the blocks' heaps and classes that its moves passed to heap 0, and nothing else
 pub record DropEffect (addresses : List ℕ) (moves : ℕ) (s t : State) : Type 0 where
@@ -82,7 +82,7 @@ pub record DropEffect (addresses : List ℕ) (moves : ℕ) (s t : State) : Type 
   pub moves-bound : moves ≤ s .setup .q * length addresses
   pub owned : (d : ℕ) → superblocksOfClass d t ≡ superblocksOfClass d s
 
-module _ (s : State) (order addresses : List ℕ) (shape : Shape s) (start : Passed s order) (ok : firstRefusal s addresses ≡ 0) where
+module _ (s : State) (order addresses : List ℕ) (shape : Shape s) (start : Passed s order) (ok : firstAddressRefusal s addresses ≡ 0) where
   -- ---- the frees
   pub drop-frees : AllFreed (λ h c. 0) s order addresses
   drop-frees = all-freed (λ h c. 0) s order addresses shape (passed-after-no-frees s order start) ok
@@ -193,7 +193,7 @@ module _ (s : State) (order : List ℕ) (i : ℕ) (addresses : List ℕ) (shape 
       (subst (λ (l : List ℕ). Passed (dropMoves s addresses .state) l) (sym drop-order-is) (dropped-passed s order addresses shape (acc .passed) (acc .no-refusal)))
 
 -- ---- for code: each address of an accepted drop lies in the table, and the state before its free keeps totals and ranks
-pub frees-safe : (s : State) (order addresses : List ℕ) → Shape s → passes s order ≡ true → s .setup .superblocks * 256 ≤ length order → firstRefusal s addresses ≡ 0 → (i : ℕ) → i < length addresses
+pub frees-safe : (s : State) (order addresses : List ℕ) → Shape s → passes s order ≡ true → s .setup .superblocks * 256 ≤ length order → firstAddressRefusal s addresses ≡ 0 → (i : ℕ) → i < length addresses
     → (superblockIndex (getD addresses i 0) < 64) × (superblockHolding s (getD addresses i 0) .owner < 9) × (superblockHolding s (getD addresses i 0) .class < 27)
     × TotalsKept (allFreed s (take i addresses)) × RanksFit (allFreed s (take i addresses))
 frees-safe s order addresses shape e room ok i l = frees-in-table (λ h c. 0) s order addresses shape (passed-after-no-frees s order (passed-of-passes s order e room)) ok i l

@@ -21,7 +21,7 @@ use Rattle.heaplaws.proofs.StateFacts.{Unused}
 use Rattle.calls.specs.declared.Outcome.the-variants.{Refused}
 use Rattle.calls.specs.Answers.{After, refused, isProcessor}
 use Rattle.calls.specs.Free.{offsetOf, superblockHolding, blockOf, isUnmapped, isMisaligned, isLiveAt, addressRefusal, blockFreed}
-use Rattle.calls.specs.Drop.{allFreed, firstRefusal, droppedAll, dropUnchecked, dropOf}
+use Rattle.calls.specs.Drop.{allFreed, firstAddressRefusal, droppedAll, dropUnchecked, dropOf}
 use Rattle.calls.proofs.AddressRefusalLaws.{address-refusal-cases, address-refusal-5, address-refusal-6, address-refusal-7, no-refusal-of-live-block}
 use Rattle.calllaws.proofs.CallEffects.{Passed}
 use Rattle.calllaws.proofs.CheckedLaws.{checked-is-next-of-passed}
@@ -91,35 +91,35 @@ pub record FirstBadAddress (IsBad : State → ℕ → Type 0) (s : State) (addre
   pub address : ℕ
   pub behind : List ℕ
   pub written : addresses ≡ before ++ (address ∷ behind)
-  pub none-before : firstRefusal s before ≡ 0
+  pub none-before : firstAddressRefusal s before ≡ 0
   pub bad : IsBad (allFreed s before) address
 
 pub first-bad-address-map : (P Q : State → ℕ → Type 0) (s : State) (addresses : List ℕ) → ((t : State) (a : ℕ) → P t a → Q t a) → FirstBadAddress P s addresses → FirstBadAddress Q s addresses
 first-bad-address-map P Q s addresses f h = record { before = h .before; address = h .address; behind = h .behind; written = h .written; none-before = h .none-before; bad = f _ _ (h .bad) }
 
 -- an address that meets no refusal is passed over, and one that meets one gives it
-first-refusal-past : (s : State) (a : ℕ) (addresses : List ℕ) → addressRefusal s a ≡ 0 → firstRefusal s (a ∷ addresses) ≡ firstRefusal (blockFreed s a) addresses
-unfolding firstRefusal
+first-refusal-past : (s : State) (a : ℕ) (addresses : List ℕ) → addressRefusal s a ≡ 0 → firstAddressRefusal s (a ∷ addresses) ≡ firstAddressRefusal (blockFreed s a) addresses
+unfolding firstAddressRefusal
 first-refusal-past s a addresses e = pick-true (eqb (addressRefusal s a) 0) _ _ (eq-eqb (addressRefusal s a) 0 e)
 
-first-refusal-at : (s : State) (a : ℕ) (addresses : List ℕ) → (addressRefusal s a ≡ 0 → ⊥) → firstRefusal s (a ∷ addresses) ≡ addressRefusal s a
-unfolding firstRefusal
+first-refusal-at : (s : State) (a : ℕ) (addresses : List ℕ) → (addressRefusal s a ≡ 0 → ⊥) → firstAddressRefusal s (a ∷ addresses) ≡ addressRefusal s a
+unfolding firstAddressRefusal
 first-refusal-at s a addresses f = pick-false (eqb (addressRefusal s a) 0) _ _ (ne-eqb (addressRefusal s a) 0 f)
 
 -- addresses that meet no refusal, and then others
-pub first-refusal-of-append : (s : State) (x y : List ℕ) → firstRefusal s x ≡ 0 → firstRefusal s (x ++ y) ≡ firstRefusal (allFreed s x) y
+pub first-refusal-of-append : (s : State) (x y : List ℕ) → firstAddressRefusal s x ≡ 0 → firstAddressRefusal s (x ++ y) ≡ firstAddressRefusal (allFreed s x) y
 unfolding allFreed
 first-refusal-of-append s [] y ok = refl
 first-refusal-of-append s (a ∷ x) y ok =
     let first = first-refusal-of-cons s a x ok in first-refusal-past s a (x ++ y) (first .0) ∙ first-refusal-of-append (blockFreed s a) x y (first .1)
 
 module _ (r : ℕ) (some : r ≡ 0 → ⊥) where
-  first-bad-of-refusal : (s : State) (addresses : List ℕ) → firstRefusal s addresses ≡ r → FirstBadAddress (λ t a. addressRefusal t a ≡ r) s addresses
-  unfolding firstRefusal allFreed
+  first-bad-of-refusal : (s : State) (addresses : List ℕ) → firstAddressRefusal s addresses ≡ r → FirstBadAddress (λ t a. addressRefusal t a ≡ r) s addresses
+  unfolding firstAddressRefusal allFreed
   first-bad-of-refusal s [] e = absurd (some (sym e))
   first-bad-of-refusal s (a ∷ addresses) e = go (ℕ-discrete (addressRefusal s a) 0) (first-bad-of-refusal (blockFreed s a) addresses)
     where
-      go : Dec (addressRefusal s a ≡ 0) → (firstRefusal (blockFreed s a) addresses ≡ r → FirstBadAddress (λ t x. addressRefusal t x ≡ r) (blockFreed s a) addresses)
+      go : Dec (addressRefusal s a ≡ 0) → (firstAddressRefusal (blockFreed s a) addresses ≡ r → FirstBadAddress (λ t x. addressRefusal t x ≡ r) (blockFreed s a) addresses)
           → FirstBadAddress (λ t x. addressRefusal t x ≡ r) s (a ∷ addresses)
       go (no f) rest = record { before = []; address = a; behind = addresses; written = refl; none-before = refl; bad = sym (first-refusal-at s a addresses f) ∙ e }
       go (yes ok) rest =
@@ -133,43 +133,43 @@ module _ (r : ℕ) (some : r ≡ 0 → ⊥) where
             bad = h .bad;
           }
 
-  refusal-of-first-bad : (s : State) (addresses : List ℕ) → FirstBadAddress (λ t a. addressRefusal t a ≡ r) s addresses → firstRefusal s addresses ≡ r
+  refusal-of-first-bad : (s : State) (addresses : List ℕ) → FirstBadAddress (λ t a. addressRefusal t a ≡ r) s addresses → firstAddressRefusal s addresses ≡ r
   refusal-of-first-bad s addresses h =
-      ap (firstRefusal s) (h .written) ∙ first-refusal-of-append s (h .before) (h .address ∷ h .behind) (h .none-before)
+      ap (firstAddressRefusal s) (h .written) ∙ first-refusal-of-append s (h .before) (h .address ∷ h .behind) (h .none-before)
       ∙ first-refusal-at (allFreed s (h .before)) (h .address) (h .behind) (λ e. some (sym (h .bad) ∙ e)) ∙ h .bad
 
 -- "A refused drop .. gives the refusal of its first bad address": of the first one that meets a refusal in the state that the frees before it leave
-pub first-refusal-is-of-first-bad-address : (s : State) (addresses : List ℕ) (r : ℕ) → (r ≡ 0 → ⊥) → (firstRefusal s addresses ≡ r) ↔ FirstBadAddress (λ t a. addressRefusal t a ≡ r) s addresses
+pub first-refusal-is-of-first-bad-address : (s : State) (addresses : List ℕ) (r : ℕ) → (r ≡ 0 → ⊥) → (firstAddressRefusal s addresses ≡ r) ↔ FirstBadAddress (λ t a. addressRefusal t a ≡ r) s addresses
 first-refusal-is-of-first-bad-address s addresses r some = (first-bad-of-refusal r some s addresses, refusal-of-first-bad r some s addresses)
 
 -- each of the addresses meets no refusal in the state that the frees before it leave
 abbrev pub EachMeetsNone : State → List ℕ → Type 0
 EachMeetsNone s addresses = (x : List ℕ) (a : ℕ) (y : List ℕ) → addresses ≡ x ++ (a ∷ y) → addressRefusal (allFreed s x) a ≡ 0
 
-each-meets-none : (s : State) (addresses : List ℕ) → firstRefusal s addresses ≡ 0 → EachMeetsNone s addresses
+each-meets-none : (s : State) (addresses : List ℕ) → firstAddressRefusal s addresses ≡ 0 → EachMeetsNone s addresses
 unfolding allFreed
-each-meets-none s addresses ok [] a y e = first-refusal-of-cons s a y (ap (firstRefusal s) (sym e) ∙ ok) .0
-each-meets-none s addresses ok (b ∷ x) a y e = each-meets-none (blockFreed s b) (x ++ (a ∷ y)) (first-refusal-of-cons s b (x ++ (a ∷ y)) (ap (firstRefusal s) (sym e) ∙ ok) .1) x a y refl
+each-meets-none s addresses ok [] a y e = first-refusal-of-cons s a y (ap (firstAddressRefusal s) (sym e) ∙ ok) .0
+each-meets-none s addresses ok (b ∷ x) a y e = each-meets-none (blockFreed s b) (x ++ (a ∷ y)) (first-refusal-of-cons s b (x ++ (a ∷ y)) (ap (firstAddressRefusal s) (sym e) ∙ ok) .1) x a y refl
 
-none-of-each : (s : State) (addresses : List ℕ) → EachMeetsNone s addresses → firstRefusal s addresses ≡ 0
-unfolding firstRefusal allFreed
+none-of-each : (s : State) (addresses : List ℕ) → EachMeetsNone s addresses → firstAddressRefusal s addresses ≡ 0
+unfolding firstAddressRefusal allFreed
 none-of-each s [] f = refl
 none-of-each s (a ∷ addresses) f = first-refusal-past s a addresses (f [] a addresses refl) ∙ none-of-each (blockFreed s a) addresses (λ x b y e. f (a ∷ x) b y (ap (λ (l : List ℕ). a ∷ l) e))
 
 -- "accepted only if the frees one by one, in the order written, would meet none of 5, 6, 7"
-pub no-refusal-iff-each-meets-none : (s : State) (addresses : List ℕ) → (firstRefusal s addresses ≡ 0) ↔ EachMeetsNone s addresses
+pub no-refusal-iff-each-meets-none : (s : State) (addresses : List ℕ) → (firstAddressRefusal s addresses ≡ 0) ↔ EachMeetsNone s addresses
 no-refusal-iff-each-meets-none s addresses = (each-meets-none s addresses, none-of-each s addresses)
 
 -- it is one of 5, 6 and 7, or there is none
-pub first-refusal-cases : (s : State) (addresses : List ℕ) → (firstRefusal s addresses ≡ 0) ⊎ ((firstRefusal s addresses ≡ 5) ⊎ ((firstRefusal s addresses ≡ 6) ⊎ (firstRefusal s addresses ≡ 7)))
-unfolding firstRefusal
+pub first-refusal-cases : (s : State) (addresses : List ℕ) → (firstAddressRefusal s addresses ≡ 0) ⊎ ((firstAddressRefusal s addresses ≡ 5) ⊎ ((firstAddressRefusal s addresses ≡ 6) ⊎ (firstAddressRefusal s addresses ≡ 7)))
+unfolding firstAddressRefusal
 first-refusal-cases s [] = inl refl
 first-refusal-cases s (a ∷ addresses) = go (eqb (addressRefusal s a) 0) (first-refusal-cases (blockFreed s a) addresses) (address-refusal-cases s a)
   where
     OneOf : ℕ → Type 0
     OneOf n = (n ≡ 0) ⊎ ((n ≡ 5) ⊎ ((n ≡ 6) ⊎ (n ≡ 7)))
 
-    go : (t : Bool) → OneOf (firstRefusal (blockFreed s a) addresses) → OneOf (addressRefusal s a) → OneOf (pick t (firstRefusal (blockFreed s a) addresses) (addressRefusal s a))
+    go : (t : Bool) → OneOf (firstAddressRefusal (blockFreed s a) addresses) → OneOf (addressRefusal s a) → OneOf (pick t (firstAddressRefusal (blockFreed s a) addresses) (addressRefusal s a))
     go true p q = p
     go false p q = q
 
@@ -197,12 +197,12 @@ module _ (s : State) (order : List ℕ) (i : ℕ) (addresses : List ℕ) where
   decides-none = decides (eqb (length addresses) 0) (eqb-true (length addresses) 0) (eqb-false (length addresses) 0) (λ e f. f e)
 
   -- the first bad address, by the condition of its refusal
-  bad-by-condition : (r : ℕ) → (r ≡ 0 → ⊥) → firstRefusal s addresses ≡ r → FirstBadAddress (λ t a. ConditionOf (addressRefusals t a) r) s addresses
+  bad-by-condition : (r : ℕ) → (r ≡ 0 → ⊥) → firstAddressRefusal s addresses ≡ r → FirstBadAddress (λ t a. ConditionOf (addressRefusals t a) r) s addresses
   bad-by-condition r some e =
       first-bad-address-map (λ t a. addressRefusal t a ≡ r) (λ t a. ConditionOf (addressRefusals t a) r) s addresses (λ t a. address-refusal-iff-condition t a r .0)
       (first-refusal-is-of-first-bad-address s addresses r some .0 e)
 
-  refusal-by-condition : (r : ℕ) → (r ≡ 0 → ⊥) → FirstBadAddress (λ t a. ConditionOf (addressRefusals t a) r) s addresses → firstRefusal s addresses ≡ r
+  refusal-by-condition : (r : ℕ) → (r ≡ 0 → ⊥) → FirstBadAddress (λ t a. ConditionOf (addressRefusals t a) r) s addresses → firstAddressRefusal s addresses ≡ r
   refusal-by-condition r some h =
       first-refusal-is-of-first-bad-address s addresses r some .1
       (first-bad-address-map (λ t a. ConditionOf (addressRefusals t a) r) (λ t a. addressRefusal t a ≡ r) s addresses (λ t a. address-refusal-iff-condition t a r .1) h)
@@ -211,28 +211,28 @@ module _ (s : State) (order : List ℕ) (i : ℕ) (addresses : List ℕ) where
   unfolding dropOf dropUnchecked droppedAll
   condition-of-drop-refused r = checked-refused s order i (dropUnchecked s order i addresses)
       (dropRefusals s order i addresses) r (λ h. h) (λ h. h)
-      (go (isProcessor s i) (eqb (length addresses) 0) (eqb (firstRefusal s addresses) 0) (decides-processor s order i) decides-none refl)
+      (go (isProcessor s i) (eqb (length addresses) 0) (eqb (firstAddressRefusal s addresses) 0) (decides-processor s order i) decides-none refl)
     where
       tests : (p n f : Bool) → After
-      tests p n f = pick (not p) (refused 2 s order) (pick n (refused 16 s order) (pick f (droppedAll s order addresses) (refused (firstRefusal s addresses) s order)))
+      tests p n f = pick (not p) (refused 2 s order) (pick n (refused 16 s order) (pick f (droppedAll s order addresses) (refused (firstAddressRefusal s addresses) s order)))
 
       bad : (n : ℕ) → (n ≡ 0 → ⊥) → (BadAddress (λ t a. ConditionOf (addressRefusals t a) n) s order i addresses → ConditionOf (dropRefusals s order i addresses) n)
-          → Passed s order → IsProcessor s i → Refused (firstRefusal s addresses) ≡ Refused r → firstRefusal s addresses ≡ n → ConditionOf (dropRefusals s order i addresses) r
+          → Passed s order → IsProcessor s i → Refused (firstAddressRefusal s addresses) ≡ Refused r → firstAddressRefusal s addresses ≡ n → ConditionOf (dropRefusals s order i addresses) r
       bad n some listed passed p e q = condition-at-number (dropRefusals s order i addresses) n r (ap Refused (sym q) ∙ e) (listed (record { passed = passed; processor = p; first = bad-by-condition n some q }))
 
-      by-case : Passed s order → IsProcessor s i → (firstRefusal s addresses ≡ 0 → ⊥) → Refused (firstRefusal s addresses) ≡ Refused r
-          → (firstRefusal s addresses ≡ 0) ⊎ ((firstRefusal s addresses ≡ 5) ⊎ ((firstRefusal s addresses ≡ 6) ⊎ (firstRefusal s addresses ≡ 7))) → ConditionOf (dropRefusals s order i addresses) r
+      by-case : Passed s order → IsProcessor s i → (firstAddressRefusal s addresses ≡ 0 → ⊥) → Refused (firstAddressRefusal s addresses) ≡ Refused r
+          → (firstAddressRefusal s addresses ≡ 0) ⊎ ((firstAddressRefusal s addresses ≡ 5) ⊎ ((firstAddressRefusal s addresses ≡ 6) ⊎ (firstAddressRefusal s addresses ≡ 7))) → ConditionOf (dropRefusals s order i addresses) r
       by-case passed p some e (inl q) = absurd (some q)
       by-case passed p some e (inr (inl q)) = bad 5 (λ z. omega arith) (λ h. h) passed p e q
       by-case passed p some e (inr (inr (inl q))) = bad 6 (λ z. omega arith) (λ h. h) passed p e q
       by-case passed p some e (inr (inr (inr q))) = bad 7 (λ z. omega arith) (λ h. h) passed p e q
 
-      go : (p n f : Bool) → Decides p (IsProcessor s i) ((i ≡ 0) ⊎ (s .setup .processors < i)) → Decides n (length addresses ≡ 0) (length addresses ≡ 0 → ⊥) → eqb (firstRefusal s addresses) 0 ≡ f
+      go : (p n f : Bool) → Decides p (IsProcessor s i) ((i ≡ 0) ⊎ (s .setup .processors < i)) → Decides n (length addresses ≡ 0) (length addresses ≡ 0 → ⊥) → eqb (firstAddressRefusal s addresses) 0 ≡ f
           → Passed s order → tests p n f .answer .outcome ≡ Refused r → ConditionOf (dropRefusals s order i addresses) r
       go false n f p d ef passed e = condition-at-number (dropRefusals s order i addresses) 2 r e (record { passed = passed; out = p .says })
       go true true f p d ef passed e = condition-at-number (dropRefusals s order i addresses) 16 r e (record { passed = passed; processor = p .says; none = d .says })
       go true false true p d ef passed e = absurd (moves-not-refused _ r e)
-      go true false false p d ef passed e = by-case passed (p .says) (eqb-false (firstRefusal s addresses) 0 ef) e (first-refusal-cases s addresses)
+      go true false false p d ef passed e = by-case passed (p .says) (eqb-false (firstAddressRefusal s addresses) 0 ef) e (first-refusal-cases s addresses)
 
   -- a drop on a state that passes is that behind the check
   pub drop-is-unchecked : Passed s order → dropOf s order i addresses ≡ dropUnchecked s order i addresses
@@ -243,9 +243,9 @@ module _ (s : State) (order : List ℕ) (i : ℕ) (addresses : List ℕ) where
   unfolding dropUnchecked
   bad-address-refused r some h =
       drop-is-unchecked (h .passed)
-      ∙ rw (true-of-decides (decides-processor s order i) (h .processor), ne-eqb (length addresses) 0 listed, ne-eqb (firstRefusal s addresses) 0 (λ z. some (sym is ∙ z))) (ap (λ (n : ℕ). refused n s order) is)
+      ∙ rw (true-of-decides (decides-processor s order i) (h .processor), ne-eqb (length addresses) 0 listed, ne-eqb (firstAddressRefusal s addresses) 0 (λ z. some (sym is ∙ z))) (ap (λ (n : ℕ). refused n s order) is)
     where
-      is : firstRefusal s addresses ≡ r
+      is : firstAddressRefusal s addresses ≡ r
       is = refusal-by-condition r some (h .first)
 
       listed : length addresses ≡ 0 → ⊥

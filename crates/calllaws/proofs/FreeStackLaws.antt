@@ -42,7 +42,7 @@ use Rattle.calls.specs.Answers.{After, refused}
 use Rattle.calls.specs.Take.{otherPlaces, renewedFor, acquired, acquiredOrder, unrankedIfEmpty, addressOf, takenFrom, takenFromOther, takeOf}
 use Rattle.calls.specs.Free.{superblockIndex, offsetOf, superblockHolding, blockOf, addressRefusal, markCleared, orderPushed, blockFreed, freedAt, freeOf}
 use Rattle.calls.proofs.TouchedPairLaws.{drop-moves-by-heaps}
-use Rattle.calls.specs.Drop.{allFreed, allPushed, firstRefusal, isTouched, thenRestored, dropMoves, droppedAll, dropOf}
+use Rattle.calls.specs.Drop.{allFreed, allPushed, firstAddressRefusal, isTouched, thenRestored, dropMoves, droppedAll, dropOf}
 use Rattle.calls.specs.Named.{namedTakeOf, heldAddress, namedFreeOf}
 use Rattle.calls.specs.Calls.{Call, Take, Free, NamedTake, NamedFree, Drop, callOf}
 use Rattle.calls.proofs.AddressRefusalLaws.{no-refusal-of-live-block}
@@ -297,7 +297,7 @@ pushed-by-test a s t order places h k = go (eqb (superblockIndex a) k) refl
     go true e = subst (λ (m : ℕ). stackOf t places m ≡ blockOf s a ∷ stackOf s order m) (eqb-true (superblockIndex a) k e) (h .pushed)
     go false e = h .others k (λ q. eqb-false (superblockIndex a) k e (sym q))
 
-all-freed-push : (freed : ℕ → ℕ → ℕ) (s : State) (order addresses : List ℕ) → Shape s → PassedAfterFrees freed s order → firstRefusal s addresses ≡ 0
+all-freed-push : (freed : ℕ → ℕ → ℕ) (s : State) (order addresses : List ℕ) → Shape s → PassedAfterFrees freed s order → firstAddressRefusal s addresses ≡ 0
     → (k : ℕ) → stackOf (allFreed s addresses) (allPushed s order addresses) k ≡ droppedOnto s k addresses (stackOf s order k)
 unfolding allFreed allPushed droppedOnto
 all-freed-push freed s order [] shape passed ok k = refl
@@ -603,7 +603,7 @@ last-dropped-on-top s a [] later stack apart = (
 last-dropped-on-top s a (b ∷ earlier) later stack apart = last-dropped-on-top s a earlier later (pick (eqb (superblockIndex b) (superblockIndex a)) (blockOf s b ∷ stack) stack) apart
 
 -- each address of an accepted drop is that of its block, as the state before the drop tells it, in a superblock of the table
-dropped-address : (freed : ℕ → ℕ → ℕ) (s : State) (order : List ℕ) (a : ℕ) (earlier later : List ℕ) → Shape s → PassedAfterFrees freed s order → firstRefusal s (earlier ++ (a ∷ later)) ≡ 0
+dropped-address : (freed : ℕ → ℕ → ℕ) (s : State) (order : List ℕ) (a : ℕ) (earlier later : List ℕ) → Shape s → PassedAfterFrees freed s order → firstAddressRefusal s (earlier ++ (a ∷ later)) ≡ 0
     → (superblockIndex a < 64) × (a ≡ addressOf (superblockIndex a) (superblockHolding s a .class) (blockOf s a))
 unfolding blockOf
 dropped-address freed s order a [] later shape passed ok =

@@ -18,7 +18,7 @@ use Rattle.calls.specs.declared.Outcome.the-variants.{Refused}
 use Rattle.calls.specs.Answers.{After, refused}
 use Rattle.calls.specs.Free.{superblockIndex, superblockHolding, blockOf, addressRefusal, orderPushed, blockFreed}
 use Rattle.calls.specs.Named.{isUnavailable}
-use Rattle.calls.specs.Drop.{allFreed, firstRefusal, dropOf}
+use Rattle.calls.specs.Drop.{allFreed, firstAddressRefusal, dropOf}
 use Rattle.calls.specs.Calls.{Call, Take, Free, NamedTake, NamedFree, Drop, callOf}
 use Rattle.calllaws.proofs.CallEffects.{PassedAfterFrees, FreeAccepted, NamedTakeAccepted, NamedFreeAccepted}
 use Rattle.calllaws.proofs.AddressLaws.{block-at-address-same}
@@ -84,7 +84,7 @@ module _ (m : ℕ) where
     block-then-same = block-at-address-same s (blockFreed s a) (shape .length-is) (block-freed-shape freed s order a shape passed accepted .length-is) (block-freed-effect freed s order a shape passed accepted .classes)
 
   -- of all of them: a name whose block is not listed keeps it ..
-  frees-keep-other : (freed : ℕ → ℕ → ℕ) (s : State) (order addresses : List ℕ) → Shape s → PassedAfterFrees freed s order → firstRefusal s addresses ≡ 0
+  frees-keep-other : (freed : ℕ → ℕ → ℕ) (s : State) (order addresses : List ℕ) → Shape s → PassedAfterFrees freed s order → firstAddressRefusal s addresses ≡ 0
       → (ListsBlock s addresses (blockNamed (s .names) m) → ⊥) → blockNamed (allFreed s addresses .names) m ≡ blockNamed (s .names) m
   unfolding allFreed
   frees-keep-other freed s order [] shape passed ok other = refl
@@ -96,7 +96,7 @@ module _ (m : ℕ) where
       ∙ kept
 
   -- .. one that is let go stays so ..
-  frees-bind-none : (freed : ℕ → ℕ → ℕ) (s : State) (order addresses : List ℕ) → Shape s → PassedAfterFrees freed s order → firstRefusal s addresses ≡ 0
+  frees-bind-none : (freed : ℕ → ℕ → ℕ) (s : State) (order addresses : List ℕ) → Shape s → PassedAfterFrees freed s order → firstAddressRefusal s addresses ≡ 0
       → blockNamed (s .names) m ≡ notHeld → blockNamed (allFreed s addresses .names) m ≡ notHeld
   unfolding allFreed
   frees-bind-none freed s order [] shape passed ok e = e
@@ -106,7 +106,7 @@ module _ (m : ℕ) where
       (first-binds-none freed s order a shape passed (first .0) e)
 
   -- .. and one whose block is listed is let go
-  frees-let-go : (freed : ℕ → ℕ → ℕ) (s : State) (order addresses : List ℕ) → Shape s → PassedAfterFrees freed s order → firstRefusal s addresses ≡ 0
+  frees-let-go : (freed : ℕ → ℕ → ℕ) (s : State) (order addresses : List ℕ) → Shape s → PassedAfterFrees freed s order → firstAddressRefusal s addresses ≡ 0
       → ListsBlock s addresses (blockNamed (s .names) m) → blockNamed (allFreed s addresses .names) m ≡ notHeld
   unfolding allFreed
   frees-let-go freed s order [] shape passed ok h = absurd h
@@ -114,7 +114,7 @@ module _ (m : ℕ) where
       go (ℕ-discrete (blockNamed (s .names) m) (blockNumber (superblockIndex a) (blockOf s a))) h
       (frees-let-go _ (blockFreed s a) (orderPushed s order a) addresses shape-then passed-then (first .1))
     where
-      first : (addressRefusal s a ≡ 0) × (firstRefusal (blockFreed s a) addresses ≡ 0)
+      first : (addressRefusal s a ≡ 0) × (firstAddressRefusal (blockFreed s a) addresses ≡ 0)
       first = first-refusal-of-cons s a addresses ok
 
       shape-then : Shape (blockFreed s a)

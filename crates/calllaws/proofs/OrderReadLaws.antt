@@ -33,7 +33,7 @@ use Rattle.calls.specs.Answers.{After, refused, checked, isProcessor}
 use Rattle.calls.specs.Setup.{setupOf}
 use Rattle.calls.specs.Take.{otherPlaces, acquired, acquiredOrder, unrankedIfEmpty, nextBlock, addressOf, takenFrom, takenFromOther, takenAt, takeUnchecked}
 use Rattle.calls.specs.Free.{superblockIndex, superblockHolding, blockOf, isUnmapped, isMisaligned, isLiveAt, orderPushed, blockFreed, freedAt, freeUnchecked}
-use Rattle.calls.specs.Drop.{allPushed, firstRefusal, droppedAll, dropUnchecked}
+use Rattle.calls.specs.Drop.{allPushed, firstAddressRefusal, droppedAll, dropUnchecked}
 use Rattle.calls.specs.Named.{isUnavailable, boundBy, withNameBound, heldAddress, namedTakeUnchecked, namedFreeUnchecked}
 use Rattle.calls.specs.Calls.{Call, Take, Free, NamedTake, NamedFree, Drop, callOf, callUnchecked}
 use Rattle.calls.proofs.CheckFirst.{call-of-checks-first}
@@ -142,8 +142,8 @@ module _ (s : State) (x y : List ℕ) (h : SameFirst (s .setup .superblocks * 25
   drop-agrees i addresses =
       agree-pick n (not (isProcessor s i)) (λ e. same-refusal 2) (λ e.
       agree-pick n (eqb (length addresses) 0) (λ e. same-refusal 16) (λ e.
-      agree-pick n (eqb (firstRefusal s addresses) 0) (λ e. record { answer = refl; order = all-pushed-agree n s addresses x y h }) (λ e.
-      same-refusal (firstRefusal s addresses))))
+      agree-pick n (eqb (firstAddressRefusal s addresses) 0) (λ e. record { answer = refl; order = all-pushed-agree n s addresses x y h }) (λ e.
+      same-refusal (firstAddressRefusal s addresses))))
 
   -- a name bound
   name-bound-agrees : (m : ℕ) (a b : After) → Agree n a b → Agree n (withNameBound m a) (withNameBound m b)

@@ -31,7 +31,7 @@ use Rattle.calls.specs.Answers.{After, refused}
 use Rattle.calls.specs.Setup.{acceptedSetup, setupOf}
 use Rattle.calls.specs.Take.{otherPlaces, acquiredOrder, takenFrom, takenFromOther, takeOf}
 use Rattle.calls.specs.Free.{superblockIndex, offsetOf, superblockHolding, blockOf, isUnmapped, isMisaligned, isLiveAt, addressRefusal, markCleared, orderPushed, blockFreed, freedAt, freeOf}
-use Rattle.calls.specs.Drop.{allPushed, firstRefusal, droppedAll, dropOf}
+use Rattle.calls.specs.Drop.{allPushed, firstAddressRefusal, droppedAll, dropOf}
 use Rattle.calls.specs.Named.{withNameBound, heldAddress}
 use Rattle.calls.specs.Calls.{Call, Take, Free, NamedTake, NamedFree, Drop, callOf}
 use Rattle.calls.proofs.AddressRefusalLaws.{mapped-of-no-refusal, aligned-of-no-refusal, live-of-no-refusal, no-refusal-of-live-block}
@@ -238,7 +238,7 @@ module _ (s : State) (order : List ℕ) (i a : ℕ) where
       go (inr acc) = inr (acc, next-written acc)
 
 -- ---- a drop
-all-pushed-writes-each : (s : State) (order addresses : List ℕ) → s .setup .superblocks * 256 ≤ length order → firstRefusal s addresses ≡ 0 → WritesEach s order addresses (allPushed s order addresses)
+all-pushed-writes-each : (s : State) (order addresses : List ℕ) → s .setup .superblocks * 256 ≤ length order → firstAddressRefusal s addresses ≡ 0 → WritesEach s order addresses (allPushed s order addresses)
 unfolding allPushed blockFreed markCleared rankedLatest
 all-pushed-writes-each s order [] room ok = done
 all-pushed-writes-each s order (a ∷ addresses) room ok =
@@ -251,7 +251,7 @@ writes-each-keeps-length done = refl
 writes-each-keeps-length (next one rest) = writes-each-keeps-length rest ∙ one .length-is
 
 -- a place of a superblock in which no address lies is not written
-all-pushed-keeps : (s : State) (order addresses : List ℕ) → firstRefusal s addresses ≡ 0 → (x : ℕ) → NoneIn (x / 256) addresses → getD (allPushed s order addresses) x 0 ≡ getD order x 0
+all-pushed-keeps : (s : State) (order addresses : List ℕ) → firstAddressRefusal s addresses ≡ 0 → (x : ℕ) → NoneIn (x / 256) addresses → getD (allPushed s order addresses) x 0 ≡ getD order x 0
 unfolding allPushed orderPushed
 all-pushed-keeps s order [] ok x apart = refl
 all-pushed-keeps s order (a ∷ addresses) ok x apart =
@@ -261,7 +261,7 @@ all-pushed-keeps s order (a ∷ addresses) ok x apart =
     ∙ with-place-other-index order (superblockIndex a) p (blockOf s a) x (λ (q : x ≡ superblockIndex a * 256 + p). apart .0 (omega (arith, filled-lt-256 s a (accepted .0))))
 
 -- no address of an accepted drop lies past the first N superblocks
-none-past-superblocks : (s : State) (addresses : List ℕ) → firstRefusal s addresses ≡ 0 → (k : ℕ) → s .setup .superblocks ≤ k → NoneIn k addresses
+none-past-superblocks : (s : State) (addresses : List ℕ) → firstAddressRefusal s addresses ≡ 0 → (k : ℕ) → s .setup .superblocks ≤ k → NoneIn k addresses
 unfolding blockFreed markCleared rankedLatest
 none-past-superblocks s [] ok k l = tt
 none-past-superblocks s (a ∷ addresses) ok k l =

@@ -36,7 +36,7 @@ use Rattle.calls.specs.Setup.{acceptedSetup, setupOf}
 use Rattle.calls.specs.Take.{otherPlaces, takenFrom, takenFromOther, takenAt, takeUnchecked}
 use Rattle.calls.specs.Free.{superblockHolding, isUnmapped, isMisaligned, isLiveAt, markCleared, blockFreed, freedAt, freeUnchecked}
 use Rattle.calls.specs.Named.{isUnavailable, nameBound, boundBy, withNameBound, namedTakeUnchecked, heldAddress, namedFreeUnchecked}
-use Rattle.calls.specs.Drop.{allFreed, firstRefusal, isTouched, dropMoves, droppedAll, dropUnchecked}
+use Rattle.calls.specs.Drop.{allFreed, firstAddressRefusal, isTouched, dropMoves, droppedAll, dropUnchecked}
 use Rattle.calls.specs.Calls.{Call, Take, Free, NamedTake, NamedFree, Drop, callOf, callUnchecked}
 use Rattle.calls.proofs.CheckFirst.{call-of-checks-first}
 use Rattle.calllaws.proofs.CallEffects.{Passed}
@@ -135,11 +135,11 @@ module _ (s : State) (order : List ℕ) where
   drop-recounts i [] = by-test (not (isProcessor s i)) _ _ (with-refusal 2 (omega arith)) (with-refusal 16 (omega arith))
   drop-recounts i (a ∷ addresses) =
       by-test (not (isProcessor s i)) _ _ (with-refusal 2 (omega arith))
-      (by-test (eqb (length (a ∷ addresses)) 0) _ _ (with-refusal 16 (omega arith)) (go (eqb (firstRefusal s (a ∷ addresses)) 0) refl))
+      (by-test (eqb (length (a ∷ addresses)) 0) _ _ (with-refusal 16 (omega arith)) (go (eqb (firstAddressRefusal s (a ∷ addresses)) 0) refl))
     where
-      go : (t : Bool) → eqb (firstRefusal s (a ∷ addresses)) 0 ≡ t → RefusedOrRecounted s order (pick t (droppedAll s order (a ∷ addresses)) (refused (firstRefusal s (a ∷ addresses)) s order))
+      go : (t : Bool) → eqb (firstAddressRefusal s (a ∷ addresses)) 0 ≡ t → RefusedOrRecounted s order (pick t (droppedAll s order (a ∷ addresses)) (refused (firstAddressRefusal s (a ∷ addresses)) s order))
       go true e = inr (moves-not-refused _, drop-moves-recounted s (a ∷ addresses) (all-freed-recounted (blockFreed s a) addresses refl))
-      go false e = with-refusal (firstRefusal s (a ∷ addresses)) (pos-of-ne-zero (eqb-false (firstRefusal s (a ∷ addresses)) 0 e))
+      go false e = with-refusal (firstAddressRefusal s (a ∷ addresses)) (pos-of-ne-zero (eqb-false (firstAddressRefusal s (a ∷ addresses)) 0 e))
 
   name-bound-recounts : (m : ℕ) (x : After) → RefusedOrRecounted s order x → RefusedOrRecounted s order (withNameBound m x)
   unfolding withNameBound

@@ -12,7 +12,7 @@ use Rattle.calls.specs.Setup.{setupOf}
 use Rattle.calls.specs.Take.{otherPlaces, acquired, acquiredOrder, unrankedIfEmpty, nextBlock, addressOf, takenFrom, takenFromOther, takenAt, takeUnchecked, takeOf}
 use Rattle.calls.specs.Free.{blockOf, isUnmapped, isMisaligned, isLiveAt, addressRefusal, markCleared, orderPushed, blockNumberAt, blockFreed, freedAt, freeUnchecked, freeOf}
 use Rattle.calls.specs.Named.{isUnavailable, nameBound, boundBy, withNameBound, namedTakeUnchecked, namedTakeOf, heldAddress, namedFreeUnchecked, namedFreeOf}
-use Rattle.calls.specs.Drop.{allFreed, allPushed, firstRefusal, isTouched, thenRestored, touchedClasses, touchedPairs, eachRestored, dropMoves, droppedAll, dropUnchecked, dropOf}
+use Rattle.calls.specs.Drop.{allFreed, allPushed, firstAddressRefusal, isTouched, thenRestored, touchedClasses, touchedPairs, eachRestored, dropMoves, droppedAll, dropUnchecked, dropOf}
 use Rattle.calls.specs.Calls.{callOf, callUnchecked}
 
 -- the calls behind the check
@@ -20,7 +20,7 @@ unfoldable pub uncheckedCallDefinitions : Unit {0}
 unfolding callUnchecked takeUnchecked takenAt takenFromOther takenFrom addressOf nextBlock acquiredOrder acquired unrankedIfEmpty otherPlaces
     freeUnchecked freedAt orderPushed blockFreed markCleared blockNumberAt isLiveAt isMisaligned isUnmapped blockOf isProcessor
     namedTakeUnchecked withNameBound boundBy nameBound isUnavailable namedFreeUnchecked heldAddress
-    dropUnchecked droppedAll dropMoves eachRestored touchedPairs touchedClasses thenRestored isTouched firstRefusal allPushed allFreed addressRefusal
+    dropUnchecked droppedAll dropMoves eachRestored touchedPairs touchedClasses thenRestored isTouched firstAddressRefusal allPushed allFreed addressRefusal
     invariantRestored excessTransferred transfersUpTo transferred foundTransferred
     fullest lowestEmpty lowestUnused emptiest prefer chosenBelow moreLive fullerOrMoreRecent fewerLive neverPreferred hasFree emptyInGlobal
     rankedLatest unranked rankAfterFree rankAfterRenewal isMoreRecent listed

@@ -14,7 +14,7 @@ use Rattle.heap.proofs.TableCases.{ranked}
 use Rattle.calls.specs.declared.Outcome.the-variants.{Moves}
 use Rattle.calls.specs.Answers.{After, refused}
 use Rattle.calls.specs.Free.{addressRefusal}
-use Rattle.calls.specs.Drop.{Pair, allFreed, allPushed, firstRefusal, isTouched, touchedPairs, dropMoves}
+use Rattle.calls.specs.Drop.{Pair, allFreed, allPushed, firstAddressRefusal, isTouched, touchedPairs, dropMoves}
 use Rattle.calls.specs.Calls.{Call, Free, Drop, callUnchecked}
 use Rattle.calls.proofs.CallDefinitions.{uncheckedCallDefinitions}
 use Rattle.calls.proofs.RuleCases.{setup-with, after-with}
@@ -54,7 +54,7 @@ address-refusal-cases = refl
 
 -- none; a double, beside itself and after another; a bad one last, and the first of several
 pub first-refusal-cases :
-    map (firstRefusal state-before) ((0 ∷ 6144 ∷ []) ∷ (0 ∷ 0 ∷ []) ∷ (0 ∷ 6144 ∷ 0 ∷ []) ∷ (0 ∷ 6144 ∷ 2049 ∷ []) ∷ (0 ∷ 2049 ∷ 8192 ∷ []) ∷ (2048 ∷ 8192 ∷ 2049 ∷ []) ∷ (8192 ∷ 0 ∷ 0 ∷ []) ∷ [])
+    map (firstAddressRefusal state-before) ((0 ∷ 6144 ∷ []) ∷ (0 ∷ 0 ∷ []) ∷ (0 ∷ 6144 ∷ 0 ∷ []) ∷ (0 ∷ 6144 ∷ 2049 ∷ []) ∷ (0 ∷ 2049 ∷ 8192 ∷ []) ∷ (2048 ∷ 8192 ∷ 2049 ∷ []) ∷ (8192 ∷ 0 ∷ 0 ∷ []) ∷ [])
     ≡ 0 ∷ 7 ∷ 7 ∷ 6 ∷ 6 ∷ 7 ∷ 5 ∷ []
 unfolding uncheckedCallDefinitions
 first-refusal-cases = refl

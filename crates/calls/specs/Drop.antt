@@ -26,9 +26,9 @@ allPushed s order (a ∷ addresses) = allPushed (blockFreed s a) (orderPushed s 
 
 -- "the refusal of its first bad address": the first of 5, 6, 7 that "the frees one by one, in the order written, would meet", or 0 where they
 -- meet none
-unfoldable pub firstRefusal : State → List ℕ → ℕ
-firstRefusal s [] = 0
-firstRefusal s (a ∷ addresses) = pick (eqb (addressRefusal s a) 0) (firstRefusal (blockFreed s a) addresses) (addressRefusal s a)
+unfoldable pub firstAddressRefusal : State → List ℕ → ℕ
+firstAddressRefusal s [] = 0
+firstAddressRefusal s (a ∷ addresses) = pick (eqb (addressRefusal s a) 0) (firstAddressRefusal (blockFreed s a) addresses) (addressRefusal s a)
 
 -- ---- "then each processor heap and class touched, heaps then classes rising, follows the move rule"
 -- a block at one of the addresses is of heap h and class c
@@ -76,8 +76,8 @@ unfoldable pub dropUnchecked : State → List ℕ → ℕ → List ℕ → After
 dropUnchecked s order i addresses =
     pick (not (isProcessor s i)) (refused 2 s order)
     (pick (eqb (length addresses) 0) (refused 16 s order)
-    (pick (eqb (firstRefusal s addresses) 0) (droppedAll s order addresses)
-    (refused (firstRefusal s addresses) s order)))
+    (pick (eqb (firstAddressRefusal s addresses) 0) (droppedAll s order addresses)
+    (refused (firstAddressRefusal s addresses) s order)))
 
 unfoldable pub dropOf : State → List ℕ → ℕ → List ℕ → After
 dropOf s order i addresses = checked s order (dropUnchecked s order i addresses)

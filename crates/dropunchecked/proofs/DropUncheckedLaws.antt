@@ -19,7 +19,7 @@ use Rattle.calls.specs.declared.Outcome.the-variants.{Moves, Refused}
 use Rattle.calls.specs.Answers.{After, HasNumberAndValuesOf, isProcessor}
 use Rattle.calls.specs.DropLoops.{heapsRestored}
 use Rattle.calls.proofs.TouchedPairLaws.{drop-moves-by-heaps}
-use Rattle.calls.specs.Drop.{allFreed, allPushed, firstRefusal, isTouched, dropMoves, droppedAll, dropUnchecked}
+use Rattle.calls.specs.Drop.{allFreed, allPushed, firstAddressRefusal, isTouched, dropMoves, droppedAll, dropUnchecked}
 use Rattle.calls.proofs.AnswerLaws.{number-and-values-by-rules, refused-of-answer}
 use Rattle.dropunchecked.specs.DropSteps.{FreesSafe, touchedIn, TellsTouched}
 use Rattle.dropunchecked.proofs.FreesLaws.{all-freed-keeps-setup, all-freed-keeps-totals}
@@ -45,7 +45,7 @@ module _ (s : State) (order : List ℕ) (i : ℕ) (addresses : List ℕ) (t : Bo
     unfolding dropUnchecked
     drop-unchecked-refused-16 r z h = refused-of-answer s order 16 r h ∙ sym (rw (← p, f, z))
 
-    module _ (some : length addresses ≡ 0 → ⊥) (bad : ℕ) (g : bad ≡ firstRefusal s addresses) where
+    module _ (some : length addresses ≡ 0 → ⊥) (bad : ℕ) (g : bad ≡ firstAddressRefusal s addresses) where
       pub drop-unchecked-refused-by-address : (r : Answer) → (bad ≡ 0 → ⊥) → r ≡ record { outcome = Refused bad; state = s } → answerAndOrder r order ≡ dropUnchecked s order i addresses
       unfolding dropUnchecked
       drop-unchecked-refused-by-address r n h = refused-of-answer s order bad r h ∙ sym (rw (← p, f, ne-eqb (length addresses) 0 some, ← g, ne-eqb bad 0 n))
@@ -62,7 +62,7 @@ module _ (s : State) (order : List ℕ) (p : passes s order ≡ true) where
   pub addresses-can-be-tested : s .setup .superblocks ≤ 64
   addresses-can-be-tested = sound .numbers .superblocks-high
 
-  pub blocks-can-be-dropped : (addresses : List ℕ) (bad : ℕ) → Shape s → bad ≡ firstRefusal s addresses → bad ≡ 0 → FreesSafe s addresses × TotalsKept s × (s .setup .processors ≤ 8)
+  pub blocks-can-be-dropped : (addresses : List ℕ) (bad : ℕ) → Shape s → bad ≡ firstAddressRefusal s addresses → bad ≡ 0 → FreesSafe s addresses × TotalsKept s × (s .setup .processors ≤ 8)
   blocks-can-be-dropped addresses bad shape g z = (frees-safe-of-passes s order addresses shape p (sym g ∙ z), totals-kept-of-passes s order (T-of-true _ p), sound .numbers .processors-high)
 
 -- ---- an accepted drop, step by step

@@ -19,7 +19,7 @@ use Rattle.heap.specs.Ranks.{rankAfterFree, rankedLatest}
 use Rattle.heaplaws.proofs.CountLaws.{superblock-at-replaced, superblock-at-others}
 use Rattle.heaplaws.proofs.RerankedLaws.{superblock-keeps-all-but-rank}
 use Rattle.calls.specs.Free.{superblockIndex, superblockHolding, blockOf, isUnmapped, isMisaligned, isLiveAt, addressRefusal, markCleared, blockFreed}
-use Rattle.calls.specs.Drop.{allFreed, firstRefusal}
+use Rattle.calls.specs.Drop.{allFreed, firstAddressRefusal}
 use Rattle.addresses.specs.Holding.{TellsOf}
 use Rattle.addresses.proofs.FreedAddressLaws.{address-refusal-past-table}
 use Rattle.dropunchecked.proofs.FreesLaws.{all-freed-at-next}
@@ -84,12 +84,12 @@ same-of-block-freed t u same a l =
 
 -- ---- the refusals at the addresses from i on
 module _ (u : State) (addresses : List ℕ) (i : ℕ) (l : i < length addresses) where
-  first-refusal-at-bad : (addressRefusal u (getD addresses i 0) ≡ 0 → ⊥) → firstRefusal u (drop i addresses) ≡ addressRefusal u (getD addresses i 0)
-  unfolding firstRefusal
+  first-refusal-at-bad : (addressRefusal u (getD addresses i 0) ≡ 0 → ⊥) → firstAddressRefusal u (drop i addresses) ≡ addressRefusal u (getD addresses i 0)
+  unfolding firstAddressRefusal
   first-refusal-at-bad n = rw (drop-cons addresses i 0 l, ne-eqb (addressRefusal u (getD addresses i 0)) 0 n)
 
-  first-refusal-past-good : addressRefusal u (getD addresses i 0) ≡ 0 → firstRefusal u (drop i addresses) ≡ firstRefusal (blockFreed u (getD addresses i 0)) (drop (suc i) addresses)
-  unfolding firstRefusal
+  first-refusal-past-good : addressRefusal u (getD addresses i 0) ≡ 0 → firstAddressRefusal u (drop i addresses) ≡ firstAddressRefusal (blockFreed u (getD addresses i 0)) (drop (suc i) addresses)
+  unfolding firstAddressRefusal
   first-refusal-past-good e = rw (drop-cons addresses i 0 l, e)
 
 -- ---- the loop: the addresses below i meet no refusal, and t is the table without their marks
@@ -98,7 +98,7 @@ abbrev withTable : State → List Superblock → State
 withTable s t = record { setup = s .setup; table = t; names = s .names; totals = recounted t }
 
 pub record NoneRefused (s : State) (addresses : List ℕ) (i : ℕ) (t : List Superblock) : Type 0 where
-  pub refusal-left : firstRefusal (allFreed s (take i addresses)) (drop i addresses) ≡ firstRefusal s addresses
+  pub refusal-left : firstAddressRefusal (allFreed s (take i addresses)) (drop i addresses) ≡ firstAddressRefusal s addresses
   pub same : SameBlocks (withTable s t) (allFreed s (take i addresses))
 
 pub none-refused-yet : (s : State) (addresses : List ℕ) → length (s .table) ≡ 64 → NoneRefused s addresses 0 (s .table)
@@ -107,16 +107,16 @@ none-refused-yet s addresses long = record { refusal-left = refl; same = record 
 
 module _ (s : State) (t : List Superblock) (addresses : List ℕ) (i : ℕ) (so : NoneRefused s addresses i t) where
   module _ (l : i < length addresses) where
-    refused-of-bad : (bad : ℕ) → bad ≡ addressRefusal (withTable s t) (getD addresses i 0) → (bad ≡ 0 → ⊥) → bad ≡ firstRefusal s addresses
+    refused-of-bad : (bad : ℕ) → bad ≡ addressRefusal (withTable s t) (getD addresses i 0) → (bad ≡ 0 → ⊥) → bad ≡ firstAddressRefusal s addresses
     refused-of-bad bad e n =
         let at : bad ≡ addressRefusal (allFreed s (take i addresses)) (getD addresses i 0) = e ∙ same-refusal (withTable s t) (allFreed s (take i addresses)) (so .same) (getD addresses i 0) in
         at ∙ sym (first-refusal-at-bad (allFreed s (take i addresses)) addresses i l (λ z. n (at ∙ z))) ∙ so .refusal-left
 
-    pub past-table-refused : s .setup .superblocks ≤ 64 → 64 ≤ getD addresses i 0 / 4096 → 5 ≡ firstRefusal s addresses
+    pub past-table-refused : s .setup .superblocks ≤ 64 → 64 ≤ getD addresses i 0 / 4096 → 5 ≡ firstAddressRefusal s addresses
     past-table-refused high h = refused-of-bad 5 (address-refusal-past-table (withTable s t) (getD addresses i 0) high h) (λ z. omega arith)
 
     module _ (bad : ℕ) (e : TellsOf bad addressRefusal (s .setup .superblocks) (getD t (getD addresses i 0 / 4096) blank) (getD addresses i 0)) where
-      pub first-bad-refused : (bad ≡ 0 → ⊥) → bad ≡ firstRefusal s addresses
+      pub first-bad-refused : (bad ≡ 0 → ⊥) → bad ≡ firstAddressRefusal s addresses
       first-bad-refused = refused-of-bad bad (e (withTable s t) refl refl)
 
       pub none-refused-at-next : bad ≡ 0 → getD addresses i 0 / 4096 < 64 → (block : ℕ) (freed : List ℕ) → block ≡ getD addresses i 0 % 4096 / sizeOf (getD t (getD addresses i 0 / 4096) blank .class)
@@ -130,6 +130,6 @@ module _ (s : State) (t : List Superblock) (addresses : List ℕ) (i : ℕ) (so 
             same = rw (all-freed-at-next s addresses i l) (same-of-block-freed (withTable s t) (allFreed s (take i addresses)) (so .same) (getD addresses i 0) below);
           })
 
-  pub none-refused-at-end : length addresses ≤ i → 0 ≡ firstRefusal s addresses
-  unfolding firstRefusal
-  none-refused-at-end end = ap (firstRefusal (allFreed s (take i addresses))) (sym (drop-of-length-le addresses end)) ∙ so .refusal-left
+  pub none-refused-at-end : length addresses ≤ i → 0 ≡ firstAddressRefusal s addresses
+  unfolding firstAddressRefusal
+  none-refused-at-end end = ap (firstAddressRefusal (allFreed s (take i addresses))) (sym (drop-of-length-le addresses end)) ∙ so .refusal-left

@@ -23,7 +23,7 @@ use Rattle.checkrules.specs.Check.{superblockValid, passes}
 use Rattle.checkrules.proofs.ClauseLaws.{clauses-of-rest, rest-of-clauses, limits-of-passes, rest-of-passes, passes-of-limits-and-rest}
 use Rattle.heaplaws.proofs.StateFacts.{Unused, Owned, Shape}
 use Rattle.heaplaws.proofs.StateCheckLaws.{unused-or-owned-of-superblock-valid, superblock-valid-of-unused, superblock-valid-of-owned}
-use Rattle.calls.specs.Drop.{firstRefusal}
+use Rattle.calls.specs.Drop.{firstAddressRefusal}
 use Rattle.calllaws.proofs.DropLaws.{frees-safe}
 use Rattle.dropunchecked.specs.DropSteps.{FreesSafe}
 
@@ -65,7 +65,7 @@ module _ (order more : List ℕ) where
       })))
 
 -- ---- so each free can be made
-pub frees-safe-of-passes : (s : State) (order addresses : List ℕ) → Shape s → passes s order ≡ true → firstRefusal s addresses ≡ 0 → FreesSafe s addresses
+pub frees-safe-of-passes : (s : State) (order addresses : List ℕ) → Shape s → passes s order ≡ true → firstAddressRefusal s addresses ≡ 0 → FreesSafe s addresses
 frees-safe-of-passes s order addresses shape passed none i l =
     let more : List ℕ = replicate (s .setup .superblocks * 256) 0 in
     let at = frees-safe s (order ++ more) addresses shape (passes-with-longer-order order more s passed) (omega (arith, length-append order more, length-replicate {A = ℕ} (s .setup .superblocks * 256) 0)) none i l in

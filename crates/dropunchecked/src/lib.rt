@@ -5,7 +5,7 @@ ghost use Prim.Native.Nat.{_≤_, _<_};
 ghost use Rattle.checkrules.specs.Check.{passes};
 ghost use Rattle.heap.specs.Totals.{TotalsKept};
 ghost use Rattle.calls.specs.Answers.{After, HasNumberAndValuesOf};
-ghost use Rattle.calls.specs.Drop.{allFreed, allPushed, firstRefusal, thenRestored, droppedAll, dropUnchecked};
+ghost use Rattle.calls.specs.Drop.{allFreed, allPushed, firstAddressRefusal, thenRestored, droppedAll, dropUnchecked};
 ghost use Rattle.calls.specs.DropLoops.{classesRestored, heapsRestored};
 ghost use Rattle.dropunchecked.specs.DropSteps.{FreesSafe, touchedIn, TellsTouched, CanMove};
 use calls::Answer;
@@ -37,7 +37,7 @@ pub fn drop(s: State, order: &mut [u16], processor: u8, addresses: &[u32]) -> An
 // in a copy of the table is enough to refuse a block that comes twice. What lies past the table lies past N superblocks too.
 fn first_refusal(s: State, addresses: &[u32]) -> u8
     requires { ⌜ s .setup .superblocks ≤ 64 ⌝ }
-    ensures { λ r. ⌜ r ≡ firstRefusal s (now (addresses .entry)) ⌝ }
+    ensures { λ r. ⌜ r ≡ firstAddressRefusal s (now (addresses .entry)) ⌝ }
 {
     let mut t = s.table;
     let mut i: usize = 0;

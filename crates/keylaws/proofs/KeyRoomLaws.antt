@@ -29,7 +29,7 @@ use Rattle.calls.specs.Setup.{setupOf}
 use Rattle.calls.specs.Take.{otherPlaces, takenFrom, takenFromOther, takenAt, takeUnchecked, takeOf}
 use Rattle.calls.specs.Free.{superblockHolding, isUnmapped, isMisaligned, isLiveAt, addressRefusal, blockFreed, freedAt, freeUnchecked, freeOf}
 use Rattle.calls.specs.Named.{namedTakeOf, heldAddress, namedFreeUnchecked, namedFreeOf}
-use Rattle.calls.specs.Drop.{allFreed, firstRefusal, dropMoves, droppedAll, dropUnchecked, dropOf}
+use Rattle.calls.specs.Drop.{allFreed, firstAddressRefusal, dropMoves, droppedAll, dropUnchecked, dropOf}
 use Rattle.calllaws.proofs.DropMoveLaws.{drop-moves-le-64, length-of-block-freed, length-of-all-freed}
 use Rattle.commands.specs.declared.Command.{Command}
 use Rattle.commands.specs.declared.Command.the-variants as command
@@ -138,8 +138,8 @@ address-refusal-le-7 s a =
     (λ e. pick-elim (λ (r : ℕ). r ≤ 7) (isMisaligned s a) _ _ (λ f. omega arith)
     (λ f. pick-elim (λ (r : ℕ). r ≤ 7) (isLiveAt s a) 0 7 (λ g. omega arith) (λ g. omega arith)))
 
-first-refusal-le-7 : (s : State) (addresses : List ℕ) → firstRefusal s addresses ≤ 7
-unfolding firstRefusal
+first-refusal-le-7 : (s : State) (addresses : List ℕ) → firstAddressRefusal s addresses ≤ 7
+unfolding firstAddressRefusal
 first-refusal-le-7 s [] = omega arith
 first-refusal-le-7 s (a ∷ addresses) =
     pick-elim (λ (r : ℕ). r ≤ 7) (eqb (addressRefusal s a) 0) _ _ (λ e. first-refusal-le-7 (blockFreed s a) addresses) (λ e. address-refusal-le-7 s a)
@@ -150,8 +150,8 @@ short-result-of-drop s order i addresses =
     short-result-of-checked 12 s order _ (omega arith)
     (pick-elim (ShortResult 12) (not (isProcessor s i)) _ _ (λ e. short-result-of-refused 12 2 s order (omega arith) (omega arith))
     (λ e. pick-elim (ShortResult 12) (eqb (length addresses) 0) _ _ (λ f. short-result-of-refused 12 16 s order (omega arith) (omega arith))
-    (λ f. pick-elim (ShortResult 12) (eqb (firstRefusal s addresses) 0) _ _ (λ g. short-result-of-dropped-all s order addresses (eqb-false (length addresses) 0 f))
-    (λ g. short-result-of-refused 12 (firstRefusal s addresses) s order (omega arith) (omega (arith, first-refusal-le-7 s addresses))))))
+    (λ f. pick-elim (ShortResult 12) (eqb (firstAddressRefusal s addresses) 0) _ _ (λ g. short-result-of-dropped-all s order addresses (eqb-false (length addresses) 0 f))
+    (λ g. short-result-of-refused 12 (firstAddressRefusal s addresses) s order (omega arith) (omega (arith, first-refusal-le-7 s addresses))))))
 
 -- ---- the lines: 10 bytes for each byte of the command
 length-of-take-line-le-32 : (s : State) (order : List ℕ) (i size : ℕ) → i < 256 → size < 65536 → length (takeLine i size (takeOf s order i size .answer .outcome)) ≤ 32
