@@ -32,7 +32,7 @@ Bounded u s peak =
     → (u .q - u .p) * blocksOf c * superblocksOfClass c s ≤ u .q * peak c + (u .q - u .p) * u .processors * u .spare * blocksOf c
 
 -- "no free changes the owner of more than q superblocks, an accepted one changes exactly as many owners as it reports moves, and a
--- refused call changes none", of a call with so many owners changed; of a free, of no more than so many superblocks. "a drop moves at most q
+-- refused call changes none", of a call with so many owners changed; of a free, the most that it may change stands first. "a drop moves at most q
 -- superblocks for each address" (document 02, item 5)
 abbrev pub TakeOwnerChanges : ℕ → Outcome → Type 0
 TakeOwnerChanges changed outcome = (r : ℕ) → outcome ≡ Refused r → changed ≡ 0

@@ -38,12 +38,12 @@ eventOfTake s i (Address a) =
 eventOfTake s i (Moves m) = neither
 eventOfTake s i (Refused r) = neither
 
--- with those of a drop, whose frees are "in the order written" (document 02, item 5); the latest event comes first
+-- the events with those of a drop before them, whose frees are "in the order written" (document 02, item 5); the latest event comes first
 unfoldable pub eventsAfterDrop : List Event → List ℕ → Outcome → List Event
 eventsAfterDrop events [] outcome = events
 eventsAfterDrop events (a ∷ addresses) outcome = eventsAfterDrop (eventOfFree a outcome ∷ events) addresses outcome
 
--- with those of a call on state s
+-- the events with those of a call on state s before them
 unfoldable pub eventsAfter : List Event → State → Call → Outcome → List Event
 eventsAfter events s (Take processor size) outcome = eventOfTake s processor outcome ∷ events
 eventsAfter events s (Free processor address) outcome = eventOfFree address outcome ∷ events

@@ -95,7 +95,7 @@ names-agree-from u before ledger peak (step ∷ steps) g linked =
     n : AfterCall u (before .answer .state) ledger peak (step .call) (step .after)
     n = after-step u (before .answer .state) (before .order) ledger peak g step (linked .0)
 
--- After every accepted setup and every list of calls after it, plain and named: the ledger's names and the state's agree.
+-- After every accepted setup and every list of calls after it: the ledger's names and the state's agree.
 pub ledger-and-state-names-agree : (u : Setup) (order : List ℕ) (start : After) → start ≡ setupOf u order → start .answer .outcome ≡ Ready → (steps : List Step) → Linked start steps
     → NamesAgree (lastAfter start steps .answer .state) (ledgerOf [] steps)
 ledger-and-state-names-agree u order start e ready steps linked =

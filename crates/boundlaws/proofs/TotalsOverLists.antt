@@ -30,7 +30,7 @@ totals-counted-from before (step ∷ steps) kept linked =
     after-step : TotalsKept (step .after .answer .state)
     after-step = subst (λ (x : After). TotalsKept (x .answer .state)) (sym (linked .0)) (call-keeps-totals (before .answer .state) (before .order) (step .call) kept)
 
--- For every setup, whatever stood in the storage before, and every list of takes and frees after it, plain and named.
+-- For every setup, whatever stood in the storage before, and every list of takes and frees after it, plain and named, and of drops.
 pub totals-kept-over-list : (u : Setup) (order : List ℕ) (start : After) → start ≡ setupOf u order → (steps : List Step) → Linked start steps → TotalsCountedOver start steps
 totals-kept-over-list u order start e steps linked =
     totals-counted-from start steps (subst (λ (x : After). TotalsKept (x .answer .state)) (sym e) (new-or-refused-setup-totals-kept u order)) linked
@@ -60,7 +60,7 @@ live-totals-agree-from u before ledger peak (step ∷ steps) g linked =
     let n = after-step u (before .answer .state) (before .order) ledger peak g step (linked .0) in
     (live-totals-agree-of-list-invariant u (before .answer .state) (before .order) ledger peak g, live-totals-agree-from u (step .after) new (peakWith peak new) steps (n .invariant) (linked .1))
 
--- For every accepted setup, whatever stood in the storage before, and every list of takes and frees after it, plain and named.
+-- For every accepted setup, whatever stood in the storage before, and every list of takes and frees after it, plain and named, and of drops.
 pub live-totals-agree-with-ledger : (u : Setup) (order : List ℕ) (start : After) → start ≡ setupOf u order → start .answer .outcome ≡ Ready → (steps : List Step) → Linked start steps
     → LiveTotalsAgreeOver u start [] steps
 live-totals-agree-with-ledger u order start e ready steps linked = live-totals-agree-from u start [] (λ c. 0) steps (list-invariant-after-setup u order start e ready) linked

@@ -1,4 +1,4 @@
--- The refusals that take and free share, as cases. Assumes nothing.
+-- The refusals that all calls on a state share, as cases. Assumes nothing.
 use mathlib.Core.Path.{_≡_, refl}
 use mathlib.Core.Bool.{Bool, true, false}
 use mathlib.Core.Logic.{_⊎_, inl, inr}

@@ -22,7 +22,7 @@ use Rattle.calls.specs.declared.Outcome.the-variants.{Refused}
 use Rattle.calls.specs.Answers.{After, refused, isProcessor}
 use Rattle.calls.specs.Free.{offsetOf, superblockHolding, blockOf, isUnmapped, isMisaligned, isLiveAt, addressRefusal, blockFreed}
 use Rattle.calls.specs.Drop.{allFreed, firstAddressRefusal, droppedAll, dropUnchecked, dropOf}
-use Rattle.calls.proofs.AddressRefusalLaws.{address-refusal-cases, address-refusal-5, address-refusal-6, address-refusal-7, no-refusal-of-live-block}
+use Rattle.calls.proofs.AddressRefusalLaws.{address-refusal-is-0-5-6-or-7, address-refusal-5, address-refusal-6, address-refusal-7, no-refusal-of-live-block}
 use Rattle.calllaws.proofs.CallEffects.{Passed}
 use Rattle.calllaws.proofs.CheckedLaws.{checked-is-next-of-passed}
 use Rattle.calllaws.proofs.AllFreedLaws.{first-refusal-of-cons}
@@ -161,10 +161,10 @@ pub no-refusal-iff-each-meets-none : (s : State) (addresses : List ℕ) → (fir
 no-refusal-iff-each-meets-none s addresses = (each-meets-none s addresses, none-of-each s addresses)
 
 -- it is one of 5, 6 and 7, or there is none
-pub first-refusal-cases : (s : State) (addresses : List ℕ) → (firstAddressRefusal s addresses ≡ 0) ⊎ ((firstAddressRefusal s addresses ≡ 5) ⊎ ((firstAddressRefusal s addresses ≡ 6) ⊎ (firstAddressRefusal s addresses ≡ 7)))
+pub first-refusal-is-0-5-6-or-7 : (s : State) (addresses : List ℕ) → (firstAddressRefusal s addresses ≡ 0) ⊎ ((firstAddressRefusal s addresses ≡ 5) ⊎ ((firstAddressRefusal s addresses ≡ 6) ⊎ (firstAddressRefusal s addresses ≡ 7)))
 unfolding firstAddressRefusal
-first-refusal-cases s [] = inl refl
-first-refusal-cases s (a ∷ addresses) = go (eqb (addressRefusal s a) 0) (first-refusal-cases (blockFreed s a) addresses) (address-refusal-cases s a)
+first-refusal-is-0-5-6-or-7 s [] = inl refl
+first-refusal-is-0-5-6-or-7 s (a ∷ addresses) = go (eqb (addressRefusal s a) 0) (first-refusal-is-0-5-6-or-7 (blockFreed s a) addresses) (address-refusal-is-0-5-6-or-7 s a)
   where
     OneOf : ℕ → Type 0
     OneOf n = (n ≡ 0) ⊎ ((n ≡ 5) ⊎ ((n ≡ 6) ⊎ (n ≡ 7)))
@@ -180,7 +180,7 @@ pub record CountZero (s : State) (order : List ℕ) (i : ℕ) (addresses : List 
   pub processor : IsProcessor s i
   pub none : length addresses ≡ 0
 
--- 5, 6, 7: that is so of the first bad address
+-- 5, 6, 7: the first bad address is bad in this way
 pub record BadAddress (IsBad : State → ℕ → Type 0) (s : State) (order : List ℕ) (i : ℕ) (addresses : List ℕ) : Type 0 where
   pub passed : Passed s order
   pub processor : IsProcessor s i
@@ -232,7 +232,7 @@ module _ (s : State) (order : List ℕ) (i : ℕ) (addresses : List ℕ) where
       go false n f p d ef passed e = condition-at-number (dropRefusals s order i addresses) 2 r e (record { passed = passed; out = p .says })
       go true true f p d ef passed e = condition-at-number (dropRefusals s order i addresses) 16 r e (record { passed = passed; processor = p .says; none = d .says })
       go true false true p d ef passed e = absurd (moves-not-refused _ r e)
-      go true false false p d ef passed e = by-case passed (p .says) (eqb-false (firstAddressRefusal s addresses) 0 ef) e (first-refusal-cases s addresses)
+      go true false false p d ef passed e = by-case passed (p .says) (eqb-false (firstAddressRefusal s addresses) 0 ef) e (first-refusal-is-0-5-6-or-7 s addresses)
 
   -- a drop on a state that passes is that behind the check
   pub drop-is-unchecked : Passed s order → dropOf s order i addresses ≡ dropUnchecked s order i addresses

@@ -36,12 +36,12 @@ pick-by-refusal false false false refuse accept = refl
 
 module _ (s : State) (a : ℕ) where
   -- ---- which refusals there are
-  pub address-refusal-cases : (addressRefusal s a ≡ 0) ⊎ ((addressRefusal s a ≡ 5) ⊎ ((addressRefusal s a ≡ 6) ⊎ (addressRefusal s a ≡ 7)))
+  pub address-refusal-is-0-5-6-or-7 : (addressRefusal s a ≡ 0) ⊎ ((addressRefusal s a ≡ 5) ⊎ ((addressRefusal s a ≡ 6) ⊎ (addressRefusal s a ≡ 7)))
   unfolding addressRefusal
-  address-refusal-cases = refusal-cases (isUnmapped s a) (isMisaligned s a) (isLiveAt s a)
+  address-refusal-is-0-5-6-or-7 = refusal-cases (isUnmapped s a) (isMisaligned s a) (isLiveAt s a)
 
   pub address-refusal-lt-256 : addressRefusal s a < 256
-  address-refusal-lt-256 = go address-refusal-cases
+  address-refusal-lt-256 = go address-refusal-is-0-5-6-or-7
     where
       go : (addressRefusal s a ≡ 0) ⊎ ((addressRefusal s a ≡ 5) ⊎ ((addressRefusal s a ≡ 6) ⊎ (addressRefusal s a ≡ 7))) → addressRefusal s a < 256
       go (inl e) = omega arith

@@ -1,4 +1,4 @@
--- What a call leaves, and the refusals that take and free share.
+-- What a call leaves, and the refusals that all calls on a state share.
 use Prim.Native.Nat.{ℕ, _*_}
 use mathlib.Core.Path.{_≡_}
 use mathlib.Core.Bool.{Bool, true}

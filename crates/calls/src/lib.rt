@@ -1,7 +1,7 @@
 // The calls on a state and what they answer. The rules are in specs/.
 use heap::State;
 
-// What a call came to: an accepted setup, the address of a take, the moves of a free, or the number of a refusal alone.
+// What a call came to: an accepted setup, the address of a take, the moves of a free or a drop, or the number of a refusal alone.
 pub enum Outcome {
     Ready,
     Address(u32),

@@ -41,7 +41,7 @@ module _ (r : List ℕ) (at : ℕ) (c : Command) (e : c ≡ commandAt r at) wher
       go (Drop processor count first) t = record { record-le-60000 = t .0; inside = omega arith; size-ge-3 = omega arith }
       go (Refused number offset) t = absurd t
 
-  -- by kind: a setup is first, a take or a free is not
+  -- by kind: a setup is first, every other command is not
   pub setup-first-and-inside : (processors superblocks spare p q : ℕ) → c ≡ Setup processors superblocks spare p q → (length r ≤ 60000) × (at ≡ 0) × (at + 6 ≤ length r)
   setup-first-and-inside processors superblocks spare p q k = let t = setup-iff-setup-at r at processors superblocks spare p q .0 (sym e ∙ k) in (t .0, t .1, t .3)
 

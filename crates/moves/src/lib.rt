@@ -68,7 +68,7 @@ fn transfer_excess(s: State, heap: u8, class: u8) -> Moved
     Moved { moves, state: t }
 }
 
-// The moves after a free in the heap and class; none where the heap is heap 0.
+// The moves after frees in the heap and class; none where the heap is heap 0.
 pub fn restore_invariant(s: State, heap: u8, class: u8) -> Moved
     requires { ⌜ (heap < 9) × (class < 27) × TotalsKept s ⌝ }
     ensures { λ r. ⌜ r ≡ invariantRestored heap class s ⌝ }

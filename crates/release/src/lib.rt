@@ -1,4 +1,4 @@
-// What a free does to its superblock, the names and the order places.
+// What freeing a block does to its superblock, the names and the order places.
 ghost use mathlib.Core.Path.{_≡_};
 ghost use Prim.Native.Nat.{_<_};
 ghost use Rattle.heap.specs.Totals.{TotalsKept};

@@ -30,7 +30,7 @@ row-list-is-call-list u row order start e ready steps linked =
     let h = row-setup-ready u row order (ap (λ (x : RowAfter). x .outcome) (sym e) ∙ ready) in
     (ap asAfter e ∙ h .1, linked-of-row-linked start steps (ap (λ (x : RowAfter). length (x .row)) e ∙ h .2) linked)
 
--- For every accepted setup on a lent row, whatever stood in row and storage before, and every list of takes and frees on that row after it, plain and named.
+-- For every accepted setup on a lent row, whatever stood in row and storage before, and every list of takes and frees on that row after it, plain and named, and of drops.
 pub row-demand-3 : (u : Setup) (row : List Superblock) (order : List ℕ) (start : RowAfter) → start ≡ rowSetup u row order → start .outcome ≡ Ready
     → (steps : List RowStep) → RowLinked start steps → RowClaims u start [] (λ c. 0) steps
 row-demand-3 u row order start e ready steps linked =

@@ -81,7 +81,7 @@ module _ (n : ℕ) (u : Setup) (row : List Superblock) (order : List ℕ) where
       go true false c e z = absurd (omega (arith, z))
       go false b c e z = absurd (omega (arith, z))
 
--- ---- the order of the first refusals of a take or a free: 13 for setup numbers, 12, 13 for the row's length
+-- ---- the order of the first refusals of a call: 13 for setup numbers, 12, 13 for the row's length
 module _ (n : ℕ) (control : Control) (row : List Superblock) (order : List ℕ) (call : Call) where
   pub call-on-refused-13-of-limits : withinLimits (control .setup) ≡ false → callOn n control row order call ≡ rowRefused 13 control row order
   unfolding callOn
@@ -193,7 +193,7 @@ module _ (u : Setup) (row : List Superblock) (order : List ℕ) where
             subst (λ (x : RowAfter). Shape (stateOf (x .control) (x .row))) (sym s) (new-state-shape u),
           )
 
--- ---- a take or a free on a lent row
+-- ---- a call on a lent row
 module _ (control : Control) (row : List Superblock) (order : List ℕ) (call : Call) where
   abbrev RowCallAccepted : Type 0
   RowCallAccepted = (length row ≡ 64) × CallAccepted (stateOf control row) order (callOf (stateOf control row) order call) × (rowCall control row order call ≡ asRowAfter (callOf (stateOf control row) order call))

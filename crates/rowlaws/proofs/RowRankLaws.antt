@@ -28,7 +28,7 @@ module _ (control : Control) (row : List Superblock) (order : List ℕ) (call : 
   row-call-refused-13-of-wrong-ranking long numbers lent wrong =
       call-on-64-is-call-of (length row) control row order call long ∙ ap asRowAfter (call-refused-13-of-wrong-ranking (stateOf control row) order call numbers lent wrong)
 
--- For every accepted setup on a lent row, whatever stood in row and storage before, and every list of takes and frees on that row after it, plain and named: the row's
+-- For every accepted setup on a lent row, whatever stood in row and storage before, and every list of takes and frees on that row after it, plain and named, and of drops: the row's
 -- ranked superblocks are those freed into since they were last renewed, in the order of their last frees, the latest first.
 pub row-ranked-by-last-free-over-list : (u : Setup) (row : List Superblock) (order : List ℕ) (start : RowAfter) → start ≡ rowSetup u row order → start .outcome ≡ Ready
     → (steps : List RowStep) → RowLinked start steps → RankedByLastFreeOver (asAfter start) [] (map stepOf steps)

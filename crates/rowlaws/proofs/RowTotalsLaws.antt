@@ -48,7 +48,7 @@ module _ (control : Control) (row : List Superblock) (order : List ℕ) (call : 
   row-call-refused-13-of-wrong-total long numbers lent wrong =
       call-on-64-is-call-of (length row) control row order call long ∙ ap asRowAfter (call-refused-13-of-wrong-total (stateOf control row) order call numbers lent wrong)
 
--- For every accepted setup on a lent row, whatever stood in row and storage before, and every list of takes and frees on that row after it, plain and named:
+-- For every accepted setup on a lent row, whatever stood in row and storage before, and every list of takes and frees on that row after it, plain and named, and of drops:
 -- the totals are the recount of the row before the list and after each of its calls, accepted or refused.
 pub row-totals-kept-over-list : (u : Setup) (row : List Superblock) (order : List ℕ) (start : RowAfter) → start ≡ rowSetup u row order → start .outcome ≡ Ready
     → (steps : List RowStep) → RowLinked start steps → TotalsCountedOver (asAfter start) (map stepOf steps)

@@ -97,7 +97,7 @@ pub row-setup-cases-are-computed : map (λ (k : SetupCase). rowSetup (k .setup) 
 unfolding setupOn withinLimits cleared
 row-setup-cases-are-computed = refl
 
--- ---- takes and frees
+-- ---- calls
 pub record CallCase : Type 0 where
   pub control : Control
   pub row : List Superblock

@@ -1,4 +1,4 @@
--- The refusals that take and free share, as one number.
+-- The refusals that all calls on a state share, as one number.
 use Prim.Native.Nat.{ℕ, _*_}
 use mathlib.Core.List.{List}
 use lib.ListN.{length}

@@ -81,7 +81,7 @@ fn drop_into_global(random: &mut Xorshift, run: &mut Run, heap: u8, length: usiz
     fill(random, run, heap, class, 5, length);
     let processor = random.byte_between(1, run.state.control.setup.processors);
     let addresses = all_but_one_of_each(random, &run.state, heap, class);
-    if run.has_room() {
+    if run.calls < length && run.has_room() {
         run.drop(processor, addresses);
     }
     for _ in 0..random.below(3) {

@@ -300,3 +300,11 @@ fn printed_form_of_totals() {
         total heap 8 class 26 superblocks 1 live 65535\nend\n";
     assert_eq!(answer_bytes(&bytes), refused);
 }
+
+/// Slices of the list of kinds are taken by the number of a kind.
+#[test]
+fn kinds_are_listed_in_their_order() {
+    for (i, &(name, kind)) in KINDS.iter().enumerate() {
+        assert_eq!(kind as usize, i, "{name}");
+    }
+}
