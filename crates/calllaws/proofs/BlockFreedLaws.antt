@@ -34,7 +34,7 @@ use Rattle.calls.specs.Take.{addressOf}
 use Rattle.calls.specs.Free.{superblockIndex, offsetOf, superblockHolding, blockOf, isMisaligned, isLiveAt, addressRefusal, markCleared, orderPushed, blockNumberAt, blockFreed}
 use Rattle.calls.proofs.AddressRefusalLaws.{mapped-of-no-refusal, aligned-of-no-refusal, live-of-no-refusal}
 use Rattle.calllaws.proofs.CallEffects.{PassedAfterFrees, FreeEffect, RankedLatest}
-use Rattle.calllaws.proofs.AddressLaws.{mapped-below-superblocks, mapped-is-owned}
+use Rattle.calllaws.proofs.AddressLaws.{mapped-below-superblocks, mapped-is-owned, block-at-address-same}
 use Rattle.calllaws.proofs.NamesKeptLaws.{names-valid-without-block, names-valid-after-free}
 use Rattle.calllaws.proofs.TransferredLaws.{oneMoreFreed}
 use Rattle.calllaws.proofs.MarkClearedLaws.{LiveBlock, ownerAt, classAt, withMarkCleared, withBlockPushed, live-block-superblock-owned, mark-cleared-shape, mark-cleared-class, mark-cleared-owner, mark-cleared-rank, unused-of-mark-cleared-unused, mark-cleared-bit, mark-cleared-other-bits, mark-cleared-owned-of, mark-cleared-live-of-class, mark-cleared-live-of-other-classes, mark-cleared-owners-changed, mark-cleared-sound}
@@ -204,6 +204,10 @@ module _ (freed : ℕ → ℕ → ℕ) (s : State) (order : List ℕ) (a : ℕ) 
 
   pub block-freed-shape : Shape (blockFreed s a)
   block-freed-shape = subst Shape (sym block-freed-is) (mark-cleared-shape ready order k (blockOf s a) live-when-ready)
+
+  -- no class changes, so an address is of the block that it was of
+  pub block-freed-block : (x : ℕ) → blockOf (blockFreed s a) x ≡ blockOf s x
+  block-freed-block = block-at-address-same s (blockFreed s a) (shape .length-is) (block-freed-shape .length-is) (block-freed-effect .classes)
 
   abbrev oneMore : ℕ → ℕ → ℕ
   oneMore = oneMoreFreed (superblockHolding s a .owner) (superblockHolding s a .class) freed

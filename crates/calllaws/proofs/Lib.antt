@@ -28,6 +28,7 @@ pub mod DropAsFrees
 pub mod NameLifetime
 pub mod TotalsKeptLaws
 pub mod CallRankLaws
+pub mod DropBlockLaws
 pub mod OrderWriteLaws
 pub mod OrderReadLaws
 pub mod FreeStackLaws

@@ -21,12 +21,11 @@ use Rattle.calls.specs.Named.{isUnavailable}
 use Rattle.calls.specs.Drop.{allFreed, firstAddressRefusal, dropOf}
 use Rattle.calls.specs.Calls.{Call, Take, Free, NamedTake, NamedFree, Drop, callOf}
 use Rattle.calllaws.proofs.CallEffects.{PassedAfterFrees, FreeAccepted, NamedTakeAccepted, NamedFreeAccepted}
-use Rattle.calllaws.proofs.AddressLaws.{block-at-address-same}
 use Rattle.calllaws.proofs.TakeLaws.{take-refused-or-accepted, take-names}
 use Rattle.calllaws.proofs.FreeLaws.{free-refused-or-accepted}
 use Rattle.calllaws.proofs.NamedCallLaws.{facts-of-available, named-take-refused-or-accepted, named-take-keeps-other-names, named-free-refused-or-accepted, free-lets-name-go, free-keeps-other-names, named-free-lets-name-go, named-free-keeps-other-names}
 use Rattle.calllaws.proofs.TransferredLaws.{oneMoreFreed, passed-after-no-frees}
-use Rattle.calllaws.proofs.BlockFreedLaws.{block-freed-effect, block-freed-names, block-freed-shape, block-freed-passed}
+use Rattle.calllaws.proofs.BlockFreedLaws.{block-freed-names, block-freed-shape, block-freed-block, block-freed-passed}
 use Rattle.calllaws.proofs.AllFreedLaws.{first-refusal-of-cons}
 use Rattle.calllaws.proofs.DropLaws.{DropAccepted, drop-refused-or-accepted, drop-transfers, drop-state-is}
 use Rattle.calllaws.proofs.TotalsKeptLaws.{refused-call-keeps-state}
@@ -46,7 +45,7 @@ FreesBlockOf s order m (Drop i addresses) = DropAccepted s order i addresses × 
 
 -- ---- the names that the frees of a drop let go
 -- a block is listed in one state as in another with the same classes
-listed-same : (s t : State) → ((a : ℕ) → blockOf t a ≡ blockOf s a) → (addresses : List ℕ) (b : ℕ) → ListsBlock t addresses b → ListsBlock s addresses b
+pub listed-same : (s t : State) → ((a : ℕ) → blockOf t a ≡ blockOf s a) → (addresses : List ℕ) (b : ℕ) → ListsBlock t addresses b → ListsBlock s addresses b
 listed-same s t same [] b h = h
 listed-same s t same (a ∷ addresses) b (inl e) = inl (e ∙ ap (blockNumber (superblockIndex a)) (same a))
 listed-same s t same (a ∷ addresses) b (inr h) = inr (listed-same s t same addresses b h)
@@ -80,9 +79,6 @@ module _ (m : ℕ) where
     first-binds-none : blockNamed (s .names) m ≡ notHeld → blockNamed (blockFreed s a .names) m ≡ notHeld
     first-binds-none e = named-then _ (none-without-block (s .names) block m e)
 
-    block-then-same : (x : ℕ) → blockOf (blockFreed s a) x ≡ blockOf s x
-    block-then-same = block-at-address-same s (blockFreed s a) (shape .length-is) (block-freed-shape freed s order a shape passed accepted .length-is) (block-freed-effect freed s order a shape passed accepted .classes)
-
   -- of all of them: a name whose block is not listed keeps it ..
   frees-keep-other : (freed : ℕ → ℕ → ℕ) (s : State) (order addresses : List ℕ) → Shape s → PassedAfterFrees freed s order → firstAddressRefusal s addresses ≡ 0
       → (ListsBlock s addresses (blockNamed (s .names) m) → ⊥) → blockNamed (allFreed s addresses .names) m ≡ blockNamed (s .names) m
@@ -92,7 +88,7 @@ module _ (m : ℕ) where
       let first = first-refusal-of-cons s a addresses ok in
       let kept = first-keeps-other freed s order a shape passed (first .0) (λ e. other (inl e)) in
       frees-keep-other _ (blockFreed s a) (orderPushed s order a) addresses (block-freed-shape freed s order a shape passed (first .0)) (block-freed-passed freed s order a shape passed (first .0)) (first .1)
-      (λ h. other (inr (subst (ListsBlock s addresses) kept (listed-same s (blockFreed s a) (block-then-same freed s order a shape passed (first .0)) addresses _ h))))
+      (λ h. other (inr (subst (ListsBlock s addresses) kept (listed-same s (blockFreed s a) (block-freed-block freed s order a shape passed (first .0)) addresses _ h))))
       ∙ kept
 
   -- .. one that is let go stays so ..
@@ -133,7 +129,7 @@ module _ (m : ℕ) where
       go (no f) (inl e) rest = by-first e
       go (no f) (inr q) rest =
           rest (subst (ListsBlock (blockFreed s a) addresses) (sym (first-keeps-other freed s order a shape passed (first .0) f))
-          (listed-same (blockFreed s a) s (λ x. sym (block-then-same freed s order a shape passed (first .0) x)) addresses _ q))
+          (listed-same (blockFreed s a) s (λ x. sym (block-freed-block freed s order a shape passed (first .0) x)) addresses _ q))
 
   -- the moves of the drop change no name
   module _ (s : State) (order : List ℕ) (i : ℕ) (addresses : List ℕ) (shape : Shape s) (acc : DropAccepted s order i addresses) where
