@@ -25,6 +25,7 @@ pub mod RefusalConditions
 pub mod NamedRefusalConditions
 pub mod DropRefusalConditions
 pub mod DropAsFrees
+pub mod TouchedLaws
 pub mod NameLifetime
 pub mod TotalsKeptLaws
 pub mod CallRankLaws

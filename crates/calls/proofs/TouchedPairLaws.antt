@@ -1,4 +1,4 @@
--- The touched heaps and classes of a drop: which they are, and that the code's way through them is theirs. Assumes nothing.
+-- The moves of the touched heaps and classes one after another are those of the code's way through them. Assumes nothing.
 use mathlib.Core.Path.{_≡_, refl, sym, ap, _∙_}
 use mathlib.Core.Bool.{Bool, true, false}
 use mathlib.Core.List.{List, [], _∷_, _++_}
