@@ -26,7 +26,7 @@ pub fn drop(s: State, order: &mut [u16], processor: u8, addresses: &[u32]) -> An
     if addresses.len() == 0 {
         return states::refuse(s, 16);
     }
-    let bad = first_refusal(s, addresses);
+    let bad = first_address_refusal(s, addresses);
     if bad != 0 {
         return states::refuse(s, bad);
     }
@@ -35,7 +35,7 @@ pub fn drop(s: State, order: &mut [u16], processor: u8, addresses: &[u32]) -> An
 
 // The refusal of the first bad address, or 0. A free clears the mark of its block, and no later address tells the rest of it: a mark cleared
 // in a copy of the table is enough to refuse a block that comes twice. What lies past the table lies past N superblocks too.
-fn first_refusal(s: State, addresses: &[u32]) -> u8
+fn first_address_refusal(s: State, addresses: &[u32]) -> u8
     requires { ⌜ s .setup .superblocks ≤ 64 ⌝ }
     ensures { λ r. ⌜ r ≡ firstAddressRefusal s (now (addresses .entry)) ⌝ }
 {

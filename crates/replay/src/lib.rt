@@ -92,7 +92,7 @@ fn step(bytes: &[u8], order: &mut [u16], out: &mut [u8], x: Replay) -> Replay
             processor,
             name,
             size,
-        } => call_step(bytes, order, out, x, named_take(processor, name, size), &[], 0),
+        } => call_step(bytes, order, out, x, named(processor, name, size), &[], 0),
         Command::NamedFree { processor, name } => {
             let call = CallHeader::NamedFree { processor, name };
             call_step(bytes, order, out, x, call, &[], 0)
@@ -107,7 +107,7 @@ fn step(bytes: &[u8], order: &mut [u16], out: &mut [u8], x: Replay) -> Replay
 }
 
 // The header of a take by name.
-fn named_take(processor: u8, name: u16, size: u16) -> CallHeader
+fn named(processor: u8, name: u16, size: u16) -> CallHeader
     ensures { λ c. ⌜ c ≡ header.NamedTake processor name size ⌝ }
 {
     CallHeader::NamedTake {

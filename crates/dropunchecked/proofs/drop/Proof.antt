@@ -20,8 +20,8 @@ refuse-requires-2 c κs = search needs
 returns-2 : tie.Need-returns-2
 returns-2 c = drop-unchecked-clauses _ _ _ _ (search drop-outcomes)
 
-first-refusal-requires : tie.Need-first-refusal-requires
-first-refusal-requires c κs = search addresses-can-be-tested
+first-address-refusal-requires : tie.Need-first-address-refusal-requires
+first-address-refusal-requires c κs = search addresses-can-be-tested
 
 refuse-requires-3 : tie.Need-refuse-requires-3
 refuse-requires-3 c κs = search needs
@@ -30,7 +30,7 @@ returns-3 : tie.Need-returns-3
 returns-3 c = drop-unchecked-clauses _ _ _ _ (search drop-outcomes)
 
 drop-all-requires : tie.Need-drop-all-requires
-drop-all-requires c κs = blocks-can-be-dropped _ _ (c .before .before .before .before .before .before .before .before .pre) _ _ (search shape-of-state) (c .before .before .first-refusal .ensures) (c .before .if3 .left)
+drop-all-requires c κs = blocks-can-be-dropped _ _ (c .before .before .before .before .before .before .before .before .pre) _ _ (search shape-of-state) (c .before .before .first-address-refusal .ensures) (c .before .if3 .left)
 
 same-length : tie.Need-same-length
 same-length c = search needs
@@ -47,7 +47,7 @@ drop-spec =
     returns
     refuse-requires-2
     returns-2
-    first-refusal-requires
+    first-address-refusal-requires
     refuse-requires-3
     returns-3
     drop-all-requires

@@ -1,12 +1,12 @@
--- `dropunchecked::first_refusal` meets its contract. The loop's invariant: the addresses passed meet no refusal. The measure is what is left of them. Assumes nothing.
+-- `dropunchecked::first_address_refusal` meets its contract. The loop's invariant: the addresses passed meet no refusal. The measure is what is left of them. Assumes nothing.
 use borrow.Author.Needs.{needs}
 use Prim.Native.Nat.{_-_, _≤_}
 use native.Mathlib.Omega.{arith}
 use lib.ListN.{length}
 use Rattle.laws.proofs.ReplacedElement.{length-of-length-map}
 use Rattle.dropunchecked.proofs.FirstRefusalLaws.{NoneRefused, none-refused-yet, past-table-refused, first-bad-refused, none-refused-at-next, none-refused-at-end}
-use Rattle.dropunchecked.proofs.first_refusal.Statement.{statement}
-use Rattle.dropunchecked.proofs.first_refusal.Tie as tie
+use Rattle.dropunchecked.proofs.first_address_refusal.Statement.{statement}
+use Rattle.dropunchecked.proofs.first_address_refusal.Tie as tie
 
 abbrev Inv-loop : tie.InvT-loop
 Inv-loop s addresses t₀ i₀ t i = (i ≤ length addresses) × NoneRefused s addresses i t
@@ -71,8 +71,8 @@ loop-again c =
 returns-3 : tie.Need-returns-3 Inv-loop μ-loop
 returns-3 c = search none-refused-at-end
 
-pub first-refusal-spec : {M : Type 1} → statement M
-first-refusal-spec =
+pub first-address-refusal-spec : {M : Type 1} → statement M
+first-address-refusal-spec =
     tie.close
     (tie.spec
     Inv-loop
