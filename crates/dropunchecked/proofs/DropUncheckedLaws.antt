@@ -23,7 +23,7 @@ use Rattle.calls.specs.Drop.{allFreed, allPushed, firstAddressRefusal, isTouche
 use Rattle.calls.proofs.AnswerLaws.{number-and-values-by-rules, refused-of-answer}
 use Rattle.dropunchecked.specs.DropSteps.{FreesSafe, touchedIn, TellsTouched}
 use Rattle.dropunchecked.proofs.FreesLaws.{all-freed-keeps-setup, all-freed-keeps-totals}
-use Rattle.dropunchecked.proofs.SettleLaws.{heaps-restored-cong}
+use Rattle.dropunchecked.proofs.RestoreLaws.{heaps-restored-cong}
 use Rattle.dropunchecked.proofs.FreesSafeLaws.{frees-safe-of-passes}
 
 abbrev answerAndOrder : Answer → List ℕ → After

@@ -1,6 +1,6 @@
 pub mod FreesLaws
 pub mod FirstRefusalLaws
 pub mod TouchedLaws
-pub mod SettleLaws
+pub mod RestoreLaws
 pub mod FreesSafeLaws
 pub mod DropUncheckedLaws

@@ -69,7 +69,7 @@ fn drop_all(s: State, order: &mut [u16], addresses: &[u32]) -> Answer
 {
     let touched = touched_pairs(s, addresses);
     let t = free_all(s, order, addresses);
-    let m = settle_heaps(t, touched);
+    let m = restore_heaps(t, touched);
     let next = m.state;
     Answer {
         outcome: Outcome::Moves(m.moves),
@@ -110,7 +110,7 @@ fn free_all(s: State, order: &mut [u16], addresses: &[u32]) -> State
 }
 
 // The moves of the processor heaps, heaps rising.
-fn settle_heaps(s: State, touched: [bool; 243]) -> Moved
+fn restore_heaps(s: State, touched: [bool; 243]) -> Moved
     requires { ⌜ TotalsKept s × (s .setup .processors ≤ 8) ⌝ }
     ensures { λ r. ⌜ r ≡ heapsRestored (touchedIn touched) (s .setup .processors) (record { moves = 0; state = s }) ⌝ }
 {
@@ -118,14 +118,14 @@ fn settle_heaps(s: State, touched: [bool; 243]) -> Moved
     let mut m = Moved { moves: 0, state: s };
     let mut heap: u8 = 1;
     while heap <= processors {
-        m = settle_classes(m, heap, touched);
+        m = restore_classes(m, heap, touched);
         heap += 1;
     }
     m
 }
 
 // The moves of a heap's touched classes, classes rising, after those before.
-fn settle_classes(before: Moved, heap: u8, touched: [bool; 243]) -> Moved
+fn restore_classes(before: Moved, heap: u8, touched: [bool; 243]) -> Moved
     requires { ⌜ (heap < 9) × CanMove before ⌝ }
     ensures { λ r. ⌜ r ≡ classesRestored (touchedIn touched) heap 27 before ⌝ }
 {
@@ -133,7 +133,7 @@ fn settle_classes(before: Moved, heap: u8, touched: [bool; 243]) -> Moved
     let mut class: u8 = 0;
     while class < 27 {
         if touched[heap as usize * 27 + class as usize] {
-            m = settle_pair(m, heap, class);
+            m = restore_pair(m, heap, class);
         }
         class += 1;
     }
@@ -141,7 +141,7 @@ fn settle_classes(before: Moved, heap: u8, touched: [bool; 243]) -> Moved
 }
 
 // The moves of a heap and class, added to those before.
-fn settle_pair(before: Moved, heap: u8, class: u8) -> Moved
+fn restore_pair(before: Moved, heap: u8, class: u8) -> Moved
     requires { ⌜ (heap < 9) × (class < 27) × CanMove before ⌝ }
     ensures { λ r. ⌜ r ≡ thenRestored heap class before ⌝ }
 {

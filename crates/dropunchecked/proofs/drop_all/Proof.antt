@@ -10,8 +10,8 @@ touched-pairs-requires c κs = search needs
 free-all-requires : tie.Need-free-all-requires
 free-all-requires c κs = search needs
 
-settle-heaps-requires : tie.Need-settle-heaps-requires
-settle-heaps-requires c κs = let pre = c .before .before .before .before .before .before .before .pre in moves-can-be-made _ _ _ (c .before .before .free-all .ensures .0) (pre .1) (pre .2)
+restore-heaps-requires : tie.Need-restore-heaps-requires
+restore-heaps-requires c κs = let pre = c .before .before .before .before .before .before .before .pre in moves-can-be-made _ _ _ (c .before .before .free-all .ensures .0) (pre .1) (pre .2)
 
 same-length : tie.Need-same-length
 same-length c = search needs
@@ -22,4 +22,4 @@ returns c = search dropped-all-by-steps
 pub drop-all-spec : {M : Type 1} → statement M
 drop-all-spec =
     tie.close
-    (tie.spec touched-pairs-requires free-all-requires settle-heaps-requires same-length returns)
+    (tie.spec touched-pairs-requires free-all-requires restore-heaps-requires same-length returns)

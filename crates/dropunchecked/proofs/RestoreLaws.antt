@@ -39,45 +39,45 @@ can-move-after-pair h c before can = record {
 }
 
 -- ---- a heap's classes: those below the class have made their moves
-pub record ClassesSettled (touched : ℕ → ℕ → Bool) (h : ℕ) (before : Moved) (c : ℕ) (m : Moved) : Type 0 where
-  pub settled-are : m ≡ classesRestored touched h c before
+pub record ClassesRestored (touched : ℕ → ℕ → Bool) (h : ℕ) (before : Moved) (c : ℕ) (m : Moved) : Type 0 where
+  pub restored-are : m ≡ classesRestored touched h c before
   pub can-move : CanMove m
 
 module _ (touched : ℕ → ℕ → Bool) (h : ℕ) (before : Moved) where
-  pub no-class-settled : CanMove before → ClassesSettled touched h before 0 before
+  pub no-class-restored : CanMove before → ClassesRestored touched h before 0 before
   unfolding classesRestored
-  no-class-settled can = record { settled-are = refl; can-move = can }
+  no-class-restored can = record { restored-are = refl; can-move = can }
 
-  module _ (c : ℕ) (m : Moved) (so : ClassesSettled touched h before c m) where
-    pub touched-class-settled : (next r : Moved) → touched h c ≡ true → r ≡ thenRestored h c m → next ≡ r → ClassesSettled touched h before (c + 1) next
+  module _ (c : ℕ) (m : Moved) (so : ClassesRestored touched h before c m) where
+    pub touched-class-restored : (next r : Moved) → touched h c ≡ true → r ≡ thenRestored h c m → next ≡ r → ClassesRestored touched h before (c + 1) next
     unfolding classesRestored
-    touched-class-settled next r t er e = rw (add-one, e, er) (record { settled-are = rw t (ap (thenRestored h c) (so .settled-are)); can-move = can-move-after-pair h c m (so .can-move) })
+    touched-class-restored next r t er e = rw (add-one, e, er) (record { restored-are = rw t (ap (thenRestored h c) (so .restored-are)); can-move = can-move-after-pair h c m (so .can-move) })
 
-    pub untouched-class-settled : (next : Moved) → touched h c ≡ false → next ≡ m → ClassesSettled touched h before (c + 1) next
+    pub untouched-class-restored : (next : Moved) → touched h c ≡ false → next ≡ m → ClassesRestored touched h before (c + 1) next
     unfolding classesRestored
-    untouched-class-settled next f e = rw (add-one, e) (record { settled-are = rw f (so .settled-are); can-move = so .can-move })
+    untouched-class-restored next f e = rw (add-one, e) (record { restored-are = rw f (so .restored-are); can-move = so .can-move })
 
-  pub all-classes-settled : (m : Moved) (c : ℕ) → ClassesSettled touched h before c m → c ≤ 27 → 27 ≤ c → m ≡ classesRestored touched h 27 before
-  all-classes-settled m c so high low = so .settled-are ∙ ap (λ (n : ℕ). classesRestored touched h n before) (omega arith)
+  pub all-classes-restored : (m : Moved) (c : ℕ) → ClassesRestored touched h before c m → c ≤ 27 → 27 ≤ c → m ≡ classesRestored touched h 27 before
+  all-classes-restored m c so high low = so .restored-are ∙ ap (λ (n : ℕ). classesRestored touched h n before) (omega arith)
 
 -- ---- the heaps: those from 1 to below the heap have made theirs
-pub record HeapsSettled (touched : ℕ → ℕ → Bool) (before : Moved) (h : ℕ) (m : Moved) : Type 0 where
+pub record HeapsRestored (touched : ℕ → ℕ → Bool) (before : Moved) (h : ℕ) (m : Moved) : Type 0 where
   pub heap-low : 1 ≤ h
-  pub settled-are : m ≡ heapsRestored touched (h - 1) before
+  pub restored-are : m ≡ heapsRestored touched (h - 1) before
   pub can-move : CanMove m
 
 module _ (touched : ℕ → ℕ → Bool) where
-  pub no-heap-settled : (s : State) → length (s .table) ≡ 64 → TotalsKept s → HeapsSettled touched (record { moves = 0; state = s }) 1 (record { moves = 0; state = s })
+  pub no-heap-restored : (s : State) → length (s .table) ≡ 64 → TotalsKept s → HeapsRestored touched (record { moves = 0; state = s }) 1 (record { moves = 0; state = s })
   unfolding heapsRestored
-  no-heap-settled s long kept = record { heap-low = le-refl 1; settled-are = refl; can-move = record { length-is = long; totals = kept; moves-fit = omega (arith, outside-global-le-64 s) } }
+  no-heap-restored s long kept = record { heap-low = le-refl 1; restored-are = refl; can-move = record { length-is = long; totals = kept; moves-fit = omega (arith, outside-global-le-64 s) } }
 
-  module _ (before m : Moved) (h : ℕ) (so : HeapsSettled touched before h m) where
-    pub heap-settled : (next : Moved) → next ≡ classesRestored touched h 27 m → HeapsSettled touched before (h + 1) next
+  module _ (before m : Moved) (h : ℕ) (so : HeapsRestored touched before h m) where
+    pub heap-restored : (next : Moved) → next ≡ classesRestored touched h 27 m → HeapsRestored touched before (h + 1) next
     unfolding heapsRestored
-    heap-settled next e = record {
+    heap-restored next e = record {
       heap-low = omega arith;
-      settled-are =
-          e ∙ ap (classesRestored touched h 27) (so .settled-are) ∙ ap (λ (n : ℕ). classesRestored touched n 27 (heapsRestored touched (h - 1) before)) (up (so .heap-low))
+      restored-are =
+          e ∙ ap (classesRestored touched h 27) (so .restored-are) ∙ ap (λ (n : ℕ). classesRestored touched n 27 (heapsRestored touched (h - 1) before)) (up (so .heap-low))
           ∙ ap (λ (n : ℕ). heapsRestored touched n before) (same (so .heap-low));
       can-move = rw e (classes-restored-keep CanMove can-move-after-pair touched h 27 m (so .can-move));
     }
@@ -88,8 +88,8 @@ module _ (touched : ℕ → ℕ → Bool) where
         same : 1 ≤ h → suc (h - 1) ≡ h + 1 - 1
         same l = omega arith
 
-    pub all-heaps-settled : (n : ℕ) → h ≤ n + 1 → n < h → m ≡ heapsRestored touched n before
-    all-heaps-settled n high low = so .settled-are ∙ ap (λ (k : ℕ). heapsRestored touched k before) (omega arith)
+    pub all-heaps-restored : (n : ℕ) → h ≤ n + 1 → n < h → m ≡ heapsRestored touched n before
+    all-heaps-restored n high low = so .restored-are ∙ ap (λ (k : ℕ). heapsRestored touched k before) (omega arith)
 
 -- ---- what is touched, told in another way
 module _ (touched told : ℕ → ℕ → Bool) where
