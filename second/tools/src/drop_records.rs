@@ -1,16 +1,16 @@
 //! Records with drops.
 
 use hoard::{
-    read_command, write_command, Command, Setup, State, DROP_BYTE, LONGEST_RECORD, MOST_DROPPED,
-    SUPERBLOCK_BYTES,
+    read_command, Command, Setup, State, DROP_BYTE, LONGEST_RECORD, MOST_DROPPED, SUPERBLOCK_BYTES,
 };
 
 use crate::dropping::{
     all_but_one_of_each, any_drop, live_to_drop, of_global_heap, spoil_addresses,
 };
 use crate::make_record::{
-    any_processor, command_starts, edge_setup, edge_size, fill, mixed_call, odd_address, odd_call,
-    random_command, setup_in_limits, setup_with_early_moves, size_of_class, size_or_zero,
+    any_processor, command_starts, commands_made_by, edge_setup, edge_size, fill, mixed_call,
+    odd_address, odd_call, random_command, setup_in_limits, setup_with_early_moves, size_of_class,
+    size_or_zero,
 };
 use crate::run::Run;
 use crate::xorshift::Xorshift;
@@ -238,21 +238,15 @@ pub fn garbage_drops(random: &mut Xorshift, length: usize) -> Vec<u8> {
 }
 
 fn random_commands(random: &mut Xorshift, length: usize) -> Vec<u8> {
-    let setup = setup_in_limits(random, 8, 64);
-    let mut record = Vec::new();
-    write_command(&mut record, &Command::Setup(setup));
-    for _ in 0..length {
-        let processor = random.byte_between(0, setup.processors + 1);
-        let command = match random.below(3) {
+    commands_made_by(
+        random,
+        length,
+        DROP_BYTE + 1,
+        |random, processor| match random.below(3) {
             0 => random_drop(random, processor),
             _ => random_command(random, processor),
-        };
-        write_command(&mut record, &command);
-        if random.chance(1, 100) {
-            record.push(random.byte_between(0, DROP_BYTE + 1));
-        }
-    }
-    record
+        },
+    )
 }
 
 /// A drop of few addresses at the starts of superblocks, some of which are live.

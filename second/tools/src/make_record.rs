@@ -451,17 +451,27 @@ fn garbage(random: &mut Xorshift, length: usize) -> Vec<u8> {
     }
 }
 
-/// A setup and commands with random numbers, a stray command byte now and then.
 fn random_commands(random: &mut Xorshift, length: usize) -> Vec<u8> {
+    commands_made_by(random, length, STRAY_BYTE, random_command)
+}
+
+/// A setup and commands for a processor each, and now and then a stray command byte up to
+/// the last one given.
+pub(crate) fn commands_made_by(
+    random: &mut Xorshift,
+    length: usize,
+    last_byte: u8,
+    make: impl Fn(&mut Xorshift, u8) -> Command,
+) -> Vec<u8> {
     let setup = setup_in_limits(random, 8, 64);
     let mut record = Vec::new();
     write_command(&mut record, &Command::Setup(setup));
     for _ in 0..length {
         let processor = random.byte_between(0, setup.processors + 1);
-        let command = random_command(random, processor);
+        let command = make(random, processor);
         write_command(&mut record, &command);
         if random.chance(1, 100) {
-            record.push(random.byte_between(0, STRAY_BYTE));
+            record.push(random.byte_between(0, last_byte));
         }
     }
     record
