@@ -1,1 +1,2 @@
-pub mod ClassFormula
+pub mod RoundingLaws
+pub mod SizeTableLaws
