@@ -1,6 +1,5 @@
 pub mod TestLaws
 pub mod Inequalities
-pub mod Range
 pub mod SumLaws
 pub mod Counting
 pub mod ReplacedElement

@@ -1,17 +1,18 @@
 -- A size rounded up to a multiple of 8 has the class of the size, since every block size is a multiple of 8. Assumes nothing.
 use mathlib.Core.Path.{_≡_, refl, sym, subst, _∙_}
 use mathlib.Core.Bool.{Bool}
-use Prim.Native.Nat.{ℕ, _+_, _*_, _/_, _%_, _≤_, _<_, zero-le}
+use Prim.Native.Nat.{ℕ, _%_, _≤_, _<_}
 use native.Mathlib.Nat.{le-trans, lt-of-not-le}
 use native.Mathlib.Decide.{decLt, decLe}
 use native.Mathlib.Omega.{arith}
 use lib.Dec.{eqb, eqb→eq}
 use Rattle.laws.proofs.Inequalities.{le-of-not-below}
-use Rattle.laws.proofs.Range.{every, every-at}
+use Rattle.laws.proofs.SumLaws.{all-at}
+use Rattle.laws.specs.Sums.{allBelow}
 use Rattle.classes.specs.Classes.{sizes, sizeOf, classOf}
 use Rattle.classes.proofs.ClassTableLaws.{size-of-no-class}
 use Rattle.classes.proofs.ClassLaws.{smaller-class-sizes-lt, size-le-size-of-class-of, class-of-unique, class-of-too-large}
-use Rattle.sizeclass.specs.SizeTable.{entryOf, roundedUp}
+use Rattle.sizeclass.specs.SizeTable.{indexOf, roundedUp}
 
 -- "rounded up to a multiple of 8": r is the least multiple of 8 that is s or more
 pub record LeastMultipleOf8 (s r : ℕ) : Type 0 where
@@ -20,25 +21,25 @@ pub record LeastMultipleOf8 (s r : ℕ) : Type 0 where
   pub least : (m : ℕ) → m % 8 ≡ 0 → s ≤ m → r ≤ m
 
 pub rounded-up-is-least-multiple-of-8 : (s : ℕ) → LeastMultipleOf8 s (roundedUp s)
-unfolding roundedUp entryOf
+unfolding roundedUp indexOf
 rounded-up-is-least-multiple-of-8 s = record { multiple = omega arith; not-below = omega arith; least = λ m e h. omega arith }
 
 multiple-test : ℕ → Bool
 multiple-test c = eqb (sizeOf c % 8) 0
 
 pub block-size-is-multiple-of-8 : (c : ℕ) → sizeOf c % 8 ≡ 0
-unfolding multiple-test sizeOf sizes
+unfolding multiple-test allBelow sizeOf sizes
 block-size-is-multiple-of-8 c = go (decLt c 27)
   where
     go : Dec (c < 27) → sizeOf c % 8 ≡ 0
-    go (yes h) = eqb→eq (sizeOf c % 8) 0 (every-at multiple-test 0 27 tt c zero-le h)
+    go (yes h) = eqb→eq (sizeOf c % 8) 0 (all-at multiple-test 27 tt c h)
     go (no f) = subst (λ (b : ℕ). b % 8 ≡ 0) (sym (size-of-no-class c (le-of-not-below f))) refl
 
 -- so a block size below a size rounded up is below the size itself
 block-size-below-rounded-up : (s c : ℕ) → sizeOf c < roundedUp s → sizeOf c < s
 block-size-below-rounded-up s c h = lt-of-not-le (λ (g : s ≤ sizeOf c). let l = rounded-up-is-least-multiple-of-8 s .least (sizeOf c) (block-size-is-multiple-of-8 c) g in omega arith)
 
--- "each size rounded up to a multiple of 8" has the size's class; sizes above 2048, which no class holds, too
+-- a size and its size rounded up have the same class; above 2048 no class holds either
 pub class-of-rounded-up : (s : ℕ) → classOf (roundedUp s) ≡ classOf s
 class-of-rounded-up s = go (decLe s 2048)
   where

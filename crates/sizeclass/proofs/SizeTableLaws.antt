@@ -1,14 +1,15 @@
 -- "Its agreement with the class list is shown for the whole table together" (document 02, item 6). Assumes nothing.
 use mathlib.Core.Path.{_≡_, refl, sym, subst, _∙_}
 use mathlib.Core.Bool.{Bool}
-use Prim.Native.Nat.{ℕ, _+_, _*_, _/_, _≤_, _<_, zero-le}
+use Prim.Native.Nat.{ℕ, _*_, _≤_, _<_}
 use native.Mathlib.Omega.{arith}
 use lib.ListN.{length}
 use lib.Dec.{T, eqb, eqb→eq}
-use Rattle.laws.proofs.Range.{every, every-at}
+use Rattle.laws.specs.Sums.{allBelow}
+use Rattle.laws.proofs.SumLaws.{all-at}
 use Rattle.classes.specs.Classes.{sizes, sizeOf, firstAtLeast, classOf}
 use Rattle.classes.proofs.ClassLaws.{smaller-class-sizes-lt, size-le-size-of-class-of}
-use Rattle.sizeclass.specs.SizeTable.{classBySize, entry, entryOf, roundedUp}
+use Rattle.sizeclass.specs.SizeTable.{classBySize, entry, indexOf, roundedUp}
 use Rattle.sizeclass.proofs.RoundingLaws.{class-of-rounded-up}
 
 -- "A table of 257 entries"
@@ -20,13 +21,13 @@ size-table-has-257-entries = refl
 entry-agrees : ℕ → Bool
 entry-agrees e = eqb (entry e) (classOf (8 * e))
 
-all-entries-agree : T (every entry-agrees 0 257)
-unfolding entry-agrees entry classBySize classOf firstAtLeast sizes
+all-entries-agree : T (allBelow entry-agrees 257)
+unfolding allBelow entry-agrees entry classBySize classOf firstAtLeast sizes
 all-entries-agree = tt
 
-pub entry-is-class-of-size : (e : ℕ) → e < 257 → entry e ≡ classOf (8 * e)
+pub entry-is-class-of-its-multiple-of-8 : (e : ℕ) → e < 257 → entry e ≡ classOf (8 * e)
 unfolding entry-agrees
-entry-is-class-of-size e h = eqb→eq (entry e) (classOf (8 * e)) (every-at entry-agrees 0 257 all-entries-agree e zero-le h)
+entry-is-class-of-its-multiple-of-8 e h = eqb→eq (entry e) (classOf (8 * e)) (all-at entry-agrees 257 all-entries-agree e h)
 
 -- "the smallest class that holds it" (document 01), of a size and a class
 pub record SmallestHolding (s c : ℕ) : Type 0 where
@@ -36,10 +37,10 @@ pub record SmallestHolding (s c : ℕ) : Type 0 where
 -- entry e is the smallest class that holds 8 × e
 pub entry-is-smallest-holding : (e : ℕ) → e < 257 → SmallestHolding (8 * e) (entry e)
 entry-is-smallest-holding e h =
-    subst (SmallestHolding (8 * e)) (sym (entry-is-class-of-size e h))
+    subst (SmallestHolding (8 * e)) (sym (entry-is-class-of-its-multiple-of-8 e h))
     (record { holds = size-le-size-of-class-of (8 * e) (omega arith); smallest = smaller-class-sizes-lt (8 * e) })
 
 -- a size has the class that stands in the table for its size rounded up to a multiple of 8
-pub entry-of-size-is-its-class : (s : ℕ) → s ≤ 2048 → entry (entryOf s) ≡ classOf s
-unfolding roundedUp entryOf
-entry-of-size-is-its-class s h = entry-is-class-of-size (entryOf s) (omega arith) ∙ class-of-rounded-up s
+pub entry-of-size-is-its-class : (s : ℕ) → s ≤ 2048 → entry (indexOf s) ≡ classOf s
+unfolding roundedUp indexOf
+entry-of-size-is-its-class s h = entry-is-class-of-its-multiple-of-8 (indexOf s) (omega arith) ∙ class-of-rounded-up s

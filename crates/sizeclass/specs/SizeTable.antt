@@ -39,10 +39,10 @@ classBySize =
 unfoldable pub entry : ℕ → ℕ
 entry e = getD classBySize e 0
 
--- the entry of a size: how many eights it has, rounded up
-unfoldable pub entryOf : ℕ → ℕ
-entryOf s = (s + 7) / 8
+-- which entry is a size's: the size divided by 8, rounded up
+unfoldable pub indexOf : ℕ → ℕ
+indexOf s = (s + 7) / 8
 
 -- "rounded up to a multiple of 8"
 unfoldable pub roundedUp : ℕ → ℕ
-roundedUp s = 8 * entryOf s
+roundedUp s = 8 * indexOf s

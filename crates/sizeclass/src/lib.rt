@@ -1,4 +1,4 @@
-// The class of a size, from a table, and whether any class holds it. The definitions are those of crate classes.
+// The class of a size, from the table of specs/SizeTable.antt, and whether any class holds it. The contracts name the definitions of crate classes.
 ghost use mathlib.Core.Path.{_≡_};
 ghost use Rattle.classes.specs.Classes.{classOf, isTooLarge};
 
@@ -9,8 +9,8 @@ pub fn class_of(size: u16) -> u8
     if size > 2048 {
         return 27;
     }
-    let entry = ((size + 7) / 8) as usize;
-    CLASS_BY_SIZE[entry]
+    let index = ((size + 7) / 8) as usize;
+    CLASS_BY_SIZE[index]
 }
 
 // No class holds a size above 2048.
@@ -20,7 +20,7 @@ pub fn is_too_large(size: u16) -> bool
     2048 < size
 }
 
-// The class of each multiple of 8, with that size beside it: a size has the class of its size rounded up.
+// The class of each multiple of 8 up to 2048, with that size beside it: a size has the class of its size rounded up.
 const CLASS_BY_SIZE: [u8; 257] = [
     0, // 0
     0, // 8

@@ -2,7 +2,7 @@
 use mathlib.Core.Path.{sym}
 use native.Mathlib.Omega.{arith}
 use Rattle.classes.proofs.ClassLaws.{class-of-too-large}
-use Rattle.sizeclass.specs.SizeTable.{classBySize, entry, entryOf}
+use Rattle.sizeclass.specs.SizeTable.{classBySize, entry, indexOf}
 use Rattle.sizeclass.proofs.SizeTableLaws.{entry-of-size-is-its-class}
 use borrow.Author.Needs.{needs}
 use Rattle.sizeclass.proofs.class_of.Statement.{statement}
@@ -11,18 +11,18 @@ use Rattle.sizeclass.proofs.class_of.Tie as tie
 returns : tie.Need-returns
 returns c = sym (class-of-too-large (c .before .args .size) (omega arith))
 
-add-entry : tie.Need-add-entry
-add-entry c = search needs
+add-index : tie.Need-add-index
+add-index c = search needs
 
-cast-entry : tie.Need-cast-entry
-cast-entry c = search needs
+cast-index : tie.Need-cast-index
+cast-index c = search needs
 
 array-read-result : tie.Need-array-read-result
 array-read-result c = search needs
 
 returns-2 : tie.Need-returns-2
-unfolding classBySize entry entryOf
+unfolding classBySize entry indexOf
 returns-2 c = entry-of-size-is-its-class (c .before .args .size) (omega arith)
 
 pub class-of-spec : {M : Type 1} → statement M
-class-of-spec = tie.close (tie.spec returns add-entry cast-entry array-read-result returns-2)
+class-of-spec = tie.close (tie.spec returns add-index cast-index array-read-result returns-2)
