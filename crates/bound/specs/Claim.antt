@@ -6,7 +6,7 @@ use lib.ListN.{length}
 use Rattle.classes.specs.Classes.{blocksOf}
 use Rattle.heap.specs.declared.Setup.{Setup}
 use Rattle.heap.specs.declared.State.{State}
-use Rattle.heap.specs.Counts.{superblocksOfClass, ownersChanged}
+use Rattle.heap.specs.Counts.{superblocksOfClass, ownersChanged, passedBetweenHeaps}
 use Rattle.calls.specs.declared.Outcome.{Outcome}
 use Rattle.calls.specs.declared.Outcome.the-variants.{Moves, Refused}
 use Rattle.calls.specs.Answers.{After}
@@ -31,21 +31,26 @@ Bounded u s peak =
     (c : ℕ) → c < 27
     → (u .q - u .p) * blocksOf c * superblocksOfClass c s ≤ u .q * peak c + (u .q - u .p) * u .processors * u .spare * blocksOf c
 
--- "no free changes the owner of more than q superblocks, an accepted one changes exactly as many owners as it reports moves, and a
--- refused call changes none", of a call with so many owners changed; of a free, the most that it may change stands first. "a drop moves at most q
--- superblocks for each address" (document 02, item 5)
-abbrev pub TakeOwnerChanges : ℕ → Outcome → Type 0
-TakeOwnerChanges changed outcome = (r : ℕ) → outcome ≡ Refused r → changed ≡ 0
+-- "a refused call changes none", of a call with so many owners changed
+abbrev pub RefusedOwnerChanges : ℕ → Outcome → Type 0
+RefusedOwnerChanges changed outcome = (r : ℕ) → outcome ≡ Refused r → changed ≡ 0
 
-abbrev pub FreeOwnerChanges : ℕ → ℕ → Outcome → Type 0
-FreeOwnerChanges most changed outcome = (changed ≤ most) × ((m : ℕ) → outcome ≡ Moves m → changed ≡ m) × ((r : ℕ) → outcome ≡ Refused r → changed ≡ 0)
+-- "no free changes the owner of more than q superblocks, an accepted one changes exactly as many owners as it reports moves", where "the q and reported
+-- moves of a free or drop [count] only those that pass between heaps" (document 02, item 7): so many passed, and the most that may stands first
+abbrev pub FreeOwnerChanges : ℕ → ℕ → ℕ → Outcome → Type 0
+FreeOwnerChanges most changed passed outcome = (passed ≤ most) × ((m : ℕ) → outcome ≡ Moves m → passed ≡ m) × RefusedOwnerChanges changed outcome
 
-unfoldable pub OwnerChanges : ℕ → ℕ → Call → Outcome → Type 0
-OwnerChanges q changed (Take processor size) outcome = TakeOwnerChanges changed outcome
-OwnerChanges q changed (Free processor address) outcome = FreeOwnerChanges q changed outcome
-OwnerChanges q changed (NamedTake processor name size) outcome = TakeOwnerChanges changed outcome
-OwnerChanges q changed (NamedFree processor name) outcome = FreeOwnerChanges q changed outcome
-OwnerChanges q changed (Drop processor addresses) outcome = FreeOwnerChanges (q * length addresses) changed outcome
+-- both of a call; "a drop moves at most q superblocks for each address" (item 5)
+unfoldable pub OwnerChanges : ℕ → ℕ → ℕ → Call → Outcome → Type 0
+OwnerChanges q changed passed (Take processor size) outcome = RefusedOwnerChanges changed outcome
+OwnerChanges q changed passed (Free processor address) outcome = FreeOwnerChanges q changed passed outcome
+OwnerChanges q changed passed (NamedTake processor name size) outcome = RefusedOwnerChanges changed outcome
+OwnerChanges q changed passed (NamedFree processor name) outcome = FreeOwnerChanges q changed passed outcome
+OwnerChanges q changed passed (Drop processor addresses) outcome = FreeOwnerChanges (q * length addresses) changed passed outcome
+
+-- of a call from state s to state t
+abbrev pub OwnersChangeRightly : ℕ → State → State → Call → Outcome → Type 0
+OwnersChangeRightly q s t call outcome = OwnerChanges q (ownersChanged s t) (passedBetweenHeaps s t) call outcome
 
 -- "M is the most live blocks of the class after the setup (none) or any call up to and including this one."
 abbrev pub peakWith : (ℕ → ℕ) → List Entry → ℕ → ℕ
@@ -57,5 +62,5 @@ unfoldable pub Claims : Setup → After → List Entry → (ℕ → ℕ) → Lis
 Claims u before ledger peak [] = Bounded u (before .answer .state) peak
 Claims u before ledger peak (step ∷ steps) =
     Bounded u (before .answer .state) peak
-    × OwnerChanges (u .q) (ownersChanged (before .answer .state) (step .after .answer .state)) (step .call) (step .after .answer .outcome)
+    × OwnersChangeRightly (u .q) (before .answer .state) (step .after .answer .state) (step .call) (step .after .answer .outcome)
     × Claims u (step .after) (ledgerAfter ledger (step .call) (step .after .answer .outcome)) (peakWith peak (ledgerAfter ledger (step .call) (step .after .answer .outcome))) steps

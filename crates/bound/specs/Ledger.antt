@@ -20,7 +20,7 @@ pub record Entry : Type 0 where
   pub size : ℕ
   pub name : Name
 
--- "Its class is the class of that take's size."
+-- "Its class is the class of that take's size." A long block is of no class, as no class holds its size (document 02, item 7): that is 27
 abbrev pub classOfEntry : Entry → ℕ
 classOfEntry e = classOf (e .size)
 

@@ -37,11 +37,11 @@ order-before = pairOrder 1 66 0 67
 abbrev pub unchecked : Call → After
 unchecked = callUnchecked state-before order-before
 
--- 2 before 3; 3 before 4; 4, not 3, where no place offers a superblock for size 0; a take of 2048 from heap 1's own superblock; 2 before 5; 5 before 6, where superblock 2 is unused; 6 before 7, where block 1 is not live;
+-- 2 before 3; 3 before 17 for a size of more than 16 bits; 17 for a long size, in place of 4; 4 where no place offers a superblock for size 0; a take of 2048 from heap 1's own superblock; 2 before 5; 5 before 6, where superblock 2 is unused; 6 before 7, where block 1 is not live;
 -- 7; and processor 1 frees a block of heap 2, whose superblock stays heap 2's and goes to the front of the ranking
 pub unchecked-call-cases :
-    map unchecked (Take 0 2049 ∷ Take 1 2049 ∷ Take 1 0 ∷ Take 1 2048 ∷ Free 3 8192 ∷ Free 1 8193 ∷ Free 1 2049 ∷ Free 1 2048 ∷ Free 1 0 ∷ [])
-    ≡ refused 2 state-before order-before ∷ refused 3 state-before order-before ∷ refused 4 state-before order-before ∷ after-with (Address 4096) (pair-state 1 3) order-before ∷ refused 2 state-before order-before ∷ refused 5 state-before order-before
+    map unchecked (Take 0 65536 ∷ Take 1 65536 ∷ Take 1 2049 ∷ Take 1 65535 ∷ Take 1 0 ∷ Take 1 2048 ∷ Free 3 8192 ∷ Free 1 8193 ∷ Free 1 2049 ∷ Free 1 2048 ∷ Free 1 0 ∷ [])
+    ≡ refused 2 state-before order-before ∷ refused 3 state-before order-before ∷ refused 17 state-before order-before ∷ refused 17 state-before order-before ∷ refused 4 state-before order-before ∷ after-with (Address 4096) (pair-state 1 3) order-before ∷ refused 2 state-before order-before ∷ refused 5 state-before order-before
     ∷ refused 6 state-before order-before ∷ refused 7 state-before order-before ∷ after-with (Moves 0) (ranked-pair-state 0 1 2 2) (pairOrder 1 0 0 67) ∷ []
 unfolding uncheckedCallDefinitions
 unchecked-call-cases = refl

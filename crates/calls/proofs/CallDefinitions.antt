@@ -1,16 +1,18 @@
 -- The definitions that a computed case of a call unfolds, listed once: to unfold one of these names is to unfold all that its line names. Assumes nothing.
-use Rattle.classes.specs.Classes.{firstAtLeast, classOf, isTooLarge}
+use Rattle.classes.specs.Classes.{firstAtLeast, classOf, isLong, runLength, isTooLarge}
 use Rattle.marks.specs.Marks.{withMark, withoutMark}
 use Rattle.laws.specs.Lists.{listed}
 use Rattle.heap.specs.Ranks.{isMoreRecent, rankAfterFree, rankAfterRenewal, rankedLatest, unranked}
 use Rattle.order.specs.Order.{lastFilled, withPlace, descending, withRenewedPlaces, renewed, cleared}
 use Rattle.choicerules.specs.Choice.{prefer, chosenBelow, moreLive, fullerOrMoreRecent, fewerLive, neverPreferred, hasFree, emptyInGlobal, fullest, lowestEmpty, lowestUnused, emptiest}
+use Rattle.choicerules.specs.Runs.{isAvailable, isFreeRun, lowestBelow, lowestRun}
 use Rattle.moverules.specs.Moves.{transferred, foundTransferred, transfersUpTo, excessTransferred, invariantRestored}
 use Rattle.checkrules.proofs.CheckDefinitions.{checkDefinitions}
 use Rattle.calls.specs.Answers.{checked, isProcessor}
 use Rattle.calls.specs.Setup.{setupOf}
+use Rattle.calls.specs.Runs.{eachOfRun, joinedToRun, runTaken, longTakenFrom, longTakenAt, madeUnused, runFreed}
 use Rattle.calls.specs.Take.{otherPlaces, acquired, acquiredOrder, unrankedIfEmpty, nextBlock, addressOf, takenFrom, takenFromOther, takenAt, takeUnchecked, takeOf}
-use Rattle.calls.specs.Free.{blockOf, isUnmapped, isMisaligned, isLiveAt, addressRefusal, markCleared, orderPushed, blockNumberAt, blockFreed, freedAt, freeUnchecked, freeOf}
+use Rattle.calls.specs.Free.{blockOf, isUnmapped, isRunStart, isOffBlock, isMisaligned, isLiveAt, addressRefusal, markCleared, blockPushed, orderPushed, blockNumberAt, smallBlockFreed, longBlockFreed, blockFreed, smallFreedAt, longFreedAt, freedAt, freeUnchecked, freeOf}
 use Rattle.calls.specs.Named.{isUnavailable, nameBound, boundBy, withNameBound, namedTakeUnchecked, namedTakeOf, heldAddress, namedFreeUnchecked, namedFreeOf}
 use Rattle.calls.specs.Drop.{allFreed, allPushed, firstAddressRefusal, isTouched, thenRestored, touchedClasses, touchedPairs, eachRestored, dropMoves, droppedAll, dropUnchecked, dropOf}
 use Rattle.calls.specs.Calls.{callOf, callUnchecked}
@@ -18,7 +20,9 @@ use Rattle.calls.specs.Calls.{callOf, callUnchecked}
 -- the calls behind the check
 unfoldable pub uncheckedCallDefinitions : Unit {0}
 unfolding callUnchecked takeUnchecked takenAt takenFromOther takenFrom addressOf nextBlock acquiredOrder acquired unrankedIfEmpty otherPlaces
-    freeUnchecked freedAt orderPushed blockFreed markCleared blockNumberAt isLiveAt isMisaligned isUnmapped blockOf isProcessor
+    longTakenAt longTakenFrom runTaken joinedToRun eachOfRun lowestRun lowestBelow isFreeRun isAvailable isLong runLength
+    freeUnchecked freedAt smallFreedAt longFreedAt orderPushed blockPushed blockFreed smallBlockFreed longBlockFreed runFreed madeUnused markCleared blockNumberAt
+    isLiveAt isMisaligned isOffBlock isRunStart isUnmapped blockOf isProcessor
     namedTakeUnchecked withNameBound boundBy nameBound isUnavailable namedFreeUnchecked heldAddress
     dropUnchecked droppedAll dropMoves eachRestored touchedPairs touchedClasses thenRestored isTouched firstAddressRefusal allPushed allFreed addressRefusal
     invariantRestored excessTransferred transfersUpTo transferred foundTransferred

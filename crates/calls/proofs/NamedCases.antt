@@ -59,15 +59,15 @@ bound-by-cases = refl
 -- block 2 of superblock 3 loses its mark and its name 7; name 8, of block 0, stays; superblock 3 is the last freed into, and those that were ranked follow
 pub block-freed-case :
     blockFreed (withNames refusal-state (withName (withName noNames 8 768) 7 770)) 13824
-    ≡ withNames (unnamedState (setup-with 2 5 1 3 7) (ranked 1 26 3 3 ∷ unused ∷ ranked 2 26 1 4 ∷ ranked 2 20 9 1 ∷ record { owner = 1; class = 1; live = 0 ∷ 0 ∷ 2199023255552 ∷ 0 ∷ []; rank = 2 } ∷ replicate 59 unused)) (withName noNames 8 768)
+    ≡ withNames (unnamedState (setup-with 2 5 1 3 7) (ranked 1 26 3 3 ∷ unused ∷ ranked 2 26 1 4 ∷ ranked 2 20 9 1 ∷ record { owner = 1; class = 1; live = 0 ∷ 0 ∷ 2199023255552 ∷ 0 ∷ []; rank = 2; run = 0 } ∷ replicate 59 unused)) (withName noNames 8 768)
 unfolding uncheckedCallDefinitions
 block-freed-case = refl
 
--- ---- a named take behind the check: 2 before 14, 14 before 3 for a held name and for 1024; 3, and 4 for size 0, bind none; an accepted one binds, for the
+-- ---- a named take behind the check: 2 before 14, 14 before 17 for a held name, and before 3 for 1024; 3, 17, and 4 for size 0, bind none; an accepted one binds, for the
 -- first and the last free name
 pub named-take-cases :
-    map named-unchecked (NamedTake 3 5 2049 ∷ NamedTake 1 5 2049 ∷ NamedTake 1 1024 2049 ∷ NamedTake 1 1022 2048 ∷ NamedTake 1 7 2049 ∷ NamedTake 1 7 0 ∷ NamedTake 1 0 2048 ∷ NamedTake 1 1023 2048 ∷ [])
-    ≡ refused 2 named-state order-before ∷ refused 14 named-state order-before ∷ refused 14 named-state order-before ∷ refused 14 named-state order-before ∷ refused 3 named-state order-before ∷ refused 4 named-state order-before
+    map named-unchecked (NamedTake 3 5 2049 ∷ NamedTake 1 5 2049 ∷ NamedTake 1 1024 65536 ∷ NamedTake 1 1022 2048 ∷ NamedTake 1 7 65536 ∷ NamedTake 1 7 2049 ∷ NamedTake 1 7 0 ∷ NamedTake 1 0 2048 ∷ NamedTake 1 1023 2048 ∷ [])
+    ≡ refused 2 named-state order-before ∷ refused 14 named-state order-before ∷ refused 14 named-state order-before ∷ refused 14 named-state order-before ∷ refused 3 named-state order-before ∷ refused 17 named-state order-before ∷ refused 4 named-state order-before
     ∷ after-with (Address 4096) (withNames (pair-state 1 3) (withName two-names 0 256)) order-before ∷ after-with (Address 4096) (withNames (pair-state 1 3) (withName two-names 1023 256)) order-before ∷ []
 unfolding uncheckedCallDefinitions
 named-take-cases = refl
@@ -86,6 +86,6 @@ named-free-cases = refl
 -- a plain take keeps the names, and so do refused calls
 pub plain-call-cases :
     map named-unchecked (Take 1 2048 ∷ Take 1 2049 ∷ Free 1 2048 ∷ [])
-    ≡ after-with (Address 4096) (withNames (pair-state 1 3) two-names) order-before ∷ refused 3 named-state order-before ∷ refused 7 named-state order-before ∷ []
+    ≡ after-with (Address 4096) (withNames (pair-state 1 3) two-names) order-before ∷ refused 17 named-state order-before ∷ refused 7 named-state order-before ∷ []
 unfolding uncheckedCallDefinitions
 plain-call-cases = refl

@@ -39,7 +39,7 @@ accepted-with order =
     record {
       answer = record {
         outcome = Ready;
-        state = unnamedState (record { processors = 2; superblocks = 5; spare = 1; p = 3; q = 7 }) (replicate 64 (record { owner = 255; class = 0; live = 0 ∷ 0 ∷ 0 ∷ 0 ∷ []; rank = 0 }));
+        state = unnamedState (record { processors = 2; superblocks = 5; spare = 1; p = 3; q = 7 }) (replicate 64 (record { owner = 255; class = 0; live = 0 ∷ 0 ∷ 0 ∷ 0 ∷ []; rank = 0; run = 0 }));
       };
       order = order;
     }
@@ -50,7 +50,7 @@ refused-setup-with r order =
     record {
       answer = record {
         outcome = Refused r;
-        state = unnamedState (record { processors = 0; superblocks = 0; spare = 0; p = 0; q = 0 }) (replicate 64 (record { owner = 255; class = 0; live = 0 ∷ 0 ∷ 0 ∷ 0 ∷ []; rank = 0 }));
+        state = unnamedState (record { processors = 0; superblocks = 0; spare = 0; p = 0; q = 0 }) (replicate 64 (record { owner = 255; class = 0; live = 0 ∷ 0 ∷ 0 ∷ 0 ∷ []; rank = 0; run = 0 }));
       };
       order = order;
     }
@@ -98,7 +98,7 @@ refused-case = refl
 -- with 170 blocks of 24, has block 169 live; superblock 1 is unused; superblocks 4, 0 and 2 are ranked, in this order
 abbrev pub refusal-state : State
 refusal-state =
-    unnamedState (setup-with 2 5 1 3 7) (ranked 1 26 3 2 ∷ unused ∷ ranked 2 26 1 3 ∷ of 2 20 13 ∷ record { owner = 1; class = 1; live = 0 ∷ 0 ∷ 2199023255552 ∷ 0 ∷ []; rank = 1 } ∷ replicate 59 unused)
+    unnamedState (setup-with 2 5 1 3 7) (ranked 1 26 3 2 ∷ unused ∷ ranked 2 26 1 3 ∷ of 2 20 13 ∷ record { owner = 1; class = 1; live = 0 ∷ 0 ∷ 2199023255552 ∷ 0 ∷ []; rank = 1; run = 0 } ∷ replicate 59 unused)
 
 -- 2: "0 or above P"
 pub is-processor-cases : map (isProcessor refusal-state) (0 ∷ 1 ∷ 2 ∷ 3 ∷ []) ≡ false ∷ true ∷ true ∷ false ∷ []
@@ -180,7 +180,7 @@ order-of-3 = replicate 768 61 ++ 4 ∷ 1 ∷ replicate 254 62
 
 abbrev pub state-with-3 : ℕ → State
 state-with-3 marks =
-    unnamedState (setup-with 2 5 1 3 7) (ranked 1 26 3 2 ∷ unused ∷ ranked 2 26 1 3 ∷ of 2 20 marks ∷ record { owner = 1; class = 1; live = 0 ∷ 0 ∷ 2199023255552 ∷ 0 ∷ []; rank = 1 } ∷ replicate 59 unused)
+    unnamedState (setup-with 2 5 1 3 7) (ranked 1 26 3 2 ∷ unused ∷ ranked 2 26 1 3 ∷ of 2 20 marks ∷ record { owner = 1; class = 1; live = 0 ∷ 0 ∷ 2199023255552 ∷ 0 ∷ []; rank = 1; run = 0 } ∷ replicate 59 unused)
 
 pub taken-from-case : takenFrom 3 refusal-state order-of-3 ≡ record { answer = record { outcome = Address 13056; state = state-with-3 15 }; order = order-of-3 }
 unfolding uncheckedCallDefinitions

@@ -1,5 +1,6 @@
 pub mod Answers
 pub mod Setup
+pub mod Runs
 pub mod Take
 pub mod Free
 pub mod Named

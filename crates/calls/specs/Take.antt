@@ -4,7 +4,7 @@ use mathlib.Core.Bool.{not}
 use mathlib.Core.List.{List}
 use lib.Dec.{eqb}
 use Rattle.laws.specs.Sums.{pick}
-use Rattle.classes.specs.Classes.{sizeOf, blocksOf, classOf, isTooLarge}
+use Rattle.classes.specs.Classes.{sizeOf, blocksOf, classOf, isLong, runLength, isTooLarge}
 use Rattle.marks.specs.Marks.{noMarks}
 use Rattle.order.specs.Order.{lastFilled, renewed}
 use Rattle.heap.specs.declared.Superblock.{Superblock}
@@ -15,7 +15,9 @@ use Rattle.heap.specs.Table.{superblockAt, liveIn, withOwner, withMarkAt}
 use Rattle.heap.specs.States.{withSuperblock}
 use Rattle.heap.specs.Ranks.{unranked}
 use Rattle.choicerules.specs.Choice.{fullest, lowestEmpty, lowestUnused, orElse}
+use Rattle.choicerules.specs.Runs.{lowestRun}
 use Rattle.calls.specs.Answers.{After, refused, checked, isProcessor}
+use Rattle.calls.specs.Runs.{longTakenAt}
 use Rattle.calls.specs.declared.Outcome.the-variants.{Address}
 
 -- places 2 to 4, after place 1: "2. heap 0: the same choice; 3. heap 0: the lowest-numbered superblock with nothing live, of any
@@ -24,9 +26,9 @@ unfoldable pub otherPlaces : ℕ → State → Found
 otherPlaces c s = orElse (fullest 0 c s) (orElse (lowestEmpty s) (lowestUnused s))
 
 -- "To renew a superblock for class c: set its class, clear its marks", here as heap i's. "Renew" is document 01's term for reinitializing. It
--- was not freed into since, and so has no rank
+-- was not freed into since, and so has no rank, and it is the first of no run
 abbrev pub renewedFor : ℕ → ℕ → Superblock
-renewedFor i c = record { owner = i; class = c; live = noMarks; rank = 0 }
+renewedFor i c = record { owner = i; class = c; live = noMarks; rank = 0; run = 0 }
 
 -- "From places 2 to 4 it becomes owned by heap i. A superblock with nothing live is renewed for c"
 unfoldable pub acquired : ℕ → ℕ → Superblock → Superblock
@@ -71,13 +73,15 @@ takenAt i c s order (At k) other = takenFrom k s order
 takenAt i c s order Nothing (At k) = takenFromOther i c k s order
 takenAt i c s order Nothing Nothing = refused 4 s order
 
--- a take behind the check, on any state: "then take 2, 3, 4"; refusal 3 (bench word: size), "left for sizes above 2048" (document 02, item 1)
+-- a take behind the check, on any state: "then take 2, 3, 4"; refusal 3 (bench word: size) "can no longer be met" by a size of 16 bits, and a long size
+-- takes a run (document 02, item 7)
 unfoldable pub takeUnchecked : State → List ℕ → ℕ → ℕ → After
 takeUnchecked s order i size =
     pick (not (isProcessor s i)) (refused 2 s order)
     (pick (isTooLarge size) (refused 3 s order)
-    (takenAt i (classOf size) s order (fullest i (classOf size) s) (otherPlaces (classOf size) s)))
+    (pick (isLong size) (longTakenAt (runLength size) s order (lowestRun (runLength size) s))
+    (takenAt i (classOf size) s order (fullest i (classOf size) s) (otherPlaces (classOf size) s))))
 
--- "Take or free: 13 for setup numbers, 12, the rest of 13; then take 2, 3, 4"
+-- "Take or free: 13 for setup numbers, 12, the rest of 13; then take 2, 3, 4", and 17 "in place of 4 for a long size"
 unfoldable pub takeOf : State → List ℕ → ℕ → ℕ → After
 takeOf s order i size = checked s order (takeUnchecked s order i size)

@@ -73,7 +73,7 @@ emptiness-invariant-cases = refl
 
 -- ---- "each held name points at a live block, no two at one". Superblock 1, of class 20, has blocks 1 and 3 live, superblock 63 its block 255
 abbrev pub state-with-names : List ℕ → State
-state-with-names names = withNames (unnamedState small-setup (unused ∷ of 2 20 10 ∷ replicate 61 unused ++ record { owner = 1; class = 0; live = 0 ∷ 0 ∷ 0 ∷ 2 ^ 63 ∷ []; rank = 0 } ∷ [])) names
+state-with-names names = withNames (unnamedState small-setup (unused ∷ of 2 20 10 ∷ replicate 61 unused ++ record { owner = 1; class = 0; live = 0 ∷ 0 ∷ 0 ∷ 2 ^ 63 ∷ []; rank = 0; run = 0 } ∷ [])) names
 
 -- no names; each live block named, by the first name and the last too; a name at block 2 of superblock 1, at block 3 of superblock 0, at block 1 of
 -- superblock 64, at the last number that is a block's; two names at block 1 of superblock 1, the first and the last, and two neighbours

@@ -6,7 +6,7 @@ use Rattle.laws.specs.Sums.{allBelow}
 use Rattle.laws.proofs.TestLaws.{both-left, both-right, both-make}
 use Rattle.heap.specs.declared.State.{State}
 use Rattle.heap.specs.Table.{superblockAt}
-use Rattle.checkrules.specs.Check.{withinLimits, superblockValid, unusedFrom, emptinessInvariant, sparseIfGlobal, namesValid, totalsValid, ranksValid, restValid, passes}
+use Rattle.checkrules.specs.Check.{withinLimits, superblockValid, unusedFrom, emptinessInvariant, sparseIfGlobal, namesValid, totalsValid, ranksValid, runsValid, restValid, passes}
 
 -- all but the setup numbers, clause by clause
 pub record RestClauses (s : State) (order : List ℕ) : Type 0 where
@@ -17,6 +17,7 @@ pub record RestClauses (s : State) (order : List ℕ) : Type 0 where
   pub names : T (namesValid s)
   pub totals : T (totalsValid s)
   pub ranks : T (ranksValid s)
+  pub runs : T (runsValid s)
 
 pub clauses-of-rest : (s : State) (order : List ℕ) → T (restValid s order) → RestClauses s order
 unfolding restValid
@@ -26,14 +27,16 @@ clauses-of-rest s order t =
     let c = both-right (emptinessInvariant s) _ b in
     let d = both-right (allBelow (λ k. sparseIfGlobal (s .setup) (superblockAt s k)) 64) _ c in
     let e = both-right (namesValid s) _ d in
+    let f = both-right (totalsValid s) _ e in
     record {
       superblocks = both-left (allBelow (λ k. superblockValid (s .setup) order k (superblockAt s k)) 64) _ t;
       past-unused = both-left (allBelow (λ k. unusedFrom (s .setup .superblocks) k (superblockAt s k)) 64) _ a;
       processor-heaps = both-left (emptinessInvariant s) _ b;
       global-heap = both-left (allBelow (λ k. sparseIfGlobal (s .setup) (superblockAt s k)) 64) _ c;
       names = both-left (namesValid s) _ d;
-      totals = both-left (totalsValid s) (ranksValid s) e;
-      ranks = both-right (totalsValid s) (ranksValid s) e;
+      totals = both-left (totalsValid s) _ e;
+      ranks = both-left (ranksValid s) (runsValid s) f;
+      runs = both-right (ranksValid s) (runsValid s) f;
     }
 
 pub rest-of-clauses : (s : State) (order : List ℕ) → RestClauses s order → T (restValid s order)
@@ -44,7 +47,8 @@ rest-of-clauses s order h =
     (both-make (emptinessInvariant s) _ (h .processor-heaps)
     (both-make (allBelow (λ k. sparseIfGlobal (s .setup) (superblockAt s k)) 64) _ (h .global-heap)
     (both-make (namesValid s) _ (h .names)
-    (both-make (totalsValid s) (ranksValid s) (h .totals) (h .ranks))))))
+    (both-make (totalsValid s) _ (h .totals)
+    (both-make (ranksValid s) (runsValid s) (h .ranks) (h .runs)))))))
 
 -- the whole check asks the setup numbers too
 pub limits-of-passes : (s : State) (order : List ℕ) → T (passes s order) → T (withinLimits (s .setup))

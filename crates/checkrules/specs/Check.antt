@@ -1,9 +1,9 @@
 -- "The state handed in": the check of a state, clause by clause.
-use Prim.Native.Nat.{ℕ, suc, _-_, _*_}
-use mathlib.Core.Bool.{Bool, not}
-use mathlib.Core.List.{List}
+use Prim.Native.Nat.{ℕ, zero, suc, _-_, _*_}
+use mathlib.Core.Bool.{Bool, true, false, not}
+use mathlib.Core.List.{List, [], _∷_}
 use lib.Dec.{eqb, leb, ltb}
-use Rattle.laws.specs.Sums.{both, either, one, allBelow}
+use Rattle.laws.specs.Sums.{pick, both, either, one, allBelow}
 use Rattle.laws.specs.Lists.{sameNumbers}
 use Rattle.classes.specs.Classes.{blocksOf}
 use Rattle.filledplaces.specs.FilledPlaces.{placesValid}
@@ -12,7 +12,7 @@ use Rattle.heap.specs.declared.Setup.{Setup}
 use Rattle.heap.specs.declared.Totals.{Totals}
 use Rattle.heap.specs.declared.State.{State}
 use Rattle.names.specs.Names.{eachHeld, noTwoAtOne}
-use Rattle.heap.specs.Table.{superblockAt, liveIn, isUnused, isLiveBlock}
+use Rattle.heap.specs.Table.{superblockAt, liveIn, isUnused, isOfRun, isLiveBlock}
 use Rattle.heap.specs.Totals.{recounted}
 use Rattle.heap.specs.Counts.{total}
 use Rattle.heap.specs.Ranks.{isRanked}
@@ -31,11 +31,18 @@ withinLimits u =
     (both (both (leb 1 (u .p)) (ltb (u .p) (u .q)))
     (within 2 8 (u .q)))))
 
--- "each superblock unused as above, or of owner 0 to P and class 0 to 26; no mark at n or above; in an owned superblock the
--- filled order places hold each unmarked block below n just once"
+-- "owner 254, class field 0, no marks"; the check "asks nothing of their order places" (document 02, item 7). That it has no rank is ranksValid's
+unfoldable pub isPartOfRun : Superblock → Bool
+isPartOfRun b = both (isOfRun b) (both (eqb (b .class) 0) (eqb (liveIn b) 0))
+
+-- "of owner 0 to P and class 0 to 26; no mark at n or above; in an owned superblock the filled order places hold each unmarked block below n just
+-- once"
+unfoldable pub isOwned : Setup → List ℕ → ℕ → Superblock → Bool
+isOwned u order k b = both (leb (b .owner) (u .processors)) (both (ltb (b .class) 27) (placesValid order (b .live) k (blocksOf (b .class))))
+
+-- "each superblock unused as above, or" owned, or part of a run
 unfoldable pub superblockValid : Setup → List ℕ → ℕ → Superblock → Bool
-superblockValid u order k b =
-    either (isUnused b) (both (leb (b .owner) (u .processors)) (both (ltb (b .class) 27) (placesValid order (b .live) k (blocksOf (b .class)))))
+superblockValid u order k b = either (isUnused b) (either (isPartOfRun b) (isOwned u order k b))
 
 -- "superblocks from N on unused"
 unfoldable pub unusedFrom : ℕ → ℕ → Superblock → Bool
@@ -69,11 +76,25 @@ unfoldable pub carrying : ℕ → State → ℕ
 carrying r s = total (λ b. one (eqb (b .rank) r)) (s .table)
 
 -- "the ranked ones carry 1 (latest) upwards, each once without a gap, the rest 0, unused ones too, and the state check tests this" (document 02,
--- item 4): each number from 1 to as many as are ranked is carried by one superblock, and no unused one is ranked
+-- item 4): each number from 1 to as many as are ranked is carried by one superblock, and neither an unused one nor one of a run ("no rank", item 7)
+-- is ranked
 unfoldable pub ranksValid : State → Bool
 ranksValid s =
     both (allBelow (λ r. eqb (carrying (suc r) s) 1) (rankedCount s))
-    (allBelow (λ k. not (both (isUnused (superblockAt s k)) (isRanked (superblockAt s k)))) 64)
+    (allBelow (λ k. not (both (either (isUnused (superblockAt s k)) (isOfRun (superblockAt s k))) (isRanked (superblockAt s k)))) 64)
+
+-- "The first carries the run's length, every other superblock 0. The state check tests .. that runs are whole and at most 16 long" (document 02,
+-- item 7): the superblocks of a table from one on, read in order, where so many of a run are still to come. Behind the last of a run begins
+-- another, or there is none; a run is not whole where the table ends before it does
+unfoldable pub runsWhole : ℕ → List Superblock → Bool
+runsWhole zero [] = true
+runsWhole (suc left) [] = false
+runsWhole zero (b ∷ table) = pick (isOfRun b) (both (within 1 16 (b .run)) (runsWhole (b .run - 1) table)) (both (eqb (b .run) 0) (runsWhole 0 table))
+runsWhole (suc left) (b ∷ table) = both (isOfRun b) (both (eqb (b .run) 0) (runsWhole left table))
+
+-- all of a state's; "all below N" with that, since superblocks from N on are unused
+unfoldable pub runsValid : State → Bool
+runsValid s = runsWhole 0 (s .table)
 
 -- all but the setup numbers
 unfoldable pub restValid : State → List ℕ → Bool
@@ -84,7 +105,8 @@ restValid s order =
     (both (allBelow (λ k. sparseIfGlobal (s .setup) (superblockAt s k)) 64)
     (both (namesValid s)
     (both (totalsValid s)
-    (ranksValid s))))))
+    (both (ranksValid s)
+    (runsValid s)))))))
 
 -- the whole check
 unfoldable pub passes : State → List ℕ → Bool

@@ -4,7 +4,7 @@ use mathlib.Core.Path.{_≡_, refl}
 use mathlib.Core.Bool.{true, false}
 use mathlib.Core.List.{List, [], _∷_, map}
 use Prim.Native.Nat.{ℕ}
-use Rattle.classes.specs.Classes.{sizes, counts, sizeOf, blocksOf, firstAtLeast, classOf, isTooLarge}
+use Rattle.classes.specs.Classes.{sizes, counts, sizeOf, blocksOf, firstAtLeast, classOf, isLong, runLength, isTooLarge}
 
 -- "Class 0 to 26, as block size / blocks in a superblock"; there is no class 27
 unfoldable pub printed-table : List (ℕ × ℕ × ℕ)
@@ -26,7 +26,17 @@ pub marked-sizes-have-classes : map (λ (p : ℕ × ℕ). classOf (p .0)) marked
 unfolding marked-sizes classOf firstAtLeast sizes
 marked-sizes-have-classes = refl
 
--- refusal 3: sizes above 2048, and not 0
-pub is-too-large-cases : map isTooLarge (0 ∷ 1 ∷ 2048 ∷ 2049 ∷ 65535 ∷ []) ≡ false ∷ false ∷ false ∷ true ∷ true ∷ []
+-- long sizes: those above 2048, and not 0
+pub is-long-cases : map isLong (0 ∷ 1 ∷ 2048 ∷ 2049 ∷ 65535 ∷ []) ≡ false ∷ false ∷ false ∷ true ∷ true ∷ []
+unfolding isLong
+is-long-cases = refl
+
+-- "size / 4096 rounded up"
+pub run-length-cases : map runLength (2049 ∷ 4095 ∷ 4096 ∷ 4097 ∷ 8192 ∷ 8193 ∷ 61440 ∷ 61441 ∷ 65535 ∷ []) ≡ 1 ∷ 1 ∷ 1 ∷ 2 ∷ 2 ∷ 3 ∷ 15 ∷ 16 ∷ 16 ∷ []
+unfolding runLength
+run-length-cases = refl
+
+-- refusal 3: sizes of more than 16 bits
+pub is-too-large-cases : map isTooLarge (0 ∷ 2049 ∷ 65535 ∷ 65536 ∷ []) ≡ false ∷ false ∷ false ∷ true ∷ []
 unfolding isTooLarge
 is-too-large-cases = refl

@@ -33,7 +33,7 @@ pub record SameBlocks (t u : State) : Type 0 where
 
 -- a superblock with other marks
 abbrev pub withMarks : List ℕ → Superblock → Superblock
-withMarks live b = record { owner = b .owner; class = b .class; live = live; rank = b .rank }
+withMarks live b = record { owner = b .owner; class = b .class; live = live; rank = b .rank; run = b .run }
 
 -- the superblock of an address with the mark there cleared
 abbrev clearedIn : State → ℕ → Superblock

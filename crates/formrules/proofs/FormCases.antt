@@ -57,7 +57,7 @@ names-after-superblocks : getD (stateIn state-bytes 3 .names) 0 0 ≡ 513
 unfolding stateIn namesIn listed
 names-after-superblocks = refl
 
-superblocks-before-names : getD (stateIn state-bytes 3 .table) 63 blank ≡ record { owner = 255; class = 255; live = 18446744073709551615 ∷ 18446744073709551615 ∷ 18446744073709551615 ∷ 18446744073709551615 ∷ []; rank = 7 }
+superblocks-before-names : getD (stateIn state-bytes 3 .table) 63 blank ≡ record { owner = 255; class = 255; live = 18446744073709551615 ∷ 18446744073709551615 ∷ 18446744073709551615 ∷ 18446744073709551615 ∷ []; rank = 7; run = 0 }
 unfolding stateIn superblockIn listed
 superblocks-before-names = refl
 
@@ -65,7 +65,7 @@ superblocks-before-names = refl
 abbrev distinct-superblock-bytes : List ℕ
 distinct-superblock-bytes = replicate 3 255 ++ (listed (λ k. 1 + k) 35 ++ (replicate 2170 255 ++ (listed (λ k. 41 + k) 35 ++ (255 ∷ []))))
 
-superblock-fields-in-order : (getD (stateIn distinct-superblock-bytes 3 .table) 0 blank ≡ record { owner = 1; class = 2; live = 723118041428460547 ∷ 1301839424133073931 ∷ 1880560806837687315 ∷ 2459282189542300699 ∷ []; rank = 35 }) × (getD (stateIn distinct-superblock-bytes 3 .table) 63 blank ≡ record { owner = 41; class = 42; live = 3616724954951527467 ∷ 4195446337656140851 ∷ 4774167720360754235 ∷ 5352889103065367619 ∷ []; rank = 75 })
+superblock-fields-in-order : (getD (stateIn distinct-superblock-bytes 3 .table) 0 blank ≡ record { owner = 1; class = 2; live = 723118041428460547 ∷ 1301839424133073931 ∷ 1880560806837687315 ∷ 2459282189542300699 ∷ []; rank = 35; run = 0 }) × (getD (stateIn distinct-superblock-bytes 3 .table) 63 blank ≡ record { owner = 41; class = 42; live = 3616724954951527467 ∷ 4195446337656140851 ∷ 4774167720360754235 ∷ 5352889103065367619 ∷ []; rank = 75; run = 0 })
 unfolding stateIn superblockIn listed
 superblock-fields-in-order = (refl, refl)
 

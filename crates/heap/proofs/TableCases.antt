@@ -10,14 +10,14 @@ use Rattle.marks.specs.Marks.{bit, markBit, isMarked, withMark, withoutMark, li
 use Rattle.heap.specs.declared.Superblock.{Superblock}
 use Rattle.heap.specs.declared.Setup.{Setup}
 use Rattle.heap.specs.declared.State.{State}
-use Rattle.heap.specs.Table.{unused, isUnused, withOwner, withMarkAt, withoutMarkAt, withRank, isLiveBlock}
+use Rattle.heap.specs.Table.{unused, isUnused, isOfRun, startsRun, runPart, isOfHeap, liveBlocks, withOwner, withMarkAt, withoutMarkAt, withRank, isLiveBlock}
 use Rattle.heap.specs.States.{withSuperblock, noState, newState}
 use Rattle.heap.specs.Counts.{total, belongs, isOwnedOfClass, oneIfBelongs, liveIfBelongs, superblocksOf, blocksIn, liveOf, superblocksOfClass, liveOfClass, ownersChanged}
 use Rattle.heap.proofs.CaseStates.{unnamedState}
 
 -- a superblock of heap h and class c with these marks in the first of its four numbers, unranked; and one of rank r
 abbrev pub of : ℕ → ℕ → ℕ → Superblock
-of h c marks = record { owner = h; class = c; live = marks ∷ 0 ∷ 0 ∷ 0 ∷ []; rank = 0 }
+of h c marks = record { owner = h; class = c; live = marks ∷ 0 ∷ 0 ∷ 0 ∷ []; rank = 0; run = 0 }
 
 abbrev pub ranked : ℕ → ℕ → ℕ → ℕ → Superblock
 ranked h c marks r = withRank r (of h c marks)
@@ -38,7 +38,7 @@ pub no-state-case :
     noState
     ≡ record {
       setup = record { processors = 0; superblocks = 0; spare = 0; p = 0; q = 0 };
-      table = replicate 64 (record { owner = 255; class = 0; live = 0 ∷ 0 ∷ 0 ∷ 0 ∷ []; rank = 0 });
+      table = replicate 64 (record { owner = 255; class = 0; live = 0 ∷ 0 ∷ 0 ∷ 0 ∷ []; rank = 0; run = 0 });
       names = replicate 1024 65535;
       totals = record { superblocks = replicate 243 0; live = replicate 243 0 };
     }
@@ -48,7 +48,7 @@ pub new-state-case :
     newState small-setup
     ≡ record {
       setup = record { processors = 2; superblocks = 5; spare = 1; p = 3; q = 7 };
-      table = replicate 64 (record { owner = 255; class = 0; live = 0 ∷ 0 ∷ 0 ∷ 0 ∷ []; rank = 0 });
+      table = replicate 64 (record { owner = 255; class = 0; live = 0 ∷ 0 ∷ 0 ∷ 0 ∷ []; rank = 0; run = 0 });
       names = replicate 1024 65535;
       totals = record { superblocks = replicate 243 0; live = replicate 243 0 };
     }
@@ -57,18 +57,18 @@ new-state-case = refl
 -- one superblock changed: its owner, block 70 live, block 2 no longer live, its rank, and nothing else
 pub superblock-change-cases :
     withOwner 3 (ranked 1 17 13 5) ∷ withMarkAt (ranked 1 17 13 5) 70 ∷ withoutMarkAt (ranked 1 17 13 5) 2 ∷ withRank 6 (ranked 1 17 13 5) ∷ []
-    ≡ record { owner = 3; class = 17; live = 13 ∷ 0 ∷ 0 ∷ 0 ∷ []; rank = 5 } ∷ record { owner = 1; class = 17; live = 13 ∷ 64 ∷ 0 ∷ 0 ∷ []; rank = 5 }
-    ∷ record { owner = 1; class = 17; live = 9 ∷ 0 ∷ 0 ∷ 0 ∷ []; rank = 5 } ∷ record { owner = 1; class = 17; live = 13 ∷ 0 ∷ 0 ∷ 0 ∷ []; rank = 6 } ∷ []
+    ≡ record { owner = 3; class = 17; live = 13 ∷ 0 ∷ 0 ∷ 0 ∷ []; rank = 5; run = 0 } ∷ record { owner = 1; class = 17; live = 13 ∷ 64 ∷ 0 ∷ 0 ∷ []; rank = 5; run = 0 }
+    ∷ record { owner = 1; class = 17; live = 9 ∷ 0 ∷ 0 ∷ 0 ∷ []; rank = 5; run = 0 } ∷ record { owner = 1; class = 17; live = 13 ∷ 0 ∷ 0 ∷ 0 ∷ []; rank = 6; run = 0 } ∷ []
 unfolding withMark withoutMark
 superblock-change-cases = refl
 
 -- block 0 of superblock 1, its last block, block 2 of superblock 6 and block 6 of superblock 63 are live; block 1 of superblock 0 and block 7 of
 -- superblock 63 are not, and there is no superblock 64 and no superblock 255
 pub is-live-block-cases :
-    map (isLiveBlock (unnamedState small-setup (of 0 16 5 ∷ record { owner = 1; class = 0; live = 1 ∷ 0 ∷ 0 ∷ 2 ^ 63 ∷ []; rank = 0 } ∷ replicate 4 unused ++ of 2 17 4 ∷ replicate 56 unused ++ of 1 16 64 ∷ [])))
+    map (isLiveBlock (unnamedState small-setup (of 0 16 5 ∷ record { owner = 1; class = 0; live = 1 ∷ 0 ∷ 0 ∷ 2 ^ 63 ∷ []; rank = 0; run = 0 } ∷ replicate 4 unused ++ of 2 17 4 ∷ replicate 56 unused ++ of 1 16 64 ∷ [])))
     (256 ∷ 511 ∷ 1538 ∷ 16134 ∷ 1 ∷ 257 ∷ 510 ∷ 16135 ∷ 16384 ∷ 65535 ∷ [])
     ≡ true ∷ true ∷ true ∷ true ∷ false ∷ false ∷ false ∷ false ∷ false ∷ false ∷ []
-unfolding isLiveBlock isMarked markBit bit
+unfolding isLiveBlock liveBlocks startsRun isOfRun isMarked withMark markBit bit
 is-live-block-cases = refl
 
 -- ---- counts: superblocks 0 to 6 and 63 are in use; heap 1 has three of class 16, with 3, 0 and 7 blocks live
@@ -89,7 +89,7 @@ abbrev pub counts-by-class : List (ℕ × ℕ × ℕ)
 counts-by-class = (16, 5, 15) ∷ (17, 2, 13) ∷ (0, 0, 0) ∷ []
 
 pub counts-by-class-cases : map (λ (r : ℕ × ℕ × ℕ). (r .0, superblocksOfClass (r .0) counted-state, liveOfClass (r .0) counted-state)) counts-by-class ≡ counts-by-class
-unfolding superblocksOfClass liveOfClass total isOwnedOfClass liveCount sumBelow markBit bit
+unfolding superblocksOfClass liveOfClass total isOwnedOfClass isOfHeap liveCount sumBelow markBit bit
 counts-by-class-cases = refl
 
 -- superblocks 0 and 63 have other owners; superblock 3 other marks, and 5 another class; 4 has come into use

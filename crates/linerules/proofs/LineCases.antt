@@ -118,7 +118,7 @@ call-line-cases = (refl, refl)
 -- ---- the lines at the end: P = 2, heap 0 too, two classes of heap 1, one of them with nothing live; the superblocks stand in another order,
 -- others are unused, owner 3 is no heap where P is 2, and some are ranked, which no line shows
 abbrev superblock : ℕ → ℕ → ℕ → ℕ → Superblock
-superblock owner class marks rank = record { owner = owner; class = class; live = marks ∷ 0 ∷ 0 ∷ 0 ∷ []; rank = rank }
+superblock owner class marks rank = record { owner = owner; class = class; live = marks ∷ 0 ∷ 0 ∷ 0 ∷ []; rank = rank; run = 0 }
 
 abbrev several-superblocks : State
 several-superblocks =

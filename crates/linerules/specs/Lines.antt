@@ -7,6 +7,7 @@ use Rattle.laws.specs.Sums.{pick}
 use Rattle.textrules.specs.Text.{letters, decimal}
 use Rattle.heap.specs.declared.Setup.{Setup}
 use Rattle.heap.specs.declared.State.{State}
+use Rattle.heap.specs.Table.{superblockAt, startsRun}
 use Rattle.heap.specs.Counts.{superblocksOf, liveOf}
 use Rattle.calls.specs.declared.CallHeader.{CallHeader}
 use Rattle.calls.specs.declared.CallHeader.the-variants as header
@@ -84,9 +85,22 @@ unfoldable pub heapLines : ℕ → State → List ℕ
 heapLines zero s = []
 heapLines (suc h) s = heapLines h s ++ classLines h 27 s
 
--- "Otherwise a line for each heap and class with a superblock follows, .. then `end`": heaps 0 to P
+-- "The final key lists runs by first superblock, as `run 3 superblocks 2`" (document 02, item 7)
+unfoldable pub runLine : ℕ → ℕ → List ℕ
+runLine first n = field (letters "run ") first ++ field (letters " superblocks ") n ++ letters "\n"
+
+-- a line where superblock k is the first of a run
+unfoldable pub runLineIf : ℕ → State → List ℕ
+runLineIf k s = pick (startsRun (superblockAt s k)) (runLine k (superblockAt s k .run)) []
+
+-- the lines of the runs that begin below k
+unfoldable pub runLines : ℕ → State → List ℕ
+runLines zero s = []
+runLines (suc k) s = runLines k s ++ runLineIf k s
+
+-- "Otherwise a line for each heap and class with a superblock follows, .. then `end`": heaps 0 to P, and the runs "before `end`"
 unfoldable pub finalLines : State → List ℕ
-finalLines s = heapLines (suc (s .setup .processors)) s ++ letters "end\n"
+finalLines s = heapLines (suc (s .setup .processors)) s ++ (runLines 64 s ++ letters "end\n")
 
 -- the lines after the last command: none where a stop line is "the last line"
 unfoldable pub closingLines : Bool → State → List ℕ

@@ -24,7 +24,7 @@ pub record MarkedCase : Type 0 where
 
 -- a superblock of heap 1 and class c with these marks
 abbrev pub heap-1-superblock : ℕ → List ℕ → Superblock
-heap-1-superblock c live = record { owner = 1; class = c; live = live; rank = 0 }
+heap-1-superblock c live = record { owner = 1; class = c; live = live; rank = 0; run = 0 }
 
 -- heap 1 with these superblocks: P = 1, K = 1, p/q = 1/4, and as many superblocks as there are
 abbrev pub stateWith : List Superblock → State

@@ -19,7 +19,7 @@ use Rattle.moverules.specs.Moves.{bothConditions, mustMove, transferred,
 
 -- a superblock of heap h and class c, its lowest l blocks live
 abbrev pub superblock-with : ℕ → ℕ → ℕ → Superblock
-superblock-with h c l = record { owner = h; class = c; live = (2 ^ l - 1) ∷ 0 ∷ 0 ∷ 0 ∷ []; rank = 0 }
+superblock-with h c l = record { owner = h; class = c; live = (2 ^ l - 1) ∷ 0 ∷ 0 ∷ 0 ∷ []; rank = 0; run = 0 }
 
 -- K, p and q, the first superblocks, and a class: how many of heap 1's move, and the owners then
 pub record MoveCase : Type 0 where

@@ -33,7 +33,7 @@ unfolding mustMove blocksIn superblocksKept liveKept
 must-move-from-totals h c s n r lh lc kept p g = rw (← p, ← superblocks-kept-are-counted s h c lh lc kept, ← live-kept-is-counted s h c lh lc kept) g
 
 -- a superblock replaced by one of heap 0 has passed on; past the table's end nothing does
-pub transferred-by-replacement : (k : ℕ) (s t : State) → t ≡ withSuperblock s k (record { owner = 0; class = superblockAt s k .class; live = superblockAt s k .live; rank = superblockAt s k .rank }) → t ≡ transferred k s
+pub transferred-by-replacement : (k : ℕ) (s t : State) → t ≡ withSuperblock s k (record { owner = 0; class = superblockAt s k .class; live = superblockAt s k .live; rank = superblockAt s k .rank; run = superblockAt s k .run }) → t ≡ transferred k s
 unfolding transferred
 transferred-by-replacement k s t e = e
 

@@ -23,7 +23,7 @@ order-pushed-by-steps s order left a filled j ef ej e = rw (← ef, ← ej) e
 -- the block's mark cleared
 module _ (s : State) (a j : ℕ) (ej : j ≡ blockOf s a) where
   pub mark-cleared-by-steps : (live : List ℕ) (t : State) → live ≡ withoutMark (superblockAt s (a / 4096) .live) j
-      → t ≡ withSuperblock s (a / 4096) (record { owner = superblockAt s (a / 4096) .owner; class = superblockAt s (a / 4096) .class; live = live; rank = superblockAt s (a / 4096) .rank }) → t ≡ markCleared s a
+      → t ≡ withSuperblock s (a / 4096) (record { owner = superblockAt s (a / 4096) .owner; class = superblockAt s (a / 4096) .class; live = live; rank = superblockAt s (a / 4096) .rank; run = superblockAt s (a / 4096) .run }) → t ≡ markCleared s a
   unfolding markCleared
   mark-cleared-by-steps live t e f = rw (f, e, ej)
 

@@ -18,10 +18,10 @@ use Rattle.rowrules.proofs.RowCases.{CallCase, call-refused-case, row-after, co
 
 -- superblock 0 with its first 2048 bytes live, and then, freed into, with nothing live
 abbrev pub first-block-live : Superblock
-first-block-live = record { owner = 2; class = 26; live = 1 ∷ 0 ∷ 0 ∷ 0 ∷ []; rank = 0 }
+first-block-live = record { owner = 2; class = 26; live = 1 ∷ 0 ∷ 0 ∷ 0 ∷ []; rank = 0; run = 0 }
 
 abbrev pub no-block-live : Superblock
-no-block-live = record { owner = 2; class = 26; live = 0 ∷ 0 ∷ 0 ∷ 0 ∷ []; rank = 1 }
+no-block-live = record { owner = 2; class = 26; live = 0 ∷ 0 ∷ 0 ∷ 0 ∷ []; rank = 1; run = 0 }
 
 -- the totals with superblock 0 in use: heap 2 and class 26 have one superblock and so many live blocks
 abbrev pub totals-with-live : ℕ → Totals

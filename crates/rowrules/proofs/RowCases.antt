@@ -56,13 +56,13 @@ control-with-p-equal-q = control-with setup-with-p-equal-q name-6-held example-t
 
 -- an unused superblock, the same with a rank, and a record that no check passes
 abbrev pub unused-superblock : Superblock
-unused-superblock = record { owner = 255; class = 0; live = 0 ∷ 0 ∷ 0 ∷ 0 ∷ []; rank = 0 }
+unused-superblock = record { owner = 255; class = 0; live = 0 ∷ 0 ∷ 0 ∷ 0 ∷ []; rank = 0; run = 0 }
 
 abbrev pub ranked-superblock : Superblock
-ranked-superblock = record { owner = 255; class = 0; live = 0 ∷ 0 ∷ 0 ∷ 0 ∷ []; rank = 16 }
+ranked-superblock = record { owner = 255; class = 0; live = 0 ∷ 0 ∷ 0 ∷ 0 ∷ []; rank = 16; run = 0 }
 
 abbrev pub invalid-superblock : Superblock
-invalid-superblock = record { owner = 99; class = 33; live = 11 ∷ 12 ∷ 13 ∷ 14 ∷ []; rank = 15 }
+invalid-superblock = record { owner = 99; class = 33; live = 11 ∷ 12 ∷ 13 ∷ 14 ∷ []; rank = 15; run = 0 }
 
 -- storage in which something stands: two places more than are needed, and one too few
 abbrev pub storage-of-258 : List ℕ

@@ -14,7 +14,7 @@ use Rattle.formrules.specs.Form.{setupIn, superblockIn, namesIn, totalsIn, stat
 use Rattle.laws.proofs.ListedLaws.{listed-end}
 
 -- past the end a superblock reads as zeros, so that a position clamped to the end has the same one
-superblock-in-past-end : (b : List ℕ) (j : ℕ) → length b ≤ j → record { owner = 0; class = 0; live = 0 ∷ 0 ∷ 0 ∷ 0 ∷ []; rank = 0 } ≡ superblockIn b j
+superblock-in-past-end : (b : List ℕ) (j : ℕ) → length b ≤ j → record { owner = 0; class = 0; live = 0 ∷ 0 ∷ 0 ∷ 0 ∷ []; rank = 0; run = 0 } ≡ superblockIn b j
 unfolding superblockIn
 superblock-in-past-end b j past =
     rw (← byte-at-past-end b j past, ← byte-at-past-end b (j + 1) (omega arith), ← eight-at-past-end b (j + 2) (omega arith), ← eight-at-past-end b (j + 10) (omega arith), ← eight-at-past-end b (j + 18) (omega arith), ← eight-at-past-end b (j + 26) (omega arith), ← byte-at-past-end b (j + 34) (omega arith))
