@@ -5,6 +5,7 @@ pub mod TotalsLaws
 pub mod StateCheckLaws
 pub mod MoveLaws
 pub mod ShapeLaws
+pub mod RunsKeptLaws
 pub mod CheckReadsLaws
 pub mod RerankedLaws
 pub mod Pigeonhole
