@@ -24,7 +24,7 @@ take-printed : takeLine 1 2048 (Address 4096) ≡ letters "take 1 2048 at 4096\n
 unfolding lineDefinitions
 take-printed = refl
 
-refused-take-printed : takeLine 1 2049 (Refused 3) ≡ letters "take 1 2049 refused 3\n"
+refused-take-printed : takeLine 1 2049 (Refused 17) ≡ letters "take 1 2049 refused 17\n"
 unfolding lineDefinitions
 refused-take-printed = refl
 
