@@ -1,4 +1,5 @@
 pub mod StateFacts
+pub mod RunLaws
 pub mod ChoiceLaws
 pub mod CountLaws
 pub mod TotalsLaws
