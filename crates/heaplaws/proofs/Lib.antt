@@ -4,6 +4,7 @@ pub mod ChoiceLaws
 pub mod CountLaws
 pub mod TotalsLaws
 pub mod StateCheckLaws
+pub mod RunChoiceLaws
 pub mod MoveLaws
 pub mod ShapeLaws
 pub mod CheckReadsLaws

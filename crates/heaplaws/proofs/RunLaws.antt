@@ -335,7 +335,8 @@ Outside k n m = (m < k) ⊎ (k + n ≤ m)
 abbrev pub SameOfRuns : State → State → ℕ → Type 0
 SameOfRuns s t m = (isOfRun (superblockAt t m) ≡ isOfRun (superblockAt s m)) × (superblockAt t m .run ≡ superblockAt s m .run)
 
-side-of-range : (k n m : ℕ) → Outside k n m ⊎ ((k ≤ m) × (m < k + n))
+-- each superblock lies outside of them or among them
+pub side-of-range : (k n m : ℕ) → Outside k n m ⊎ ((k ≤ m) × (m < k + n))
 side-of-range k n m = go (decLt m k) (decLt m (k + n))
   where
     go : Dec (m < k) → Dec (m < k + n) → Outside k n m ⊎ ((k ≤ m) × (m < k + n))
@@ -343,7 +344,7 @@ side-of-range k n m = go (decLt m k) (decLt m (k + n))
     go (no f) (yes l) = inr (le-of-not-below f, l)
     go (no f) (no g) = inl (inr (le-of-not-below g))
 
-outside-not-inside : (k n m : ℕ) → Outside k n m → k ≤ m → m < k + n → ⊥
+pub outside-not-inside : (k n m : ℕ) → Outside k n m → k ≤ m → m < k + n → ⊥
 outside-not-inside k n m (inl l) low high = omega arith
 outside-not-inside k n m (inr l) low high = omega arith
 
