@@ -1,7 +1,7 @@
 // The tests of one superblock, which the choices, the moves, the check of a state and the calls share. Each is total.
 ghost use mathlib.Core.Path.{_≡_};
 ghost use Prim.Native.Nat.{_≤_};
-ghost use Rattle.heap.specs.Table.{liveIn, isUnused};
+ghost use Rattle.heap.specs.Table.{liveIn, isUnused, startsRun};
 use heap::Superblock;
 
 // How many of its blocks are live.
@@ -20,4 +20,11 @@ pub fn is_unused(b: Superblock) -> bool
         return b.class == 0 && live_in(b) == 0;
     }
     false
+}
+
+// The first superblock of a long block's run, which carries the run's length.
+pub fn starts_run(b: Superblock) -> bool
+    ensures { λ r. ⌜ r ≡ startsRun b ⌝ }
+{
+    b.owner == 254 && 0 < b.run
 }
