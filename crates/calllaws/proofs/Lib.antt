@@ -1,4 +1,5 @@
 pub mod CallEffects
+pub mod EachOfRunLaws
 pub mod CheckedLaws
 pub mod NamesKeptLaws
 pub mod SetupLaws
