@@ -13,7 +13,7 @@ use Rattle.laws.proofs.SumLaws.{all-at}
 use Rattle.classes.specs.Classes.{counts, blocksOf}
 use Rattle.heap.specs.declared.Setup.{Setup}
 use Rattle.heap.specs.declared.State.{State}
-use Rattle.heap.specs.Table.{unused, isOfHeap}
+use Rattle.heap.specs.Table.{unused, isOfHeap, runPart}
 use Rattle.heap.specs.Counts.{total, isOwnedOfClass, superblocksOfClass, ownersChanged, passedBetweenHeaps}
 use Rattle.heap.proofs.CaseStates.{unnamedState}
 use Rattle.heap.proofs.TableCases.{of}
@@ -73,6 +73,14 @@ pub ledger-after-drop-cases :
     ≡ (entry 4096 1100 unnamed ∷ []) ∷ (entry 768 384 (named 7) ∷ entry 9472 1280 (named 9) ∷ []) ∷ three-entries ∷ three-entries ∷ []
 unfolding ledgerDefinitions
 ledger-after-drop-cases = refl
+
+-- a long block stands in the ledger as any other, and counts in no class: not in 0, which its superblocks' field has, and not in 26 (document 02, item 7)
+pub long-entry-cases :
+    ledgerAfter three-entries (Take 2 2049) (Address 16384) ≡ entry 16384 2049 unnamed ∷ three-entries
+    × map (λ (c : ℕ). entriesOf c (entry 16384 2049 unnamed ∷ entry 20480 65535 (named 3) ∷ [])) (0 ∷ 26 ∷ 27 ∷ []) ≡ 0 ∷ 0 ∷ 2 ∷ []
+    × ledgerAfter (entry 16384 2049 unnamed ∷ three-entries) (Free 1 16384) (Moves 0) ≡ three-entries
+unfolding ledgerDefinitions
+long-entry-cases = (refl, refl, refl)
 
 -- M goes up with the live blocks of its class, and does not come down
 pub peak-with-cases : peakWith (λ c. 1) three-entries 23 ∷ peakWith (λ c. 5) three-entries 23 ∷ peakWith (λ c. c) three-entries 16 ∷ peakWith (λ c. 0) three-entries 17 ∷ [] ≡ 2 ∷ 5 ∷ 16 ∷ 0 ∷ []
@@ -165,6 +173,18 @@ pub drop-owner-changes-fail :
 unfolding OwnerChanges
 drop-owner-changes-fail = (λ k. not-le-by-test (k .0) refl, λ k. let z = k .1 4 refl in omega arith, λ k. let z = k .1 6 refl in omega arith, λ k. let z = k .2 7 refl in omega arith)
 
+-- those that pass between heaps count, and not all whose owners change: a free of a run of three changes three owners, and may report none of them, nor one; a
+-- refused one may change no owner, though none passes between heaps (document 02, item 7)
+pub run-counted-in-moves-fails :
+    (OwnerChanges 7 3 0 (Free 2 4096) (Moves 3) → ⊥) × (OwnerChanges 7 3 0 (Free 2 4096) (Moves 1) → ⊥) × (OwnerChanges 7 3 0 (NamedFree 2 5) (Moves 3) → ⊥) × (OwnerChanges 7 4 1 (Drop 2 (9 ∷ 4096 ∷ [])) (Moves 4) → ⊥)
+unfolding OwnerChanges
+run-counted-in-moves-fails = (λ k. let z = k .1 3 refl in omega arith, λ k. let z = k .1 1 refl in omega arith, λ k. let z = k .1 3 refl in omega arith, λ k. let z = k .1 4 refl in omega arith)
+
+pub refused-call-with-run-changed-fails :
+    (OwnerChanges 7 3 0 (Free 2 4096) (Refused 6) → ⊥) × (OwnerChanges 7 3 0 (Take 2 9000) (Refused 17) → ⊥) × (OwnerChanges 7 3 0 (NamedTake 2 5 9000) (Refused 17) → ⊥) × (OwnerChanges 7 3 0 (Drop 2 (9 ∷ 4096 ∷ [])) (Refused 6) → ⊥)
+unfolding OwnerChanges
+refused-call-with-run-changed-fails = (λ k. let z = k .2 6 refl in omega arith, λ k. let z = k 17 refl in omega arith, λ k. let z = k 17 refl in omega arith, λ k. let z = k .2 6 refl in omega arith)
+
 -- ---- lists of calls
 abbrev pub after-with : Outcome → State → After
 after-with outcome s = record { answer = record { outcome = outcome; state = s }; order = [] }
@@ -208,6 +228,17 @@ pub claim-fails-of-refused-free-move : Claims u (after-with Ready (all-in-heap-2
 unfolding Claims OwnerChanges ownersChanged passedBetweenHeaps isOfHeap sumBelow
 claim-fails-of-refused-free-move k = let z = k .1 .2 6 refl in omega arith
 
+-- a run of three is freed: a free that reports its superblocks, or one of them, fails the claim
+abbrev pub run-in-state : State
+run-in-state = unnamedState u (of 2 24 1 ∷ runPart 3 ∷ runPart 0 ∷ runPart 0 ∷ replicate 60 unused)
+
+abbrev pub run-freed-state : State
+run-freed-state = unnamedState u (of 2 24 1 ∷ replicate 63 unused)
+
+pub claim-fails-of-run-reported : (m : ℕ) → 0 < m → Claims u (after-with Ready run-in-state) [] (λ c. 0) (step-with (Free 1 4096) (Moves m) run-freed-state ∷ []) → ⊥
+unfolding Claims OwnerChanges passedBetweenHeaps isOfHeap sumBelow
+claim-fails-of-run-reported m l k = let z = k .1 .1 m refl in omega arith
+
 -- "Each gets the state that the one before it returned and the storage as that one left it": here a state whose numbers fail the check, so that each call
 -- is refused with 13; no call of the list may leave another state, storage or outcome
 abbrev pub state-out-of-limits : State
@@ -245,10 +276,21 @@ pub fourteen-owner-changes-of-drop-hold : OwnerChanges 7 14 14 (Drop 2 (9 ∷ 25
 unfolding OwnerChanges
 fourteen-owner-changes-of-drop-hold = (omega arith, λ m e. Moves-injective e, λ r e. absurd (Moves-not-Refused e))
 
+-- frees of runs, by address, by name and in a drop: more than q owners change, none or two superblocks pass between heaps, and so many are reported
+pub free-of-run-holds : OwnerChanges 7 16 0 (Free 2 4096) (Moves 0) × OwnerChanges 7 16 0 (NamedFree 2 5) (Moves 0) × OwnerChanges 7 18 2 (Drop 2 (9 ∷ 4096 ∷ [])) (Moves 2)
+unfolding OwnerChanges
+free-of-run-holds =
+    ((omega arith, λ m e. Moves-injective e, λ r e. absurd (Moves-not-Refused e)), (omega arith, λ m e. Moves-injective e, λ r e. absurd (Moves-not-Refused e)), (omega arith, λ m e. Moves-injective e, λ r e. absurd (Moves-not-Refused e)))
+
 -- refused calls that changed none
 pub refused-without-owner-change-holds : OwnerChanges 7 0 0 (Free 2 9) (Refused 5) × OwnerChanges 7 0 0 (Take 2 9) (Refused 4)
 unfolding OwnerChanges
 refused-without-owner-change-holds = ((omega arith, λ m e. absurd (Refused-not-Moves e), λ r e. refl), λ r e. refl)
+
+-- with nothing live, and the spare superblocks all in use, ten long blocks of class field 0 beside them: they are of no class
+pub bound-holds-beside-runs : Bounded u (unnamedState u (replicate 10 (of 0 0 0) ++ replicate 10 (runPart 1) ++ replicate 44 unused)) (λ c. 0)
+unfolding Bounded superblocksOfClass total isOwnedOfClass isOfHeap sumBelow allBelow blocksOf counts
+bound-holds-beside-runs = each-class-le-by-test _ _ refl
 
 -- a take that makes a twelfth block live, and so comes to seventeen superblocks; when that block is freed M is 12 still
 pub claim-holds-of-take-and-free : Claims u (after-with Ready (state-of-class 23 5)) eleven-entries (λ c. 11) take-and-free
@@ -262,6 +304,11 @@ claim-holds-of-take-and-free = (each-class-le-by-test _ _ refl, λ r e. absurd (
 pub claim-holds-of-seven-moves : Claims u (after-with Ready (all-in-heap-2 7)) [] (λ c. 0) (step-with (Free 1 16) (Moves 7) (all-in-heap-0 7) ∷ [])
 unfolding Claims OwnerChanges Bounded ownersChanged passedBetweenHeaps superblocksOfClass total isOwnedOfClass isOfHeap sumBelow allBelow blocksOf counts ledgerDefinitions
 claim-holds-of-seven-moves = (each-class-le-by-test _ _ refl, (omega arith, λ m e. Moves-injective e, λ r e. absurd (Moves-not-Refused e)), each-class-le-by-test _ _ refl)
+
+-- the free of the run that reports none
+pub claim-holds-of-run-freed : Claims u (after-with Ready run-in-state) [] (λ c. 0) (step-with (Free 1 4096) (Moves 0) run-freed-state ∷ [])
+unfolding Claims OwnerChanges Bounded ownersChanged passedBetweenHeaps superblocksOfClass total isOwnedOfClass isOfHeap sumBelow allBelow blocksOf counts ledgerDefinitions
+claim-holds-of-run-freed = (each-class-le-by-test _ _ refl, (omega arith, λ m e. Moves-injective e, λ r e. absurd (Moves-not-Refused e)), each-class-le-by-test _ _ refl)
 
 -- two calls, each refused with 13
 pub linked-holds-of-refused-calls : Linked (after-refused-13 (4 ∷ [])) (record { call = Take 1 16; after = after-refused-13 (4 ∷ []) } ∷ record { call = Take 2 9; after = after-refused-13 (4 ∷ []) } ∷ [])
