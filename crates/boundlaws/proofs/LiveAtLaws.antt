@@ -1,10 +1,10 @@
--- The live blocks of a state by address and class, and what one block more or less does to them. Assumes nothing.
-use mathlib.Core.Path.{_≡_, refl, sym, ap, ap₂, _∙_}
+-- The live blocks of a state by address and class, long blocks among them, and what one block more or less does to them. Assumes nothing.
+use mathlib.Core.Path.{_≡_, refl, sym, ap, ap₂, _∙_, subst}
 use mathlib.Core.Bool.{Bool, true, false, not}
 use mathlib.Core.Logic.{_⊎_, inl, inr}
 use Prim.Native.Nat.{ℕ, suc, _+_, _*_, _/_, _%_, _≤_, _<_}
 use native.Mathlib.Nat.{div-lt-iff-lt-mul, mul-le-mul-left}
-use native.Mathlib.Decide.{ℕ-discrete}
+use native.Mathlib.Decide.{ℕ-discrete, decLt}
 use native.Mathlib.Omega.{arith}
 use borrow.Author.Tests.{eq-eqb, ne-eqb, eqb-true, lt-ltb, ltb-true}
 use lib.ListN.{getD-replicate}
@@ -19,12 +19,15 @@ use Rattle.marklaws.proofs.MarkLaws.{marks-clear-of-live-count-zero}
 use Rattle.heap.specs.declared.Superblock.{Superblock}
 use Rattle.heap.specs.declared.State.{State}
 use Rattle.heap.specs.declared.Setup.{Setup}
-use Rattle.heap.specs.Table.{blank, unused, superblockAt, liveIn}
+use Rattle.heap.specs.Table.{blank, unused, superblockAt, liveIn, isOfRun, startsRun, isOfHeap}
 use Rattle.heap.specs.States.{newState}
 use Rattle.heap.specs.Counts.{isOwnedOfClass, liveOfClass}
+use Rattle.heaplaws.proofs.StateFacts.{RunsKept}
+use Rattle.heaplaws.proofs.RunsKeptLaws.{starts-run-same}
 use Rattle.calls.specs.Take.{addressOf}
 use Rattle.calllaws.proofs.CallEffects.{TakeEffect, FreeEffect}
 use Rattle.calllaws.proofs.AddressLaws.{address-superblock, address-offset}
+use Rattle.calllaws.proofs.SuperblockLaws.{owned-of-class-true, owned-of-class-false, unowned-of-no-class}
 
 -- 1 where a heap owns the superblock for class c and its block j is live, else 0
 unfoldable pub liveFor : ℕ → Superblock → ℕ → ℕ
@@ -39,27 +42,20 @@ liveAt s a c =
 
 -- ---- one superblock
 module _ (c : ℕ) (b : Superblock) where
-  owned-of-class-true : (b .owner ≡ 255 → ⊥) → b .class ≡ c → isOwnedOfClass c b ≡ true
-  unfolding isOwnedOfClass
-  owned-of-class-true f e = ap₂ (λ (x y : Bool). both (not x) y) (ne-eqb (b .owner) 255 f) (eq-eqb (b .class) c e)
-
-  owned-of-class-false : (b .class ≡ c → ⊥) → isOwnedOfClass c b ≡ false
-  unfolding isOwnedOfClass
-  owned-of-class-false f = ap (both (not (eqb (b .owner) 255))) (ne-eqb (b .class) c f) ∙ both-false (not (eqb (b .owner) 255))
-    where
-      both-false : (t : Bool) → both t false ≡ false
-      both-false true = refl
-      both-false false = refl
-
-  pub live-for-owned : (j : ℕ) → (b .owner ≡ 255 → ⊥) → b .class ≡ c → liveFor c b j ≡ markBit (b .live) j
+  pub live-for-owned : (j : ℕ) → b .owner < 254 → b .class ≡ c → liveFor c b j ≡ markBit (b .live) j
   unfolding liveFor
-  live-for-owned j f e = rw (owned-of-class-true f e)
+  live-for-owned j l e = rw (owned-of-class-true c b l e)
 
   live-for-other : (j : ℕ) → (b .class ≡ c → ⊥) → liveFor c b j ≡ 0
   unfolding liveFor
-  live-for-other j f = rw (owned-of-class-false f)
+  live-for-other j f = rw (owned-of-class-false c b f)
 
-  live-for-clear : (j : ℕ) → markBit (b .live) j ≡ 0 → liveFor c b j ≡ 0
+  -- no heap owns it: nothing in it is of a class
+  pub live-for-unowned : (j : ℕ) → 254 ≤ b .owner → liveFor c b j ≡ 0
+  unfolding liveFor
+  live-for-unowned j l = rw (unowned-of-no-class c b l)
+
+  pub live-for-clear : (j : ℕ) → markBit (b .live) j ≡ 0 → liveFor c b j ≡ 0
   unfolding liveFor
   live-for-clear j e = rw e (same (isOwnedOfClass c b))
     where
@@ -160,30 +156,30 @@ live-of-class-one-more c s t here others d = go (ℕ-discrete d c)
     go (yes e) = rw e (let z : one (eqb c c) ≡ 1 = one-of-equal c in omega arith)
     go (no f) = let x = others d f in let z : one (eqb c d) ≡ 0 = one-of-different c d (λ q. f (sym q)) in omega arith
 
-module _ (i c k j : ℕ) (s t : State) (below : k < 64) (owner : i ≡ 255 → ⊥) (e : TakeEffect i c k j s t) where
+module _ (i c k j : ℕ) (s t : State) (below : k < 64) (owner : i < 254) (e : TakeEffect i c k j s t) where
   -- the marks that superblock k had were of class c
   live-for-other-class-before-take : (d b : ℕ) → b < 256 → (d ≡ c → ⊥) → liveFor d (superblockAt s k) b ≡ 0
   live-for-other-class-before-take d b l f = go (e .before)
     where
-      go : (liveIn (superblockAt s k) ≡ 0) ⊎ ((superblockAt s k .class ≡ c) × (superblockAt s k .owner ≡ 255 → ⊥)) → liveFor d (superblockAt s k) b ≡ 0
+      go : (liveIn (superblockAt s k) ≡ 0) ⊎ ((superblockAt s k .class ≡ c) × (superblockAt s k .owner < 254)) → liveFor d (superblockAt s k) b ≡ 0
       go (inl z) = live-for-clear d (superblockAt s k) b (marks-clear-of-live-count-zero (superblockAt s k .live) z b l)
       go (inr h) = live-for-other d (superblockAt s k) b (λ q. f (sym q ∙ h .0))
 
   live-for-before-take : (b : ℕ) → b < 256 → liveFor c (superblockAt s k) b ≡ markBit (superblockAt s k .live) b
   live-for-before-take b l = go (e .before)
     where
-      go : (liveIn (superblockAt s k) ≡ 0) ⊎ ((superblockAt s k .class ≡ c) × (superblockAt s k .owner ≡ 255 → ⊥)) → liveFor c (superblockAt s k) b ≡ markBit (superblockAt s k .live) b
+      go : (liveIn (superblockAt s k) ≡ 0) ⊎ ((superblockAt s k .class ≡ c) × (superblockAt s k .owner < 254)) → liveFor c (superblockAt s k) b ≡ markBit (superblockAt s k .live) b
       go (inl z) = let m = marks-clear-of-live-count-zero (superblockAt s k .live) z b l in live-for-clear c (superblockAt s k) b m ∙ sym m
       go (inr h) = live-for-owned c (superblockAt s k) b (h .1) (h .0)
 
   live-for-after-take : (b : ℕ) → liveFor c (superblockAt t k) b ≡ markBit (superblockAt t k .live) b
-  live-for-after-take b = live-for-owned c (superblockAt t k) b (λ q. owner (sym (e .owner) ∙ q)) (e .class)
+  live-for-after-take b = live-for-owned c (superblockAt t k) b (subst (λ (h : ℕ). h < 254) (sym (e .owner)) owner) (e .class)
 
   block-in : j < 256
   block-in = let b = blocks-of-le-256 c in let h = e .block in omega arith
 
   live-for-others-of-take : (d m b : ℕ) → b < 256 → ((d ≡ c) × (m ≡ k) × (b ≡ j) → ⊥) → liveFor d (superblockAt t m) b ≡ liveFor d (superblockAt s m) b
-  unfolding liveFor isOwnedOfClass
+  unfolding liveFor isOwnedOfClass isOfHeap
   live-for-others-of-take d m b l f = go (ℕ-discrete m k) (ℕ-discrete d c)
     where
       go : Dec (m ≡ k) → Dec (d ≡ c) → liveFor d (superblockAt t m) b ≡ liveFor d (superblockAt s m) b
@@ -211,13 +207,13 @@ module _ (c k j moves : ℕ) (s t : State) (below : k < 64) (e : FreeEffect c k 
 
   -- a superblock that a heap owns is still owned, by heap 0 where it has moved
   still-owned : (d m : ℕ) → m < 64 → isOwnedOfClass d (superblockAt t m) ≡ isOwnedOfClass d (superblockAt s m)
-  unfolding isOwnedOfClass
-  still-owned d m l = ap₂ (λ (x y : Bool). both (not x) y) (go (e .owners m l)) (ap (λ (x : ℕ). eqb x d) (e .classes m l))
+  unfolding isOwnedOfClass isOfHeap
+  still-owned d m l = ap₂ both (go (e .owners m l)) (ap (λ (x : ℕ). eqb x d) (e .classes m l))
     where
       go : (superblockAt t m .owner ≡ superblockAt s m .owner) ⊎ ((superblockAt s m .owner ≡ superblockAt s k .owner) × (superblockAt t m .owner ≡ 0))
-          → eqb (superblockAt t m .owner) 255 ≡ eqb (superblockAt s m .owner) 255
-      go (inl q) = ap (λ (x : ℕ). eqb x 255) q
-      go (inr h) = ap (λ (x : ℕ). eqb x 255) (h .1) ∙ sym (ne-eqb (superblockAt s m .owner) 255 (λ q. e .owned-before (sym (h .0) ∙ q)))
+          → ltb (superblockAt t m .owner) 254 ≡ ltb (superblockAt s m .owner) 254
+      go (inl q) = ap (λ (x : ℕ). ltb x 254) q
+      go (inr h) = ap (λ (x : ℕ). ltb x 254) (h .1) ∙ sym (lt-ltb (superblockAt s m .owner) 254 (subst (λ (x : ℕ). x < 254) (sym (h .0)) (e .owned-before)))
 
   live-for-others-of-free : (d m b : ℕ) → m < 64 → b < 256 → ((d ≡ c) × (m ≡ k) × (b ≡ j) → ⊥) → liveFor d (superblockAt s m) b ≡ liveFor d (superblockAt t m) b
   unfolding liveFor
@@ -250,7 +246,7 @@ module _ (c k j moves : ℕ) (s t : State) (below : k < 64) (e : FreeEffect c k 
 
 -- ---- nothing is live in a new state
 live-for-unused : (c j : ℕ) → liveFor c unused j ≡ 0
-unfolding liveFor isOwnedOfClass
+unfolding liveFor isOwnedOfClass isOfHeap
 live-for-unused c j = refl
 
 pub live-at-of-new-state : (u : Setup) (a c : ℕ) → liveAt (newState u) a c ≡ 0
@@ -261,3 +257,59 @@ live-at-of-new-state u a c = go (ltb (a / 4096) 64) (eqb (a % 4096 % sizeOf c) 0
     go true true e = ap (λ (b : Superblock). liveFor c b (a % 4096 / sizeOf c)) (getD-replicate 64 (a / 4096) unused blank (ltb-true (a / 4096) 64 e)) ∙ live-for-unused c (a % 4096 / sizeOf c)
     go true false e = refl
     go false y e = refl
+
+-- ---- long blocks
+-- 1 where a long block starts at address a, else 0
+unfoldable pub longAt : State → ℕ → ℕ
+longAt s a = pick (ltb (a / 4096) 64) (one (both (startsRun (superblockAt s (a / 4096))) (eqb (a % 4096) 0))) 0
+
+-- it goes only by which superblocks are the first of a run
+pub long-at-same : (s t : State) (a : ℕ) → (a / 4096 < 64 → startsRun (superblockAt t (a / 4096)) ≡ startsRun (superblockAt s (a / 4096))) → longAt t a ≡ longAt s a
+unfolding longAt
+long-at-same s t a same = go (ltb (a / 4096) 64) refl
+  where
+    go : (x : Bool) → ltb (a / 4096) 64 ≡ x → pick x (one (both (startsRun (superblockAt t (a / 4096))) (eqb (a % 4096) 0))) 0 ≡ pick x (one (both (startsRun (superblockAt s (a / 4096))) (eqb (a % 4096) 0))) 0
+    go true e = rw (same (ltb-true (a / 4096) 64 e))
+    go false e = refl
+
+pub long-at-of-kept : (s t : State) → RunsKept s t → (a : ℕ) → longAt t a ≡ longAt s a
+long-at-of-kept s t kept a = long-at-same s t a (λ l. starts-run-same (superblockAt t (a / 4096)) (superblockAt s (a / 4096)) (kept (a / 4096) l .0) (kept (a / 4096) l .1))
+
+-- 1 at the start of a run, and 0 where the superblock is the first of none
+pub long-at-start : (s : State) (k : ℕ) → k < 64 → startsRun (superblockAt s k) ≡ true → longAt s (k * 4096) ≡ 1
+unfolding longAt
+long-at-start s k l e =
+    let x : k * 4096 / 4096 ≡ k = omega arith in
+    let y : k * 4096 % 4096 ≡ 0 = omega arith in
+    rw (x, y, lt-ltb k 64 l, e)
+
+pub long-at-none : (s : State) (a : ℕ) → startsRun (superblockAt s (a / 4096)) ≡ false → longAt s a ≡ 0
+unfolding longAt
+long-at-none s a e = rw e (go (ltb (a / 4096) 64))
+  where
+    go : (x : Bool) → pick {A = ℕ} x 0 0 ≡ 0
+    go true = refl
+    go false = refl
+
+-- at no other address of a superblock
+pub long-at-inside : (s : State) (a : ℕ) → (a % 4096 ≡ 0 → ⊥) → longAt s a ≡ 0
+unfolding longAt
+long-at-inside s a f = rw (ne-eqb (a % 4096) 0 f) (go (ltb (a / 4096) 64) (startsRun (superblockAt s (a / 4096))))
+  where
+    go : (x y : Bool) → pick x (one (both y false)) 0 ≡ 0
+    go true true = refl
+    go true false = refl
+    go false y = refl
+
+pub long-at-of-new-state : (u : Setup) (a : ℕ) → longAt (newState u) a ≡ 0
+unfolding startsRun isOfRun
+long-at-of-new-state u a = go (decLt (a / 4096) 64)
+  where
+    go : Dec (a / 4096 < 64) → longAt (newState u) a ≡ 0
+    go (yes l) = long-at-none (newState u) a (ap startsRun (getD-replicate 64 (a / 4096) unused blank l))
+    go (no f) = past (ltb (a / 4096) 64) refl
+      where
+        past : (x : Bool) → ltb (a / 4096) 64 ≡ x → longAt (newState u) a ≡ 0
+        unfolding longAt
+        past true e = absurd (f (ltb-true (a / 4096) 64 e))
+        past false e = rw e

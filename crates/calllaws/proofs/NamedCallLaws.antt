@@ -69,24 +69,28 @@ module _ (s : State) (order : List ℕ) (i m : ℕ) where
   unfolding namedTakeUnchecked
   named-take-is-plain-take size passed p u = named-take-is-unchecked size passed ∙ rw (p, u) (ap (withNameBound m) (sym (take-is-unchecked s order i passed size)))
 
-  -- a named take is refused and changes nothing, or is accepted
-  pub named-take-refused-or-accepted : (size : ℕ) → ((r : ℕ) × (namedTakeOf s order i m size ≡ refused r s order)) ⊎ ((k : ℕ) × NamedTakeAccepted s order i m size k)
+  -- a named take is refused and changes nothing, or is accepted, for a block of a class or a long block
+  abbrev NamedTakeCases : ℕ → Type 0
+  NamedTakeCases size = ((r : ℕ) × (namedTakeOf s order i m size ≡ refused r s order)) ⊎ (((k : ℕ) × NamedTakeAccepted s order i m size k) ⊎ ((k : ℕ) × NamedLongTakeAccepted s order i m size k))
+
+  pub named-take-refused-or-accepted : (size : ℕ) → NamedTakeCases size
   unfolding namedTakeOf namedTakeUnchecked
   named-take-refused-or-accepted size = by-check (checked-refused-or-passed s order (namedTakeUnchecked s order i m size))
     where
-      by-plain : isUnavailable s m ≡ false → namedTakeOf s order i m size ≡ withNameBound m (takeOf s order i size) → ((r : ℕ) × (takeOf s order i size ≡ refused r s order)) ⊎ ((k : ℕ) × TakeAccepted s order i size k)
-          → ((r : ℕ) × (namedTakeOf s order i m size ≡ refused r s order)) ⊎ ((k : ℕ) × NamedTakeAccepted s order i m size k)
+      by-plain : isUnavailable s m ≡ false → namedTakeOf s order i m size ≡ withNameBound m (takeOf s order i size) → ((r : ℕ) × (takeOf s order i size ≡ refused r s order)) ⊎ (((k : ℕ) × TakeAccepted s order i size k) ⊎ ((k : ℕ) × LongTakeAccepted s order i size k))
+          → NamedTakeCases size
       by-plain u e (inl (r, f)) = inl (r, e ∙ ap (withNameBound m) f ∙ name-bound-of-refused r m s order)
-      by-plain u e (inr (k, acc)) = inr (k, record { taken = acc; available = u; result-is = e })
+      by-plain u e (inr (inl (k, acc))) = inr (inl (k, record { taken = acc; available = u; result-is = e }))
+      by-plain u e (inr (inr (k, acc))) = inr (inr (k, record { taken = acc; available = u; result-is = e }))
 
       by-tests : (p u : Bool) → isProcessor s i ≡ p → isUnavailable s m ≡ u → Passed s order → namedTakeOf s order i m size ≡ namedTakeByTests p u (takeUnchecked s order i size)
-          → ((r : ℕ) × (namedTakeOf s order i m size ≡ refused r s order)) ⊎ ((k : ℕ) × NamedTakeAccepted s order i m size k)
+          → NamedTakeCases size
       by-tests false u ep eu passed e = inl (2, e)
       by-tests true true ep eu passed e = inl (14, e)
       by-tests true false ep eu passed e = by-plain eu (named-take-is-plain-take size passed ep eu) (take-refused-or-accepted s order i size)
 
       by-check : ((r : ℕ) × (namedTakeOf s order i m size ≡ refused r s order)) ⊎ (Passed s order × (namedTakeOf s order i m size ≡ namedTakeUnchecked s order i m size))
-          → ((r : ℕ) × (namedTakeOf s order i m size ≡ refused r s order)) ⊎ ((k : ℕ) × NamedTakeAccepted s order i m size k)
+          → NamedTakeCases size
       by-check (inl r) = inl r
       by-check (inr (passed, e)) = by-tests (isProcessor s i) (isUnavailable s m) refl refl passed e
 
@@ -103,6 +107,8 @@ take-effect-with-names i c k j s t names e =
       owner = e .owner;
       class = e .class;
       before = e .before;
+      outside-run = e .outside-run;
+      runs = e .runs;
       not-marked = e .not-marked;
       is-marked = e .is-marked;
       marks = e .marks;
@@ -174,9 +180,10 @@ module _ (s : State) (order : List ℕ) (i m size k : ℕ) (shape : Shape s) (ac
       (let passed = take-passed s order i size k shape (acc .taken) in
       record {
         sound = sound-with-names (plain .answer .state) (withName (s .names) m (blockNumber k named-taken-block)) (plain .order) (passed .sound);
-        names = names-valid-after-named-take i (classOf size) k named-taken-block s (plain .answer .state) block effect m below (take-names s order i size k shape (acc .taken)) (acc .taken .passed .names);
+        names = names-valid-after-named-take i (classOf size) k named-taken-block s (plain .answer .state) block (shape .length-is) effect m below (take-names s order i size k shape (acc .taken)) (acc .taken .passed .names);
         totals = passed .totals;
         ranks = ranks-sound-of-same-ranks (plain .answer .state) (withNames (plain .answer .state) (withName (s .names) m (blockNumber k named-taken-block))) (λ j l. refl) (λ j l u. u) (passed .ranks);
+        runs = passed .runs;
         room = passed .room;
       }))
 
@@ -188,6 +195,126 @@ module _ (s : State) (order : List ℕ) (i m size k : ℕ) (shape : Shape s) (ac
 
   pub named-take-keeps-other-names : (l : ℕ) → (l ≡ m → ⊥) → blockNamed (namedTakeOf s order i m size .answer .state .names) l ≡ blockNamed (s .names) l
   named-take-keeps-other-names l f = ap (λ (x : List ℕ). blockNamed x l) named-take-names ∙ block-named-with-other-name (s .names) m (blockNumber k named-taken-block) l f
+
+-- ---- a named take of a long block: the name points at block 0 of the run's first superblock
+-- the names are no part of its effect
+long-take-effect-with-names : (k n : ℕ) (s t : State) (names : List ℕ) → LongTakeEffect k n s t → LongTakeEffect k n s (withNames t names)
+unfolding superblocksOfClass liveOfClass
+long-take-effect-with-names k n s t names e =
+    record {
+      below = e .below;
+      some = e .some;
+      at-most-16 = e .at-most-16;
+      setup = e .setup;
+      available = e .available;
+      run = e .run;
+      others = e .others;
+      owned = e .owned;
+      live = e .live;
+    }
+
+module _ (s : State) (order : List ℕ) (i m size k : ℕ) (shape : Shape s) (acc : NamedLongTakeAccepted s order i m size k) where
+  abbrev plain : After
+  plain = takeOf s order i size
+
+  abbrev n : ℕ
+  n = runLength size
+
+  effect : LongTakeEffect k n s (plain .answer .state)
+  effect = long-take-effect s order i size k shape (acc .taken)
+
+  below : k < 64
+  below = omega (arith, effect .below, effect .some, acc .taken .passed .sound .numbers .superblocks-high)
+
+  first : superblockAt (plain .answer .state) k ≡ runPart n
+  first = effect .run k (le-refl k, omega (arith, effect .some)) ∙ ap runPart (pick-true (eqb k k) n 0 (eq-eqb k k refl))
+
+  -- its answer and its order places are the plain take's
+  pub named-long-take-outcome : namedTakeOf s order i m size .answer .outcome ≡ plain .answer .outcome
+  unfolding withNameBound
+  named-long-take-outcome = ap (λ (x : After). x .answer .outcome) (acc .result-is)
+
+  pub named-long-take-address : namedTakeOf s order i m size .answer .outcome ≡ Address (k * 4096)
+  named-long-take-address = named-long-take-outcome ∙ long-take-address s order i size k shape (acc .taken)
+
+  pub named-long-take-order : namedTakeOf s order i m size .order ≡ plain .order
+  unfolding withNameBound
+  named-long-take-order = ap (λ (x : After). x .order) (acc .result-is)
+
+  pub named-long-take-state : namedTakeOf s order i m size .answer .state ≡ withNames (plain .answer .state) (withName (s .names) m (blockNumber k 0))
+  unfolding withNameBound boundBy nameBound
+  named-long-take-state =
+      ap (λ (x : After). x .answer .state) (acc .result-is)
+      ∙ ap (λ (o : Outcome). boundBy o m (plain .answer .state)) (long-take-address s order i size k shape (acc .taken))
+      ∙ ap₂ (λ (names : List ℕ) (b : ℕ). withNames (plain .answer .state) (withName names m b)) (long-take-names s order i size k shape (acc .taken)) (start-block-number (plain .answer .state) k below (ap (λ (b : Superblock). b .class) first))
+
+  pub named-long-take-names : namedTakeOf s order i m size .answer .state .names ≡ withName (s .names) m (blockNumber k 0)
+  named-long-take-names = ap (λ (t : State). t .names) named-long-take-state
+
+  pub named-long-take-effect : LongTakeEffect k n s (namedTakeOf s order i m size .answer .state)
+  named-long-take-effect =
+      subst (LongTakeEffect k n s) (sym named-long-take-state) (long-take-effect-with-names k n s (plain .answer .state) (withName (s .names) m (blockNumber k 0)) effect)
+
+  pub named-long-take-ranks : RunUnranked k n s (namedTakeOf s order i m size .answer .state)
+  named-long-take-ranks =
+      subst (RunUnranked k n s) (sym named-long-take-state)
+      (let r = long-take-ranks s order i size k shape (acc .taken) in record { in-run = r .in-run; ranked-iff = r .ranked-iff; order-kept = r .order-kept })
+
+  pub named-long-take-shape : Shape (namedTakeOf s order i m size .answer .state)
+  named-long-take-shape =
+      subst Shape (sym named-long-take-state)
+      (shape-with-names (plain .answer .state) (withName (s .names) m (blockNumber k 0)) (long-take-shape s order i size k shape (acc .taken))
+      (length-with-name (s .names) m (blockNumber k 0) ∙ shape .names-length))
+
+  -- the long block was not live before, so that no name pointed at it, and is live now
+  start-not-live-before : T (isLiveBlock s (blockNumber k 0)) → ⊥
+  start-not-live-before live =
+      let x : blockNumber k 0 / 256 ≡ k = omega arith in
+      let y : blockNumber k 0 % 256 ≡ 0 = omega arith in
+      let one : markBit (liveBlocks (superblockAt s k)) 0 ≡ 1 = rw (x, y) at (mark-of-live-block s (blockNumber k 0) live) in
+      omega (arith, available-block-clear (superblockAt s k) 0 (omega arith) (effect .available k (le-refl k, omega (arith, effect .some))))
+
+  start-live-now : T (isLiveBlock (plain .answer .state) (blockNumber k 0))
+  unfolding liveBlocks startsRun isOfRun
+  start-live-now =
+      live-block-of-live-mark (plain .answer .state) k 0 (omega arith)
+      (ap (λ (b : Superblock). markBit (liveBlocks b) 0) first ∙ ap (λ (x : List ℕ). markBit x 0) (live-blocks-of-first (runPart n) (lt-ltb 0 n (omega (arith, effect .some)))) ∙ with-mark-same noMarks 0 refl (omega arith))
+
+  pub named-long-take-passed : Passed (namedTakeOf s order i m size .answer .state) (namedTakeOf s order i m size .order)
+  named-long-take-passed =
+      subst (λ (t : State). Passed t (namedTakeOf s order i m size .order)) (sym named-long-take-state)
+      (subst (λ (l : List ℕ). Passed (withNames (plain .answer .state) (withName (s .names) m (blockNumber k 0))) l) (sym named-long-take-order)
+      (let passed = long-take-passed s order i size k shape (acc .taken) in
+      record {
+        sound = sound-with-names (plain .answer .state) (withName (s .names) m (blockNumber k 0)) (plain .order) (passed .sound);
+        names = names-valid;
+        totals = passed .totals;
+        ranks = ranks-sound-of-same-ranks (plain .answer .state) (withNames (plain .answer .state) (withName (s .names) m (blockNumber k 0))) (λ j l. refl) (λ j l u. u) (passed .ranks);
+        runs = passed .runs;
+        room = passed .room;
+      }))
+    where
+      names-valid : T (namesValid (withNames (plain .answer .state) (withName (s .names) m (blockNumber k 0))))
+      unfolding namesValid isLiveBlock
+      names-valid =
+          let now : T (namesValid (plain .answer .state)) = long-take-passed s order i size k shape (acc .taken) .names in
+          let same = long-take-names s order i size k shape (acc .taken) in
+          let each : T (eachHeld (isLiveBlock (plain .answer .state)) (s .names)) = rw same at (both-left (eachHeld (isLiveBlock (plain .answer .state)) (plain .answer .state .names)) _ now) in
+          let valid = acc .taken .passed .names in
+          both-make (eachHeld (isLiveBlock (plain .answer .state)) (withName (s .names) m (blockNumber k 0))) _
+          (each-held-with-name (isLiveBlock (plain .answer .state)) (s .names) m (blockNumber k 0) start-live-now each)
+          (no-two-with-name (s .names) m (blockNumber k 0)
+          (λ named. start-not-live-before (test-of-named (isLiveBlock s) (s .names) (both-left (eachHeld (isLiveBlock s) (s .names)) _ valid) (blockNumber k 0) (λ (e : blockNumber k 0 ≡ notHeld). omega arith) named))
+          (both-right (eachHeld (isLiveBlock s) (s .names)) _ valid))
+
+  -- "A name holds from its take", and every other name points at what it did
+  pub named-long-take-binds-name : blockNamed (namedTakeOf s order i m size .answer .state .names) m ≡ blockNumber k 0
+  named-long-take-binds-name =
+      ap (λ (l : List ℕ). blockNamed l m) named-long-take-names
+      ∙ block-named-with-name (s .names) m (blockNumber k 0) (let l = facts-of-available s m (acc .available) .0 in let n = shape .names-length in omega arith)
+
+  pub named-long-take-keeps-other-names : (l : ℕ) → (l ≡ m → ⊥) → blockNamed (namedTakeOf s order i m size .answer .state .names) l ≡ blockNamed (s .names) l
+  named-long-take-keeps-other-names l f = ap (λ (x : List ℕ). blockNamed x l) named-long-take-names ∙ block-named-with-other-name (s .names) m (blockNumber k 0) l f
 
 -- ---- a named free
 module _ (s : State) (order : List ℕ) (i m : ℕ) where
@@ -203,24 +330,28 @@ module _ (s : State) (order : List ℕ) (i m : ℕ) where
   unfolding namedFreeUnchecked
   named-free-is-free-of-held-address passed p h = named-free-is-unchecked passed ∙ rw (p, h) (sym (free-is-unchecked s order i passed (heldAddress s m)))
 
-  -- a named free is refused and changes nothing, or is accepted
-  pub named-free-refused-or-accepted : ((r : ℕ) × (namedFreeOf s order i m ≡ refused r s order)) ⊎ NamedFreeAccepted s order i m
+  -- a named free is refused and changes nothing, or is accepted, of a block of a class or a long block
+  abbrev NamedFreeCases : Type 0
+  NamedFreeCases = ((r : ℕ) × (namedFreeOf s order i m ≡ refused r s order)) ⊎ (NamedFreeAccepted s order i m ⊎ NamedLongFreeAccepted s order i m)
+
+  pub named-free-refused-or-accepted : NamedFreeCases
   unfolding namedFreeOf namedFreeUnchecked
   named-free-refused-or-accepted = by-check (checked-refused-or-passed s order (namedFreeUnchecked s order i m))
     where
-      by-plain : isHeld (s .names) m ≡ true → namedFreeOf s order i m ≡ freeOf s order i (heldAddress s m) → ((r : ℕ) × (freeOf s order i (heldAddress s m) ≡ refused r s order)) ⊎ FreeAccepted s order i (heldAddress s m)
-          → ((r : ℕ) × (namedFreeOf s order i m ≡ refused r s order)) ⊎ NamedFreeAccepted s order i m
+      by-plain : isHeld (s .names) m ≡ true → namedFreeOf s order i m ≡ freeOf s order i (heldAddress s m) → ((r : ℕ) × (freeOf s order i (heldAddress s m) ≡ refused r s order)) ⊎ (FreeAccepted s order i (heldAddress s m) ⊎ LongFreeAccepted s order i (heldAddress s m))
+          → NamedFreeCases
       by-plain h e (inl (r, f)) = inl (r, e ∙ f)
-      by-plain h e (inr acc) = inr (record { held = T-of-true _ h; freed = acc; result-is = e })
+      by-plain h e (inr (inl acc)) = inr (inl (record { held = T-of-true _ h; freed = acc; result-is = e }))
+      by-plain h e (inr (inr acc)) = inr (inr (record { held = T-of-true _ h; freed = acc; result-is = e }))
 
       by-tests : (p h : Bool) → isProcessor s i ≡ p → isHeld (s .names) m ≡ h → Passed s order → namedFreeOf s order i m ≡ namedFreeByTests p h (freeUnchecked s order i (heldAddress s m))
-          → ((r : ℕ) × (namedFreeOf s order i m ≡ refused r s order)) ⊎ NamedFreeAccepted s order i m
+          → NamedFreeCases
       by-tests false h ep eh passed e = inl (2, e)
       by-tests true false ep eh passed e = inl (15, e)
       by-tests true true ep eh passed e = by-plain eh (named-free-is-free-of-held-address passed ep eh) (free-refused-or-accepted s order i (heldAddress s m))
 
       by-check : ((r : ℕ) × (namedFreeOf s order i m ≡ refused r s order)) ⊎ (Passed s order × (namedFreeOf s order i m ≡ namedFreeUnchecked s order i m))
-          → ((r : ℕ) × (namedFreeOf s order i m ≡ refused r s order)) ⊎ NamedFreeAccepted s order i m
+          → NamedFreeCases
       by-check (inl r) = inl r
       by-check (inr (passed, e)) = by-tests (isProcessor s i) (isHeld (s .names) m) refl refl passed e
 
@@ -231,6 +362,13 @@ module _ (s : State) (order : List ℕ) (i m : ℕ) (shape : Shape s) (acc : Nam
 
   pub named-free-passed : Passed (namedFreeOf s order i m .answer .state) (namedFreeOf s order i m .order)
   named-free-passed = rw (acc .result-is) (free-passed s order i (heldAddress s m) shape (acc .freed))
+
+module _ (s : State) (order : List ℕ) (i m : ℕ) (shape : Shape s) (acc : NamedLongFreeAccepted s order i m) where
+  pub named-long-free-shape : Shape (namedFreeOf s order i m .answer .state)
+  named-long-free-shape = rw (acc .result-is) (long-free-shape s order i (heldAddress s m) shape (acc .freed))
+
+  pub named-long-free-passed : Passed (namedFreeOf s order i m .answer .state) (namedFreeOf s order i m .order)
+  named-long-free-passed = rw (acc .result-is) (long-free-passed s order i (heldAddress s m) shape (acc .freed))
 
 -- ---- a held name in a state that passes: its block is live
 module _ (s : State) (order : List ℕ) (shape : Shape s) (passed : Passed s order) (m : ℕ) (held : T (isHeld (s .names) m)) where
@@ -243,31 +381,68 @@ module _ (s : State) (order : List ℕ) (shape : Shape s) (passed : Passed s ord
   abbrev j : ℕ
   j = number % 256
 
-  marked : markBit (superblockAt s k .live) j ≡ 1
-  marked = mark-of-live-block s number (names-sound-of-valid s (passed .names) .live m (held-facts (s .names) m held .1))
+  live-mark : markBit (liveBlocks (superblockAt s k)) j ≡ 1
+  live-mark = mark-of-live-block s number (names-sound-of-valid s (passed .names) .live m (held-facts (s .names) m held .1))
 
   in-table : k < 64
   in-table = live-block-in-table s number (shape .length-is) (names-sound-of-valid s (passed .names) .live m (held-facts (s .names) m held .1))
 
-  owned : superblockAt s k .owner ≡ 255 → ⊥
-  owned e = go (passed .sound .each k in-table)
-    where
-      go : Unused (superblockAt s k) ⊎ Owned (s .setup) order k (superblockAt s k) → ⊥
-      go (inl u) = omega (arith, marked, marks-clear-of-live-count-zero (superblockAt s k .live) (u .live) j (omega arith))
-      go (inr o) = omega (arith, o .owner, passed .sound .numbers .processors-high)
+  -- a superblock that no heap owns has no mark, at any block
+  unmarked-of-unowned : Unowned (superblockAt s k) → markBit (superblockAt s k .live) j ≡ 0
+  unmarked-of-unowned u = marks-clear-of-live-count-zero (superblockAt s k .live) (u .live) j (omega arith)
 
-  in-class : j < blocksOf (superblockAt s k .class)
-  in-class = go (decLt j (blocksOf (superblockAt s k .class)))
-    where
-      go : Dec (j < blocksOf (superblockAt s k .class)) → j < blocksOf (superblockAt s k .class)
-      go (yes l) = l
-      go (no f) =
-          let places = owned-of-owner s order (passed .sound) k in-table owned .places in
-          let clear = mark-clear-of-no-mark-from (superblockAt s k .live) (blocksOf (superblockAt s k .class)) (no-mark-from-of-places-valid order (superblockAt s k .live) k (blocksOf (superblockAt s k .class)) places) j (omega arith) (omega arith) in
-          absurd (let z : ⊥ = omega (arith, marked) in z)
+  -- outside runs: a marked block of a heap's superblock
+  module _ (outside : isOfRun (superblockAt s (blockNamed (s .names) m / 256)) ≡ false) where
+    marked : markBit (superblockAt s k .live) j ≡ 1
+    marked = ap (λ (x : List ℕ). markBit x j) (sym (live-blocks-outside-run (superblockAt s k) outside)) ∙ live-mark
 
-  pub held-block-is-live : LiveBlock s order (blockNamed (s .names) m / 256) (blockNamed (s .names) m % 256)
-  held-block-is-live = record { shape = shape; freed = λ h c. 0; passed = passed-after-no-frees s order passed; below = owned-below-superblocks s order (passed .sound) k in-table owned; owned = owned; block = in-class; marked = marked }
+    owned : superblockAt s k .owner < 254
+    owned = go (passed .sound .each k in-table)
+      where
+        go : Unowned (superblockAt s k) ⊎ Owned (s .setup) order k (superblockAt s k) → superblockAt s k .owner < 254
+        go (inl u) = absurd (let z : ⊥ = omega (arith, marked, unmarked-of-unowned u) in z)
+        go (inr o) = omega (arith, o .owner, passed .sound .numbers .processors-high)
+
+    in-class : j < blocksOf (superblockAt s k .class)
+    in-class = go (decLt j (blocksOf (superblockAt s k .class)))
+      where
+        go : Dec (j < blocksOf (superblockAt s k .class)) → j < blocksOf (superblockAt s k .class)
+        go (yes l) = l
+        go (no f) =
+            let places = owned-of-owner s order (passed .sound) k in-table owned .places in
+            let clear = mark-clear-of-no-mark-from (superblockAt s k .live) (blocksOf (superblockAt s k .class)) (no-mark-from-of-places-valid order (superblockAt s k .live) k (blocksOf (superblockAt s k .class)) places) j (omega arith) (omega arith) in
+            absurd (let z : ⊥ = omega (arith, marked) in z)
+
+    pub held-block-is-live : LiveBlock s order (blockNamed (s .names) m / 256) (blockNamed (s .names) m % 256)
+    held-block-is-live =
+        record {
+          shape = shape;
+          freed = λ h c. 0;
+          passed = passed-after-no-frees s order passed;
+          below = owned-below-superblocks s order (passed .sound) k in-table (λ (e : superblockAt s k .owner ≡ 255). omega (arith, owned));
+          owned = owned;
+          block = in-class;
+          marked = marked;
+        }
+
+  -- in a run: block 0 of its first superblock
+  pub held-block-is-run : isOfRun (superblockAt s (blockNamed (s .names) m / 256)) ≡ true → (blockNamed (s .names) m % 256 ≡ 0) × (startsRun (superblockAt s (blockNamed (s .names) m / 256)) ≡ true)
+  held-block-is-run inside = go (startsRun (superblockAt s k)) refl
+    where
+      no-heap : Unowned (superblockAt s k)
+      no-heap = unowned-of-owner s order (passed .sound) k in-table (let e = owner-of-run (superblockAt s k) inside in omega arith)
+
+      go : (t : Bool) → startsRun (superblockAt s k) ≡ t → (j ≡ 0) × (startsRun (superblockAt s k) ≡ true)
+      go true e = (first (ℕ-discrete j 0), e)
+        where
+          first : Dec (j ≡ 0) → j ≡ 0
+          first (yes z) = z
+          first (no f) =
+              let mark : markBit (withMark noMarks 0) j ≡ 1 = ap (λ (x : List ℕ). markBit x j) (sym (live-blocks-of-first (superblockAt s k) e)) ∙ live-mark in
+              absurd (let z : ⊥ = omega (arith, with-mark-other noMarks 0 j f, mark-bit-of-no-marks j) in z)
+      go false e =
+          let mark : markBit (superblockAt s k .live) j ≡ 1 = ap (λ (x : List ℕ). markBit x j) (sym (live-blocks-not-first (superblockAt s k) e)) ∙ live-mark in
+          absurd (let z : ⊥ = omega (arith, unmarked-of-unowned no-heap) in z)
 
 -- ---- every live block can be freed by its address
 module _ (s : State) (order : List ℕ) (k j : ℕ) (live : LiveBlock s order k j) where
