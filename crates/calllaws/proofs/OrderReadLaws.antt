@@ -24,7 +24,7 @@ use Rattle.heap.specs.Table.{superblockAt, liveIn, withMarkAt}
 use Rattle.heap.specs.States.{withSuperblock}
 use Rattle.choicerules.specs.Choice.{fullest}
 use Rattle.checkrules.specs.Check.{withinLimits, restValid}
-use Rattle.heaplaws.proofs.StateCheckLaws.{sound-of-limits-and-rest, names-valid-of-rest, totals-kept-of-rest, ranks-valid-of-rest}
+use Rattle.heaplaws.proofs.StateCheckLaws.{sound-of-limits-and-rest, names-valid-of-rest, totals-kept-of-rest, ranks-valid-of-rest, runs-valid-of-rest}
 use Rattle.heaplaws.proofs.RankLaws.{ranks-sound-of-valid}
 use Rattle.heaplaws.proofs.CheckReadsLaws.{rest-valid-reads-only-first-places}
 use Rattle.calls.specs.declared.Answer.{Answer}
@@ -32,7 +32,7 @@ use Rattle.calls.specs.declared.Outcome.the-variants.{Address}
 use Rattle.calls.specs.Answers.{After, refused, checked, isProcessor}
 use Rattle.calls.specs.Setup.{setupOf}
 use Rattle.calls.specs.Take.{otherPlaces, acquired, acquiredOrder, unrankedIfEmpty, nextBlock, addressOf, takenFrom, takenFromOther, takenAt, takeUnchecked}
-use Rattle.calls.specs.Free.{superblockIndex, superblockHolding, blockOf, isUnmapped, isMisaligned, isLiveAt, orderPushed, blockFreed, freedAt, freeUnchecked}
+use Rattle.calls.specs.Free.{superblockIndex, superblockHolding, blockOf, isUnmapped, isInRun, isMisaligned, isLiveAt, blockPushed, orderPushed, blockFreed, smallFreedAt, longFreedAt, freedAt, freeUnchecked}
 use Rattle.calls.specs.Drop.{allPushed, firstAddressRefusal, droppedAll, dropUnchecked}
 use Rattle.calls.specs.Named.{isUnavailable, boundBy, withNameBound, heldAddress, namedTakeUnchecked, namedFreeUnchecked}
 use Rattle.calls.specs.Calls.{Call, Take, Free, NamedTake, NamedFree, Drop, callOf, callUnchecked}
@@ -84,9 +84,18 @@ acquired-order-agrees n c k b x y h l = go (eqb (liveIn b) 0)
     go false = h
 
 -- a block's number goes in one place of its superblock, on both storages the same
+block-pushed-agrees : (n : ℕ) (s : State) (a : ℕ) (x y : List ℕ) → SameFirst n x y → SameFirst n (blockPushed s x a) (blockPushed s y a)
+unfolding blockPushed
+block-pushed-agrees n s a x y h = same-first-with-place n x y h (superblockIndex a) (blocksOf (superblockHolding s a .class) - liveIn (superblockHolding s a)) (blockOf s a)
+
+-- that of a long block in none
 pushed-agrees : (n : ℕ) (s : State) (a : ℕ) (x y : List ℕ) → SameFirst n x y → SameFirst n (orderPushed s x a) (orderPushed s y a)
 unfolding orderPushed
-pushed-agrees n s a x y h = same-first-with-place n x y h (superblockIndex a) (blocksOf (superblockHolding s a .class) - liveIn (superblockHolding s a)) (blockOf s a)
+pushed-agrees n s a x y h = go (isInRun s a)
+  where
+    go : (t : Bool) → SameFirst n (pick t x (blockPushed s x a)) (pick t y (blockPushed s y a))
+    go true = h
+    go false = block-pushed-agrees n s a x y h
 
 all-pushed-agree : (n : ℕ) (s : State) (addresses x y : List ℕ) → SameFirst n x y → SameFirst n (allPushed s x addresses) (allPushed s y addresses)
 unfolding allPushed
@@ -106,7 +115,7 @@ module _ (s : State) (x y : List ℕ) (h : SameFirst (s .setup .superblocks * 25
   checked-agree a b f =
       rw (le-leb n (length x) (h .first-covers), le-leb n (length y) (h .second-covers), ← (rest-valid-reads-only-first-places s x y h))
       (agree-pick n (withinLimits (s .setup))
-      (λ l. agree-pick n (restValid s x) (λ g. f (record { sound = sound-of-limits-and-rest s x (T-of-true (withinLimits (s .setup)) l) (T-of-true (restValid s x) g); names = names-valid-of-rest s x (T-of-true (restValid s x) g); totals = totals-kept-of-rest s x (T-of-true (restValid s x) g); ranks = ranks-sound-of-valid s (ranks-valid-of-rest s x (T-of-true (restValid s x) g)); room = h .first-covers })) (λ g. same-refusal 13))
+      (λ l. agree-pick n (restValid s x) (λ g. f (record { sound = sound-of-limits-and-rest s x (T-of-true (withinLimits (s .setup)) l) (T-of-true (restValid s x) g); names = names-valid-of-rest s x (T-of-true (restValid s x) g); totals = totals-kept-of-rest s x (T-of-true (restValid s x) g); ranks = ranks-sound-of-valid s (ranks-valid-of-rest s x (T-of-true (restValid s x) g)); runs = runs-valid-of-rest s x (T-of-true (restValid s x) g); room = h .first-covers })) (λ g. same-refusal 13))
       (λ l. same-refusal 13))
 
   -- a take
@@ -128,13 +137,13 @@ module _ (s : State) (x y : List ℕ) (h : SameFirst (s .setup .superblocks * 25
 
   -- a free
   free-agrees : (i a : ℕ) → Agree n (freeUnchecked s x i a) (freeUnchecked s y i a)
-  unfolding freeUnchecked freedAt
+  unfolding freeUnchecked freedAt longFreedAt smallFreedAt
   free-agrees i a =
       agree-pick n (not (isProcessor s i)) (λ e. same-refusal 2) (λ e.
       agree-pick n (isUnmapped s a) (λ e. same-refusal 5) (λ e.
       agree-pick n (isMisaligned s a) (λ e. same-refusal 6) (λ e.
       agree-pick n (not (isLiveAt s a)) (λ e. same-refusal 7) (λ e.
-      record { answer = refl; order = pushed-agrees n s a x y h }))))
+      agree-pick n (isInRun s a) (λ e. record { answer = refl; order = h }) (λ e. record { answer = refl; order = block-pushed-agrees n s a x y h })))))
 
   -- a drop
   drop-agrees : (i : ℕ) (addresses : List ℕ) → Agree n (dropUnchecked s x i addresses) (dropUnchecked s y i addresses)
