@@ -12,6 +12,7 @@ pub mod TransferredLaws
 pub mod MarkClearedLaws
 pub mod InvariantRestoredLaws
 pub mod BlockFreedLaws
+pub mod RunFreedLaws
 pub mod AllFreedLaws
 pub mod DropTransfersLaws
 pub mod DropLaws
