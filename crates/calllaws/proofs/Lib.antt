@@ -13,6 +13,7 @@ pub mod MarkClearedLaws
 pub mod InvariantRestoredLaws
 pub mod BlockFreedLaws
 pub mod RunFreedLaws
+pub mod AddressFreedLaws
 pub mod AllFreedLaws
 pub mod DropTransfersLaws
 pub mod DropLaws

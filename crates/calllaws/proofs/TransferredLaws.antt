@@ -109,6 +109,24 @@ passed-of-no-frees-left freed s order none p =
       room = p .room;
     }
 
+-- as many frees of each heap in another way of counting
+pub passed-after-frees-cong : (f g : ℕ → ℕ → ℕ) (s : State) (order : List ℕ) → ((h c : ℕ) → h < 254 → f h c ≡ g h c) → PassedAfterFrees f s order → PassedAfterFrees g s order
+passed-after-frees-cong f g s order same p =
+    record {
+      sound = record {
+        numbers = p .sound .numbers;
+        each = p .sound .each;
+        past-unused = p .sound .past-unused;
+        invariant = λ h c low high known. subst (λ (n : ℕ). InvariantBeforeFrees n h c s) (same h c (omega (arith, p .sound .numbers .processors-high))) (p .sound .invariant h c low high known);
+        sparse = p .sound .sparse;
+      };
+      names = p .names;
+      totals = p .totals;
+      ranks = p .ranks;
+      runs = p .runs;
+      room = p .room;
+    }
+
 -- ---- superblock by superblock
 module _ (h c : ℕ) (s t : State) (m : TransferredFrom h c s t) (k : ℕ) (l : k < 64) where
   -- what does not go by the owner is as it was
