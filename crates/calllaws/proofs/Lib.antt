@@ -5,6 +5,7 @@ pub mod CheckedLaws
 pub mod NamesKeptLaws
 pub mod SetupLaws
 pub mod SuperblockLaws
+pub mod VacatedLaws
 pub mod TakeSourceLaws
 pub mod TakeEffectLaws
 pub mod TakeLaws
