@@ -302,7 +302,7 @@ long-at-inside s a f = rw (ne-eqb (a % 4096) 0 f) (go (ltb (a / 4096) 64) (start
     go false y = refl
 
 pub long-at-of-new-state : (u : Setup) (a : ℕ) → longAt (newState u) a ≡ 0
-unfolding startsRun isOfRun
+unfolding longAt startsRun isOfRun
 long-at-of-new-state u a = go (decLt (a / 4096) 64)
   where
     go : Dec (a / 4096 < 64) → longAt (newState u) a ≡ 0
@@ -310,6 +310,5 @@ long-at-of-new-state u a = go (decLt (a / 4096) 64)
     go (no f) = past (ltb (a / 4096) 64) refl
       where
         past : (x : Bool) → ltb (a / 4096) 64 ≡ x → longAt (newState u) a ≡ 0
-        unfolding longAt
         past true e = absurd (f (ltb-true (a / 4096) 64 e))
         past false e = rw e

@@ -309,6 +309,7 @@ module _ (s : State) (order : List ℕ) (i m size k : ℕ) (shape : Shape s) (ac
       (ap (λ (b : Superblock). markBit (liveBlocks b) 0) first ∙ ap (λ (x : List ℕ). markBit x 0) (live-blocks-of-first (runPart n) (lt-ltb 0 n (omega (arith, effect .some)))) ∙ with-mark-same noMarks 0 refl (omega arith))
 
   pub named-long-take-passed : Passed (namedTakeOf s order i m size .answer .state) (namedTakeOf s order i m size .order)
+  unfolding namesValid isLiveBlock
   named-long-take-passed =
       subst (λ (t : State). Passed t (namedTakeOf s order i m size .order)) (sym named-long-take-state)
       (subst (λ (l : List ℕ). Passed (withNames (plain .answer .state) (withName (s .names) m (blockNumber k 0))) l) (sym named-long-take-order)
@@ -323,7 +324,6 @@ module _ (s : State) (order : List ℕ) (i m size k : ℕ) (shape : Shape s) (ac
       }))
     where
       names-valid : T (namesValid (withNames (plain .answer .state) (withName (s .names) m (blockNumber k 0))))
-      unfolding namesValid isLiveBlock
       names-valid =
           let now : T (namesValid (plain .answer .state)) = long-take-passed s order i size k shape (acc .taken) .names in
           let same = long-take-names s order i size k shape (acc .taken) in
@@ -584,10 +584,10 @@ module _ (s : State) (order : List ℕ) (m : ℕ) (shape : Shape s) (passed : Pa
   held-address-of-run inside = let z = held-block-is-run s order shape passed m held inside .0 in rw z (omega arith)
 
   pub held-name-free-accepted : (i : ℕ) → isProcessor s i ≡ true → FreeAccepted s order i (heldAddress s m) ⊎ LongFreeAccepted s order i (heldAddress s m)
+  unfolding heldAddress
   held-name-free-accepted i p = go (isOfRun (superblockAt s home)) refl
     where
       go : (t : Bool) → isOfRun (superblockAt s home) ≡ t → FreeAccepted s order i (heldAddress s m) ⊎ LongFreeAccepted s order i (heldAddress s m)
-      unfolding heldAddress
       go false e = inl (free-accepted-of-live-block s order home (blockNamed (s .names) m % 256) (held-block-is-live s order shape passed m held e) i passed p)
       go true e =
           inr (subst (LongFreeAccepted s order i) (sym (held-address-of-run e)) (long-free-accepted-of-start s order home passed home-below (held-block-is-run s order shape passed m held e .1) i p))

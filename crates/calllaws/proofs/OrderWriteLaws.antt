@@ -300,7 +300,7 @@ writes-each-keeps-length (none inside rest) = writes-each-keeps-length rest
 
 -- a place of a superblock in which no address lies is not written
 all-pushed-keeps : (s : State) (order addresses : List ℕ) → firstAddressRefusal s addresses ≡ 0 → (x : ℕ) → NoneIn (x / 256) addresses → getD (allPushed s order addresses) x 0 ≡ getD order x 0
-unfolding allPushed
+unfolding allPushed blockPushed
 all-pushed-keeps s order [] ok x apart = refl
 all-pushed-keeps s order (a ∷ addresses) ok x apart = all-pushed-keeps (blockFreed s a) (orderPushed s order a) addresses (accepted .1) x (apart .1) ∙ go (isInRun s a) refl
   where
@@ -308,7 +308,6 @@ all-pushed-keeps s order (a ∷ addresses) ok x apart = all-pushed-keeps (blockF
     accepted = first-refusal-of-cons s a addresses ok
 
     go : (t : Bool) → isInRun s a ≡ t → getD (orderPushed s order a) x 0 ≡ getD order x 0
-    unfolding blockPushed
     go true e = ap (λ (l : List ℕ). getD l x 0) (order-pushed-of-run s order a e)
     go false e =
         let p = blocksOf (superblockHolding s a .class) - liveIn (superblockHolding s a) in
