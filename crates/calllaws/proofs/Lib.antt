@@ -9,6 +9,7 @@ pub mod VacatedLaws
 pub mod TakeSourceLaws
 pub mod TakeEffectLaws
 pub mod TakeLaws
+pub mod RunTakenLaws
 pub mod TransferredLaws
 pub mod MarkClearedLaws
 pub mod InvariantRestoredLaws
