@@ -41,7 +41,8 @@ use Rattle.calllaws.proofs.TakeLaws.{take-refused-or-accepted, take-pas
 use Rattle.calllaws.proofs.RunTakenLaws.{long-take-passed}
 use Rattle.calllaws.proofs.FreeLaws.{free-refused-or-accepted, free-passed, long-free-passed}
 use Rattle.calllaws.proofs.DropLaws.{drop-refused-or-accepted, drop-passed}
-use Rattle.calllaws.proofs.NamedCallLaws.{named-take-refused-or-accepted, named-take-passed, named-long-take-passed, named-free-refused-or-accepted, named-free-passed, named-long-free-passed}
+use Rattle.calllaws.proofs.NamedLongTakeLaws.{named-long-take-passed}
+use Rattle.calllaws.proofs.NamedCallLaws.{named-take-refused-or-accepted, named-take-passed, named-free-refused-or-accepted, named-free-passed, named-long-free-passed}
 
 -- ---- no refusal has the number 0, which is an accepted call's
 abbrev NotRefused0 : After → Type 0

@@ -24,7 +24,8 @@ use Rattle.calllaws.proofs.CallEffects.{PassedAfterFrees, FreeAccepted,
 use Rattle.calllaws.proofs.TakeLaws.{take-refused-or-accepted, take-names}
 use Rattle.calllaws.proofs.RunTakenLaws.{long-take-names}
 use Rattle.calllaws.proofs.FreeLaws.{free-refused-or-accepted}
-use Rattle.calllaws.proofs.NamedCallLaws.{facts-of-available, named-take-refused-or-accepted, named-take-keeps-other-names, named-long-take-keeps-other-names, named-free-refused-or-accepted, free-lets-name-go, free-keeps-other-names, named-free-lets-name-go, named-free-keeps-other-names}
+use Rattle.calllaws.proofs.NamedLongTakeLaws.{named-long-take-keeps-other-names}
+use Rattle.calllaws.proofs.NamedCallLaws.{facts-of-available, named-take-refused-or-accepted, named-take-keeps-other-names, named-free-refused-or-accepted, free-lets-name-go, free-keeps-other-names, named-free-lets-name-go, named-free-keeps-other-names}
 use Rattle.calllaws.proofs.TransferredLaws.{oneMoreFreed, passed-after-no-frees}
 use Rattle.calllaws.proofs.BlockFreedLaws.{block-freed-names, block-freed-shape, block-freed-block, block-freed-passed}
 use Rattle.calllaws.proofs.AllFreedLaws.{first-refusal-of-cons}

@@ -28,7 +28,7 @@ use Rattle.heap.specs.Counts.{superblocksOf, superblocksOfClass, liveOfClass, o
 use Rattle.choicerules.specs.Runs.{isAvailable}
 use Rattle.checkrules.specs.Check.{namesValid}
 use Rattle.heaplaws.proofs.StateFacts.{Shape, Unowned, Owned}
-use Rattle.heaplaws.proofs.RunsKeptLaws.{live-blocks-outside-run, live-blocks-of-first, live-blocks-not-first, outside-run-of-owner, owner-of-run}
+use Rattle.heaplaws.proofs.RunsKeptLaws.{runs-valid-with-names, live-blocks-outside-run, live-blocks-of-first, live-blocks-not-first, outside-run-of-owner, owner-of-run}
 use Rattle.heaplaws.proofs.RunChoiceLaws.{facts-of-is-available}
 use Rattle.heaplaws.proofs.StateCheckLaws.{shape-with-names, sound-with-names, names-sound-of-valid, owned-below-superblocks, owned-of-owner, unowned-of-owner, not-unused-of-owner}
 use Rattle.calls.specs.declared.Outcome.{Outcome}
@@ -46,29 +46,16 @@ use Rattle.calllaws.proofs.AddressLaws.{address-superblock, address-off
 use Rattle.calllaws.proofs.TakeLaws.{take-refused-or-accepted, taken-block, take-address, take-effect, take-names, take-shape, take-passed}
 use Rattle.calllaws.proofs.RunTakenLaws.{long-take-address, long-take-effect, long-take-names, long-take-ranks, long-take-shape, long-take-passed}
 use Rattle.calllaws.proofs.MarkClearedLaws.{LiveBlock}
-use Rattle.calllaws.proofs.FreeLaws.{free-refused-or-accepted, free-names, free-shape, free-passed, long-free-names, long-free-shape, long-free-passed}
+use Rattle.calllaws.proofs.FreeLaws.{free-refused-or-accepted, free-names, free-shape, free-passed, long-free-block, long-free-names, long-free-shape, long-free-passed}
 use Rattle.calllaws.proofs.RefusalOrder.{take-is-unchecked, free-is-unchecked, free-of-live-block}
 
 -- ---- the start of a run: block 0 of its first superblock, whose class field is 0
-start-block-is-0 : (s : State) (k : ℕ) → superblockAt s k .class ≡ 0 → blockOf s (k * 4096) ≡ 0
+pub start-block-is-0 : (s : State) (k : ℕ) → superblockAt s k .class ≡ 0 → blockOf s (k * 4096) ≡ 0
 unfolding blockOf sizeOf sizes
 start-block-is-0 s k e =
     let x : k * 4096 / 4096 ≡ k = omega arith in
     let y : k * 4096 % 4096 ≡ 0 = omega arith in
     rw (x, y, e)
-
-start-block-number : (s : State) (k : ℕ) → k < 64 → superblockAt s k .class ≡ 0 → blockNumberAt s (k * 4096) ≡ blockNumber k 0
-unfolding blockNumberAt
-start-block-number s k l e =
-    let x : k * 4096 / 4096 ≡ k = omega arith in
-    rw (start-block-is-0 s k e, x) (pick-true (ltb k 64) _ _ (lt-ltb k 64 l))
-
--- an available superblock has no live block
-available-block-clear : (b : Superblock) (j : ℕ) → j < 256 → T (isAvailable b) → markBit (liveBlocks b) j ≡ 0
-available-block-clear b j l t = ⊎-elim (λ u. clear (λ (q : b .owner ≡ 254). omega (arith, u .owner)) (u .live)) (λ h. clear (λ (q : b .owner ≡ 254). omega (arith, h .0)) (h .1)) (facts-of-is-available b t)
-  where
-    clear : (b .owner ≡ 254 → ⊥) → liveIn b ≡ 0 → markBit (liveBlocks b) j ≡ 0
-    clear f z = ap (λ (x : List ℕ). markBit x j) (live-blocks-outside-run b (outside-run-of-owner b f)) ∙ marks-clear-of-live-count-zero (b .live) z j l
 
 -- ---- a named take
 -- a name that is free is one of 0 to 1023 and not held
@@ -211,7 +198,7 @@ module _ (s : State) (order : List ℕ) (i m size k : ℕ) (shape : Shape s) (ac
         names = names-valid-after-named-take i (classOf size) k named-taken-block s (plain .answer .state) block (shape .length-is) effect m below (take-names s order i size k shape (acc .taken)) (acc .taken .passed .names);
         totals = passed .totals;
         ranks = ranks-sound-of-same-ranks (plain .answer .state) (withNames (plain .answer .state) (withName (s .names) m (blockNumber k named-taken-block))) (λ j l. refl) (λ j l u. u) (passed .ranks);
-        runs = passed .runs;
+        runs = runs-valid-with-names (plain .answer .state) (withName (s .names) m (blockNumber k named-taken-block)) (passed .runs);
         room = passed .room;
       }))
 
@@ -223,126 +210,6 @@ module _ (s : State) (order : List ℕ) (i m size k : ℕ) (shape : Shape s) (ac
 
   pub named-take-keeps-other-names : (l : ℕ) → (l ≡ m → ⊥) → blockNamed (namedTakeOf s order i m size .answer .state .names) l ≡ blockNamed (s .names) l
   named-take-keeps-other-names l f = ap (λ (x : List ℕ). blockNamed x l) named-take-names ∙ block-named-with-other-name (s .names) m (blockNumber k named-taken-block) l f
-
--- ---- a named take of a long block: the name points at block 0 of the run's first superblock
--- the names are no part of its effect
-long-take-effect-with-names : (k n : ℕ) (s t : State) (names : List ℕ) → LongTakeEffect k n s t → LongTakeEffect k n s (withNames t names)
-unfolding superblocksOfClass liveOfClass
-long-take-effect-with-names k n s t names e =
-    record {
-      below = e .below;
-      some = e .some;
-      at-most-16 = e .at-most-16;
-      setup = e .setup;
-      available = e .available;
-      run = e .run;
-      others = e .others;
-      owned = e .owned;
-      live = e .live;
-    }
-
-module _ (s : State) (order : List ℕ) (i m size k : ℕ) (shape : Shape s) (acc : NamedLongTakeAccepted s order i m size k) where
-  abbrev plain : After
-  plain = takeOf s order i size
-
-  abbrev n : ℕ
-  n = runLength size
-
-  effect : LongTakeEffect k n s (plain .answer .state)
-  effect = long-take-effect s order i size k shape (acc .taken)
-
-  below : k < 64
-  below = omega (arith, effect .below, effect .some, acc .taken .passed .sound .numbers .superblocks-high)
-
-  first : superblockAt (plain .answer .state) k ≡ runPart n
-  first = effect .run k (le-refl k, omega (arith, effect .some)) ∙ ap runPart (pick-true (eqb k k) n 0 (eq-eqb k k refl))
-
-  -- its answer and its order places are the plain take's
-  pub named-long-take-outcome : namedTakeOf s order i m size .answer .outcome ≡ plain .answer .outcome
-  unfolding withNameBound
-  named-long-take-outcome = ap (λ (x : After). x .answer .outcome) (acc .result-is)
-
-  pub named-long-take-address : namedTakeOf s order i m size .answer .outcome ≡ Address (k * 4096)
-  named-long-take-address = named-long-take-outcome ∙ long-take-address s order i size k shape (acc .taken)
-
-  pub named-long-take-order : namedTakeOf s order i m size .order ≡ plain .order
-  unfolding withNameBound
-  named-long-take-order = ap (λ (x : After). x .order) (acc .result-is)
-
-  pub named-long-take-state : namedTakeOf s order i m size .answer .state ≡ withNames (plain .answer .state) (withName (s .names) m (blockNumber k 0))
-  unfolding withNameBound boundBy nameBound
-  named-long-take-state =
-      ap (λ (x : After). x .answer .state) (acc .result-is)
-      ∙ ap (λ (o : Outcome). boundBy o m (plain .answer .state)) (long-take-address s order i size k shape (acc .taken))
-      ∙ ap₂ (λ (names : List ℕ) (b : ℕ). withNames (plain .answer .state) (withName names m b)) (long-take-names s order i size k shape (acc .taken)) (start-block-number (plain .answer .state) k below (ap (λ (b : Superblock). b .class) first))
-
-  pub named-long-take-names : namedTakeOf s order i m size .answer .state .names ≡ withName (s .names) m (blockNumber k 0)
-  named-long-take-names = ap (λ (t : State). t .names) named-long-take-state
-
-  pub named-long-take-effect : LongTakeEffect k n s (namedTakeOf s order i m size .answer .state)
-  named-long-take-effect =
-      subst (LongTakeEffect k n s) (sym named-long-take-state) (long-take-effect-with-names k n s (plain .answer .state) (withName (s .names) m (blockNumber k 0)) effect)
-
-  pub named-long-take-ranks : RunUnranked k n s (namedTakeOf s order i m size .answer .state)
-  named-long-take-ranks =
-      subst (RunUnranked k n s) (sym named-long-take-state)
-      (let r = long-take-ranks s order i size k shape (acc .taken) in record { in-run = r .in-run; ranked-iff = r .ranked-iff; order-kept = r .order-kept })
-
-  pub named-long-take-shape : Shape (namedTakeOf s order i m size .answer .state)
-  named-long-take-shape =
-      subst Shape (sym named-long-take-state)
-      (shape-with-names (plain .answer .state) (withName (s .names) m (blockNumber k 0)) (long-take-shape s order i size k shape (acc .taken))
-      (length-with-name (s .names) m (blockNumber k 0) ∙ shape .names-length))
-
-  -- the long block was not live before, so that no name pointed at it, and is live now
-  start-not-live-before : T (isLiveBlock s (blockNumber k 0)) → ⊥
-  start-not-live-before live =
-      let x : blockNumber k 0 / 256 ≡ k = omega arith in
-      let y : blockNumber k 0 % 256 ≡ 0 = omega arith in
-      let one : markBit (liveBlocks (superblockAt s k)) 0 ≡ 1 = rw (x, y) at (mark-of-live-block s (blockNumber k 0) live) in
-      omega (arith, available-block-clear (superblockAt s k) 0 (omega arith) (effect .available k (le-refl k, omega (arith, effect .some))))
-
-  start-live-now : T (isLiveBlock (plain .answer .state) (blockNumber k 0))
-  unfolding liveBlocks startsRun isOfRun
-  start-live-now =
-      live-block-of-live-mark (plain .answer .state) k 0 (omega arith)
-      (ap (λ (b : Superblock). markBit (liveBlocks b) 0) first ∙ ap (λ (x : List ℕ). markBit x 0) (live-blocks-of-first (runPart n) (lt-ltb 0 n (omega (arith, effect .some)))) ∙ with-mark-same noMarks 0 refl (omega arith))
-
-  pub named-long-take-passed : Passed (namedTakeOf s order i m size .answer .state) (namedTakeOf s order i m size .order)
-  unfolding namesValid isLiveBlock
-  named-long-take-passed =
-      subst (λ (t : State). Passed t (namedTakeOf s order i m size .order)) (sym named-long-take-state)
-      (subst (λ (l : List ℕ). Passed (withNames (plain .answer .state) (withName (s .names) m (blockNumber k 0))) l) (sym named-long-take-order)
-      (let passed = long-take-passed s order i size k shape (acc .taken) in
-      record {
-        sound = sound-with-names (plain .answer .state) (withName (s .names) m (blockNumber k 0)) (plain .order) (passed .sound);
-        names = names-valid;
-        totals = passed .totals;
-        ranks = ranks-sound-of-same-ranks (plain .answer .state) (withNames (plain .answer .state) (withName (s .names) m (blockNumber k 0))) (λ j l. refl) (λ j l u. u) (passed .ranks);
-        runs = passed .runs;
-        room = passed .room;
-      }))
-    where
-      names-valid : T (namesValid (withNames (plain .answer .state) (withName (s .names) m (blockNumber k 0))))
-      names-valid =
-          let now : T (namesValid (plain .answer .state)) = long-take-passed s order i size k shape (acc .taken) .names in
-          let same = long-take-names s order i size k shape (acc .taken) in
-          let each : T (eachHeld (isLiveBlock (plain .answer .state)) (s .names)) = rw same at (both-left (eachHeld (isLiveBlock (plain .answer .state)) (plain .answer .state .names)) _ now) in
-          let valid = acc .taken .passed .names in
-          both-make (eachHeld (isLiveBlock (plain .answer .state)) (withName (s .names) m (blockNumber k 0))) _
-          (each-held-with-name (isLiveBlock (plain .answer .state)) (s .names) m (blockNumber k 0) start-live-now each)
-          (no-two-with-name (s .names) m (blockNumber k 0)
-          (λ named. start-not-live-before (test-of-named (isLiveBlock s) (s .names) (both-left (eachHeld (isLiveBlock s) (s .names)) _ valid) (blockNumber k 0) (λ (e : blockNumber k 0 ≡ notHeld). omega arith) named))
-          (both-right (eachHeld (isLiveBlock s) (s .names)) _ valid))
-
-  -- "A name holds from its take", and every other name points at what it did
-  pub named-long-take-binds-name : blockNamed (namedTakeOf s order i m size .answer .state .names) m ≡ blockNumber k 0
-  named-long-take-binds-name =
-      ap (λ (l : List ℕ). blockNamed l m) named-long-take-names
-      ∙ block-named-with-name (s .names) m (blockNumber k 0) (let l = facts-of-available s m (acc .available) .0 in let n = shape .names-length in omega arith)
-
-  pub named-long-take-keeps-other-names : (l : ℕ) → (l ≡ m → ⊥) → blockNamed (namedTakeOf s order i m size .answer .state .names) l ≡ blockNamed (s .names) l
-  named-long-take-keeps-other-names l f = ap (λ (x : List ℕ). blockNamed x l) named-long-take-names ∙ block-named-with-other-name (s .names) m (blockNumber k 0) l f
 
 -- ---- a named free
 module _ (s : State) (order : List ℕ) (i m : ℕ) where
@@ -619,7 +486,7 @@ held-address-block s order m shape passed held = go (isOfRun (superblockAt s (bl
 pub freed-names : (s : State) (order : List ℕ) (i a : ℕ) → Shape s → FreeAccepted s order i a ⊎ LongFreeAccepted s order i a
     → freeOf s order i a .answer .state .names ≡ withoutBlock (s .names) (blockNumber (superblockIndex a) (blockOf s a))
 freed-names s order i a shape (inl acc) = free-names s order i a shape acc
-freed-names s order i a shape (inr acc) = long-free-names s order i a shape acc
+freed-names s order i a shape (inr acc) = long-free-names s order i a shape acc ∙ ap (λ (j : ℕ). withoutBlock (s .names) (blockNumber (superblockIndex a) j)) (sym (long-free-block s order i a shape acc))
 
 module _ (s : State) (order : List ℕ) (i a : ℕ) (shape : Shape s) (acc : FreeAccepted s order i a ⊎ LongFreeAccepted s order i a) (m : ℕ) where
   pub free-lets-name-go : blockNamed (s .names) m ≡ blockNumber (superblockIndex a) (blockOf s a) → isHeld (freeOf s order i a .answer .state .names) m ≡ false

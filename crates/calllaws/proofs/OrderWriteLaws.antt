@@ -78,7 +78,7 @@ pub data WritesEach : State → List ℕ → List ℕ → List ℕ → Type 0 wh
   done : {s : State} {order : List ℕ} → WritesEach s order [] order
   next : {s : State} {a : ℕ} {before between addresses after : List ℕ} → isInRun s a ≡ false → WritesOne (nextPlace s a) (blockOf s a) before between
       → WritesEach (blockFreed s a) between addresses after → WritesEach s before (a ∷ addresses) after
-  none : {s : State} {a : ℕ} {before addresses after : List ℕ} → isInRun s a ≡ true → WritesEach (blockFreed s a) before addresses after → WritesEach s before (a ∷ addresses) after
+  unwritten : {s : State} {a : ℕ} {before addresses after : List ℕ} → isInRun s a ≡ true → WritesEach (blockFreed s a) before addresses after → WritesEach s before (a ∷ addresses) after
 
 -- no address lies in superblock k
 abbrev pub NoneIn : ℕ → List ℕ → Type 0
@@ -276,27 +276,30 @@ block-freed-setup s a = pick-elim (λ (t : State). t .setup ≡ s .setup) (isInR
 all-pushed-writes-each : (s : State) (order addresses : List ℕ) → s .setup .superblocks * 256 ≤ length order → firstAddressRefusal s addresses ≡ 0 → WritesEach s order addresses (allPushed s order addresses)
 unfolding allPushed
 all-pushed-writes-each s order [] room ok = done
-all-pushed-writes-each s order (a ∷ addresses) room ok = go (isInRun s a) refl
+all-pushed-writes-each s order (a ∷ addresses) room ok =
+    go (isInRun s a) refl (λ places fits. all-pushed-writes-each (blockFreed s a) places addresses fits (first-refusal-of-cons s a addresses ok .1))
   where
-    accepted : (addressRefusal s a ≡ 0) × (firstAddressRefusal (blockFreed s a) addresses ≡ 0)
-    accepted = first-refusal-of-cons s a addresses ok
+    Rest : List ℕ → Type 0
+    Rest places = WritesEach (blockFreed s a) places addresses (allPushed (blockFreed s a) (orderPushed s order a) addresses)
 
-    rest : (places : List ℕ) → length places ≡ length order → orderPushed s order a ≡ places → WritesEach (blockFreed s a) places addresses (allPushed (blockFreed s a) (orderPushed s order a) addresses)
-    rest places long e =
+    rest : ((places : List ℕ) → blockFreed s a .setup .superblocks * 256 ≤ length places → WritesEach (blockFreed s a) places addresses (allPushed (blockFreed s a) places addresses))
+        → (places : List ℕ) → length places ≡ length order → orderPushed s order a ≡ places → Rest places
+    rest all places long e =
         subst (λ (l : List ℕ). WritesEach (blockFreed s a) places addresses (allPushed (blockFreed s a) l addresses)) (sym e)
-        (all-pushed-writes-each (blockFreed s a) places addresses
-        (subst (λ (u : Setup). u .superblocks * 256 ≤ length places) (sym (block-freed-setup s a)) (subst (λ (n : ℕ). s .setup .superblocks * 256 ≤ n) (sym long) room)) (accepted .1))
+        (all places (subst (λ (u : Setup). u .superblocks * 256 ≤ length places) (sym (block-freed-setup s a)) (subst (λ (n : ℕ). s .setup .superblocks * 256 ≤ n) (sym long) room)))
 
-    go : (t : Bool) → isInRun s a ≡ t → WritesEach s order (a ∷ addresses) (allPushed (blockFreed s a) (orderPushed s order a) addresses)
-    go true e = none e (rest order refl (order-pushed-of-run s order a e))
-    go false e =
-        let one = push-writes-next s a (accepted .0) e order room in
-        next e one (rest (blockPushed s order a) (one .length-is) (order-pushed-outside-run s order a e))
+    go : (t : Bool) → isInRun s a ≡ t
+        → ((places : List ℕ) → blockFreed s a .setup .superblocks * 256 ≤ length places → WritesEach (blockFreed s a) places addresses (allPushed (blockFreed s a) places addresses))
+        → WritesEach s order (a ∷ addresses) (allPushed (blockFreed s a) (orderPushed s order a) addresses)
+    go true e all = unwritten e (rest all order refl (order-pushed-of-run s order a e))
+    go false e all =
+        let one = push-writes-next s a (first-refusal-of-cons s a addresses ok .0) e order room in
+        next e one (rest all (blockPushed s order a) (one .length-is) (order-pushed-outside-run s order a e))
 
 writes-each-keeps-length : {s : State} {before addresses after : List ℕ} → WritesEach s before addresses after → length after ≡ length before
 writes-each-keeps-length done = refl
 writes-each-keeps-length (next outside one rest) = writes-each-keeps-length rest ∙ one .length-is
-writes-each-keeps-length (none inside rest) = writes-each-keeps-length rest
+writes-each-keeps-length (unwritten inside rest) = writes-each-keeps-length rest
 
 -- a place of a superblock in which no address lies is not written
 all-pushed-keeps : (s : State) (order addresses : List ℕ) → firstAddressRefusal s addresses ≡ 0 → (x : ℕ) → NoneIn (x / 256) addresses → getD (allPushed s order addresses) x 0 ≡ getD order x 0
