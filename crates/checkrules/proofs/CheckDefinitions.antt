@@ -11,10 +11,10 @@ use Rattle.heap.specs.Counts.{total, belongs, oneIfBelongs, liveIfBelongs, supe
 use Rattle.heap.specs.Ranks.{isRanked}
 use Rattle.heap.specs.Totals.{isCounted, withCounted, countedBelow, recounted}
 use Rattle.moverules.specs.Moves.{bothConditions, mustMove}
-use Rattle.checkrules.specs.Check.{withinLimits, isPartOfRun, isOwned, superblockValid, unusedFrom, emptinessInvariant, sparseIfGlobal, namesValid, sameTotals, totalsValid, rankedCount, carrying, ranksValid, runsWhole, runsValid, restValid, passes}
+use Rattle.checkrules.specs.Check.{withinLimits, isPartOfRun, isUnowned, isOwned, superblockValid, unusedFrom, emptinessInvariant, sparseIfGlobal, namesValid, sameTotals, totalsValid, rankedCount, carrying, ranksValid, runsWhole, runsValid, restValid, passes}
 
 unfoldable pub checkDefinitions : Unit {0}
-unfolding passes withinLimits restValid superblockValid isOwned isPartOfRun runsValid runsWhole unusedFrom emptinessInvariant sparseIfGlobal namesValid totalsValid ranksValid rankedCount carrying isRanked isUnused isOfRun startsRun
+unfolding passes withinLimits restValid superblockValid isOwned isUnowned isPartOfRun runsValid runsWhole unusedFrom emptinessInvariant sparseIfGlobal namesValid totalsValid ranksValid rankedCount carrying isRanked isUnused isOfRun startsRun
     isLiveBlock liveBlocks withMark
     sameTotals recounted countedBelow withCounted isCounted increased sameNumbers
     mustMove bothConditions total oneIfBelongs liveIfBelongs belongs superblocksOf blocksIn liveOf nameDefinitions

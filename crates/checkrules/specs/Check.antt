@@ -40,9 +40,13 @@ isPartOfRun b = both (isOfRun b) (both (eqb (b .class) 0) (eqb (liveIn b) 0))
 unfoldable pub isOwned : Setup → List ℕ → ℕ → Superblock → Bool
 isOwned u order k b = both (leb (b .owner) (u .processors)) (both (ltb (b .class) 27) (placesValid order (b .live) k (blocksOf (b .class))))
 
--- "each superblock unused as above, or" owned, or part of a run
+-- no heap owns the superblock: it is "unused as above", or part of a run
+unfoldable pub isUnowned : Superblock → Bool
+isUnowned b = either (isUnused b) (isPartOfRun b)
+
+-- "each superblock unused as above, or of owner 0 to P ..", or part of a run
 unfoldable pub superblockValid : Setup → List ℕ → ℕ → Superblock → Bool
-superblockValid u order k b = either (isUnused b) (either (isPartOfRun b) (isOwned u order k b))
+superblockValid u order k b = either (isUnowned b) (isOwned u order k b)
 
 -- "superblocks from N on unused"
 unfoldable pub unusedFrom : ℕ → ℕ → Superblock → Bool
@@ -81,7 +85,7 @@ carrying r s = total (λ b. one (eqb (b .rank) r)) (s .table)
 unfoldable pub ranksValid : State → Bool
 ranksValid s =
     both (allBelow (λ r. eqb (carrying (suc r) s) 1) (rankedCount s))
-    (allBelow (λ k. not (both (either (isUnused (superblockAt s k)) (isOfRun (superblockAt s k))) (isRanked (superblockAt s k)))) 64)
+    (allBelow (λ k. not (both (isUnowned (superblockAt s k)) (isRanked (superblockAt s k)))) 64)
 
 -- "The first carries the run's length, every other superblock 0. The state check tests .. that runs are whole and at most 16 long" (document 02,
 -- item 7): the superblocks of a table from one on, read in order, where so many of a run are still to come. Behind the last of a run begins

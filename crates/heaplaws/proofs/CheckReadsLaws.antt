@@ -7,7 +7,7 @@ use native.Mathlib.Omega.{arith}
 use borrow.Author.Tests.{ltb-true}
 use lib.Dec.{T, leb, ltb}
 use Rattle.laws.specs.Sums.{both, either, allBelow}
-use Rattle.laws.proofs.TestLaws.{T-of-true, true-of-T, both-false-right}
+use Rattle.laws.proofs.TestLaws.{T-of-true, true-of-T, both-false-right, either-left}
 use Rattle.laws.proofs.SumLaws.{all-at, all-cong}
 use Rattle.classes.specs.Classes.{blocksOf}
 use Rattle.classes.proofs.ClassTableLaws.{blocks-of-le-256}
@@ -16,20 +16,20 @@ use Rattle.filledplaces.proofs.StorageLengthLaws.{places-valid-cong-if-in-stora
 use Rattle.heap.specs.declared.Superblock.{Superblock}
 use Rattle.heap.specs.declared.State.{State}
 use Rattle.heap.specs.Table.{superblockAt, isUnused}
-use Rattle.checkrules.specs.Check.{superblockValid, unusedFrom, emptinessInvariant, sparseIfGlobal, namesValid, totalsValid, ranksValid, restValid}
+use Rattle.checkrules.specs.Check.{superblockValid, unusedFrom, emptinessInvariant, sparseIfGlobal, namesValid, totalsValid, ranksValid, runsValid, isUnowned, isPartOfRun, isOwned, restValid}
 
 module _ (s : State) (x y : List ℕ) (h : SameFirst (s .setup .superblocks * 256) x y) where
   superblock-valid-same-first : (k : ℕ) (b : Superblock) → T (unusedFrom (s .setup .superblocks) k b) → superblockValid (s .setup) x k b ≡ superblockValid (s .setup) y k b
-  unfolding superblockValid unusedFrom
+  unfolding superblockValid isUnowned isOwned unusedFrom
   superblock-valid-same-first k b = go (ltb k (s .setup .superblocks)) refl
     where
       go : (t : Bool) → ltb k (s .setup .superblocks) ≡ t → T (either t (isUnused b)) → superblockValid (s .setup) x k b ≡ superblockValid (s .setup) y k b
       go true e u =
           let l : k < s .setup .superblocks = ltb-true k (s .setup .superblocks) e in
-          ap (λ (g : Bool). either (isUnused b) (both (leb (b .owner) (s .setup .processors)) (both (ltb (b .class) 27) g)))
+          ap (λ (g : Bool). either (isUnowned b) (both (leb (b .owner) (s .setup .processors)) (both (ltb (b .class) 27) g)))
           (places-valid-cong-if-in-storage x y (b .live) k (blocksOf (b .class)) (omega (arith, h .first-covers, blocks-of-le-256 (b .class))) (omega (arith, h .second-covers, blocks-of-le-256 (b .class)))
           (λ p lp. same-first-place (s .setup .superblocks * 256) x y h k p (omega (arith, blocks-of-le-256 (b .class)))))
-      go false e u = rw (true-of-T (isUnused b) u)
+      go false e u = rw (true-of-T (isUnowned b) (either-left (isUnused b) (isPartOfRun b) u))
 
   -- storages with the same first N × 256 places pass together or fail together
   pub rest-valid-reads-only-first-places : restValid s x ≡ restValid s y
@@ -37,7 +37,7 @@ module _ (s : State) (x y : List ℕ) (h : SameFirst (s .setup .superblocks * 25
   rest-valid-reads-only-first-places = go (allBelow (λ k. unusedFrom (s .setup .superblocks) k (superblockAt s k)) 64) refl
     where
       rest : Bool
-      rest = both (emptinessInvariant s) (both (allBelow (λ k. sparseIfGlobal (s .setup) (superblockAt s k)) 64) (both (namesValid s) (both (totalsValid s) (ranksValid s))))
+      rest = both (emptinessInvariant s) (both (allBelow (λ k. sparseIfGlobal (s .setup) (superblockAt s k)) 64) (both (namesValid s) (both (totalsValid s) (both (ranksValid s) (runsValid s)))))
 
       good : List ℕ → Bool
       good order = allBelow (λ k. superblockValid (s .setup) order k (superblockAt s k)) 64

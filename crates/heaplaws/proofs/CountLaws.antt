@@ -8,7 +8,7 @@ use native.Mathlib.Omega.{arith}
 use borrow.Author.Tests.{eq-eqb, ne-eqb, le-leb, lt-leb}
 use lib.ListN.{length, getD-replicate}
 use lib.Seq.{getD-set-same, getD-set-other}
-use lib.Dec.{T, eqb, leb, eqb→eq, leb→le, T-not}
+use lib.Dec.{T, eqb, leb, ltb, eqb→eq, leb→le, ltb→lt, lt→ltb}
 use Rattle.laws.specs.Sums.{pick, both, one, sumBelow}
 use Rattle.laws.proofs.TestLaws.{T-of-true, true-of-T, false-of-not-T, equal-of-iff, both-left, both-right, both-make, one-le-one}
 use Rattle.laws.proofs.SumLaws.{sum-cong, sum-of-zeros, sum-le-of-terms-le, sum-le-mul, sum-scale, pos-term-of-pos-sum}
@@ -18,7 +18,7 @@ use Rattle.marklaws.proofs.MarkLaws.{live-count-le-256}
 use Rattle.heap.specs.declared.Superblock.{Superblock}
 use Rattle.heap.specs.declared.State.{State}
 use Rattle.heap.specs.declared.Setup.{Setup}
-use Rattle.heap.specs.Table.{blank, unused, superblockAt, liveIn}
+use Rattle.heap.specs.Table.{blank, unused, superblockAt, liveIn, isOfHeap}
 use Rattle.heap.specs.States.{withSuperblock, newState}
 use Rattle.heap.specs.Counts.{total, belongs, isOwnedOfClass, oneIfBelongs, liveIfBelongs, superblocksOf, liveOf, superblocksOfClass, liveOfClass}
 
@@ -155,16 +155,16 @@ live-of-at-most-each h c l s f =
     each false x g = omega arith
 
 -- ---- a class's counts by heaps
-pub facts-of-owned-of-class : (c : ℕ) (b : Superblock) → T (isOwnedOfClass c b) → (b .owner ≡ 255 → ⊥) × (b .class ≡ c)
-unfolding isOwnedOfClass
+pub facts-of-owned-of-class : (c : ℕ) (b : Superblock) → T (isOwnedOfClass c b) → (b .owner < 254) × (b .class ≡ c)
+unfolding isOwnedOfClass isOfHeap
 facts-of-owned-of-class c b t = (
-  λ q. T-not (eqb (b .owner) 255) (both-left (not (eqb (b .owner) 255)) (eqb (b .class) c) t) (T-of-true _ (eq-eqb (b .owner) 255 q)),
-  eqb→eq (b .class) c (both-right (not (eqb (b .owner) 255)) (eqb (b .class) c) t),
+  ltb→lt (b .owner) 254 (both-left (ltb (b .owner) 254) (eqb (b .class) c) t),
+  eqb→eq (b .class) c (both-right (ltb (b .owner) 254) (eqb (b .class) c) t),
 )
 
-pub owned-of-class-of-facts : (c : ℕ) (b : Superblock) → (b .owner ≡ 255 → ⊥) → b .class ≡ c → T (isOwnedOfClass c b)
-unfolding isOwnedOfClass
-owned-of-class-of-facts c b f q = both-make (not (eqb (b .owner) 255)) (eqb (b .class) c) (T-of-true _ (ap not (ne-eqb (b .owner) 255 f))) (T-of-true _ (eq-eqb (b .class) c q))
+pub owned-of-class-of-facts : (c : ℕ) (b : Superblock) → b .owner < 254 → b .class ≡ c → T (isOwnedOfClass c b)
+unfolding isOwnedOfClass isOfHeap
+owned-of-class-of-facts c b l q = both-make (ltb (b .owner) 254) (eqb (b .class) c) (lt→ltb (b .owner) 254 l) (T-of-true _ (eq-eqb (b .class) c q))
 
 -- heap 0 and the heaps after it
 pub sum-from-heap-0 : (f : ℕ → ℕ) (p : ℕ) → f 0 + sumBelow (λ i. f (suc i)) p ≡ sumBelow f (suc p)
@@ -188,13 +188,13 @@ sum-over-heaps-of-one p c b = go (ℕ-discrete (b .class) c) (decLe (b .owner) p
     go (yes e) (yes l) = hits e ∙ indicator-sum-inside (b .owner) (suc p) (omega arith) ∙ simp (le-leb (b .owner) p l, eq-eqb (b .class) c e)
     go (yes e) (no f) = hits e ∙ indicator-sum-outside (b .owner) (suc p) (lt-of-not-le f) ∙ simp (lt-leb (b .owner) p (lt-of-not-le f))
 
-owned-of-class-of-heaps : (p c : ℕ) (b : Superblock) → p < 255 → T (ownedByHeapsTo p c b) → T (isOwnedOfClass c b)
+owned-of-class-of-heaps : (p c : ℕ) (b : Superblock) → p < 254 → T (ownedByHeapsTo p c b) → T (isOwnedOfClass c b)
 unfolding ownedByHeapsTo
 owned-of-class-of-heaps p c b q t =
     let l : b .owner ≤ p = leb→le (b .owner) p (both-left (leb (b .owner) p) (eqb (b .class) c) t) in
-    owned-of-class-of-facts c b (λ (z : b .owner ≡ 255). omega arith) (eqb→eq (b .class) c (both-right (leb (b .owner) p) (eqb (b .class) c) t))
+    owned-of-class-of-facts c b (omega arith) (eqb→eq (b .class) c (both-right (leb (b .owner) p) (eqb (b .class) c) t))
 
-heaps-of-owned-of-class : (p c : ℕ) (b : Superblock) → ((b .owner ≡ 255 → ⊥) → b .owner ≤ p) → T (isOwnedOfClass c b) → T (ownedByHeapsTo p c b)
+heaps-of-owned-of-class : (p c : ℕ) (b : Superblock) → (b .owner < 254 → b .owner ≤ p) → T (isOwnedOfClass c b) → T (ownedByHeapsTo p c b)
 unfolding ownedByHeapsTo
 heaps-of-owned-of-class p c b h t =
     let o = facts-of-owned-of-class c b t in
@@ -214,8 +214,8 @@ total-over-heaps p s f g each =
     ∙ sum-swap (λ k i. g i (superblockAt s k)) 64 (suc p)
     ∙ sym (sum-from-heap-0 (λ i. sumBelow (λ k. g i (superblockAt s k)) 64) p)
 
--- where each superblock is unused or owned by heap 0 to P, a class's superblocks are those of its heaps, and so are its live blocks
-module _ (p c : ℕ) (s : State) (q : p < 255) (h : (k : ℕ) → k < 64 → (superblockAt s k .owner ≡ 255 → ⊥) → superblockAt s k .owner ≤ p) where
+-- where each superblock that a heap owns is owned by heap 0 to P, a class's superblocks are those of its heaps, and so are its live blocks
+module _ (p c : ℕ) (s : State) (q : p < 254) (h : (k : ℕ) → k < 64 → superblockAt s k .owner < 254 → superblockAt s k .owner ≤ p) where
   one-over-heaps : (k : ℕ) → k < 64 → one (isOwnedOfClass c (superblockAt s k)) ≡ sumBelow (λ i. oneIfBelongs i c (superblockAt s k)) (suc p)
   one-over-heaps k l =
       ap one (equal-of-iff (isOwnedOfClass c (superblockAt s k)) (ownedByHeapsTo p c (superblockAt s k)) (heaps-of-owned-of-class p c (superblockAt s k) (h k l)) (owned-of-class-of-heaps p c (superblockAt s k) q))
@@ -240,7 +240,7 @@ one-mono true false f = absurd (f tt)
 one-mono false b f = zero-le
 
 -- the live blocks in processor heaps are some of the class's
-pub live-of-heaps-le-live-of-class : (p c : ℕ) (s : State) → p < 255 → sumBelow (λ i. liveOf (suc i) c s) p ≤ liveOfClass c s
+pub live-of-heaps-le-live-of-class : (p c : ℕ) (s : State) → p < 254 → sumBelow (λ i. liveOf (suc i) c s) p ≤ liveOfClass c s
 unfolding liveOf liveOfClass total
 live-of-heaps-le-live-of-class p c s q =
     subst (λ (x : ℕ). x ≤ sumBelow (λ k. pick (isOwnedOfClass c (superblockAt s k)) (liveIn (superblockAt s k)) 0) 64)
@@ -268,9 +268,9 @@ unfolding liveOf
 live-of-new-state u h c l = total-of-new-state (liveIfBelongs h c) u (live-if-belongs-other-owner h c unused (λ (q : unused .owner ≡ h). omega arith))
 
 pub owned-of-new-state : (u : Setup) (c : ℕ) → superblocksOfClass c (newState u) ≡ 0
-unfolding superblocksOfClass isOwnedOfClass
+unfolding superblocksOfClass isOwnedOfClass isOfHeap
 owned-of-new-state u c = total-of-new-state (λ b. one (isOwnedOfClass c b)) u refl
 
 pub live-of-class-of-new-state : (u : Setup) (c : ℕ) → liveOfClass c (newState u) ≡ 0
-unfolding liveOfClass isOwnedOfClass
+unfolding liveOfClass isOwnedOfClass isOfHeap
 live-of-class-of-new-state u c = total-of-new-state (λ b. pick (isOwnedOfClass c b) (liveIn b) 0) u refl

@@ -19,13 +19,13 @@ use Rattle.laws.proofs.Counting.{sum-le-of-terms-le-one}
 use Rattle.heap.specs.declared.Superblock.{Superblock}
 use Rattle.heap.specs.declared.Setup.{Setup}
 use Rattle.heap.specs.declared.State.{State}
-use Rattle.heap.specs.Table.{blank, superblockAt, liveIn, withRank, isUnused}
+use Rattle.heap.specs.Table.{blank, superblockAt, liveIn, withRank}
 use Rattle.heap.specs.States.{newState}
 use Rattle.heap.specs.Counts.{total}
 use Rattle.heap.specs.Ranks.{isRanked, isMoreRecent, rankAfterFree, rankAfterRenewal, reranked, rankedLatest, unranked, RanksFit}
-use Rattle.checkrules.specs.Check.{rankedCount, carrying, ranksValid, passes}
-use Rattle.heaplaws.proofs.StateFacts.{Unused, RanksSound}
-use Rattle.heaplaws.proofs.StateCheckLaws.{ranks-valid-of-rest, facts-of-is-unused, is-unused-of-facts, superblock-at-new-state-unused}
+use Rattle.checkrules.specs.Check.{isUnowned, rankedCount, carrying, ranksValid, passes}
+use Rattle.heaplaws.proofs.StateFacts.{Unowned, RanksSound}
+use Rattle.heaplaws.proofs.StateCheckLaws.{ranks-valid-of-rest, facts-of-is-unowned, is-unowned-of-facts, superblock-at-new-state-unused}
 use Rattle.checkrules.proofs.ClauseLaws.{rest-of-passes}
 use Rattle.heaplaws.proofs.ChoiceLaws.{MoreRecent, facts-of-more-recent, more-recent-of-facts}
 use Rattle.heaplaws.proofs.RerankedLaws.{superblock-at-reranked}
@@ -50,20 +50,20 @@ zero-of-not-positive zero f = refl
 zero-of-not-positive (suc n) f = absurd (f (omega arith))
 
 module _ (s : State) where
-  -- its two parts: each of the ranks once, and none of an unused one
+  -- its two parts: each of the ranks once, and none of a superblock that no heap owns
   carried-once-of-valid : T (ranksValid s) → (r : ℕ) → r < rankedCount s → carrying (suc r) s ≡ 1
   unfolding ranksValid
   carried-once-of-valid t r l =
       eqb→eq (carrying (suc r) s) 1 (all-at (λ r. eqb (carrying (suc r) s) 1) (rankedCount s) (both-left (allBelow (λ r. eqb (carrying (suc r) s) 1) (rankedCount s)) _ t) r l)
 
-  unused-unranked-of-valid : T (ranksValid s) → (k : ℕ) → k < 64 → Unused (superblockAt s k) → rankAt s k ≡ 0
+  unowned-unranked-of-valid : T (ranksValid s) → (k : ℕ) → k < 64 → Unowned (superblockAt s k) → rankAt s k ≡ 0
   unfolding ranksValid
-  unused-unranked-of-valid t k l u =
+  unowned-unranked-of-valid t k l u =
       zero-of-not-positive (rankAt s k)
       (λ h.
-      T-not (both (isUnused (superblockAt s k)) (isRanked (superblockAt s k)))
-      (all-at (λ k. not (both (isUnused (superblockAt s k)) (isRanked (superblockAt s k)))) 64 (both-right (allBelow (λ r. eqb (carrying (suc r) s) 1) (rankedCount s)) _ t) k l)
-      (both-make (isUnused (superblockAt s k)) _ (is-unused-of-facts _ u) (ranked-of-rank _ h)))
+      T-not (both (isUnowned (superblockAt s k)) (isRanked (superblockAt s k)))
+      (all-at (λ k. not (both (isUnowned (superblockAt s k)) (isRanked (superblockAt s k)))) 64 (both-right (allBelow (λ r. eqb (carrying (suc r) s) 1) (rankedCount s)) _ t) k l)
+      (both-make (isUnowned (superblockAt s k)) _ (is-unowned-of-facts _ u) (ranked-of-rank _ h)))
 
   -- the clause as facts of the ranks, and back
   pub ranks-sound-of-valid : T (ranksValid s) → RanksSound s
@@ -72,7 +72,7 @@ module _ (s : State) where
       record {
         bounded = le-count-of-each-once (rankAt s) 64 (carried-once-of-valid t);
         distinct = same-of-each-once (rankAt s) 64 (carried-once-of-valid t);
-        unused-unranked = unused-unranked-of-valid t;
+        unowned-unranked = unowned-unranked-of-valid t;
       }
 
   carried-once-of-sound : RanksSound s → (r : ℕ) → r < rankedCount s → carrying (suc r) s ≡ 1
@@ -84,14 +84,14 @@ module _ (s : State) where
   ranks-valid-of-sound h =
       both-make (allBelow (λ r. eqb (carrying (suc r) s) 1) (rankedCount s)) _
       (all-of-each (λ r. eqb (carrying (suc r) s) 1) (rankedCount s) (λ r l. T-of-true _ (eq-eqb (carrying (suc r) s) 1 (carried-once-of-sound h r l))))
-      (all-of-each (λ k. not (both (isUnused (superblockAt s k)) (isRanked (superblockAt s k)))) 64
-      (λ k l. not-T (both (isUnused (superblockAt s k)) (isRanked (superblockAt s k))) (not-both k l)))
+      (all-of-each (λ k. not (both (isUnowned (superblockAt s k)) (isRanked (superblockAt s k)))) 64
+      (λ k l. not-T (both (isUnowned (superblockAt s k)) (isRanked (superblockAt s k))) (not-both k l)))
     where
-      not-both : (k : ℕ) → k < 64 → T (both (isUnused (superblockAt s k)) (isRanked (superblockAt s k))) → ⊥
+      not-both : (k : ℕ) → k < 64 → T (both (isUnowned (superblockAt s k)) (isRanked (superblockAt s k))) → ⊥
       not-both k l t =
-          let u = facts-of-is-unused (superblockAt s k) (both-left (isUnused (superblockAt s k)) _ t) in
-          let r = rank-of-ranked (superblockAt s k) (both-right (isUnused (superblockAt s k)) _ t) in
-          omega (arith, h .unused-unranked k l u)
+          let u = facts-of-is-unowned (superblockAt s k) (both-left (isUnowned (superblockAt s k)) _ t) in
+          let r = rank-of-ranked (superblockAt s k) (both-right (isUnowned (superblockAt s k)) _ t) in
+          omega (arith, h .unowned-unranked k l u)
 
   -- no rank is above the number of superblocks
   pub ranks-fit-of-sound : RanksSound s → RanksFit s
@@ -116,20 +116,20 @@ module _ (s : State) where
 -- ---- states with given ranks
 -- the facts of the ranks, from those of a function that gives them
 ranks-sound-of-ranks : (t : State) (g : ℕ → ℕ) → ((m : ℕ) → m < 64 → rankAt t m ≡ g m) → ((m : ℕ) → m < 64 → g m ≤ countAbove g 64 0)
-    → ((k m : ℕ) → k < 64 → m < 64 → 0 < g k → g k ≡ g m → k ≡ m) → ((m : ℕ) → m < 64 → Unused (superblockAt t m) → g m ≡ 0) → RanksSound t
+    → ((k m : ℕ) → k < 64 → m < 64 → 0 < g k → g k ≡ g m → k ≡ m) → ((m : ℕ) → m < 64 → Unowned (superblockAt t m) → g m ≡ 0) → RanksSound t
 unfolding rankedCount total isRanked
-ranks-sound-of-ranks t g same bounded distinct unused-zero =
+ranks-sound-of-ranks t g same bounded distinct unowned-zero =
     record {
       bounded = λ k l. omega (arith, same k l, bounded k l, sum-cong (λ k. one (ltb 0 (rankAt t k))) (λ k. one (ltb 0 (g k))) 64 (λ k l. ap (λ (x : ℕ). one (ltb 0 x)) (same k l)));
       distinct = λ k m lk lm h e. distinct k m lk lm (omega (arith, same k lk)) (sym (same k lk) ∙ e ∙ same m lm);
-      unused-unranked = λ k l u. same k l ∙ unused-zero k l u;
+      unowned-unranked = λ k l u. same k l ∙ unowned-zero k l u;
     }
 
--- a state with the same ranks, in which no more superblocks are unused
+-- a state with the same ranks, in which heaps own no fewer superblocks
 pub ranks-sound-of-same-ranks : (s t : State) → ((k : ℕ) → k < 64 → superblockAt t k .rank ≡ superblockAt s k .rank)
-    → ((k : ℕ) → k < 64 → Unused (superblockAt t k) → Unused (superblockAt s k)) → RanksSound s → RanksSound t
+    → ((k : ℕ) → k < 64 → Unowned (superblockAt t k) → Unowned (superblockAt s k)) → RanksSound s → RanksSound t
 unfolding rankedCount total isRanked
-ranks-sound-of-same-ranks s t same kept h = ranks-sound-of-ranks t (rankAt s) same (h .bounded) (h .distinct) (λ m l u. h .unused-unranked m l (kept m l u))
+ranks-sound-of-same-ranks s t same kept h = ranks-sound-of-ranks t (rankAt s) same (h .bounded) (h .distinct) (λ m l u. h .unowned-unranked m l (kept m l u))
 
 -- a new state has none ranked
 pub rank-in-new-state : (u : Setup) (k : ℕ) → k < 64 → superblockAt (newState u) k .rank ≡ 0
@@ -355,36 +355,36 @@ module _ (k : ℕ) (s : State) (m : ℕ) (l : m < 64) where
   unfolding unranked
   superblock-at-unranked = superblock-at-reranked (rankAfterRenewal k (s .table)) s m l
 
--- another rank makes no superblock unused
-unused-with-rank : (r : ℕ) (b d : Superblock) → d ≡ withRank r b → Unused d → Unused b
-unused-with-rank r b d e h =
+-- another rank makes no superblock unowned
+unowned-with-rank : (r : ℕ) (b d : Superblock) → d ≡ withRank r b → Unowned d → Unowned b
+unowned-with-rank r b d e h =
     record {
-      owner = ap (λ (x : Superblock). x .owner) (sym e) ∙ h .owner;
+      owner = subst (λ (x : Superblock). (x .owner ≡ 255) ⊎ (x .owner ≡ 254)) e (h .owner);
       class = ap (λ (x : Superblock). x .class) (sym e) ∙ h .class;
       live = ap (λ (x : Superblock). liveIn x) (sym e) ∙ h .live;
     }
 
 reranked-ranks-sound : (rank : ℕ → ℕ) (s : State) → ((m : ℕ) → m < 64 → rank m ≤ countAbove rank 64 0) → ((k m : ℕ) → k < 64 → m < 64 → 0 < rank k → rank k ≡ rank m → k ≡ m)
-    → ((m : ℕ) → m < 64 → Unused (superblockAt s m) → rank m ≡ 0) → RanksSound (reranked rank s)
-reranked-ranks-sound rank s bounded distinct unused-zero =
+    → ((m : ℕ) → m < 64 → Unowned (superblockAt s m) → rank m ≡ 0) → RanksSound (reranked rank s)
+reranked-ranks-sound rank s bounded distinct unowned-zero =
     ranks-sound-of-ranks (reranked rank s) rank (λ m l. ap (λ (b : Superblock). b .rank) (superblock-at-reranked rank s m l)) bounded distinct
-    (λ m l u. unused-zero m l (unused-with-rank (rank m) (superblockAt s m) _ (superblock-at-reranked rank s m l) u))
+    (λ m l u. unowned-zero m l (unowned-with-rank (rank m) (superblockAt s m) _ (superblock-at-reranked rank s m l) u))
 
--- a free into a superblock that is not unused, and a renewal, keep the ranking's facts
-pub ranked-latest-ranks-sound : (k : ℕ) (s : State) → k < 64 → (Unused (superblockAt s k) → ⊥) → RanksSound s → RanksSound (rankedLatest k s)
+-- a free into a superblock that a heap owns, and a renewal, keep the ranking's facts
+pub ranked-latest-ranks-sound : (k : ℕ) (s : State) → k < 64 → (Unowned (superblockAt s k) → ⊥) → RanksSound s → RanksSound (rankedLatest k s)
 unfolding rankedLatest
 ranked-latest-ranks-sound k s below in-use sound =
-    reranked-ranks-sound (rankAfterFree k (s .table)) s (bounded-after-free k s below sound) (distinct-after-free k s below sound) (λ m l u. unused-zero m l u (ℕ-discrete m k))
+    reranked-ranks-sound (rankAfterFree k (s .table)) s (bounded-after-free k s below sound) (distinct-after-free k s below sound) (λ m l u. unowned-zero m l u (ℕ-discrete m k))
   where
-    unused-zero : (m : ℕ) → m < 64 → Unused (superblockAt s m) → Dec (m ≡ k) → rankAfterFree k (s .table) m ≡ 0
-    unused-zero m l u (yes q) = absurd (in-use (subst (λ (i : ℕ). Unused (superblockAt s i)) q u))
-    unused-zero m l u (no a) = zero-of-not-positive _ (λ h. let r = ranked-of-ranked-after-free k (s .table) m a h in omega (arith, sound .unused-unranked m l u))
+    unowned-zero : (m : ℕ) → m < 64 → Unowned (superblockAt s m) → Dec (m ≡ k) → rankAfterFree k (s .table) m ≡ 0
+    unowned-zero m l u (yes q) = absurd (in-use (subst (λ (i : ℕ). Unowned (superblockAt s i)) q u))
+    unowned-zero m l u (no a) = zero-of-not-positive _ (λ h. let r = ranked-of-ranked-after-free k (s .table) m a h in omega (arith, sound .unowned-unranked m l u))
 
 pub unranked-ranks-sound : (k : ℕ) (s : State) → k < 64 → RanksSound s → RanksSound (unranked k s)
 unfolding unranked
 unranked-ranks-sound k s below sound =
-    reranked-ranks-sound (rankAfterRenewal k (s .table)) s (bounded-after-renewal k s below sound) (distinct-after-renewal k s below sound) (λ m l u. unused-zero m l u (ℕ-discrete m k))
+    reranked-ranks-sound (rankAfterRenewal k (s .table)) s (bounded-after-renewal k s below sound) (distinct-after-renewal k s below sound) (λ m l u. unowned-zero m l u (ℕ-discrete m k))
   where
-    unused-zero : (m : ℕ) → m < 64 → Unused (superblockAt s m) → Dec (m ≡ k) → rankAfterRenewal k (s .table) m ≡ 0
-    unused-zero m l u (yes q) = ap (rankAfterRenewal k (s .table)) q ∙ rank-after-renewal-of-superblock k (s .table)
-    unused-zero m l u (no a) = zero-of-not-positive _ (λ h. let r = ranked-of-ranked-after-renewal k (s .table) m a h in omega (arith, sound .unused-unranked m l u))
+    unowned-zero : (m : ℕ) → m < 64 → Unowned (superblockAt s m) → Dec (m ≡ k) → rankAfterRenewal k (s .table) m ≡ 0
+    unowned-zero m l u (yes q) = ap (rankAfterRenewal k (s .table)) q ∙ rank-after-renewal-of-superblock k (s .table)
+    unowned-zero m l u (no a) = zero-of-not-positive _ (λ h. let r = ranked-of-ranked-after-renewal k (s .table) m a h in omega (arith, sound .unowned-unranked m l u))

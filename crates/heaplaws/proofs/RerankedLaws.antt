@@ -20,13 +20,13 @@ use Rattle.names.specs.Names.{eachHeld}
 use Rattle.namelaws.proofs.NameLaws.{each-held-of-tests}
 use Rattle.heap.specs.declared.Superblock.{Superblock}
 use Rattle.heap.specs.declared.State.{State}
-use Rattle.heap.specs.Table.{blank, superblockAt, liveIn, withRank, isLiveBlock}
+use Rattle.heap.specs.Table.{blank, superblockAt, liveIn, isOfRun, startsRun, isOfHeap, liveBlocks, withRank, isLiveBlock}
 use Rattle.heap.specs.Counts.{total, belongs, oneIfBelongs, liveIfBelongs, isOwnedOfClass, superblocksOf, blocksIn, liveOf, superblocksOfClass, liveOfClass, ownersChanged}
 use Rattle.heap.specs.Totals.{totalIndex, isCounted, withCounted, countedBelow, recounted, TotalsKept}
 use Rattle.heap.specs.Ranks.{reranked}
 use Rattle.moverules.specs.Moves.{bothConditions, mustMove}
 use Rattle.checkrules.specs.Check.{namesValid}
-use Rattle.heaplaws.proofs.StateFacts.{Shape, Unused, Owned, Sparse, Sound, SoundWith, SoundAfterFrees, InvariantBeforeFrees}
+use Rattle.heaplaws.proofs.StateFacts.{Shape, Unused, Unowned, Owned, Sparse, Sound, SoundWith, SoundAfterFrees, InvariantBeforeFrees}
 
 module _ (rank : ℕ → ℕ) (s : State) where
   -- each superblock is as it was but for its rank ..
@@ -81,6 +81,17 @@ module _ (rank : ℕ → ℕ) (s : State) where
     pub reranked-live : (k : ℕ) → superblockAt (reranked rank s) k .live ≡ superblockAt s k .live
     reranked-live = reranked-keeps (λ b. b .live) (λ r b. refl)
 
+    pub reranked-run : (k : ℕ) → superblockAt (reranked rank s) k .run ≡ superblockAt s k .run
+    reranked-run = reranked-keeps (λ b. b .run) (λ r b. refl)
+
+    pub reranked-of-run : (k : ℕ) → isOfRun (superblockAt (reranked rank s) k) ≡ isOfRun (superblockAt s k)
+    unfolding isOfRun
+    reranked-of-run = reranked-keeps isOfRun (λ r b. refl)
+
+    pub reranked-live-blocks : (k : ℕ) → liveBlocks (superblockAt (reranked rank s) k) ≡ liveBlocks (superblockAt s k)
+    unfolding liveBlocks startsRun isOfRun
+    reranked-live-blocks = reranked-keeps liveBlocks (λ r b. refl)
+
     -- ---- the counts
     pub reranked-total : (f : Superblock → ℕ) → ((r : ℕ) (b : Superblock) → f (withRank r b) ≡ f b) → total f (reranked rank s .table) ≡ total f (s .table)
     unfolding total
@@ -95,11 +106,11 @@ module _ (rank : ℕ → ℕ) (s : State) where
     reranked-live-of h c = reranked-total (liveIfBelongs h c) (λ r b. refl)
 
     pub reranked-superblocks-of-class : (c : ℕ) → superblocksOfClass c (reranked rank s) ≡ superblocksOfClass c s
-    unfolding superblocksOfClass isOwnedOfClass
+    unfolding superblocksOfClass isOwnedOfClass isOfHeap
     reranked-superblocks-of-class c = reranked-total (λ b. one (isOwnedOfClass c b)) (λ r b. refl)
 
     pub reranked-live-of-class : (c : ℕ) → liveOfClass c (reranked rank s) ≡ liveOfClass c s
-    unfolding liveOfClass isOwnedOfClass
+    unfolding liveOfClass isOwnedOfClass isOfHeap
     reranked-live-of-class c = reranked-total (λ b. pick (isOwnedOfClass c b) (liveIn b) 0) (λ r b. refl)
 
     pub reranked-must-move : (h c : ℕ) → mustMove h c (reranked rank s) ≡ mustMove h c s
@@ -125,6 +136,9 @@ module _ (rank : ℕ → ℕ) (s : State) where
     reranked-unused : (k : ℕ) → Unused (superblockAt s k) → Unused (superblockAt (reranked rank s) k)
     reranked-unused k u = record { owner = reranked-owner k ∙ u .owner; class = reranked-class k ∙ u .class; live = reranked-keeps liveIn (λ r b. refl) k ∙ u .live }
 
+    reranked-unowned : (k : ℕ) → Unowned (superblockAt s k) → Unowned (superblockAt (reranked rank s) k)
+    reranked-unowned k u = subst Unowned (sym (superblock-keeps-all-but-rank k)) (record { owner = u .owner; class = u .class; live = u .live })
+
     pub unused-of-reranked-unused : (k : ℕ) → Unused (superblockAt (reranked rank s) k) → Unused (superblockAt s k)
     unused-of-reranked-unused k u = record { owner = sym (reranked-owner k) ∙ u .owner; class = sym (reranked-class k) ∙ u .class; live = sym (reranked-keeps liveIn (λ r b. refl) k) ∙ u .live }
 
@@ -141,8 +155,8 @@ module _ (rank : ℕ → ℕ) (s : State) where
       sparse = λ k l e. subst (Sparse (s .setup)) (sym (superblock-keeps-all-but-rank k)) (sound .sparse k l (sym (reranked-owner k) ∙ e));
     }
       where
-        go : (k : ℕ) → Unused (superblockAt s k) ⊎ Owned (s .setup) order k (superblockAt s k) → Unused (superblockAt (reranked rank s) k) ⊎ Owned (s .setup) order k (superblockAt (reranked rank s) k)
-        go k (inl u) = inl (reranked-unused k u)
+        go : (k : ℕ) → Unowned (superblockAt s k) ⊎ Owned (s .setup) order k (superblockAt s k) → Unowned (superblockAt (reranked rank s) k) ⊎ Owned (s .setup) order k (superblockAt (reranked rank s) k)
+        go k (inl u) = inl (reranked-unowned k u)
         go k (inr o) = inr (reranked-owned order k o)
 
     pub reranked-sound : (order : List ℕ) → Sound s order → Sound (reranked rank s) order
@@ -163,4 +177,4 @@ module _ (rank : ℕ → ℕ) (s : State) where
         (both-right (eachHeld (isLiveBlock s) (s .names)) _ valid)
       where
         still-live : (b : ℕ) → T (isLiveBlock s b) → T (isLiveBlock (reranked rank s) b)
-        still-live b t = rw (reranked-live _) t
+        still-live b t = rw (reranked-live-blocks _) t

@@ -19,7 +19,7 @@ use Rattle.heap.proofs.State as S
 
 -- of one superblock
 marks-length-of-superblock : (b : Superblock) (vals : List Val) → Is B.the-row b vals → length (b .live) ≡ 4
-marks-length-of-superblock b vals g = length-of-length-map (λ (x : ℕ). x) (b .live) 4 (g .1 .1 .1 .1 .1 .0 .1 .0 .1)
+marks-length-of-superblock b vals g = length-of-length-map (λ (x : ℕ). x) (b .live) 4 (g .1 .1 .1 .1 .1 .1 .0 .1 .0 .1)
 
 -- of each superblock of a list
 marks-length-of-each : (table : List Superblock) (vals : List Val) → shadow (each Superblock (B.the-row .own) table vals) → (k : ℕ) → k < length table → length (getD table k blank .live) ≡ 4

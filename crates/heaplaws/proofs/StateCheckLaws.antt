@@ -1,7 +1,7 @@
 -- A state passes the check exactly if the facts of StateFacts hold of it. Assumes nothing.
 use mathlib.Core.Path.{_≡_, refl, sym, ap, _∙_, subst}
 use mathlib.Core.Bool.{Bool, true, false, not}
-use mathlib.Core.Logic.{_⊎_, inl, inr}
+use mathlib.Core.Logic.{_⊎_, inl, inr, ⊎-elim}
 use mathlib.Core.List.{List}
 use Prim.Native.Nat.{ℕ, zero, suc, _+_, _-_, _*_, _≤_, _<_}
 use native.Mathlib.Nat.{mul-le-mul-left, mul-le-mul-right, zero-mul}
@@ -22,13 +22,13 @@ use Rattle.filledplaces.proofs.PlacesValidLaws.{live-count-le-of-places-valid}
 use Rattle.heap.specs.declared.Superblock.{Superblock}
 use Rattle.heap.specs.declared.Setup.{Setup}
 use Rattle.heap.specs.declared.State.{State}
-use Rattle.heap.specs.Table.{blank, unused, superblockAt, liveIn, isUnused, isLiveBlock}
+use Rattle.heap.specs.Table.{blank, unused, superblockAt, liveIn, isUnused, isOfRun, isLiveBlock}
 use Rattle.heap.specs.States.{withSuperblock, withNames, newState}
 use Rattle.heap.specs.Counts.{superblocksOf, liveOf, blocksIn, belongs}
 use Rattle.moverules.specs.Moves.{bothConditions, mustMove}
-use Rattle.checkrules.specs.Check.{within, withinLimits, superblockValid, unusedFrom, emptinessInvariant, sparseIfGlobal, namesValid, ranksValid, restValid, passes}
+use Rattle.checkrules.specs.Check.{within, withinLimits, isPartOfRun, isUnowned, isOwned, superblockValid, unusedFrom, emptinessInvariant, sparseIfGlobal, namesValid, ranksValid, runsValid, restValid, passes}
 use Rattle.checkrules.proofs.ClauseLaws.{clauses-of-rest, rest-of-clauses, limits-of-passes, rest-of-passes, passes-of-limits-and-rest}
-use Rattle.heaplaws.proofs.StateFacts.{Shape, WithinLimits, Unused, Owned, Sparse, Sound, NamesSound, SoundWith, SoundAfterFrees}
+use Rattle.heaplaws.proofs.StateFacts.{Shape, WithinLimits, Unused, Unowned, Owned, Sparse, Sound, NamesSound, SoundWith, SoundAfterFrees}
 use Rattle.heap.specs.Totals.{TotalsKept}
 use Rattle.heaplaws.proofs.TotalsLaws.{totals-kept-of-valid, totals-valid-of-kept, length-recounted-superblocks, length-recounted-live}
 use Rattle.heaplaws.proofs.CountLaws.{superblock-at-replaced, superblock-at-others, owner-and-class-of-belongs, superblocks-of-new-state}
@@ -97,19 +97,53 @@ not-unused-of-owner b f = false-of-not-T (isUnused b) (λ t. f (facts-of-is-unus
 pub not-unused-of-belongs : (h c : ℕ) (b : Superblock) → h < 255 → T (belongs h c b) → isUnused b ≡ false
 not-unused-of-belongs h c b l t = not-unused-of-owner b (λ (q : b .owner ≡ 255). omega (arith, owner-and-class-of-belongs h c b t .0))
 
+-- unused, or part of a run
+pub unowned-of-unused : (b : Superblock) → Unused b → Unowned b
+unowned-of-unused b u = record { owner = inl (u .owner); class = u .class; live = u .live }
+
+pub unused-of-unowned : (b : Superblock) → Unowned b → b .owner ≡ 255 → Unused b
+unused-of-unowned b u e = record { owner = e; class = u .class; live = u .live }
+
+pub not-of-heap-of-unowned : (b : Superblock) → Unowned b → b .owner < 254 → ⊥
+not-of-heap-of-unowned b u l = ⊎-elim (λ e. omega arith) (λ e. omega arith) (u .owner)
+
+pub facts-of-is-unowned : (b : Superblock) → T (isUnowned b) → Unowned b
+unfolding isUnowned isPartOfRun isOfRun
+facts-of-is-unowned b t = go (isUnused b) refl
+  where
+    go : (x : Bool) → isUnused b ≡ x → Unowned b
+    go true e = unowned-of-unused b (facts-of-is-unused b (T-of-true _ e))
+    go false e =
+        let r = either-right-of-left-false (isUnused b) _ t e in
+        let r1 = both-right (eqb (b .owner) 254) _ r in
+        record {
+          owner = inr (eqb→eq (b .owner) 254 (both-left (eqb (b .owner) 254) _ r));
+          class = eqb→eq (b .class) 0 (both-left (eqb (b .class) 0) _ r1);
+          live = eqb→eq (liveIn b) 0 (both-right (eqb (b .class) 0) _ r1);
+        }
+
+pub is-unowned-of-facts : (b : Superblock) → Unowned b → T (isUnowned b)
+unfolding isUnowned isPartOfRun isOfRun
+is-unowned-of-facts b h =
+    ⊎-elim (λ e. either-left (isUnused b) _ (is-unused-of-facts b (unused-of-unowned b h e)))
+    (λ e. either-right (isUnused b) _
+    (both-make (eqb (b .owner) 254) _ (T-of-true _ (eq-eqb (b .owner) 254 e))
+    (both-make (eqb (b .class) 0) _ (T-of-true _ (eq-eqb (b .class) 0 (h .class))) (T-of-true _ (eq-eqb (liveIn b) 0 (h .live))))))
+    (h .owner)
+
 -- the superblocks of a new state
 pub unused-is-unused : Unused unused
 unused-is-unused = record { owner = refl; class = refl; live = live-count-of-no-marks }
 
 module _ (u : Setup) (order : List ℕ) (k : ℕ) (b : Superblock) where
-  pub unused-or-owned-of-superblock-valid : T (superblockValid u order k b) → Unused b ⊎ Owned u order k b
-  unfolding superblockValid
-  unused-or-owned-of-superblock-valid t = go (isUnused b) refl
+  pub unowned-or-owned-of-superblock-valid : T (superblockValid u order k b) → Unowned b ⊎ Owned u order k b
+  unfolding superblockValid isOwned
+  unowned-or-owned-of-superblock-valid t = go (isUnowned b) refl
     where
-      go : (x : Bool) → isUnused b ≡ x → Unused b ⊎ Owned u order k b
-      go true e = inl (facts-of-is-unused b (T-of-true _ e))
+      go : (x : Bool) → isUnowned b ≡ x → Unowned b ⊎ Owned u order k b
+      go true e = inl (facts-of-is-unowned b (T-of-true _ e))
       go false e =
-          let r = either-right-of-left-false (isUnused b) _ t e in
+          let r = either-right-of-left-false (isUnowned b) _ t e in
           let r1 = both-right (leb (b .owner) (u .processors)) _ r in
           inr (record {
             owner = leb→le (b .owner) (u .processors) (both-left (leb (b .owner) (u .processors)) _ r);
@@ -117,14 +151,14 @@ module _ (u : Setup) (order : List ℕ) (k : ℕ) (b : Superblock) where
             places = both-right (ltb (b .class) 27) _ r1;
           })
 
-  pub superblock-valid-of-unused : Unused b → T (superblockValid u order k b)
+  pub superblock-valid-of-unowned : Unowned b → T (superblockValid u order k b)
   unfolding superblockValid
-  superblock-valid-of-unused h = either-left (isUnused b) _ (is-unused-of-facts b h)
+  superblock-valid-of-unowned h = either-left (isUnowned b) _ (is-unowned-of-facts b h)
 
   pub superblock-valid-of-owned : Owned u order k b → T (superblockValid u order k b)
-  unfolding superblockValid
+  unfolding superblockValid isOwned
   superblock-valid-of-owned h =
-      either-right (isUnused b) _
+      either-right (isUnowned b) _
       (both-make (leb (b .owner) (u .processors)) _ (le→leb (b .owner) (u .processors) (h .owner))
       (both-make (ltb (b .class) 27) _ (lt→ltb (b .class) 27 (h .class)) (h .places)))
 
@@ -172,7 +206,7 @@ sound-of-limits-and-rest s order a b =
     let clauses = clauses-of-rest s order b in
     record {
       numbers = facts-of-within-limits (s .setup) a;
-      each = λ k l. unused-or-owned-of-superblock-valid (s .setup) order k (superblockAt s k) (all-at (λ k. superblockValid (s .setup) order k (superblockAt s k)) 64 (clauses .superblocks) k l);
+      each = λ k l. unowned-or-owned-of-superblock-valid (s .setup) order k (superblockAt s k) (all-at (λ k. superblockValid (s .setup) order k (superblockAt s k)) 64 (clauses .superblocks) k l);
       past-unused = λ k l. unused-of-unused-from (s .setup .superblocks) k (superblockAt s k) (all-at (λ k. unusedFrom (s .setup .superblocks) k (superblockAt s k)) 64 (clauses .past-unused) k l);
       invariant = not-must-move-of-emptiness-invariant s (clauses .processor-heaps);
       sparse = λ k l. sparse-of-sparse-if-global (s .setup) (superblockAt s k) (all-at (λ k. sparseIfGlobal (s .setup) (superblockAt s k)) 64 (clauses .global-heap) k l);
@@ -200,8 +234,11 @@ names-valid-of-sound s h = both-make (eachHeld (isLiveBlock s) (s .names)) _ (ea
 pub ranks-valid-of-rest : (s : State) (order : List ℕ) → T (restValid s order) → T (ranksValid s)
 ranks-valid-of-rest s order b = clauses-of-rest s order b .ranks
 
-pub rest-valid-of-sound : (s : State) (order : List ℕ) → Sound s order → T (namesValid s) → TotalsKept s → T (ranksValid s) → T (restValid s order)
-rest-valid-of-sound s order h names totals ranks =
+pub runs-valid-of-rest : (s : State) (order : List ℕ) → T (restValid s order) → T (runsValid s)
+runs-valid-of-rest s order b = clauses-of-rest s order b .runs
+
+pub rest-valid-of-sound : (s : State) (order : List ℕ) → Sound s order → T (namesValid s) → TotalsKept s → T (ranksValid s) → T (runsValid s) → T (restValid s order)
+rest-valid-of-sound s order h names totals ranks runs =
     rest-of-clauses s order
     (record {
       superblocks = all-of-each (λ k. superblockValid (s .setup) order k (superblockAt s k)) 64 (λ k l. good k (h .each k l));
@@ -211,10 +248,11 @@ rest-valid-of-sound s order h names totals ranks =
       names = names;
       totals = totals-valid-of-kept s totals;
       ranks = ranks;
+      runs = runs;
     })
   where
-    good : (k : ℕ) → Unused (superblockAt s k) ⊎ Owned (s .setup) order k (superblockAt s k) → T (superblockValid (s .setup) order k (superblockAt s k))
-    good k (inl a) = superblock-valid-of-unused (s .setup) order k (superblockAt s k) a
+    good : (k : ℕ) → Unowned (superblockAt s k) ⊎ Owned (s .setup) order k (superblockAt s k) → T (superblockValid (s .setup) order k (superblockAt s k))
+    good k (inl a) = superblock-valid-of-unowned (s .setup) order k (superblockAt s k) a
     good k (inr a) = superblock-valid-of-owned (s .setup) order k (superblockAt s k) a
 
 pub sound-of-passes : (s : State) (order : List ℕ) → T (passes s order) → Sound s order
@@ -223,8 +261,9 @@ sound-of-passes s order t = sound-of-limits-and-rest s order (limits-of-passes s
 pub totals-kept-of-passes : (s : State) (order : List ℕ) → T (passes s order) → TotalsKept s
 totals-kept-of-passes s order t = totals-kept-of-rest s order (rest-of-passes s order t)
 
-pub passes-of-sound : (s : State) (order : List ℕ) → Sound s order → T (namesValid s) → TotalsKept s → T (ranksValid s) → T (passes s order)
-passes-of-sound s order h names totals ranks = passes-of-limits-and-rest s order (within-limits-of-facts (s .setup) (h .numbers)) (rest-valid-of-sound s order h names totals ranks)
+pub passes-of-sound : (s : State) (order : List ℕ) → Sound s order → T (namesValid s) → TotalsKept s → T (ranksValid s) → T (runsValid s) → T (passes s order)
+passes-of-sound s order h names totals ranks runs =
+    passes-of-limits-and-rest s order (within-limits-of-facts (s .setup) (h .numbers)) (rest-valid-of-sound s order h names totals ranks runs)
 
 -- ---- a new state
 pub superblock-at-new-state-unused : (u : Setup) (k : ℕ) → k < 64 → superblockAt (newState u) k ≡ unused
@@ -242,7 +281,7 @@ new-state-not-must-move u h c l m =
 pub new-state-sound : (u : Setup) (order : List ℕ) → T (withinLimits u) → Sound (newState u) order
 new-state-sound u order t = record {
   numbers = numbers;
-  each = λ k l. inl (free k l);
+  each = λ k l. inl (unowned-of-unused _ (free k l));
   past-unused = λ k l m. free k l;
   invariant = none-must-move;
   sparse = λ k l e. absurd (owned k l e);
@@ -304,7 +343,7 @@ live-lt-blocks-of-sparse q p live n h = go (decLt live n)
     go (no f) = absurd (let z : ⊥ = omega (arith, mul-le-mul-left {m = n} {n = live} q (omega arith), mul-le-mul-right {m = q - p} {n = q} n (omega arith)) in z)
 
 module _ {Invariant : ℕ → ℕ → State → Type 0} (s : State) (order : List ℕ) (sound : SoundWith Invariant s order) (k : ℕ) (l : k < 64) where
-  -- a superblock that a heap owns has a number below N
+  -- a superblock that is not unused has a number below N
   pub owned-below-superblocks : (superblockAt s k .owner ≡ 255 → ⊥) → k < s .setup .superblocks
   owned-below-superblocks f = go (decLt k (s .setup .superblocks))
     where
@@ -312,22 +351,26 @@ module _ {Invariant : ℕ → ℕ → State → Type 0} (s : State) (order : Lis
       go (yes h) = h
       go (no g) = absurd (f (sound .past-unused k l (omega arith) .owner))
 
-  pub owned-of-owner : (superblockAt s k .owner ≡ 255 → ⊥) → Owned (s .setup) order k (superblockAt s k)
+  pub owned-of-owner : superblockAt s k .owner < 254 → Owned (s .setup) order k (superblockAt s k)
   owned-of-owner f = go (sound .each k l)
     where
-      go : Unused (superblockAt s k) ⊎ Owned (s .setup) order k (superblockAt s k) → Owned (s .setup) order k (superblockAt s k)
-      go (inl u) = absurd (f (u .owner))
+      go : Unowned (superblockAt s k) ⊎ Owned (s .setup) order k (superblockAt s k) → Owned (s .setup) order k (superblockAt s k)
+      go (inl u) = absurd (not-of-heap-of-unowned (superblockAt s k) u f)
       go (inr o) = o
 
-  pub unused-of-owner-255 : superblockAt s k .owner ≡ 255 → Unused (superblockAt s k)
-  unused-of-owner-255 e = go (sound .each k l)
+  -- it is unowned, or its owner is 0 to P
+  pub unowned-of-owner : 254 ≤ superblockAt s k .owner → Unowned (superblockAt s k)
+  unowned-of-owner f = go (sound .each k l)
     where
-      go : Unused (superblockAt s k) ⊎ Owned (s .setup) order k (superblockAt s k) → Unused (superblockAt s k)
+      go : Unowned (superblockAt s k) ⊎ Owned (s .setup) order k (superblockAt s k) → Unowned (superblockAt s k)
       go (inl u) = u
       go (inr o) = absurd (let z : ⊥ = omega (arith, o .owner, sound .numbers .processors-high) in z)
 
+  pub unused-of-owner-255 : superblockAt s k .owner ≡ 255 → Unused (superblockAt s k)
+  unused-of-owner-255 e = unused-of-unowned (superblockAt s k) (unowned-of-owner (omega arith)) e
+
   -- not more live than blocks
-  pub live-le-blocks-of-owned : (superblockAt s k .owner ≡ 255 → ⊥) → liveIn (superblockAt s k) ≤ blocksOf (superblockAt s k .class)
+  pub live-le-blocks-of-owned : superblockAt s k .owner < 254 → liveIn (superblockAt s k) ≤ blocksOf (superblockAt s k .class)
   live-le-blocks-of-owned f = live-count-le-of-places-valid order (superblockAt s k .live) k (blocksOf (superblockAt s k .class)) (blocks-of-le-256 (superblockAt s k .class)) (owned-of-owner f .places)
 
   -- a sparse superblock has a free block

@@ -1,6 +1,6 @@
 -- The rules on a state as facts: what a choice finds, what a state that passes its check is, what moves do.
 use mathlib.Core.Path.{_≡_}
-use mathlib.Core.Bool.{Bool}
+use mathlib.Core.Bool.{Bool, true, false}
 use mathlib.Core.Logic.{_⊎_}
 use mathlib.Core.List.{List}
 use Prim.Native.Nat.{ℕ, _+_, _-_, _*_, _≤_, _<_}
@@ -12,7 +12,7 @@ use Rattle.filledplaces.specs.FilledPlaces.{placesValid}
 use Rattle.heap.specs.declared.Superblock.{Superblock}
 use Rattle.heap.specs.declared.Setup.{Setup}
 use Rattle.heap.specs.declared.State.{State}
-use Rattle.heap.specs.Table.{blank, superblockAt, liveIn, withOwner, isLiveBlock}
+use Rattle.heap.specs.Table.{blank, superblockAt, liveIn, isOfRun, withOwner, isLiveBlock}
 use Rattle.heap.specs.Counts.{belongs, superblocksOf, blocksIn, liveOf, superblocksOfClass, liveOfClass}
 use Rattle.heap.specs.Totals.{TotalsKept}
 use Rattle.moverules.specs.Moves.{mustMove}
@@ -58,6 +58,12 @@ pub record Unused (b : Superblock) : Type 0 where
   pub class : b .class ≡ 0
   pub live : liveIn b ≡ 0
 
+-- no heap owns it: it is unused, or part of a run (document 02, item 7)
+pub record Unowned (b : Superblock) : Type 0 where
+  pub owner : (b .owner ≡ 255) ⊎ (b .owner ≡ 254)
+  pub class : b .class ≡ 0
+  pub live : liveIn b ≡ 0
+
 -- a superblock that a heap owns: its owner, its class, its marks and order places
 pub record Owned (u : Setup) (order : List ℕ) (k : ℕ) (b : Superblock) : Type 0 where
   pub owner : b .owner ≤ u .processors
@@ -68,10 +74,10 @@ pub record Owned (u : Setup) (order : List ℕ) (k : ℕ) (b : Superblock) : Typ
 abbrev pub Sparse : Setup → Superblock → Type 0
 Sparse u b = u .q * liveIn b < (u .q - u .p) * blocksOf (b .class)
 
--- the whole check, but for names, totals and ranks, with this of the processor heaps and classes
+-- the whole check, but for names, totals, ranks and runs, with this of the processor heaps and classes
 pub record SoundWith (Invariant : ℕ → ℕ → State → Type 0) (s : State) (order : List ℕ) : Type 0 where
   pub numbers : WithinLimits (s .setup)
-  pub each : (k : ℕ) → k < 64 → Unused (superblockAt s k) ⊎ Owned (s .setup) order k (superblockAt s k)
+  pub each : (k : ℕ) → k < 64 → Unowned (superblockAt s k) ⊎ Owned (s .setup) order k (superblockAt s k)
   pub past-unused : (k : ℕ) → k < 64 → s .setup .superblocks ≤ k → Unused (superblockAt s k)
   pub invariant : (h c : ℕ) → 1 ≤ h → h ≤ s .setup .processors → c < 27 → Invariant h c s
   pub sparse : (k : ℕ) → k < 64 → superblockAt s k .owner ≡ 0 → Sparse (s .setup) (superblockAt s k)
@@ -100,8 +106,26 @@ pub record RanksSound (s : State) : Type 0 where
   pub bounded : (k : ℕ) → k < 64 → superblockAt s k .rank ≤ rankedCount s
   -- "each once"
   pub distinct : (k m : ℕ) → k < 64 → m < 64 → 0 < superblockAt s k .rank → superblockAt s k .rank ≡ superblockAt s m .rank → k ≡ m
-  -- "the rest 0, unused ones too"
-  pub unused-unranked : (k : ℕ) → k < 64 → Unused (superblockAt s k) → superblockAt s k .rank ≡ 0
+  -- "the rest 0, unused ones too", and those of a run: "no rank" (item 7)
+  pub unowned-unranked : (k : ℕ) → k < 64 → Unowned (superblockAt s k) → superblockAt s k .rank ≡ 0
+
+-- superblock k is the first of a run of n superblocks: "The first carries the run's length, every other superblock 0"; "runs are whole and at most 16 long"
+pub record RunAt (s : State) (k n : ℕ) : Type 0 where
+  pub length-is : superblockAt s k .run ≡ n
+  pub some : 1 ≤ n
+  pub at-most-16 : n ≤ 16
+  pub in-table : k + n ≤ 64
+  pub of-run : (m : ℕ) → k ≤ m → m < k + n → isOfRun (superblockAt s m) ≡ true
+  pub others-carry-0 : (m : ℕ) → k < m → m < k + n → superblockAt s m .run ≡ 0
+
+-- the runs' part of the check (document 02, item 7)
+pub record RunsSound (s : State) : Type 0 where
+  -- a superblock of a run that carries a length is the first of a run that is whole
+  pub first-of-run : (k : ℕ) → k < 64 → isOfRun (superblockAt s k) ≡ true → 0 < superblockAt s k .run → RunAt s k (superblockAt s k .run)
+  -- one that carries none lies in a run that begins before it
+  pub inside-run : (k : ℕ) → k < 64 → isOfRun (superblockAt s k) ≡ true → superblockAt s k .run ≡ 0 → (m : ℕ) × (m < k) × (k < m + superblockAt s m .run) × (isOfRun (superblockAt s m) ≡ true)
+  -- "every other superblock 0"
+  pub outside-carries-0 : (k : ℕ) → k < 64 → isOfRun (superblockAt s k) ≡ false → superblockAt s k .run ≡ 0
 
 -- what the moves of heap h and class c, from state s, have come to: t is s with some superblocks of (h, c) passed to heap 0
 pub record TransferredFrom (h c : ℕ) (s t : State) : Type 0 where

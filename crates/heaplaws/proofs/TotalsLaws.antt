@@ -1,7 +1,7 @@
 -- The totals that a state keeps, and the recount. Assumes nothing.
 use mathlib.Core.Path.{_≡_, refl, sym, ap, ap₂, _∙_}
 use mathlib.Core.Bool.{Bool, true, false}
-use mathlib.Core.Logic.{_⊎_, inl, inr}
+use mathlib.Core.Logic.{_⊎_, inl, inr, ⊎-elim}
 use mathlib.Core.List.{List}
 use Prim.Native.Nat.{ℕ, zero, suc, _+_, _*_, _/_, _%_, _≤_, _<_}
 use native.Mathlib.Nat.{le-refl, suc-mul}
@@ -25,7 +25,7 @@ use Rattle.heap.specs.Counts.{total, belongs, oneIfBelongs, liveIfBelongs, supe
 use Rattle.heap.specs.Totals.{heapCount, totalCount, totalIndex, superblocksKept, liveKept, isCounted, withCounted, countedBelow, recounted, TotalsKept}
 use Rattle.heap.specs.States.{withSuperblock, withNames, newState}
 use Rattle.checkrules.specs.Check.{sameTotals, totalsValid}
-use Rattle.heaplaws.proofs.StateFacts.{Unused, Owned, Sound}
+use Rattle.heaplaws.proofs.StateFacts.{Unowned, Owned, Sound}
 use Rattle.heaplaws.proofs.CountLaws.{belongs-true, owner-and-class-of-belongs, superblocks-zero-of-none-belongs}
 
 -- ---- one superblock counted
@@ -186,8 +186,8 @@ module _ (s : State) (order : List ℕ) (sound : Sound s order) (kept : TotalsKe
   none-belongs-above-processors : (k : ℕ) → k < 64 → belongs h c (superblockAt s k) ≡ false
   none-belongs-above-processors k l = false-of-not-T _ (λ t. go (owner-and-class-of-belongs h c (superblockAt s k) t .0) (sound .each k l))
     where
-      go : superblockAt s k .owner ≡ h → Unused (superblockAt s k) ⊎ Owned (s .setup) order k (superblockAt s k) → ⊥
-      go e (inl u) = omega (arith, u .owner)
+      go : superblockAt s k .owner ≡ h → Unowned (superblockAt s k) ⊎ Owned (s .setup) order k (superblockAt s k) → ⊥
+      go e (inl u) = ⊎-elim (λ q. omega arith) (λ q. omega arith) (u .owner)
       go e (inr o) = omega (arith, o .owner)
 
   pub superblocks-kept-above-processors : superblocksKept h c s ≡ 0
