@@ -19,16 +19,16 @@ use Rattle.marklaws.proofs.MarkLaws.{live-count-of-no-marks}
 use Rattle.heap.specs.declared.Superblock.{Superblock}
 use Rattle.heap.specs.declared.Setup.{Setup}
 use Rattle.heap.specs.declared.State.{State}
-use Rattle.heap.specs.Table.{blank, superblockAt, liveIn, isOfRun, startsRun, runPart, withRank}
+use Rattle.heap.specs.Table.{blank, superblockAt, liveIn, isOfRun, runPart, withRank}
 use Rattle.heap.specs.States.{withSuperblock}
 use Rattle.heap.specs.Counts.{superblocksOfClass, liveOfClass}
 use Rattle.heap.specs.Ranks.{rankAfterRenewal, reranked, unranked}
 use Rattle.moverules.specs.Moves.{mustMove}
-use Rattle.checkrules.specs.Check.{namesValid, runsValid}
+use Rattle.checkrules.specs.Check.{runsValid}
 use Rattle.heaplaws.proofs.StateFacts.{Shape, Sound, RanksSound}
 use Rattle.heaplaws.proofs.CountLaws.{superblock-at-replaced, superblock-at-others}
 use Rattle.heaplaws.proofs.RankLaws.{rank-after-renewal-of-superblock, ranked-of-ranked-after-renewal, ranked-after-renewal-of-ranked, order-kept-by-renewal, unranked-ranks-sound}
-use Rattle.heaplaws.proofs.RerankedLaws.{superblock-at-reranked, reranked-superblocks-of-class, reranked-live-of-class, reranked-shape, reranked-sound, reranked-names-valid}
+use Rattle.heaplaws.proofs.RerankedLaws.{superblock-at-reranked, reranked-superblocks-of-class, reranked-live-of-class, reranked-shape, reranked-sound}
 use Rattle.heaplaws.proofs.RunsKeptLaws.{outside-run-of-owner}
 use Rattle.heaplaws.proofs.RunLaws.{Outside, runs-sound-of-valid, runs-valid-of-sound}
 use Rattle.heaplaws.proofs.RunChoiceLaws.{Available, facts-of-is-available, FreeRun, lowest-run-is-free}
@@ -37,9 +37,10 @@ use Rattle.calls.specs.Answers.{After}
 use Rattle.calls.specs.Runs.{joinedToRun, runTaken, longTakenFrom}
 use Rattle.calls.specs.Take.{takeOf}
 use Rattle.calllaws.proofs.CallEffects.{Passed, LongTakeAccepted, InRun, LongTakeEffect, RunUnranked}
+use Rattle.calllaws.proofs.NamesKeptLaws.{names-valid-after-long-take}
 use Rattle.calllaws.proofs.EachOfRunLaws.{each-of-run-by-steps}
 use Rattle.calllaws.proofs.RunEffectLaws.{run-taken-made, run-taken-keeps-rest, run-taken-runs-sound}
-use Rattle.calllaws.proofs.VacatedLaws.{Vacates, move-rule-goes-by-counts, vacated-shape, vacated-superblocks-of-class, vacated-live-of-class, vacated-sound, vacated-ranks-sound, vacated-names-valid}
+use Rattle.calllaws.proofs.VacatedLaws.{Vacates, move-rule-goes-by-counts, vacated-shape, vacated-superblocks-of-class, vacated-live-of-class, vacated-sound, vacated-ranks-sound}
 
 -- ---- a superblock that is "unused or empty in heap 0"
 module _ (b : Superblock) (available : Available b) where
@@ -96,11 +97,6 @@ module _ (t : State) (m n : ℕ) (shape : Shape t) (below : m < 64) (available :
   unfolding unranked
   joined-ranks-sound sound = vacated-ranks-sound outRanked m (runPart n) vacates (ap (λ (b : Superblock). b .rank) out-at) refl (unranked-ranks-sound m t below sound)
 
-  joined-names-valid : T (namesValid t) → T (namesValid joined)
-  unfolding startsRun
-  joined-names-valid valid =
-      vacated-names-valid outRanked m (runPart n) vacates (rw (available-outside-run _ out-available)) (reranked-names-valid rank t (shape .length-is) valid)
-
   joined-superblocks-of-class : (d : ℕ) → superblocksOfClass d joined ≤ superblocksOfClass d t
   joined-superblocks-of-class d = omega (arith, vacated-superblocks-of-class outRanked m (runPart n) vacates d, reranked-superblocks-of-class rank t (shape .length-is) d)
 
@@ -119,7 +115,6 @@ record Joined (s : State) (order : List ℕ) (k n j : ℕ) (t : State) : Type 0 
   setup : t .setup ≡ s .setup
   sound : Sound t order
   ranks : RanksSound t
-  names : T (namesValid t)
   owned : (d : ℕ) → superblocksOfClass d t ≤ superblocksOfClass d s
   live : (d : ℕ) → liveOfClass d t ≡ liveOfClass d s
   -- the others of the run are still available
@@ -186,7 +181,6 @@ module _ (s : State) (order : List ℕ) (k n : ℕ) (shape : Shape s) (passed : 
         setup = refl;
         sound = passed .sound;
         ranks = passed .ranks;
-        names = passed .names;
         owned = λ d. omega arith;
         live = λ d. refl;
         available = λ m low high. facts-of-is-available (superblockAt s m) (free .available m (omega arith) high);
@@ -201,7 +195,6 @@ module _ (s : State) (order : List ℕ) (k n : ℕ) (shape : Shape s) (passed : 
         setup = h .setup;
         sound = joined-sound t (k + j) part (h .shape) below now order (subst (λ (u : Setup). k + j < u .superblocks) (sym (h .setup)) (omega (arith, free .below))) (h .sound);
         ranks = joined-ranks-sound t (k + j) part (h .shape) below now (h .ranks);
-        names = joined-names-valid t (k + j) part (h .shape) below now (h .names);
         owned = λ d. omega (arith, joined-superblocks-of-class t (k + j) part (h .shape) below now d, h .owned d);
         live = λ d. joined-live-of-class t (k + j) part (h .shape) below now d ∙ h .live d;
         available = λ m low high. subst Available (sym (joined-at-others t (k + j) part (h .shape) below now m (omega (arith, free .below, few)) (λ e. omega arith))) (available-with-rank _ _ (h .available m (omega arith) high));
@@ -276,10 +269,9 @@ module _ (s : State) (order : List ℕ) (i size k : ℕ) (shape : Shape s) (acc 
       go (yes l) = run-taken-made k n s (shape .length-is) in-table .outside m l (outside l) .0
       go (no g) = rw (past-the-table (runTaken k n s) (facts .shape .length-is) (le-of-not-below g), past-the-table s (shape .length-is) (le-of-not-below g))
 
-  pub long-take-effect : LongTakeEffect k (runLength size) s (takeOf s order i size .answer .state)
-  long-take-effect =
-      subst (LongTakeEffect k n s) (sym state-is)
-      (record {
+  run-taken-effect : LongTakeEffect k n s (runTaken k n s)
+  run-taken-effect =
+      record {
         below = free .below;
         some = some;
         at-most-16 = at-most-16;
@@ -289,7 +281,10 @@ module _ (s : State) (order : List ℕ) (i size k : ℕ) (shape : Shape s) (acc 
         others = run-taken-others;
         owned = facts .owned;
         live = facts .live;
-      })
+      }
+
+  pub long-take-effect : LongTakeEffect k (runLength size) s (takeOf s order i size .answer .state)
+  long-take-effect = subst (LongTakeEffect k n s) (sym state-is) run-taken-effect
 
   -- "no rank": the superblocks of the run leave the ranking
   pub long-take-ranks : RunUnranked k (runLength size) s (takeOf s order i size .answer .state)
@@ -312,7 +307,7 @@ module _ (s : State) (order : List ℕ) (i size k : ℕ) (shape : Shape s) (acc 
       (subst (λ (places : List ℕ). Passed (runTaken k n s) places) (sym long-take-order)
       (record {
         sound = facts .sound;
-        names = facts .names;
+        names = names-valid-after-long-take k n s (runTaken k n s) run-taken-effect (run-taken-keeps-rest k n s .names) (acc .passed .names);
         totals = run-taken-keeps-rest k n s .totals (acc .passed .totals);
         ranks = facts .ranks;
         runs = runs-after;
