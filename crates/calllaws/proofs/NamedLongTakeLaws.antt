@@ -182,4 +182,3 @@ module _ (s : State) (order : List ℕ) (i m size k : ℕ) (shape : Shape s) (ac
 
   pub named-long-take-keeps-other-names : (l : ℕ) → (l ≡ m → ⊥) → blockNamed (namedTakeOf s order i m size .answer .state .names) l ≡ blockNamed (s .names) l
   named-long-take-keeps-other-names l f = ap (λ (x : List ℕ). blockNamed x l) named-long-take-names ∙ block-named-with-other-name (s .names) m (blockNumber k 0) l f
-

@@ -43,6 +43,7 @@ use Rattle.calllaws.proofs.CallEffects.{Passed, TakeAccepted, LongTakeA
 use Rattle.calllaws.proofs.TakeLaws.{take-refused-or-accepted}
 use Rattle.calllaws.proofs.FreeLaws.{free-refused-or-accepted}
 use Rattle.calllaws.proofs.RunEffectLaws.{run-freed-keeps-rest}
+use Rattle.calllaws.proofs.AddressFreedLaws.{order-pushed-outside-run, order-pushed-in-run}
 use Rattle.calllaws.proofs.AllFreedLaws.{first-refusal-of-cons}
 use Rattle.calllaws.proofs.DropLaws.{DropAccepted, drop-refused-or-accepted}
 
@@ -197,15 +198,6 @@ freed-superblock-below-superblocks s a accepted =
     let l = leb-false (s .setup .superblocks * 4096) a (neither-left (leb (s .setup .superblocks * 4096) a) (isUnused (superblockHolding s a)) (mapped-of-no-refusal s a accepted)) in
     omega arith
 
--- of a long block: the order stays
-pub order-pushed-of-run : (s : State) (order : List ℕ) (a : ℕ) → isInRun s a ≡ true → orderPushed s order a ≡ order
-unfolding orderPushed
-order-pushed-of-run s order a e = rw e
-
-pub order-pushed-outside-run : (s : State) (order : List ℕ) (a : ℕ) → isInRun s a ≡ false → orderPushed s order a ≡ blockPushed s order a
-unfolding orderPushed
-order-pushed-outside-run s order a e = rw e
-
 -- of a block of a class
 module _ (s : State) (a : ℕ) (accepted : addressRefusal s a ≡ 0) (outside : isInRun s a ≡ false) where
   aligned-outside-run : isOffBlock s a ≡ false
@@ -291,10 +283,10 @@ all-pushed-writes-each s order (a ∷ addresses) room ok =
     go : (t : Bool) → isInRun s a ≡ t
         → ((places : List ℕ) → blockFreed s a .setup .superblocks * 256 ≤ length places → WritesEach (blockFreed s a) places addresses (allPushed (blockFreed s a) places addresses))
         → WritesEach s order (a ∷ addresses) (allPushed (blockFreed s a) (orderPushed s order a) addresses)
-    go true e all = unwritten e (rest all order refl (order-pushed-of-run s order a e))
+    go true e all = unwritten e (rest all order refl (order-pushed-in-run s a order e))
     go false e all =
         let one = push-writes-next s a (first-refusal-of-cons s a addresses ok .0) e order room in
-        next e one (rest all (blockPushed s order a) (one .length-is) (order-pushed-outside-run s order a e))
+        next e one (rest all (blockPushed s order a) (one .length-is) (order-pushed-outside-run s a order e))
 
 writes-each-keeps-length : {s : State} {before addresses after : List ℕ} → WritesEach s before addresses after → length after ≡ length before
 writes-each-keeps-length done = refl
@@ -311,10 +303,10 @@ all-pushed-keeps s order (a ∷ addresses) ok x apart = all-pushed-keeps (blockF
     accepted = first-refusal-of-cons s a addresses ok
 
     go : (t : Bool) → isInRun s a ≡ t → getD (orderPushed s order a) x 0 ≡ getD order x 0
-    go true e = ap (λ (l : List ℕ). getD l x 0) (order-pushed-of-run s order a e)
+    go true e = ap (λ (l : List ℕ). getD l x 0) (order-pushed-in-run s a order e)
     go false e =
         let p = blocksOf (superblockHolding s a .class) - liveIn (superblockHolding s a) in
-        ap (λ (l : List ℕ). getD l x 0) (order-pushed-outside-run s order a e)
+        ap (λ (l : List ℕ). getD l x 0) (order-pushed-outside-run s a order e)
         ∙ with-place-other-index order (superblockIndex a) p (blockOf s a) x (λ (q : x ≡ superblockIndex a * 256 + p). apart .0 (omega (arith, filled-lt-256 s a (accepted .0) e)))
 
 -- no address of an accepted drop lies past the first N superblocks
