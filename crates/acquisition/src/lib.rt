@@ -20,6 +20,7 @@ fn acquire(b: Superblock, heap: u8, class: u8) -> Superblock
             class,
             live: [0u64; 4],
             rank: 0,
+            run: 0,
         };
     }
     let live = b.live;
@@ -28,6 +29,7 @@ fn acquire(b: Superblock, heap: u8, class: u8) -> Superblock
         class: b.class,
         live,
         rank: b.rank,
+        run: b.run,
     }
 }
 

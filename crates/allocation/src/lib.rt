@@ -35,6 +35,7 @@ pub fn take_from(s: State, order: &[u16], k: u8) -> Answer
         class: b.class,
         live: taken,
         rank: b.rank,
+        run: b.run,
     };
     let t = table::replace(s, i, marked);
     Answer {

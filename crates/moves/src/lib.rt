@@ -38,6 +38,7 @@ fn transfer(s: State, k: usize) -> State
         class: b.class,
         live,
         rank: b.rank,
+        run: b.run,
     };
     table::replace(s, k, moved)
 }

@@ -32,6 +32,7 @@ fn clear_mark(s: State, address: u32) -> State
         class: b.class,
         live: freed,
         rank: b.rank,
+        run: b.run,
     };
     table::replace(s, k, cleared)
 }

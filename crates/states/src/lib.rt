@@ -33,6 +33,7 @@ pub fn new_state(u: Setup) -> State
         class: 0,
         live: [0u64; 4],
         rank: 0,
+        run: 0,
     };
     State {
         setup: u,
