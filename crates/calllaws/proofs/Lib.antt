@@ -1,4 +1,6 @@
 pub mod CallEffects
+pub mod EachOfRunLaws
+pub mod RunEffectLaws
 pub mod CheckedLaws
 pub mod NamesKeptLaws
 pub mod SetupLaws

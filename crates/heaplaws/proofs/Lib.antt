@@ -1,8 +1,10 @@
 pub mod StateFacts
+pub mod RunLaws
 pub mod ChoiceLaws
 pub mod CountLaws
 pub mod TotalsLaws
 pub mod StateCheckLaws
+pub mod RunChoiceLaws
 pub mod MoveLaws
 pub mod ShapeLaws
 pub mod CheckReadsLaws
