@@ -22,10 +22,10 @@ pub fn is_long(size: u16) -> bool
 }
 
 // How many superblocks a long size takes: size / 4096 rounded up.
-pub fn run_length(size: u16) -> usize
+pub fn run_length(size: u16) -> u8
     ensures { λ r. ⌜ r ≡ runLength size ⌝ }
 {
-    (size as usize + 4095) / 4096
+    ((size as u32 + 4095) / 4096) as u8
 }
 
 // The class of each multiple of 8 up to 2048, with that size beside it: a size has the class of its size rounded up.
