@@ -114,23 +114,6 @@ pub first-refusal-of-cons : (s : State) (a : ℕ) (addresses : List ℕ) → fir
 unfolding firstAddressRefusal
 first-refusal-of-cons s a addresses e = refusal-of-first-zero (addressRefusal s a) (firstAddressRefusal (blockFreed s a) addresses) e
 
--- as many frees in another way of counting
-pub passed-after-frees-cong : (f g : ℕ → ℕ → ℕ) (s : State) (order : List ℕ) → ((h c : ℕ) → f h c ≡ g h c) → PassedAfterFrees f s order → PassedAfterFrees g s order
-passed-after-frees-cong f g s order same p =
-    record {
-      sound = record {
-        numbers = p .sound .numbers;
-        each = p .sound .each;
-        past-unused = p .sound .past-unused;
-        invariant = λ h c low high known. subst (λ (n : ℕ). InvariantBeforeFrees n h c s) (same h c) (p .sound .invariant h c low high known);
-        sparse = p .sound .sparse;
-      };
-      names = p .names;
-      totals = p .totals;
-      ranks = p .ranks;
-      room = p .room;
-    }
-
 -- ---- all of them
 -- what the frees leave of a state that passed before so many others
 pub record AllFreed (freed : ℕ → ℕ → ℕ) (s : State) (order addresses : List ℕ) : Type 0 where

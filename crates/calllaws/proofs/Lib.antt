@@ -12,6 +12,8 @@ pub mod TransferredLaws
 pub mod MarkClearedLaws
 pub mod InvariantRestoredLaws
 pub mod BlockFreedLaws
+pub mod RunFreedLaws
+pub mod AddressFreedLaws
 pub mod AllFreedLaws
 pub mod DropTransfersLaws
 pub mod DropLaws

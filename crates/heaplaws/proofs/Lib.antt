@@ -7,9 +7,11 @@ pub mod StateCheckLaws
 pub mod RunChoiceLaws
 pub mod MoveLaws
 pub mod ShapeLaws
+pub mod RunsKeptLaws
 pub mod CheckReadsLaws
 pub mod RerankedLaws
 pub mod Pigeonhole
 pub mod RankLaws
 pub mod MovesKeepLaws
 pub mod OutsideGlobalLaws
+pub mod PassedBetweenHeapsLaws
