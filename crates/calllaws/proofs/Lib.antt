@@ -5,9 +5,11 @@ pub mod CheckedLaws
 pub mod NamesKeptLaws
 pub mod SetupLaws
 pub mod SuperblockLaws
+pub mod VacatedLaws
 pub mod TakeSourceLaws
 pub mod TakeEffectLaws
 pub mod TakeLaws
+pub mod RunTakenLaws
 pub mod TransferredLaws
 pub mod MarkClearedLaws
 pub mod InvariantRestoredLaws
