@@ -301,15 +301,19 @@ long-at-inside s a f = rw (ne-eqb (a % 4096) 0 f) (go (ltb (a / 4096) 64) (start
     go true false = refl
     go false y = refl
 
+-- nor past the table
+long-at-past-table : (s : State) (a : ℕ) → (a / 4096 < 64 → ⊥) → longAt s a ≡ 0
+unfolding longAt
+long-at-past-table s a f = go (ltb (a / 4096) 64) refl
+  where
+    go : (x : Bool) → ltb (a / 4096) 64 ≡ x → pick x (one (both (startsRun (superblockAt s (a / 4096))) (eqb (a % 4096) 0))) 0 ≡ 0
+    go true e = absurd (f (ltb-true (a / 4096) 64 e))
+    go false e = refl
+
 pub long-at-of-new-state : (u : Setup) (a : ℕ) → longAt (newState u) a ≡ 0
 unfolding startsRun isOfRun
 long-at-of-new-state u a = go (decLt (a / 4096) 64)
   where
     go : Dec (a / 4096 < 64) → longAt (newState u) a ≡ 0
     go (yes l) = long-at-none (newState u) a (ap startsRun (getD-replicate 64 (a / 4096) unused blank l))
-    go (no f) = past (ltb (a / 4096) 64) refl
-      where
-        past : (x : Bool) → ltb (a / 4096) 64 ≡ x → longAt (newState u) a ≡ 0
-        unfolding longAt
-        past true e = absurd (f (ltb-true (a / 4096) 64 e))
-        past false e = rw e
+    go (no f) = long-at-past-table (newState u) a f
