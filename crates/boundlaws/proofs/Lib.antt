@@ -2,6 +2,7 @@ pub mod LedgerLaws
 pub mod LongAtLaws
 pub mod LiveAtLaws
 pub mod OneMoreLongLaws
+pub mod LedgerRuns
 pub mod LedgerNames
 pub mod BoundLaws
 pub mod ListedLaws

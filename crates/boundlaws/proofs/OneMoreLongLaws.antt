@@ -57,12 +57,15 @@ module _ (k : ℕ) (s t : State) (more : OneMoreLong k s t) where
 
 -- ---- superblocks
 -- a superblock that a run may take has no live block, and is of no run
-live-for-available : (d : ℕ) (b : Superblock) (j : ℕ) → j < 256 → T (isAvailable b) → liveFor d b j ≡ 0
-live-for-available d b j l h = live-for-clear d b j (marks-clear-of-live-count-zero (b .live) (go (facts-of-is-available b h)) j l)
+pub available-is-empty : (b : Superblock) → T (isAvailable b) → liveIn b ≡ 0
+available-is-empty b h = go (facts-of-is-available b h)
   where
     go : Available b → liveIn b ≡ 0
     go (inl u) = u .live
     go (inr e) = e .1
+
+live-for-available : (d : ℕ) (b : Superblock) (j : ℕ) → j < 256 → T (isAvailable b) → liveFor d b j ≡ 0
+live-for-available d b j l h = live-for-clear d b j (marks-clear-of-live-count-zero (b .live) (available-is-empty b h) j l)
 
 pub available-is-outside-run : (b : Superblock) → T (isAvailable b) → isOfRun b ≡ false
 available-is-outside-run b h = outside-run-of-owner b (λ (q : b .owner ≡ 254). go q (facts-of-is-available b h))
