@@ -23,7 +23,7 @@ use Rattle.calls.specs.Drop.{allFreed, firstAddressRefusal}
 use Rattle.calllaws.proofs.CallEffects.{PassedAfterFrees}
 use Rattle.calllaws.proofs.BlockFreedLaws.{freed-address, freed-superblock-lt-64, small-block-freed-effect, small-block-freed-names}
 use Rattle.calllaws.proofs.RunFreedLaws.{freed-run-address, long-block-freed-effect, long-block-freed-names}
-use Rattle.calllaws.proofs.AnyBlockFreedLaws.{block-freed-shape, block-freed-passed}
+use Rattle.calllaws.proofs.AddressFreedLaws.{address-freed}
 use Rattle.calllaws.proofs.AllFreedLaws.{first-refusal-of-cons}
 use Rattle.calllaws.proofs.DropTransfersLaws.{Transfers}
 use Rattle.bound.specs.Ledger.{Entry, classOfEntry, isAt, isAtOneOf, removed, entriesOf}
@@ -222,7 +222,8 @@ unfolding allFreed removedEach
 all-freed-each-removed freed s order [] ledger shape passed ok g = g
 all-freed-each-removed freed s order (a ∷ addresses) ledger shape passed ok g =
     let first = first-refusal-of-cons s a addresses ok in
-    all-freed-each-removed _ (blockFreed s a) (orderPushed s order a) addresses (removed (isAt a) ledger) (block-freed-shape freed s order a shape passed (first .0)) (block-freed-passed freed s order a shape passed (first .0)) (first .1)
+    let one = address-freed freed s order a shape passed (first .0) in
+    all-freed-each-removed _ (blockFreed s a) (orderPushed s order a) addresses (removed (isAt a) ledger) (one .shape) (one .passed) (first .1)
     (block-freed-agreement freed s order a ledger shape passed (first .0) g)
 
 -- all of a drop's
