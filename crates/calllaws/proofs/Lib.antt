@@ -5,13 +5,17 @@ pub mod CheckedLaws
 pub mod NamesKeptLaws
 pub mod SetupLaws
 pub mod SuperblockLaws
+pub mod VacatedLaws
 pub mod TakeSourceLaws
 pub mod TakeEffectLaws
 pub mod TakeLaws
+pub mod RunTakenLaws
 pub mod TransferredLaws
 pub mod MarkClearedLaws
 pub mod InvariantRestoredLaws
 pub mod BlockFreedLaws
+pub mod RunFreedLaws
+pub mod AddressFreedLaws
 pub mod AllFreedLaws
 pub mod DropTransfersLaws
 pub mod DropLaws

@@ -55,7 +55,7 @@ pub live-block-of-mark-at : (s : State) (k j : ℕ) → j < 256 → isOfRun (sup
 live-block-of-mark-at s k j l outside e = live-block-of-live-mark s k j l (ap (λ (x : List ℕ). markBit x j) (live-blocks-outside-run (superblockAt s k) outside) ∙ e)
 
 -- a superblock of which the marks at block j are kept, and what it is of a run, keeps the live block there
-live-mark-kept : (b d : Superblock) (j : ℕ) → isOfRun d ≡ isOfRun b → d .run ≡ b .run → (markBit (b .live) j ≡ 1 → markBit (d .live) j ≡ 1) → markBit (liveBlocks b) j ≡ 1 → markBit (liveBlocks d) j ≡ 1
+pub live-mark-kept : (b d : Superblock) (j : ℕ) → isOfRun d ≡ isOfRun b → d .run ≡ b .run → (markBit (b .live) j ≡ 1 → markBit (d .live) j ≡ 1) → markBit (liveBlocks b) j ≡ 1 → markBit (liveBlocks d) j ≡ 1
 unfolding liveBlocks
 live-mark-kept b d j e g kept was = rw (starts-run-same d b e g) (go (startsRun b) was)
   where

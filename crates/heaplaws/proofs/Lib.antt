@@ -14,3 +14,4 @@ pub mod Pigeonhole
 pub mod RankLaws
 pub mod MovesKeepLaws
 pub mod OutsideGlobalLaws
+pub mod PassedBetweenHeapsLaws

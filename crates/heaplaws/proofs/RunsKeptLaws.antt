@@ -5,7 +5,7 @@ use mathlib.Core.List.{List, [], _∷_}
 use Prim.Native.Nat.{ℕ, zero, suc, _-_, _≤_, _<_, zero-le}
 use native.Mathlib.Decide.{decLt}
 use native.Mathlib.Omega.{arith}
-use borrow.Author.Tests.{ne-eqb, eqb-true}
+use borrow.Author.Tests.{eq-eqb, ne-eqb, eqb-true}
 use lib.ListN.{length, getD}
 use lib.Dec.{T, eqb}
 use Rattle.laws.specs.Sums.{pick, both}
@@ -80,3 +80,7 @@ outside-run-of-owner b f = ne-eqb (b .owner) 254 f
 pub owner-of-run : (b : Superblock) → isOfRun b ≡ true → b .owner ≡ 254
 unfolding isOfRun
 owner-of-run b e = eqb-true (b .owner) 254 e
+
+pub of-run-of-owner : (b : Superblock) → b .owner ≡ 254 → isOfRun b ≡ true
+unfolding isOfRun
+of-run-of-owner b e = eq-eqb (b .owner) 254 e
