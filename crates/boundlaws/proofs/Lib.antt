@@ -10,6 +10,7 @@ pub mod CallInvariantLaws
 pub mod Demand3
 pub mod NamesAgree
 pub mod TotalsOverLists
+pub mod LongBlocksOverLists
 pub mod CallListLaws
 pub mod CallListCases
 pub mod EventLaws
