@@ -4,6 +4,7 @@ use mathlib.Core.Bool.{false}
 use mathlib.Core.Logic.{_⊎_, inl, inr, ⊎-elim}
 use mathlib.Core.List.{List}
 use Prim.Native.Nat.{ℕ, _*_, _/_, _%_, _<_}
+use native.Mathlib.Nat.{zero-div}
 use native.Mathlib.Decide.{decLt}
 use native.Mathlib.Omega.{arith}
 use borrow.Author.Tests.{lt-ltb, leb-false, eqb-false}
@@ -40,6 +41,11 @@ module _ (c k j : ℕ) (known : c < 27) (block : j < blocksOf c) where
     pub address-block-number : k < 64 → blockNumberAt s (addressOf k c j) ≡ blockNumber k j
     unfolding blockNumberAt
     address-block-number l = rw (address-block, address-superblock) (pick-true (ltb k 64) _ _ (lt-ltb k 64 l))
+
+-- the block of an address at the start of its superblock
+pub block-of-offset-0 : (s : State) (a : ℕ) → offsetOf a ≡ 0 → blockOf s a ≡ 0
+unfolding blockOf
+block-of-offset-0 s a e = rw e (zero-div (sizeOf (superblockHolding s a .class)))
 
 -- an address that is mapped, in a state that passes, lies in a superblock that a heap owns, or in a run
 module _ {Invariant : ℕ → ℕ → State → Type 0} (s : State) (order : List ℕ) (a : ℕ) (sound : SoundWith Invariant s order) (mapped : isUnmapped s a ≡ false) where

@@ -24,12 +24,14 @@ pub mod FreeLaws
 pub mod RefusalOrder
 pub mod AddressLaws
 pub mod NamedCallLaws
+pub mod NamedLongTakeLaws
 pub mod OutcomeValues
 pub mod AcceptedCallLaws
 pub mod NothingOfferedLaws
 pub mod RefusalConditions
 pub mod NamedRefusalConditions
 pub mod DropRefusalConditions
+pub mod AddressReadsLaws
 pub mod DropAsFrees
 pub mod TouchedLaws
 pub mod NameLifetime

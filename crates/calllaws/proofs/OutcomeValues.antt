@@ -12,7 +12,7 @@ use Rattle.calls.specs.Free.{freeOf}
 use Rattle.calllaws.proofs.CallEffects.{TakeAccepted, LongTakeAccepted, FreeAccepted, LongFreeAccepted}
 use Rattle.calllaws.proofs.TakeLaws.{taken-block, take-address}
 use Rattle.calllaws.proofs.RunTakenLaws.{long-take-address}
-use Rattle.calllaws.proofs.FreeLaws.{moves, free-outcome}
+use Rattle.calllaws.proofs.FreeLaws.{moves, free-outcome, long-free-outcome}
 
 -- the number and the values of an outcome
 pub record HasNumberAndValues (outcome : Outcome) (number : ℕ) (values : List ℕ) : Type 0 where
@@ -41,3 +41,8 @@ pub free-number-and-values : (s : State) (order : List ℕ) (i a : ℕ) (shape :
     → HasNumberAndValues (freeOf s order i a .answer .outcome) 0 (moves s order i a shape acc ∷ [])
 unfolding numberOf valuesOf
 free-number-and-values s order i a shape acc = rw (free-outcome s order i a shape acc) (record { number-is = refl; values-are = refl })
+
+-- of a long block: "Its free line has moved 0" (document 02, item 7)
+pub long-free-number-and-values : (s : State) (order : List ℕ) (i a : ℕ) (shape : Shape s) (acc : LongFreeAccepted s order i a) → HasNumberAndValues (freeOf s order i a .answer .outcome) 0 (0 ∷ [])
+unfolding numberOf valuesOf
+long-free-number-and-values s order i a shape acc = rw (long-free-outcome s order i a shape acc) (record { number-is = refl; values-are = refl })

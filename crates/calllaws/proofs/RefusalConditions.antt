@@ -5,7 +5,6 @@ use mathlib.Core.Bool.{Bool, true, false, not}
 use mathlib.Core.Logic.{_↔_, _⊎_, inl, inr}
 use mathlib.Core.List.{List, [], _∷_}
 use Prim.Native.Nat.{ℕ, _*_, _%_, _≤_, _<_}
-use native.Mathlib.Nat.{zero-div}
 use native.Mathlib.Omega.{arith}
 use borrow.Author.Tests.{eqb-true, eq-eqb, lt-ltb}
 use lib.ListN.{length}
@@ -40,6 +39,7 @@ use Rattle.calls.specs.Take.{otherPlaces, takenFrom, takenFromOther, takenAt, t
 use Rattle.calls.specs.Free.{offsetOf, superblockHolding, blockOf, isUnmapped, isInRun, isRunStart, isOffBlock, isMisaligned, isLiveAt, smallFreedAt, longFreedAt, freedAt, freeUnchecked, freeOf}
 use Rattle.calllaws.proofs.CallEffects.{Passed}
 use Rattle.calllaws.proofs.CheckedLaws.{checked-refuses-13-of-limits, checked-refuses-12-of-storage, checked-refuses-13-of-rest}
+use Rattle.calllaws.proofs.AddressLaws.{block-of-offset-0}
 use Rattle.calllaws.proofs.SetupLaws.{setup-refused-1-of-limits, setup-refused-12-of-storage}
 use Rattle.calllaws.proofs.RefusalOrder.{take-refused-2-of-processor, take-refused-3-of-too-large, take-of-class-size, free-refused-2-of-processor, free-refused-5-of-unmapped, free-refused-6-of-misaligned, free-refused-7-of-not-live}
 use Rattle.calllaws.proofs.TakeLaws.{takenByTests, nothing-offered-of-refused-4, refused-4-of-nothing-offered, refused-17-of-no-run}
@@ -191,11 +191,6 @@ pub freed-not-refused : (s : State) (order : List ℕ) (a r : ℕ) → freedAt s
 unfolding freedAt smallFreedAt longFreedAt
 freed-not-refused s order a r =
     pick-elim (λ (x : After). x .answer .outcome ≡ Refused r → ⊥) (isInRun s a) (longFreedAt s order a) (smallFreedAt s order a) (λ _. moves-not-refused 0 r) (λ _. moves-not-refused _ r)
-
--- the block of an address at the start of its superblock
-block-of-offset-0 : (s : State) (a : ℕ) → offsetOf a ≡ 0 → blockOf s a ≡ 0
-unfolding blockOf
-block-of-offset-0 s a e = rw e (zero-div (sizeOf (superblockHolding s a .class)))
 
 -- ---- tests
 decides-within-limits : (u : Setup) → Decides (withinLimits u) (WithinLimits u) (WithinLimits u → ⊥)

@@ -1,11 +1,10 @@
 -- A long block freed, before any move: "a free makes the whole run unused" (document 02, item 7). What becomes of a state that passed its check before
 -- these frees. Assumes nothing.
-use mathlib.Core.Path.{_≡_, refl, sym, ap, ap₂, _∙_, subst}
+use mathlib.Core.Path.{_≡_, refl, sym, ap, _∙_, subst}
 use mathlib.Core.Bool.{Bool, true, false, not}
 use mathlib.Core.Logic.{_⊎_, inl, inr, ⊎-elim}
 use mathlib.Core.List.{List}
 use Prim.Native.Nat.{ℕ, _+_, _*_, _/_, _%_, _≤_, _<_}
-use native.Mathlib.Nat.{zero-mul}
 use native.Mathlib.Decide.{ℕ-discrete, decLt}
 use native.Mathlib.Omega.{arith}
 use borrow.Author.Tests.{eqb-true, ltb-true, lt-ltb, not-false}
@@ -15,8 +14,6 @@ use Rattle.laws.specs.Sums.{pick, both, one}
 use Rattle.laws.proofs.Inequalities.{le-of-not-below}
 use Rattle.laws.proofs.TestLaws.{T-of-true, true-of-T, both-left, both-right, both-make, pick-true}
 use Rattle.laws.proofs.SumLaws.{sum-cong}
-use Rattle.classes.specs.Classes.{sizeOf}
-use Rattle.classes.proofs.OffsetLaws.{block-of-offset}
 use Rattle.marks.specs.Marks.{markBit, noMarks, withMark}
 use Rattle.marklaws.proofs.MarkLaws.{with-mark-other, mark-bit-of-no-marks, live-count-of-no-marks, marks-clear-of-live-count-zero}
 use Rattle.names.specs.Names.{blockNumber, withoutBlock, eachHeld}
@@ -43,7 +40,7 @@ use Rattle.calls.proofs.AddressRefusalLaws.{mapped-of-no-refusal, aligned-of-no
 use Rattle.calllaws.proofs.CallEffects.{PassedAfterFrees, InRun, LongFreeEffect, RanksKept}
 use Rattle.calllaws.proofs.EachOfRunLaws.{EachMade}
 use Rattle.calllaws.proofs.RunEffectLaws.{RestKept, run-freed-made, run-freed-keeps-rest, run-freed-runs-sound}
-use Rattle.calllaws.proofs.AddressLaws.{mapped-below-64}
+use Rattle.calllaws.proofs.AddressLaws.{mapped-below-64, block-of-offset-0}
 use Rattle.calllaws.proofs.NamesKeptLaws.{mark-of-live-block, live-block-of-mark, live-block-in-table}
 use Rattle.calllaws.proofs.SuperblockLaws.{unowned-of-no-class}
 use Rattle.calllaws.proofs.TransferredLaws.{invariant-before-frees-cong}
@@ -114,8 +111,7 @@ module _ (freed : ℕ → ℕ → ℕ) (s : State) (order : List ℕ) (a : ℕ) 
 
   -- a long block is block 0 of its run's first superblock
   pub freed-run-block : blockOf s a ≡ 0
-  unfolding blockOf
-  freed-run-block = ap₂ (λ (x c : ℕ). x / sizeOf c) (offset-is-0 ∙ sym (zero-mul (sizeOf 0))) freed-run-class ∙ block-of-offset 0 (omega arith) 0
+  freed-run-block = block-of-offset-0 s a offset-is-0
 
   pub freed-run-number : blockNumberAt s a ≡ blockNumber (superblockIndex a) 0
   unfolding blockNumberAt

@@ -1,7 +1,10 @@
 // The tests of one superblock, which the choices, the moves, the check of a state and the calls share. Each is total.
 ghost use mathlib.Core.Path.{_≡_};
 ghost use Prim.Native.Nat.{_≤_};
+ghost use lib.Dec.{eqb};
+ghost use Rattle.laws.specs.Sums.{both};
 ghost use Rattle.heap.specs.Table.{liveIn, isUnused, startsRun};
+ghost use Rattle.checkrules.specs.Check.{isPartOfRun, isUnowned};
 use heap::Superblock;
 
 // How many of its blocks are live.
@@ -12,14 +15,38 @@ pub fn live_in(b: Superblock) -> u32
     bitcount::live_count(live)
 }
 
-// Owner 255, class 0, nothing live. The owner is looked at first, so that live blocks are seldom counted.
-pub fn is_unused(b: Superblock) -> bool
-    ensures { λ r. ⌜ r ≡ isUnused b ⌝ }
+// The owner is this one, the class 0, and nothing is live. The owner is looked at first, so that live blocks are seldom counted.
+fn is_bare(b: Superblock, owner: u8) -> bool
+    ensures { λ r. ⌜ r ≡ both (eqb (b .owner) owner) (both (eqb (b .class) 0) (eqb (liveIn b) 0)) ⌝ }
 {
-    if b.owner == 255 {
+    if b.owner == owner {
         return b.class == 0 && live_in(b) == 0;
     }
     false
+}
+
+// Owner 255, class 0, nothing live.
+pub fn is_unused(b: Superblock) -> bool
+    ensures { λ r. ⌜ r ≡ isUnused b ⌝ }
+{
+    is_bare(b, 255)
+}
+
+// Part of a long block's run: owner 254, class 0, nothing live.
+pub fn is_part_of_run(b: Superblock) -> bool
+    ensures { λ r. ⌜ r ≡ isPartOfRun b ⌝ }
+{
+    is_bare(b, 254)
+}
+
+// No heap owns it: it is unused, or part of a run. Its owner is one of the two at most, so that its live blocks are counted once at most.
+pub fn is_unowned(b: Superblock) -> bool
+    ensures { λ r. ⌜ r ≡ isUnowned b ⌝ }
+{
+    if is_unused(b) {
+        return true;
+    }
+    is_part_of_run(b)
 }
 
 // The first superblock of a long block's run, which carries the run's length.

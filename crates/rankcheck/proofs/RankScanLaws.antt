@@ -19,17 +19,21 @@ use Rattle.marklaws.proofs.BitLaws.{shl-one}
 use Rattle.marklaws.proofs.MarkLaws.{length-with-mark, with-mark-same, with-mark-other, mark-bit-of-no-marks}
 use Rattle.heap.specs.declared.Superblock.{Superblock}
 use Rattle.heap.specs.declared.State.{State}
-use Rattle.heap.specs.Table.{superblockAt, isUnused}
+use Rattle.heap.specs.Table.{superblockAt}
 use Rattle.heap.specs.Counts.{total}
 use Rattle.heap.specs.Ranks.{isRanked}
-use Rattle.checkrules.specs.Check.{rankedCount, ranksValid}
+use Rattle.checkrules.specs.Check.{isUnowned, rankedCount, ranksValid}
 use Rattle.heaplaws.proofs.StateFacts.{RanksSound}
-use Rattle.heaplaws.proofs.StateCheckLaws.{facts-of-is-unused, is-unused-of-facts}
+use Rattle.heaplaws.proofs.StateCheckLaws.{not-of-heap-of-unowned, facts-of-is-unowned, is-unowned-of-facts}
 use Rattle.heaplaws.proofs.RankLaws.{ranks-sound-of-valid, ranks-valid-of-sound}
 
 -- superblock k's rank
 abbrev pub rankOf : State → ℕ → ℕ
 rankOf s k = superblockAt s k .rank
+
+-- a superblock that a heap owns is neither unused nor part of a run
+pub not-unowned-of-owner : (b : Superblock) → b .owner < 254 → isUnowned b ≡ false
+not-unowned-of-owner b l = false-of-not-T (isUnowned b) (λ t. not-of-heap-of-unowned b (facts-of-is-unowned b t) l)
 
 -- the superblocks below k: how many are ranked, and the highest rank; a mark for each rank met, and no rank met twice
 pub record RanksMet (s : State) (met : List ℕ) (ranked highest k : ℕ) : Type 0 where
@@ -40,7 +44,7 @@ pub record RanksMet (s : State) (met : List ℕ) (ranked highest k : ℕ) : Type
   pub noted : (j : ℕ) → j < k → 0 < rankOf s j → markBit met (rankOf s j) ≡ 1
   pub carried : (r : ℕ) → markBit met r ≡ 1 → (j : ℕ) × (j < k) × (rankOf s j ≡ r)
   pub once : (i j : ℕ) → i < j → j < k → 0 < rankOf s i → rankOf s i ≡ rankOf s j → ⊥
-  pub used : (j : ℕ) → j < k → 0 < rankOf s j → isUnused (superblockAt s j) ≡ false
+  pub owned : (j : ℕ) → j < k → 0 < rankOf s j → isUnowned (superblockAt s j) ≡ false
 
 pub none-met : (s : State) → RanksMet s noMarks 0 0 0
 none-met s =
@@ -52,7 +56,7 @@ none-met s =
       noted = λ j l. absurd (omega arith);
       carried = λ r n. absurd (omega (arith, mark-bit-of-no-marks r));
       once = λ i j h l. absurd (omega arith);
-      used = λ j l. absurd (omega arith);
+      owned = λ j l. absurd (omega arith);
     }
 
 -- rank x's mark set, as the code does it: its mask is a power of two
@@ -88,7 +92,7 @@ module _ (s : State) (met : List ℕ) (ranked highest k : ℕ) (before : RanksMe
         noted = λ j l n. before .noted j (below j l n) n;
         carried = λ r n. let at = before .carried r n in (at .0, omega arith, at .2);
         once = λ i j l m n e. before .once i j l (below j m (omega arith)) n e;
-        used = λ j l n. before .used j (below j l n) n;
+        owned = λ j l n. before .owned j (below j l n) n;
       })
     where
       -- a ranked one is another
@@ -116,17 +120,17 @@ module _ (s : State) (met : List ℕ) (ranked highest k : ℕ) (before : RanksMe
         let e = ranks-sound-of-valid s t .distinct k (at .0) low (omega arith) is (sym (at .2)) in
         omega arith))
 
-    pub false-of-unused : (t : Bool) → t ≡ isUnused (superblockAt s k) → t ≡ true → false ≡ ranksValid s
-    false-of-unused t e h =
+    pub false-of-unowned : (t : Bool) → t ≡ isUnowned (superblockAt s k) → t ≡ true → false ≡ ranksValid s
+    false-of-unowned t e h =
         sym (false-of-not-T (ranksValid s) (λ v.
-        let z = ranks-sound-of-valid s v .unused-unranked k low (facts-of-is-unused (superblockAt s k) (T-of-true _ (sym e ∙ h))) in
+        let z = ranks-sound-of-valid s v .unowned-unranked k low (facts-of-is-unowned (superblockAt s k) (T-of-true _ (sym e ∙ h))) in
         omega arith))
 
     -- the highest is superblock k's rank where that is above it
     abbrev HigherOf : ℕ → Type 0
     HigherOf highest' = ((highest < rankOf s k) × (highest' ≡ rankOf s k)) ⊎ ((rankOf s k ≤ highest) × (highest' ≡ highest))
 
-    step-ranked : (met' : List ℕ) (ranked' highest' : ℕ) → rankOf s k < 256 → (markBit met (rankOf s k) ≡ 1 → ⊥) → isUnused (superblockAt s k) ≡ false
+    step-ranked : (met' : List ℕ) (ranked' highest' : ℕ) → rankOf s k < 256 → (markBit met (rankOf s k) ≡ 1 → ⊥) → isUnowned (superblockAt s k) ≡ false
         → HigherOf highest' → met' ≡ withMark met (rankOf s k) → ranked' ≡ ranked + 1 → RanksMet s met' ranked' highest' (k + 1)
     step-ranked met' ranked' highest' fits new u higher p q =
         rw (p, q)
@@ -138,7 +142,7 @@ module _ (s : State) (met : List ℕ) (ranked highest k : ℕ) (before : RanksMe
           noted = λ j l n. noted j l n (ℕ-discrete (rankOf s j) (rankOf s k));
           carried = λ r n. carried r n (ℕ-discrete r (rankOf s k));
           once = λ i j l m n e. once i j l m n e (ℕ-discrete j k);
-          used = λ j l n. used j l n (ℕ-discrete j k);
+          owned = λ j l n. owned j l n (ℕ-discrete j k);
         })
       where
         not-above : (j : ℕ) → j < k + 1 → Dec (j ≡ k) → HigherOf highest' → rankOf s j ≤ highest'
@@ -170,15 +174,15 @@ module _ (s : State) (met : List ℕ) (ranked highest k : ℕ) (before : RanksMe
             new (sym same ∙ before .noted i (omega arith) n)
         once i j l m n e (no f) = before .once i j l (omega arith) n e
 
-        used : (j : ℕ) → j < k + 1 → 0 < rankOf s j → Dec (j ≡ k) → isUnused (superblockAt s j) ≡ false
-        used j l n (yes e) = ap (λ (i : ℕ). isUnused (superblockAt s i)) e ∙ u
-        used j l n (no f) = before .used j (omega arith) n
+        owned : (j : ℕ) → j < k + 1 → 0 < rankOf s j → Dec (j ≡ k) → isUnowned (superblockAt s j) ≡ false
+        owned j l n (yes e) = ap (λ (i : ℕ). isUnowned (superblockAt s i)) e ∙ u
+        owned j l n (no f) = before .owned j (omega arith) n
 
-    pub step-higher : (met' : List ℕ) (ranked' highest' : ℕ) → rankOf s k < 256 → (markBit met (rankOf s k) ≡ 1 → ⊥) → isUnused (superblockAt s k) ≡ false
+    pub step-higher : (met' : List ℕ) (ranked' highest' : ℕ) → rankOf s k < 256 → (markBit met (rankOf s k) ≡ 1 → ⊥) → isUnowned (superblockAt s k) ≡ false
         → highest < rankOf s k → met' ≡ notedInCode met (rankOf s k) → ranked' ≡ ranked + 1 → highest' ≡ rankOf s k → RanksMet s met' ranked' highest' (k + 1)
     step-higher met' ranked' highest' fits new u h p q r = step-ranked met' ranked' highest' fits new u (inl (h, r)) (p ∙ noted-in-code-is-with-mark met (rankOf s k)) q
 
-    pub step-not-higher : (met' : List ℕ) (ranked' highest' : ℕ) → rankOf s k < 256 → (markBit met (rankOf s k) ≡ 1 → ⊥) → isUnused (superblockAt s k) ≡ false
+    pub step-not-higher : (met' : List ℕ) (ranked' highest' : ℕ) → rankOf s k < 256 → (markBit met (rankOf s k) ≡ 1 → ⊥) → isUnowned (superblockAt s k) ≡ false
         → rankOf s k ≤ highest → met' ≡ notedInCode met (rankOf s k) → ranked' ≡ ranked + 1 → highest' ≡ highest → RanksMet s met' ranked' highest' (k + 1)
     step-not-higher met' ranked' highest' fits new u h p q r = step-ranked met' ranked' highest' fits new u (inr (h, r)) (p ∙ noted-in-code-is-with-mark met (rankOf s k)) q
 
@@ -195,7 +199,7 @@ module _ (s : State) (met : List ℕ) (ranked highest k : ℕ) (before : RanksMe
           record {
             bounded = λ j m. let z = before .not-above j (omega arith) in omega (arith, all);
             distinct = λ i j li lj n e. same i j li lj n e (decLt i j) (decLt j i);
-            unused-unranked = λ j m u. unranked j m (ℕ-discrete (rankOf s j) 0) (is-unused-of-facts (superblockAt s j) u);
+            unowned-unranked = λ j m u. unranked j m (ℕ-discrete (rankOf s j) 0) (is-unowned-of-facts (superblockAt s j) u);
           }
         where
           same : (i j : ℕ) → i < 64 → j < 64 → 0 < rankOf s i → rankOf s i ≡ rankOf s j → Dec (i < j) → Dec (j < i) → i ≡ j
@@ -203,9 +207,9 @@ module _ (s : State) (met : List ℕ) (ranked highest k : ℕ) (before : RanksMe
           same i j li lj n e (no f) (yes l) = absurd (before .once j i l (omega arith) (omega arith) (sym e))
           same i j li lj n e (no f) (no g) = omega arith
 
-          unranked : (j : ℕ) → j < 64 → Dec (rankOf s j ≡ 0) → T (isUnused (superblockAt s j)) → rankOf s j ≡ 0
+          unranked : (j : ℕ) → j < 64 → Dec (rankOf s j ≡ 0) → T (isUnowned (superblockAt s j)) → rankOf s j ≡ 0
           unranked j m (yes e) t = e
-          unranked j m (no f) t = absurd (not-T-of-false _ (before .used j (omega arith) (omega arith)) t)
+          unranked j m (no f) t = absurd (not-T-of-false _ (before .owned j (omega arith) (omega arith)) t)
 
       bound : RanksSound s → (highest ≡ 0) ⊎ ((j : ℕ) × (j < k) × (rankOf s j ≡ highest)) → highest ≤ ranked
       bound v (inl e) = omega arith

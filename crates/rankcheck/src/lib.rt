@@ -1,10 +1,11 @@
-// The check of a state's ranking: the ranked superblocks carry 1 upwards, each once without a gap, and no unused one is ranked.
+// The check of a state's ranking: the ranked superblocks carry 1 upwards, each once without a gap, and none that is unused or
+// part of a run is ranked.
 // One pass and a bitmap of the ranks met serve: where no rank is met twice, and none is above the number of those ranked, there is no gap.
 ghost use mathlib.Core.Path.{_≡_};
 ghost use Rattle.checkrules.specs.Check.{ranksValid};
 use heap::State;
 
-// The ranks are a ranking. The owner is looked at before `is_unused` is called, so that it seldom is.
+// The ranks are a ranking. The owner is looked at before `is_unowned` is called, so that it seldom is.
 pub fn ranks_valid(s: State) -> bool
     ensures { λ r. ⌜ r ≡ ranksValid s ⌝ }
 {
@@ -22,8 +23,8 @@ pub fn ranks_valid(s: State) -> bool
             if (word >> i) % 2 == 1 {
                 return false;
             }
-            if b.owner == 255 {
-                if predicates::is_unused(b) {
+            if 254 <= b.owner {
+                if predicates::is_unowned(b) {
                     return false;
                 }
             }

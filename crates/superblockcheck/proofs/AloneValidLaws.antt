@@ -15,50 +15,68 @@ use Rattle.classes.specs.Classes.{blocksOf}
 use Rattle.filledplaces.specs.FilledPlaces.{placesValid}
 use Rattle.heap.specs.declared.Superblock.{Superblock}
 use Rattle.heap.specs.declared.Setup.{Setup}
-use Rattle.heap.specs.Table.{blank, liveIn, isUnused}
-use Rattle.checkrules.specs.Check.{superblockValid, unusedFrom, sparseIfGlobal}
+use Rattle.heap.specs.Table.{blank, liveIn, isUnused, isOfRun}
+use Rattle.checkrules.specs.Check.{isPartOfRun, isUnowned, isOwned, superblockValid, unusedFrom, sparseIfGlobal}
 use Rattle.superblockcheck.specs.Alone.{aloneValid, eachValid}
+
+-- a superblock of heap 0 is neither unused nor part of a run, so that those are not asked to be sparse
+sparse-of-bare : (u : Setup) (b : Superblock) (owner : ℕ) (rest : Bool) → 0 < owner → both (eqb (b .owner) owner) rest ≡ true → sparseIfGlobal u b ≡ true
+unfolding sparseIfGlobal
+sparse-of-bare u b owner rest high is =
+    let o : b .owner ≡ owner = eqb-true (b .owner) owner (left (eqb (b .owner) owner) rest is) in
+    simp (ne-eqb (b .owner) 0 (λ (z : b .owner ≡ 0). omega arith))
+  where
+    left : (x y : Bool) → both x y ≡ true → x ≡ true
+    left true y q = refl
+    left false y q = q
+
+either-yes : (x : Bool) → either x true ≡ true
+either-yes true = refl
+either-yes false = refl
 
 module _ (u : Setup) (order : List ℕ) (k : ℕ) (b : Superblock) (r : Bool) (unused : r ≡ isUnused b) where
   pub alone-valid-of-unused : r ≡ true → true ≡ aloneValid u order k b
-  unfolding aloneValid superblockValid unusedFrom sparseIfGlobal isUnused
+  unfolding aloneValid superblockValid isUnowned unusedFrom isUnused
   alone-valid-of-unused e =
       let is : isUnused b ≡ true = sym unused ∙ e in
-      let o : b .owner ≡ 255 = eqb-true (b .owner) 255 (owner (eqb (b .owner) 255) (both (eqb (b .class) 0) (eqb (liveIn b) 0)) is) in
-      sym (simp (is, either-yes, ne-eqb (b .owner) 0 (λ (z : b .owner ≡ 0). omega arith)))
-    where
-      owner : (x y : Bool) → both x y ≡ true → x ≡ true
-      owner true y q = refl
-      owner false y q = q
-
-      either-yes : (x : Bool) → either x true ≡ true
-      either-yes true = refl
-      either-yes false = refl
+      sym (simp (is, either-yes, sparse-of-bare u b 255 (both (eqb (b .class) 0) (eqb (liveIn b) 0)) (omega arith) is))
 
   module _ (some : r ≡ false) where
     is-unused-false : isUnused b ≡ false
     is-unused-false = sym unused ∙ some
 
     pub alone-valid-false-past-n : u .superblocks ≤ k → false ≡ aloneValid u order k b
-    unfolding aloneValid superblockValid unusedFrom
+    unfolding aloneValid unusedFrom
     alone-valid-false-past-n h = sym (simp (is-unused-false, le-ltb k (u .superblocks) h, both-false-right))
 
-    pub alone-valid-false-of-owner : u .processors < b .owner → false ≡ aloneValid u order k b
-    unfolding aloneValid superblockValid
-    alone-valid-false-of-owner h = sym (simp (is-unused-false, lt-leb (b .owner) (u .processors) h))
+    module _ (p : Bool) (part : p ≡ isPartOfRun b) where
+      pub alone-valid-of-part-of-run : k < u .superblocks → p ≡ true → true ≡ aloneValid u order k b
+      unfolding aloneValid superblockValid isUnowned unusedFrom isPartOfRun isOfRun
+      alone-valid-of-part-of-run below e =
+          let is : isPartOfRun b ≡ true = sym part ∙ e in
+          sym (simp (is-unused-false, is, lt-ltb k (u .superblocks) below, sparse-of-bare u b 254 (both (eqb (b .class) 0) (eqb (liveIn b) 0)) (omega arith) is))
 
-    pub alone-valid-false-of-class : b .owner ≤ u .processors → 27 ≤ b .class → false ≡ aloneValid u order k b
-    unfolding aloneValid superblockValid
-    alone-valid-false-of-class o h = sym (simp (is-unused-false, le-ltb (b .class) 27 h, both-false-right))
+      module _ (none : p ≡ false) where
+        is-unowned-false : isUnowned b ≡ false
+        unfolding isUnowned
+        is-unowned-false = simp (is-unused-false, sym part ∙ none)
 
-    pub alone-valid-false-of-not-sparse : (t : Bool) → t ≡ sparseIfGlobal u b → not t ≡ true → false ≡ aloneValid u order k b
-    unfolding aloneValid
-    alone-valid-false-of-not-sparse t e f = sym (simp (sym e ∙ not-true t f, both-false-right))
+        pub alone-valid-false-of-owner : u .processors < b .owner → false ≡ aloneValid u order k b
+        unfolding aloneValid superblockValid isOwned
+        alone-valid-false-of-owner h = sym (simp (is-unowned-false, lt-leb (b .owner) (u .processors) h))
 
-    pub alone-valid-is-places-valid : (t g : Bool) → k < u .superblocks → b .owner ≤ u .processors → b .class < 27 → t ≡ sparseIfGlobal u b → not t ≡ false → g ≡ placesValid order (b .live) k (blocksOf (b .class))
-        → g ≡ aloneValid u order k b
-    unfolding aloneValid superblockValid unusedFrom
-    alone-valid-is-places-valid t g below owner class e f p = p ∙ sym (simp (is-unused-false, lt-ltb k (u .superblocks) below, le-leb (b .owner) (u .processors) owner, lt-ltb (b .class) 27 class, sym e ∙ not-false t f, both-true-right))
+        pub alone-valid-false-of-class : b .owner ≤ u .processors → 27 ≤ b .class → false ≡ aloneValid u order k b
+        unfolding aloneValid superblockValid isOwned
+        alone-valid-false-of-class o h = sym (simp (is-unowned-false, le-ltb (b .class) 27 h, both-false-right))
+
+        pub alone-valid-false-of-not-sparse : (t : Bool) → t ≡ sparseIfGlobal u b → not t ≡ true → false ≡ aloneValid u order k b
+        unfolding aloneValid
+        alone-valid-false-of-not-sparse t e f = sym (simp (sym e ∙ not-true t f, both-false-right))
+
+        pub alone-valid-is-places-valid : (t g : Bool) → k < u .superblocks → b .owner ≤ u .processors → b .class < 27 → t ≡ sparseIfGlobal u b → not t ≡ false → g ≡ placesValid order (b .live) k (blocksOf (b .class))
+            → g ≡ aloneValid u order k b
+        unfolding aloneValid superblockValid isOwned unusedFrom
+        alone-valid-is-places-valid t g below owner class e f h = h ∙ sym (simp (is-unowned-false, lt-ltb k (u .superblocks) below, le-leb (b .owner) (u .processors) owner, lt-ltb (b .class) 27 class, sym e ∙ not-false t f, both-true-right))
 
 -- heap 0's superblocks are sparse
 module _ (u : Setup) (b : Superblock) where

@@ -21,7 +21,8 @@ pub fn each_valid(setup: Setup, table: [Superblock; 64], order: &[u16]) -> bool
     true
 }
 
-// Superblock k is unused; or it is below N, of a heap and a class, sparse where heap 0 owns it, and its marks and places are right.
+// Superblock k is unused; or it is below N, and part of a run or of a heap and a class, sparse where heap 0 owns it, with marks and places that
+// are right. Nothing is asked of the places of a run.
 fn alone_valid(setup: Setup, order: &[u16], k: u8, b: Superblock) -> bool
     ensures { λ r. ⌜ r ≡ aloneValid setup (now (order .entry)) k b ⌝ }
 {
@@ -30,6 +31,9 @@ fn alone_valid(setup: Setup, order: &[u16], k: u8, b: Superblock) -> bool
     }
     if setup.superblocks <= k {
         return false;
+    }
+    if predicates::is_part_of_run(b) {
+        return true;
     }
     if setup.processors < b.owner {
         return false;

@@ -1,1 +1,2 @@
 pub mod MarksOfTableLaws
+pub mod LiveBlocksLaws

@@ -10,11 +10,11 @@ use lib.Dec.{eqb}
 use Rattle.marks.specs.Marks.{bit, markBit, isMarked}
 use Rattle.heap.specs.declared.Superblock.{Superblock}
 use Rattle.heap.specs.declared.State.{State}
-use Rattle.heap.specs.Table.{blank, isLiveBlock}
+use Rattle.heap.specs.Table.{blank, isOfRun, startsRun, liveBlocks, isLiveBlock}
 
 -- number w of a table's marks
 abbrev numberAt : List Superblock → ℕ → ℕ
-numberAt table w = getD (getD table (w / 4) blank .live) (w % 4) 0
+numberAt table w = getD (liveBlocks (getD table (w / 4) blank)) (w % 4) 0
 
 -- the first n of 256 numbers are those of the table
 pub record NumbersBelow (table : List Superblock) (n : ℕ) (marks : List ℕ) : Type 0 where
@@ -33,20 +33,20 @@ numbers-step table n m v marks h q e b = record { long = length-set marks n v �
     go w l (no f) = getD-set-other marks n w v 0 f ∙ b .number w (omega arith)
 
 -- one superblock more
-pub numbers-of-superblock : (table : List Superblock) (k : ℕ) (marks : List ℕ) → k < 64 → NumbersBelow table (4 * k) marks
-    → NumbersBelow table (4 * (k + 1)) (set (set (set (set marks (4 * k) (getD (getD table k blank .live) 0 0)) (4 * k + 1) (getD (getD table k blank .live) 1 0)) (4 * k + 2) (getD (getD table k blank .live) 2 0)) (4 * k + 3) (getD (getD table k blank .live) 3 0))
-numbers-of-superblock table k marks h b =
+pub numbers-of-superblock : (table : List Superblock) (k : ℕ) (marks live : List ℕ) → k < 64 → live ≡ liveBlocks (getD table k blank) → NumbersBelow table (4 * k) marks
+    → NumbersBelow table (4 * (k + 1)) (set (set (set (set marks (4 * k) (getD live 0 0)) (4 * k + 1) (getD live 1 0)) (4 * k + 2) (getD live 2 0)) (4 * k + 3) (getD live 3 0))
+numbers-of-superblock table k marks live h e b =
     numbers-step table (4 * k + 3) (4 * (k + 1)) _ _ (omega arith) (omega arith) (number 3 (4 * k + 3) (omega arith) (omega arith))
     (numbers-step table (4 * k + 2) (4 * k + 3) _ _ (omega arith) (omega arith) (number 2 (4 * k + 2) (omega arith) (omega arith))
     (numbers-step table (4 * k + 1) (4 * k + 2) _ _ (omega arith) (omega arith) (number 1 (4 * k + 1) (omega arith) (omega arith))
     (numbers-step table (4 * k) (4 * k + 1) _ _ (omega arith) (omega arith) (number 0 (4 * k) (omega arith) (omega arith)) b)))
   where
-    number : (j w : ℕ) → k ≡ w / 4 → j ≡ w % 4 → getD (getD table k blank .live) j 0 ≡ numberAt table w
-    number j w p q = rw (p, q)
+    number : (j w : ℕ) → k ≡ w / 4 → j ≡ w % 4 → getD live j 0 ≡ numberAt table w
+    number j w p q = rw (e, p, q)
 
 -- all of them: block b of the table is marked just where it is live
 pub marks-are-live-blocks : (s : State) (k : ℕ) (marks : List ℕ) → length (s .table) ≡ 64 → 64 ≤ k → NumbersBelow (s .table) (4 * k) marks → (b : ℕ) → isMarked marks b ≡ isLiveBlock s b
-unfolding isMarked markBit isLiveBlock
+unfolding isMarked markBit isLiveBlock liveBlocks startsRun isOfRun
 marks-are-live-blocks s k marks long h n b =
     ap (λ (x : ℕ). eqb (bit x (b % 64)) 1) (number (decLt (b / 64) 256))
     ∙ place (b / 64 / 4) (b / 64 % 4) (b % 64) (omega arith) (omega arith) (omega arith)
@@ -55,8 +55,8 @@ marks-are-live-blocks s k marks long h n b =
     number (yes l) = n .number (b / 64) (omega arith)
     number (no f) =
         List·getD-eq-default marks 0 {n = b / 64} (omega (arith, n .long))
-        ∙ ap (λ (x : Superblock). getD (x .live) (b / 64 % 4) 0) (sym (List·getD-eq-default (s .table) blank {n = b / 64 / 4} (omega arith)))
+        ∙ ap (λ (x : Superblock). getD (liveBlocks x) (b / 64 % 4) 0) (sym (List·getD-eq-default (s .table) blank {n = b / 64 / 4} (omega arith)))
 
     place : (w j i : ℕ) → w ≡ b / 256 → j ≡ b % 256 / 64 → i ≡ b % 256 % 64
-        → eqb (bit (getD (getD (s .table) w blank .live) j 0) i) 1 ≡ eqb (bit (getD (getD (s .table) (b / 256) blank .live) (b % 256 / 64) 0) (b % 256 % 64)) 1
+        → eqb (bit (getD (liveBlocks (getD (s .table) w blank)) j 0) i) 1 ≡ eqb (bit (getD (liveBlocks (getD (s .table) (b / 256) blank)) (b % 256 / 64) 0) (b % 256 % 64)) 1
     place w j i p q r = rw (p, q, r)

@@ -1,24 +1,15 @@
--- `predicates::is_unused` meets its contract: the tests of owner, class and live count are the definition's, in its order. Assumes nothing.
-use borrow.Author.Tests.{eq-eqb, ne-eqb}
+-- `predicates::is_unused` meets its contract. Assumes nothing.
 use Rattle.heap.specs.Table.{isUnused}
 use borrow.Author.Needs.{needs}
 use Rattle.predicates.proofs.is_unused.Statement.{statement}
 use Rattle.predicates.proofs.is_unused.Tie as tie
 
-live-in-requires : tie.Need-live-in-requires
-live-in-requires c κs = search needs
+is-bare-requires : tie.Need-is-bare-requires
+is-bare-requires c κs = search needs
 
 returns : tie.Need-returns
 unfolding isUnused
-returns c = search (eq-eqb, ← (c .live-in .ensures .0))
-
-returns-2 : tie.Need-returns-2
-unfolding isUnused
-returns-2 c = search (eq-eqb, ne-eqb)
-
-returns-3 : tie.Need-returns-3
-unfolding isUnused
-returns-3 c = search ne-eqb
+returns c = search needs
 
 pub is-unused-spec : {M : Type 1} → statement M
-is-unused-spec = tie.close (tie.spec live-in-requires returns returns-2 returns-3)
+is-unused-spec = tie.close (tie.spec is-bare-requires returns)

@@ -7,9 +7,9 @@ use Prim.Native.Nat.{_-_, _≤_, _<_}
 use native.Mathlib.Omega.{arith}
 use borrow.Author.Needs.{needs}
 use Rattle.marks.specs.Marks.{bit, markBit}
-use Rattle.heap.specs.Table.{superblockAt, isUnused}
-use Rattle.heaplaws.proofs.StateCheckLaws.{not-unused-of-owner}
-use Rattle.rankcheck.proofs.RankScanLaws.{rankOf, RanksMet, none-met, ranked-le, step-unranked, false-of-met-twice, false-of-unused, step-higher, step-not-higher, ranks-valid-of-highest}
+use Rattle.heap.specs.Table.{superblockAt}
+use Rattle.checkrules.specs.Check.{isUnowned}
+use Rattle.rankcheck.proofs.RankScanLaws.{rankOf, not-unowned-of-owner, RanksMet, none-met, ranked-le, step-unranked, false-of-met-twice, false-of-unowned, step-higher, step-not-higher, ranks-valid-of-highest}
 use Rattle.rankcheck.proofs.ranks_valid.Statement.{statement}
 use Rattle.rankcheck.proofs.ranks_valid.Tie as tie
 
@@ -48,15 +48,15 @@ returns c =
     let is : 0 < rankOf (turn .before .args .t1) (turn .loop .k) = omega arith in
     search false-of-met-twice
 
-is-unused-requires : tie.Need-is-unused-requires Inv-loop μ-loop
-is-unused-requires c κs = search needs
+is-unowned-requires : tie.Need-is-unowned-requires Inv-loop μ-loop
+is-unowned-requires c κs = search needs
 
 returns-2 : tie.Need-returns-2 Inv-loop μ-loop
 returns-2 c =
     let turn = c .before .before .before .before .before .before .before .before .before in
     let low : turn .loop .k < 64 = omega arith in
     let is : 0 < rankOf (turn .before .args .t1) (turn .loop .k) = omega arith in
-    search false-of-unused
+    search false-of-unowned
 
 shl-met : tie.Need-shl-met Inv-loop μ-loop
 shl-met c = omega arith
@@ -86,11 +86,11 @@ loop-again c =
       omega arith,
       ⊎-elim
           (λ w.
-          let u : isUnused (superblockAt s (l .k)) ≡ false = ⊎-elim (λ v. sym (v .1 .ensures) ∙ v .2 .left) (λ v. not-unused-of-owner (superblockAt s (l .k)) (v .left)) (w .3 .came) in
+          let u : isUnowned (superblockAt s (l .k)) ≡ false = ⊎-elim (λ v. sym (v .1 .ensures) ∙ v .2 .left) (λ v. not-unowned-of-owner (superblockAt s (l .k)) (v .left)) (w .3 .came) in
           step-higher s (l .met) (l .ranked) (l .highest) (l .k) (l .inv .1) low (omega arith) _ _ _ fits (w .1 .left) u (w .4 .taken) (w .5) (w .6) (w .7))
           (⊎-elim
           (λ w.
-          let u : isUnused (superblockAt s (l .k)) ≡ false = ⊎-elim (λ v. sym (v .1 .ensures) ∙ v .2 .left) (λ v. not-unused-of-owner (superblockAt s (l .k)) (v .left)) (w .3 .came) in
+          let u : isUnowned (superblockAt s (l .k)) ≡ false = ⊎-elim (λ v. sym (v .1 .ensures) ∙ v .2 .left) (λ v. not-unowned-of-owner (superblockAt s (l .k)) (v .left)) (w .3 .came) in
           step-not-higher s (l .met) (l .ranked) (l .highest) (l .k) (l .inv .1) low (omega arith) _ _ _ fits (w .1 .left) u (w .4 .left) (w .5) (w .6) (w .7))
           (λ w. let none : rankOf s (l .k) ≤ 0 = omega arith in search step-unranked))
           (c .if1 .came),
@@ -113,7 +113,7 @@ ranks-valid-spec =
     array-read-word
     shr-if2
     returns
-    is-unused-requires
+    is-unowned-requires
     returns-2
     shl-met
     mul-met

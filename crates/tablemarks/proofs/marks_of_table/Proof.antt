@@ -24,6 +24,9 @@ mul-b c = omega arith
 element-copy-out-b : tie.Need-element-copy-out-b Inv-loop μ-loop
 element-copy-out-b c = omega arith
 
+live-blocks-requires : tie.Need-live-blocks-requires Inv-loop μ-loop
+live-blocks-requires c κs = search needs
+
 mul-at : tie.Need-mul-at Inv-loop μ-loop
 mul-at c = omega arith
 
@@ -81,7 +84,7 @@ loop-less c = omega arith
 loop-again : tie.Need-loop-again Inv-loop μ-loop
 loop-again c =
     let l = c .before .before .before .loop in
-    (omega arith, numbers-of-superblock _ (l .k) (l .marks) (omega arith) (l .inv .1))
+    (omega arith, numbers-of-superblock _ (l .k) (l .marks) _ (omega arith) (c .live-blocks .ensures) (l .inv .1))
 
 returns : tie.Need-returns Inv-loop μ-loop
 returns c = let h : 64 ≤ c .before .loop .k = omega arith in search (length-of-length-map, marks-are-live-blocks)
@@ -95,6 +98,7 @@ marks-of-table-spec =
     loop-holds
     mul-b
     element-copy-out-b
+    live-blocks-requires
     mul-at
     array-read-marks
     mul-marks
