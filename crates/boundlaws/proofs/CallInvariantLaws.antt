@@ -37,7 +37,7 @@ use Rattle.calllaws.proofs.FreeLaws.{long-free-outcome, long-free-address, long
 use Rattle.calllaws.proofs.TransferredLaws.{passed-after-no-frees}
 use Rattle.calllaws.proofs.DropLaws.{DropAccepted, DropEffect, drop-refused-or-accepted, drop-frees, drop-transfers, dropped-shape, drop-outcome, drop-state-is, drop-effect, drop-shape, drop-passed}
 use Rattle.calllaws.proofs.NamedCallLaws.{facts-of-available, named-take-refused-or-accepted, named-taken-block, named-take-address, named-take-effect, named-take-names, named-take-shape, named-take-passed, named-free-refused-or-accepted}
-use Rattle.calllaws.proofs.NamedCallLaws.{named-long-take-address, named-long-take-effect, named-long-take-names, named-long-take-shape, named-long-take-passed}
+use Rattle.calllaws.proofs.NamedLongTakeLaws.{named-long-take-address, named-long-take-effect, named-long-take-names, named-long-take-shape, named-long-take-passed}
 use Rattle.boundlaws.proofs.LedgerLaws.{entriesAt}
 use Rattle.boundlaws.proofs.LongAtLaws.{longAt}
 use Rattle.boundlaws.proofs.LiveAtLaws.{liveAt, OneMoreLive, live-at-before-is-zero, long-at-before-is-zero, one-more-live-of-take, one-more-live-of-free}

@@ -34,7 +34,8 @@ use Rattle.calllaws.proofs.SetupLaws.{accepted-setup-of-ready}
 use Rattle.calllaws.proofs.TakeLaws.{take-refused-or-accepted, taken-block, take-address, take-effect, take-ranks}
 use Rattle.calllaws.proofs.RunTakenLaws.{long-take-address, long-take-ranks}
 use Rattle.calllaws.proofs.FreeLaws.{free-refused-or-accepted, moves, free-outcome, free-effect, free-ranks, long-free-outcome, long-free-ranks}
-use Rattle.calllaws.proofs.NamedCallLaws.{named-take-refused-or-accepted, named-taken-block, named-take-address, named-take-effect, named-long-take-address, named-long-take-ranks, named-free-refused-or-accepted}
+use Rattle.calllaws.proofs.NamedCallLaws.{named-take-refused-or-accepted, named-taken-block, named-take-address, named-take-effect, named-free-refused-or-accepted}
+use Rattle.calllaws.proofs.NamedLongTakeLaws.{named-long-take-address, named-long-take-ranks}
 use Rattle.calllaws.proofs.TransferredLaws.{passed-after-no-frees}
 use Rattle.calllaws.proofs.BlockFreedLaws.{freed-superblock-lt-64, freed-superblock-owner-le, small-block-freed-ranks}
 use Rattle.calllaws.proofs.RunFreedLaws.{freed-run-lt-64, long-block-freed-ranks}
