@@ -1,7 +1,7 @@
 -- The long blocks of the ledger, which come from the calls and their answers, and the runs of the state agree: each long block of the ledger is a run of the
 -- state, with its start and its length (document 02, item 7). Assumes nothing.
 use mathlib.Core.Path.{_≡_, refl, sym, ap, _∙_, subst}
-use mathlib.Core.Bool.{Bool, true, false}
+use mathlib.Core.Bool.{Bool, true}
 use Prim.Native.Nat.{ℕ, _+_, _*_, _/_, _%_, _≤_, _<_}
 use native.Mathlib.Omega.{arith}
 use borrow.Author.Tests.{eq-eqb}

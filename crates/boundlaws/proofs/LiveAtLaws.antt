@@ -1,6 +1,6 @@
 -- The live blocks of a state by address and class, and what one block more or less does to them. Assumes nothing.
 use mathlib.Core.Path.{_≡_, refl, sym, ap, ap₂, _∙_, subst}
-use mathlib.Core.Bool.{Bool, true, false, not}
+use mathlib.Core.Bool.{Bool, true, false}
 use mathlib.Core.Logic.{_⊎_, inl, inr}
 use Prim.Native.Nat.{ℕ, suc, _+_, _*_, _/_, _%_, _≤_, _<_}
 use native.Mathlib.Nat.{div-lt-iff-lt-mul, mul-le-mul-left}
@@ -22,7 +22,6 @@ use Rattle.heap.specs.declared.Setup.{Setup}
 use Rattle.heap.specs.Table.{blank, unused, superblockAt, liveIn, isOfRun, startsRun, isOfHeap}
 use Rattle.heap.specs.States.{newState}
 use Rattle.heap.specs.Counts.{isOwnedOfClass, liveOfClass}
-use Rattle.heaplaws.proofs.StateFacts.{RunsKept}
 use Rattle.heaplaws.proofs.RunsKeptLaws.{outside-run-of-owner}
 use Rattle.calls.specs.Take.{addressOf}
 use Rattle.calllaws.proofs.CallEffects.{TakeEffect, FreeEffect}

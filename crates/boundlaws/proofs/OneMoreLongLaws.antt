@@ -8,7 +8,7 @@ use native.Mathlib.Omega.{arith}
 use borrow.Author.Tests.{eq-eqb, ne-eqb, lt-ltb}
 use lib.Dec.{T, eqb, ltb}
 use Rattle.laws.specs.Sums.{pick, both, one}
-use Rattle.laws.proofs.TestLaws.{both-false-right, one-of-equal, one-of-different}
+use Rattle.laws.proofs.TestLaws.{both-false-right, one-of-different}
 use Rattle.marklaws.proofs.MarkLaws.{marks-clear-of-live-count-zero}
 use Rattle.heap.specs.declared.Superblock.{Superblock}
 use Rattle.heap.specs.declared.State.{State}
