@@ -1,10 +1,10 @@
--- The live blocks of a state by address and class, long blocks among them, and what one block more or less does to them. Assumes nothing.
+-- The live blocks of a state by address and class, and what one block more or less does to them. Assumes nothing.
 use mathlib.Core.Path.{_≡_, refl, sym, ap, ap₂, _∙_, subst}
-use mathlib.Core.Bool.{Bool, true, false, not}
+use mathlib.Core.Bool.{Bool, true, false}
 use mathlib.Core.Logic.{_⊎_, inl, inr}
 use Prim.Native.Nat.{ℕ, suc, _+_, _*_, _/_, _%_, _≤_, _<_}
 use native.Mathlib.Nat.{div-lt-iff-lt-mul, mul-le-mul-left}
-use native.Mathlib.Decide.{ℕ-discrete, decLt}
+use native.Mathlib.Decide.{ℕ-discrete}
 use native.Mathlib.Omega.{arith}
 use borrow.Author.Tests.{eq-eqb, ne-eqb, eqb-true, lt-ltb, ltb-true}
 use lib.ListN.{getD-replicate}
@@ -22,12 +22,12 @@ use Rattle.heap.specs.declared.Setup.{Setup}
 use Rattle.heap.specs.Table.{blank, unused, superblockAt, liveIn, isOfRun, startsRun, isOfHeap}
 use Rattle.heap.specs.States.{newState}
 use Rattle.heap.specs.Counts.{isOwnedOfClass, liveOfClass}
-use Rattle.heaplaws.proofs.StateFacts.{RunsKept}
-use Rattle.heaplaws.proofs.RunsKeptLaws.{starts-run-same}
+use Rattle.heaplaws.proofs.RunsKeptLaws.{outside-run-of-owner}
 use Rattle.calls.specs.Take.{addressOf}
 use Rattle.calllaws.proofs.CallEffects.{TakeEffect, FreeEffect}
 use Rattle.calllaws.proofs.AddressLaws.{address-superblock, address-offset}
 use Rattle.calllaws.proofs.SuperblockLaws.{owned-of-class-true, owned-of-class-false, unowned-of-no-class}
+use Rattle.boundlaws.proofs.LongAtLaws.{longAt, long-at-of-kept, long-at-none}
 
 -- 1 where a heap owns the superblock for class c and its block j is live, else 0
 unfoldable pub liveFor : ℕ → Superblock → ℕ → ℕ
@@ -79,6 +79,27 @@ address-of-block-at a c e = let o = offset-of-block c (a % 4096) e in omega arit
 address-same : (a c d k j : ℕ) → a % 4096 % sizeOf d ≡ 0 → d ≡ c → a / 4096 ≡ k → a % 4096 / sizeOf d ≡ j → addressOf k c j ≡ a
 address-same a c d k j e p q r = rw (← p, ← q, ← r) (address-of-block-at a d e)
 
+-- the live blocks of a class go only by those of each superblock
+pub live-at-same : (s t : State) (a d : ℕ) → d < 27 → ((m b : ℕ) → m < 64 → b < 256 → liveFor d (superblockAt t m) b ≡ liveFor d (superblockAt s m) b) → liveAt t a d ≡ liveAt s a d
+unfolding liveAt
+live-at-same s t a d l same = go (ltb (a / 4096) 64) (eqb (a % 4096 % sizeOf d) 0) refl
+  where
+    go : (x y : Bool) → ltb (a / 4096) 64 ≡ x
+        → pick x (pick y (liveFor d (superblockAt t (a / 4096)) (a % 4096 / sizeOf d)) 0) 0 ≡ pick x (pick y (liveFor d (superblockAt s (a / 4096)) (a % 4096 / sizeOf d)) 0) 0
+    go true true p = same (a / 4096) (a % 4096 / sizeOf d) (ltb-true (a / 4096) 64 p) (block-below d a l)
+    go true false p = refl
+    go false y p = refl
+
+-- and there are none at an address of a superblock that has none
+pub live-at-none : (s : State) (a d : ℕ) → d < 27 → ((b : ℕ) → b < 256 → liveFor d (superblockAt s (a / 4096)) b ≡ 0) → liveAt s a d ≡ 0
+unfolding liveAt
+live-at-none s a d l none = rw (none (a % 4096 / sizeOf d) (block-below d a l)) (go (ltb (a / 4096) 64) (eqb (a % 4096 % sizeOf d) 0))
+  where
+    go : (x y : Bool) → pick {A = ℕ} x (pick y 0 0) 0 ≡ 0
+    go true true = refl
+    go true false = refl
+    go false y = refl
+
 -- ---- one live block more
 -- In state t block j of superblock k, of class c, is live; in s it is not, and no other block differs.
 pub record OneMoreLive (c k j : ℕ) (s t : State) : Type 0 where
@@ -90,6 +111,9 @@ pub record OneMoreLive (c k j : ℕ) (s t : State) : Type 0 where
   pub no-other-class : (d b : ℕ) → b < 256 → (d ≡ c → ⊥) → liveFor d (superblockAt s k) b ≡ 0
   pub others-same : (d m b : ℕ) → m < 64 → b < 256 → ((d ≡ c) × (m ≡ k) × (b ≡ j) → ⊥) → liveFor d (superblockAt t m) b ≡ liveFor d (superblockAt s m) b
   pub live : (d : ℕ) → liveOfClass d t ≡ liveOfClass d s + one (eqb c d)
+  -- the superblock is of no run, and long blocks are as they were
+  pub outside-run : isOfRun (superblockAt s k) ≡ false
+  pub long-same : (a : ℕ) → longAt t a ≡ longAt s a
 
 pub live-at-of-address : (s : State) (c k j : ℕ) → c < 27 → k < 64 → j < blocksOf c → liveAt s (addressOf k c j) c ≡ liveFor c (superblockAt s k) j
 unfolding liveAt
@@ -99,17 +123,18 @@ live-at-of-address s c k j known below block =
 module _ (c k j : ℕ) (s t : State) (more : OneMoreLive c k j s t) where
   -- in s nothing is live at the address, in any class
   pub live-at-before-is-zero : (d : ℕ) → d < 27 → liveAt s (addressOf k c j) d ≡ 0
-  unfolding liveAt
   live-at-before-is-zero d l = go (ℕ-discrete d c)
     where
-      away : (d ≡ c → ⊥) → (x y : Bool) → pick x (pick y (liveFor d (superblockAt s (addressOf k c j / 4096)) (addressOf k c j % 4096 / sizeOf d)) 0) 0 ≡ 0
-      away f true true = rw (address-superblock c k j (more .class-lt-27) (more .block)) (more .no-other-class d (addressOf k c j % 4096 / sizeOf d) (block-below d (addressOf k c j) l) f)
-      away f true false = refl
-      away f false y = refl
-
       go : Dec (d ≡ c) → liveAt s (addressOf k c j) d ≡ 0
       go (yes e) = ap (liveAt s (addressOf k c j)) e ∙ live-at-of-address s c k j (more .class-lt-27) (more .below) (more .block) ∙ more .not-live-before
-      go (no f) = away f (ltb (addressOf k c j / 4096) 64) (eqb (addressOf k c j % 4096 % sizeOf d) 0)
+      go (no f) = live-at-none s (addressOf k c j) d l (λ b h. ap (λ (x : ℕ). liveFor d (superblockAt s x) b) (address-superblock c k j (more .class-lt-27) (more .block)) ∙ more .no-other-class d b h f)
+
+  -- nor a long block
+  pub long-at-before-is-zero : longAt s (addressOf k c j) ≡ 0
+  unfolding startsRun
+  long-at-before-is-zero =
+      long-at-none s (addressOf k c j)
+      (ap (λ (x : ℕ). startsRun (superblockAt s x)) (address-superblock c k j (more .class-lt-27) (more .block)) ∙ ap (λ (x : Bool). both x (ltb 0 (superblockAt s k .run))) (more .outside-run))
 
   -- another address or class is as it was
   live-at-of-others : (a d : ℕ) → d < 27 → ((d ≡ c) × (addressOf k c j ≡ a) → ⊥) → liveAt t a d ≡ liveAt s a d
@@ -199,6 +224,8 @@ module _ (i c k j : ℕ) (s t : State) (below : k < 64) (owner : i < 254) (e : T
         no-other-class = live-for-other-class-before-take;
         others-same = λ d m b h. live-for-others-of-take d m b;
         live = live-of-class-one-more c s t (e .live-of-class) (e .live-of-others);
+        outside-run = e .outside-run;
+        long-same = long-at-of-kept s t (e .runs);
       }
 
 module _ (c k j moves : ℕ) (s t : State) (below : k < 64) (e : FreeEffect c k j moves s t) where
@@ -242,10 +269,12 @@ module _ (c k j moves : ℕ) (s t : State) (below : k < 64) (e : FreeEffect c k 
         no-other-class = λ d b h f. live-for-other d (superblockAt t k) b (λ q. f (sym q ∙ class-after));
         others-same = live-for-others-of-free;
         live = live-of-class-one-more c t s (e .live-of-class) (λ d f. sym (e .live-of-others d f));
+        outside-run = e .runs k below .0 ∙ outside-run-of-owner (superblockAt s k) (λ (q : superblockAt s k .owner ≡ 254). omega (arith, e .owned-before));
+        long-same = λ a. sym (long-at-of-kept s t (e .runs) a);
       }
 
 -- ---- nothing is live in a new state
-live-for-unused : (c j : ℕ) → liveFor c unused j ≡ 0
+pub live-for-unused : (c j : ℕ) → liveFor c unused j ≡ 0
 unfolding liveFor isOwnedOfClass isOfHeap
 live-for-unused c j = refl
 
@@ -257,58 +286,3 @@ live-at-of-new-state u a c = go (ltb (a / 4096) 64) (eqb (a % 4096 % sizeOf c) 0
     go true true e = ap (λ (b : Superblock). liveFor c b (a % 4096 / sizeOf c)) (getD-replicate 64 (a / 4096) unused blank (ltb-true (a / 4096) 64 e)) ∙ live-for-unused c (a % 4096 / sizeOf c)
     go true false e = refl
     go false y e = refl
-
--- ---- long blocks
--- 1 where a long block starts at address a, else 0
-unfoldable pub longAt : State → ℕ → ℕ
-longAt s a = pick (ltb (a / 4096) 64) (one (both (startsRun (superblockAt s (a / 4096))) (eqb (a % 4096) 0))) 0
-
--- it goes only by which superblocks are the first of a run
-pub long-at-same : (s t : State) (a : ℕ) → (a / 4096 < 64 → startsRun (superblockAt t (a / 4096)) ≡ startsRun (superblockAt s (a / 4096))) → longAt t a ≡ longAt s a
-unfolding longAt
-long-at-same s t a same = go (ltb (a / 4096) 64) refl
-  where
-    go : (x : Bool) → ltb (a / 4096) 64 ≡ x → pick x (one (both (startsRun (superblockAt t (a / 4096))) (eqb (a % 4096) 0))) 0 ≡ pick x (one (both (startsRun (superblockAt s (a / 4096))) (eqb (a % 4096) 0))) 0
-    go true e = rw (same (ltb-true (a / 4096) 64 e))
-    go false e = refl
-
-pub long-at-of-kept : (s t : State) → RunsKept s t → (a : ℕ) → longAt t a ≡ longAt s a
-long-at-of-kept s t kept a = long-at-same s t a (λ l. starts-run-same (superblockAt t (a / 4096)) (superblockAt s (a / 4096)) (kept (a / 4096) l .0) (kept (a / 4096) l .1))
-
--- 1 at the start of a run, and 0 where the superblock is the first of none
-pub long-at-start : (s : State) (k : ℕ) → k < 64 → startsRun (superblockAt s k) ≡ true → longAt s (k * 4096) ≡ 1
-unfolding longAt
-long-at-start s k l e =
-    let x : k * 4096 / 4096 ≡ k = omega arith in
-    let y : k * 4096 % 4096 ≡ 0 = omega arith in
-    rw (x, y, lt-ltb k 64 l, e)
-
-pub long-at-none : (s : State) (a : ℕ) → startsRun (superblockAt s (a / 4096)) ≡ false → longAt s a ≡ 0
-unfolding longAt
-long-at-none s a e = rw e (go (ltb (a / 4096) 64))
-  where
-    go : (x : Bool) → pick {A = ℕ} x 0 0 ≡ 0
-    go true = refl
-    go false = refl
-
--- at no other address of a superblock
-pub long-at-inside : (s : State) (a : ℕ) → (a % 4096 ≡ 0 → ⊥) → longAt s a ≡ 0
-unfolding longAt
-long-at-inside s a f = rw (ne-eqb (a % 4096) 0 f) (go (ltb (a / 4096) 64) (startsRun (superblockAt s (a / 4096))))
-  where
-    go : (x y : Bool) → pick x (one (both y false)) 0 ≡ 0
-    go true true = refl
-    go true false = refl
-    go false y = refl
-
-pub long-at-of-new-state : (u : Setup) (a : ℕ) → longAt (newState u) a ≡ 0
-unfolding longAt startsRun isOfRun
-long-at-of-new-state u a = go (decLt (a / 4096) 64)
-  where
-    go : Dec (a / 4096 < 64) → longAt (newState u) a ≡ 0
-    go (yes l) = long-at-none (newState u) a (ap startsRun (getD-replicate 64 (a / 4096) unused blank l))
-    go (no f) = past (ltb (a / 4096) 64) refl
-      where
-        past : (x : Bool) → ltb (a / 4096) 64 ≡ x → longAt (newState u) a ≡ 0
-        past true e = absurd (f (ltb-true (a / 4096) 64 e))
-        past false e = rw e
