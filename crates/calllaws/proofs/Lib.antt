@@ -31,6 +31,7 @@ pub mod NothingOfferedLaws
 pub mod RefusalConditions
 pub mod NamedRefusalConditions
 pub mod DropRefusalConditions
+pub mod AddressReadsLaws
 pub mod DropAsFrees
 pub mod TouchedLaws
 pub mod NameLifetime

@@ -4,47 +4,41 @@ use mathlib.Core.Bool.{Bool, true, false, not}
 use mathlib.Core.Logic.{_⊎_, inl, inr, ⊎-elim}
 use mathlib.Core.List.{List}
 use Prim.Native.Nat.{ℕ, _*_, _/_, _%_, _<_}
-use native.Mathlib.Nat.{le-refl}
 use native.Mathlib.Decide.{ℕ-discrete, decLt}
 use native.Mathlib.Omega.{arith}
-use borrow.Author.Tests.{eq-eqb, lt-ltb, ltb-true, lt-leb, not-false}
-use lib.Dec.{T, eqb, leb, ltb}
+use borrow.Author.Tests.{eq-eqb, ltb-true, lt-leb, not-false}
+use lib.Dec.{T, leb, ltb}
 use Rattle.laws.specs.Sums.{pick, both, either}
-use Rattle.laws.proofs.TestLaws.{T-of-true, true-of-T, both-left, both-right, both-make, pick-true, pick-false, neither-left, neither-right}
-use Rattle.classes.specs.Classes.{sizes, sizeOf, blocksOf, classOf, runLength}
+use Rattle.laws.proofs.TestLaws.{T-of-true, true-of-T, both-left, pick-true, pick-false, neither-left, neither-right}
+use Rattle.classes.specs.Classes.{sizes, sizeOf, blocksOf, classOf}
 use Rattle.classes.proofs.ClassTableLaws.{blocks-of-le-256}
 use Rattle.classes.proofs.OffsetLaws.{offset-lt-4096, offset-mod-size}
 use Rattle.marks.specs.Marks.{markBit, noMarks, withMark}
 use Rattle.marklaws.proofs.MarkLaws.{mark-of-mark-bit-one, mark-bit-of-no-marks, marks-clear-of-live-count-zero, with-mark-same, with-mark-other}
 use Rattle.marklaws.proofs.NoMarkFromLaws.{mark-clear-of-no-mark-from}
-use Rattle.names.specs.Names.{notHeld, blockNumber, isName, blockNamed, isHeld, withName, withoutBlock, eachHeld}
-use Rattle.namelaws.proofs.NameLaws.{test-of-named, each-held-with-name, no-two-with-name, held-facts, block-named-with-name, block-named-with-other-name, length-with-name, not-held-without-block, block-named-without-other-block}
+use Rattle.names.specs.Names.{blockNumber, isName, blockNamed, isHeld, withName, withoutBlock}
+use Rattle.namelaws.proofs.NameLaws.{held-facts, block-named-with-name, block-named-with-other-name, length-with-name, not-held-without-block, block-named-without-other-block}
 use Rattle.filledplaces.proofs.PlacesValidLaws.{no-mark-from-of-places-valid}
 use Rattle.heap.specs.declared.State.{State}
-use Rattle.heap.specs.declared.Superblock.{Superblock}
-use Rattle.heap.specs.Table.{superblockAt, liveIn, isUnused, isOfRun, startsRun, runPart, liveBlocks, isLiveBlock}
+use Rattle.heap.specs.Table.{superblockAt, isUnused, isOfRun, startsRun, liveBlocks}
 use Rattle.heap.specs.States.{withNames}
 use Rattle.heap.specs.Counts.{superblocksOf, superblocksOfClass, liveOfClass, ownersChanged}
-use Rattle.choicerules.specs.Runs.{isAvailable}
-use Rattle.checkrules.specs.Check.{namesValid}
 use Rattle.heaplaws.proofs.StateFacts.{Shape, Unowned, Owned}
 use Rattle.heaplaws.proofs.RunsKeptLaws.{runs-valid-with-names, live-blocks-outside-run, live-blocks-of-first, live-blocks-not-first, outside-run-of-owner, owner-of-run}
-use Rattle.heaplaws.proofs.RunChoiceLaws.{facts-of-is-available}
 use Rattle.heaplaws.proofs.StateCheckLaws.{shape-with-names, sound-with-names, names-sound-of-valid, owned-below-superblocks, owned-of-owner, unowned-of-owner, not-unused-of-owner}
 use Rattle.calls.specs.declared.Outcome.{Outcome}
 use Rattle.calls.specs.declared.Outcome.the-variants.{Address}
 use Rattle.calls.specs.Answers.{After, refused, isProcessor}
 use Rattle.calls.specs.Take.{addressOf, takeUnchecked, takeOf}
-use Rattle.calls.specs.Free.{superblockIndex, offsetOf, superblockHolding, blockOf, isUnmapped, isInRun, isRunStart, isOffBlock, isMisaligned, isLiveAt, blockNumberAt, smallFreedAt, longFreedAt, freedAt, freeUnchecked, freeOf}
+use Rattle.calls.specs.Free.{superblockIndex, offsetOf, superblockHolding, blockOf, isUnmapped, isInRun, isRunStart, isOffBlock, isMisaligned, isLiveAt, smallFreedAt, longFreedAt, freedAt, freeUnchecked, freeOf}
 use Rattle.calls.specs.Named.{isUnavailable, nameBound, boundBy, withNameBound, namedTakeUnchecked, namedTakeOf, heldAddress, namedFreeUnchecked, namedFreeOf}
 use Rattle.heaplaws.proofs.RankLaws.{ranks-sound-of-same-ranks}
-use Rattle.calllaws.proofs.CallEffects.{Passed, TakeAccepted, LongTakeAccepted, FreeAccepted, LongFreeAccepted, NamedTakeAccepted, NamedLongTakeAccepted, NamedFreeAccepted, NamedLongFreeAccepted, TakeEffect, LongTakeEffect, RunUnranked}
+use Rattle.calllaws.proofs.CallEffects.{Passed, TakeAccepted, LongTakeAccepted, FreeAccepted, LongFreeAccepted, NamedTakeAccepted, NamedLongTakeAccepted, NamedFreeAccepted, NamedLongFreeAccepted, TakeEffect}
 use Rattle.calllaws.proofs.CheckedLaws.{checked-refused-or-passed, checked-is-next-of-passed, bounds-of-is-processor}
 use Rattle.calllaws.proofs.TransferredLaws.{passed-after-no-frees}
-use Rattle.calllaws.proofs.NamesKeptLaws.{mark-of-live-block, live-block-of-live-mark, live-block-in-table, names-valid-after-named-take}
+use Rattle.calllaws.proofs.NamesKeptLaws.{mark-of-live-block, live-block-in-table, names-valid-after-named-take}
 use Rattle.calllaws.proofs.AddressLaws.{address-superblock, address-offset, address-block, address-block-number}
 use Rattle.calllaws.proofs.TakeLaws.{take-refused-or-accepted, taken-block, take-address, take-effect, take-names, take-shape, take-passed}
-use Rattle.calllaws.proofs.RunTakenLaws.{long-take-address, long-take-effect, long-take-names, long-take-ranks, long-take-shape, long-take-passed}
 use Rattle.calllaws.proofs.MarkClearedLaws.{LiveBlock}
 use Rattle.calllaws.proofs.FreeLaws.{free-refused-or-accepted, free-names, free-shape, free-passed, long-free-block, long-free-names, long-free-shape, long-free-passed}
 use Rattle.calllaws.proofs.RefusalOrder.{take-is-unchecked, free-is-unchecked, free-of-live-block}

@@ -19,16 +19,16 @@ use Rattle.marklaws.proofs.MarkLaws.{live-count-of-no-marks}
 use Rattle.heap.specs.declared.Superblock.{Superblock}
 use Rattle.heap.specs.declared.Setup.{Setup}
 use Rattle.heap.specs.declared.State.{State}
-use Rattle.heap.specs.Table.{blank, superblockAt, liveIn, isOfRun, startsRun, runPart, withRank}
+use Rattle.heap.specs.Table.{blank, superblockAt, liveIn, isOfRun, runPart, withRank}
 use Rattle.heap.specs.States.{withSuperblock}
 use Rattle.heap.specs.Counts.{superblocksOfClass, liveOfClass}
 use Rattle.heap.specs.Ranks.{rankAfterRenewal, reranked, unranked}
 use Rattle.moverules.specs.Moves.{mustMove}
-use Rattle.checkrules.specs.Check.{namesValid, runsValid}
+use Rattle.checkrules.specs.Check.{runsValid}
 use Rattle.heaplaws.proofs.StateFacts.{Shape, Sound, RanksSound}
 use Rattle.heaplaws.proofs.CountLaws.{superblock-at-replaced, superblock-at-others}
 use Rattle.heaplaws.proofs.RankLaws.{rank-after-renewal-of-superblock, ranked-of-ranked-after-renewal, ranked-after-renewal-of-ranked, order-kept-by-renewal, unranked-ranks-sound}
-use Rattle.heaplaws.proofs.RerankedLaws.{superblock-at-reranked, reranked-superblocks-of-class, reranked-live-of-class, reranked-shape, reranked-sound, reranked-names-valid}
+use Rattle.heaplaws.proofs.RerankedLaws.{superblock-at-reranked, reranked-superblocks-of-class, reranked-live-of-class, reranked-shape, reranked-sound}
 use Rattle.heaplaws.proofs.RunsKeptLaws.{outside-run-of-owner}
 use Rattle.heaplaws.proofs.RunLaws.{Outside, runs-sound-of-valid, runs-valid-of-sound}
 use Rattle.heaplaws.proofs.RunChoiceLaws.{Available, facts-of-is-available, FreeRun, lowest-run-is-free}
@@ -37,9 +37,10 @@ use Rattle.calls.specs.Answers.{After}
 use Rattle.calls.specs.Runs.{joinedToRun, runTaken, longTakenFrom}
 use Rattle.calls.specs.Take.{takeOf}
 use Rattle.calllaws.proofs.CallEffects.{Passed, LongTakeAccepted, InRun, LongTakeEffect, RunUnranked}
+use Rattle.calllaws.proofs.NamesKeptLaws.{names-valid-after-long-take}
 use Rattle.calllaws.proofs.EachOfRunLaws.{each-of-run-by-steps}
 use Rattle.calllaws.proofs.RunEffectLaws.{run-taken-made, run-taken-keeps-rest, run-taken-runs-sound}
-use Rattle.calllaws.proofs.VacatedLaws.{Vacates, move-rule-goes-by-counts, vacated-shape, vacated-superblocks-of-class, vacated-live-of-class, vacated-sound, vacated-ranks-sound, vacated-names-valid}
+use Rattle.calllaws.proofs.VacatedLaws.{Vacates, move-rule-goes-by-counts, vacated-shape, vacated-superblocks-of-class, vacated-live-of-class, vacated-sound, vacated-ranks-sound}
 
 -- ---- a superblock that is "unused or empty in heap 0"
 module _ (b : Superblock) (available : Available b) where
@@ -96,11 +97,6 @@ module _ (t : State) (m n : ℕ) (shape : Shape t) (below : m < 64) (available :
   unfolding unranked
   joined-ranks-sound sound = vacated-ranks-sound outRanked m (runPart n) vacates (ap (λ (b : Superblock). b .rank) out-at) refl (unranked-ranks-sound m t below sound)
 
-  joined-names-valid : T (namesValid t) → T (namesValid joined)
-  unfolding startsRun
-  joined-names-valid valid =
-      vacated-names-valid outRanked m (runPart n) vacates (rw (available-outside-run _ out-available)) (reranked-names-valid rank t (shape .length-is) valid)
-
   joined-superblocks-of-class : (d : ℕ) → superblocksOfClass d joined ≤ superblocksOfClass d t
   joined-superblocks-of-class d = omega (arith, vacated-superblocks-of-class outRanked m (runPart n) vacates d, reranked-superblocks-of-class rank t (shape .length-is) d)
 
@@ -109,6 +105,26 @@ module _ (t : State) (m n : ℕ) (shape : Shape t) (below : m < 64) (available :
 
   joined-at-others : (j : ℕ) → j < 64 → (j ≡ m → ⊥) → superblockAt joined j ≡ withRank (rank j) (superblockAt t j)
   joined-at-others j l other = superblock-at-others outRanked m (runPart n) j other ∙ superblock-at-reranked rank t j l
+
+  -- the others stay ranked or unranked, and among two the one ahead stays ahead
+  module _ (j : ℕ) (l : j < 64) (other : j ≡ m → ⊥) where
+    joined-rank : superblockAt joined j .rank ≡ rank j
+    joined-rank = ap (λ (b : Superblock). b .rank) (joined-at-others j l other)
+
+    joined-unranked-iff : (superblockAt joined j .rank ≡ 0) ↔ (superblockAt t j .rank ≡ 0)
+    joined-unranked-iff = (λ z. was z (decLt 0 (superblockAt t j .rank)), λ z. stays z (decLt 0 (rank j)))
+      where
+        was : superblockAt joined j .rank ≡ 0 → Dec (0 < superblockAt t j .rank) → superblockAt t j .rank ≡ 0
+        was z (yes p) = absurd (let y : ⊥ = omega (arith, ranked-after-renewal-of-ranked m (t .table) j other p, joined-rank) in y)
+        was z (no f) = omega arith
+
+        stays : superblockAt t j .rank ≡ 0 → Dec (0 < rank j) → superblockAt joined j .rank ≡ 0
+        stays z (yes p) = absurd (let y : ⊥ = omega (arith, ranked-of-ranked-after-renewal m (t .table) j other p) in y)
+        stays z (no f) = omega (arith, joined-rank)
+
+  joined-order-kept : RanksSound t → (i j : ℕ) → i < 64 → j < 64 → (i ≡ m → ⊥) → (j ≡ m → ⊥) → 0 < superblockAt t i .rank → superblockAt t i .rank < superblockAt t j .rank
+      → superblockAt joined i .rank < superblockAt joined j .rank
+  joined-order-kept sound i j li lj f g pos h = omega (arith, order-kept-by-renewal m t below sound i j li lj f g pos h, joined-rank i li f, joined-rank j lj g)
 
   joined-at-superblock : superblockAt joined m ≡ runPart n
   joined-at-superblock = superblock-at-replaced outRanked m (runPart n) (vacates .shape .length-is) below
@@ -119,7 +135,6 @@ record Joined (s : State) (order : List ℕ) (k n j : ℕ) (t : State) : Type 0 
   setup : t .setup ≡ s .setup
   sound : Sound t order
   ranks : RanksSound t
-  names : T (namesValid t)
   owned : (d : ℕ) → superblocksOfClass d t ≤ superblocksOfClass d s
   live : (d : ℕ) → liveOfClass d t ≡ liveOfClass d s
   -- the others of the run are still available
@@ -134,46 +149,27 @@ run-unranked-of-one-more k j n s t shape below available sound before = record {
     after : State
     after = joined t (k + j) n shape below available
 
-    r : ℕ → ℕ
-    r = rankAfterRenewal (k + j) (t .table)
-
-    others : (m : ℕ) → m < 64 → (m ≡ k + j → ⊥) → superblockAt after m .rank ≡ r m
-    others m l other = ap (λ (b : Superblock). b .rank) (joined-at-others t (k + j) n shape below available m l other)
-
-    zero-of-zero : (m : ℕ) → m < 64 → (m ≡ k + j → ⊥) → superblockAt t m .rank ≡ 0 → superblockAt after m .rank ≡ 0
-    zero-of-zero m l other z = go (decLt 0 (r m))
-      where
-        go : Dec (0 < r m) → superblockAt after m .rank ≡ 0
-        go (yes p) = absurd (let y : ⊥ = omega (arith, ranked-of-ranked-after-renewal (k + j) (t .table) m other p) in y)
-        go (no f) = omega (arith, others m l other)
-
     in-run : (m : ℕ) → InRun k (suc j) m → superblockAt after m .rank ≡ 0
     in-run m (low, high) = go (ℕ-discrete m (k + j))
       where
         go : Dec (m ≡ k + j) → superblockAt after m .rank ≡ 0
         go (yes e) = ap (λ (x : ℕ). superblockAt after x .rank) e ∙ ap (λ (b : Superblock). b .rank) (joined-at-superblock t (k + j) n shape below available)
-        go (no f) = zero-of-zero m (omega arith) f (before .in-run m (low, omega arith))
+        go (no f) = joined-unranked-iff t (k + j) n shape below available m (omega arith) f .1 (before .in-run m (low, omega arith))
 
     apart : (m : ℕ) → (InRun k (suc j) m → ⊥) → (InRun k j m → ⊥) × (m ≡ k + j → ⊥)
     apart m f = (λ h. f (h .0, let q = h .1 in omega arith), λ e. f (omega arith, omega arith))
 
     ranked-iff : (m : ℕ) → m < 64 → (InRun k (suc j) m → ⊥) → (superblockAt after m .rank ≡ 0) ↔ (superblockAt s m .rank ≡ 0)
-    ranked-iff m l f = (λ z. before .ranked-iff m l (apart m f .0) .0 (was z), λ z. zero-of-zero m l (apart m f .1) (before .ranked-iff m l (apart m f .0) .1 z))
-      where
-        was : superblockAt after m .rank ≡ 0 → superblockAt t m .rank ≡ 0
-        was z = go (decLt 0 (superblockAt t m .rank))
-          where
-            go : Dec (0 < superblockAt t m .rank) → superblockAt t m .rank ≡ 0
-            go (yes p) = absurd (let y : ⊥ = omega (arith, ranked-after-renewal-of-ranked (k + j) (t .table) m (apart m f .1) p, others m l (apart m f .1)) in y)
-            go (no g) = omega arith
+    ranked-iff m l f =
+        let step = joined-unranked-iff t (k + j) n shape below available m l (apart m f .1) in
+        let earlier = before .ranked-iff m l (apart m f .0) in
+        (λ z. earlier .0 (step .0 z), λ z. step .1 (earlier .1 z))
 
     order-kept : (m l : ℕ) → m < 64 → l < 64 → (InRun k (suc j) m → ⊥) → (InRun k (suc j) l → ⊥) → 0 < superblockAt s m .rank → superblockAt s m .rank < superblockAt s l .rank
         → superblockAt after m .rank < superblockAt after l .rank
     order-kept m l lm ll f g pos h =
         let ranked : 0 < superblockAt t m .rank = pos-of-ne-zero (λ z. let y : ⊥ = omega (arith, before .ranked-iff m lm (apart m f .0) .0 z) in y) in
-        let kept = before .order-kept m l lm ll (apart m f .0) (apart l g .0) pos h in
-        let ahead = order-kept-by-renewal (k + j) t below sound m l lm ll (apart m f .1) (apart l g .1) ranked kept in
-        omega (arith, others m lm (apart m f .1), others l ll (apart l g .1))
+        joined-order-kept t (k + j) n shape below available sound m l lm ll (apart m f .1) (apart l g .1) ranked (before .order-kept m l lm ll (apart m f .0) (apart l g .0) pos h)
 
 module _ (s : State) (order : List ℕ) (k n : ℕ) (shape : Shape s) (passed : Passed s order) (free : FreeRun n s k) where
   few : s .setup .superblocks ≤ 64
@@ -186,7 +182,6 @@ module _ (s : State) (order : List ℕ) (k n : ℕ) (shape : Shape s) (passed : 
         setup = refl;
         sound = passed .sound;
         ranks = passed .ranks;
-        names = passed .names;
         owned = λ d. omega arith;
         live = λ d. refl;
         available = λ m low high. facts-of-is-available (superblockAt s m) (free .available m (omega arith) high);
@@ -201,7 +196,6 @@ module _ (s : State) (order : List ℕ) (k n : ℕ) (shape : Shape s) (passed : 
         setup = h .setup;
         sound = joined-sound t (k + j) part (h .shape) below now order (subst (λ (u : Setup). k + j < u .superblocks) (sym (h .setup)) (omega (arith, free .below))) (h .sound);
         ranks = joined-ranks-sound t (k + j) part (h .shape) below now (h .ranks);
-        names = joined-names-valid t (k + j) part (h .shape) below now (h .names);
         owned = λ d. omega (arith, joined-superblocks-of-class t (k + j) part (h .shape) below now d, h .owned d);
         live = λ d. joined-live-of-class t (k + j) part (h .shape) below now d ∙ h .live d;
         available = λ m low high. subst Available (sym (joined-at-others t (k + j) part (h .shape) below now m (omega (arith, free .below, few)) (λ e. omega arith))) (available-with-rank _ _ (h .available m (omega arith) high));
@@ -276,10 +270,9 @@ module _ (s : State) (order : List ℕ) (i size k : ℕ) (shape : Shape s) (acc 
       go (yes l) = run-taken-made k n s (shape .length-is) in-table .outside m l (outside l) .0
       go (no g) = rw (past-the-table (runTaken k n s) (facts .shape .length-is) (le-of-not-below g), past-the-table s (shape .length-is) (le-of-not-below g))
 
-  pub long-take-effect : LongTakeEffect k (runLength size) s (takeOf s order i size .answer .state)
-  long-take-effect =
-      subst (LongTakeEffect k n s) (sym state-is)
-      (record {
+  run-taken-effect : LongTakeEffect k n s (runTaken k n s)
+  run-taken-effect =
+      record {
         below = free .below;
         some = some;
         at-most-16 = at-most-16;
@@ -289,7 +282,10 @@ module _ (s : State) (order : List ℕ) (i size k : ℕ) (shape : Shape s) (acc 
         others = run-taken-others;
         owned = facts .owned;
         live = facts .live;
-      })
+      }
+
+  pub long-take-effect : LongTakeEffect k (runLength size) s (takeOf s order i size .answer .state)
+  long-take-effect = subst (LongTakeEffect k n s) (sym state-is) run-taken-effect
 
   -- "no rank": the superblocks of the run leave the ranking
   pub long-take-ranks : RunUnranked k (runLength size) s (takeOf s order i size .answer .state)
@@ -312,7 +308,7 @@ module _ (s : State) (order : List ℕ) (i size k : ℕ) (shape : Shape s) (acc 
       (subst (λ (places : List ℕ). Passed (runTaken k n s) places) (sym long-take-order)
       (record {
         sound = facts .sound;
-        names = facts .names;
+        names = names-valid-after-long-take k n s (runTaken k n s) run-taken-effect (run-taken-keeps-rest k n s .names) (acc .passed .names);
         totals = run-taken-keeps-rest k n s .totals (acc .passed .totals);
         ranks = facts .ranks;
         runs = runs-after;

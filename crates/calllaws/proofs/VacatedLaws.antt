@@ -1,37 +1,29 @@
--- A superblock in which nothing is live, of heap 0 or of no heap, replaced by one that no heap owns, as when a run is taken or freed (document 02, item 7): the state
--- keeps its shape and the check but for the runs, each processor heap and class what it has, each class its live blocks, and all other blocks are live as before.
--- Assumes nothing.
+-- A superblock in which nothing is live, of heap 0 or of no heap, replaced by one that no heap owns, as when it joins a run (document 02, item 7): the state keeps its shape
+-- and the check but for names and runs, each processor heap and class what it has, and each class its live blocks. Assumes nothing.
 use mathlib.Core.Path.{_≡_, refl, sym, ap, ap₂, _∙_, subst}
-use mathlib.Core.Bool.{Bool, true, false}
 use mathlib.Core.Logic.{_⊎_, inl, ⊎-elim}
 use mathlib.Core.List.{List}
-use Prim.Native.Nat.{ℕ, _*_, _/_, _%_, _≤_, _<_}
+use Prim.Native.Nat.{ℕ, _*_, _≤_, _<_}
 use native.Mathlib.Decide.{ℕ-discrete}
 use native.Mathlib.Omega.{arith}
 use lib.ListN.{length}
 use lib.Dec.{T, ltb}
 use Rattle.laws.specs.Sums.{pick, one}
-use Rattle.laws.proofs.TestLaws.{true-not-false, both-left, both-right, both-make, pick-elim}
+use Rattle.laws.proofs.TestLaws.{pick-elim}
 use Rattle.classes.specs.Classes.{blocksOf}
-use Rattle.marks.specs.Marks.{markBit, noMarks}
-use Rattle.marklaws.proofs.MarkLaws.{marks-clear-of-live-count-zero, mark-bit-of-no-marks, with-mark-other}
-use Rattle.names.specs.Names.{blockNumber, eachHeld}
-use Rattle.namelaws.proofs.NameLaws.{each-held-of-tests}
 use Rattle.heap.specs.declared.Superblock.{Superblock}
 use Rattle.heap.specs.declared.Setup.{Setup}
 use Rattle.heap.specs.declared.State.{State}
-use Rattle.heap.specs.Table.{superblockAt, liveIn, startsRun, liveBlocks, isLiveBlock}
+use Rattle.heap.specs.Table.{superblockAt, liveIn}
 use Rattle.heap.specs.States.{withSuperblock}
 use Rattle.heap.specs.Counts.{total, belongs, isOwnedOfClass, oneIfBelongs, liveIfBelongs, superblocksOf, blocksIn, liveOf, superblocksOfClass, liveOfClass}
 use Rattle.heap.specs.Ranks.{isRanked}
 use Rattle.moverules.specs.Moves.{bothConditions, mustMove}
-use Rattle.checkrules.specs.Check.{rankedCount, namesValid}
+use Rattle.checkrules.specs.Check.{rankedCount}
 use Rattle.heaplaws.proofs.StateFacts.{Shape, Unused, Unowned, Owned, Sparse, SoundWith, RanksSound}
 use Rattle.heaplaws.proofs.CountLaws.{superblock-at-replaced, superblock-at-others, total-with-superblock, total-cong, one-if-belongs-other-owner}
 use Rattle.heaplaws.proofs.StateCheckLaws.{shape-with-superblock}
-use Rattle.heaplaws.proofs.RunsKeptLaws.{live-blocks-of-first, live-blocks-not-first}
 use Rattle.calllaws.proofs.SuperblockLaws.{unowned-of-no-class, no-live-adds-nothing}
-use Rattle.calllaws.proofs.NamesKeptLaws.{mark-of-live-block, live-block-of-mark}
 
 -- what is said of a heap and class goes by the setup and by its superblocks and live blocks alone
 abbrev pub GoesByCounts : (ℕ → ℕ → State → Type 0) → Type 0
@@ -97,16 +89,11 @@ module _ (s : State) (k : ℕ) (b : Superblock) (vacates : Vacates s k b) where
       none : (x : Superblock) → liveIn x ≡ 0 → liveIfBelongs h c x ≡ 0
       none x e = pick-elim (λ (n : ℕ). n ≡ 0) (belongs h c x) (liveIn x) 0 (λ _. e) (λ _. refl)
 
-  -- no class has more superblocks ..
+  -- no class has more superblocks
   pub vacated-superblocks-of-class : (d : ℕ) → superblocksOfClass d after ≤ superblocksOfClass d s
   unfolding superblocksOfClass
   vacated-superblocks-of-class d =
       omega (arith, total-with-superblock (λ x. one (isOwnedOfClass d x)) s k b (vacates .shape .length-is) (vacates .in-table), ap one (unowned-of-no-class d b owner-after))
-
-  -- .. and as many where no heap owned it
-  pub vacated-superblocks-of-class-same : 254 ≤ superblockAt s k .owner → (d : ℕ) → superblocksOfClass d after ≡ superblocksOfClass d s
-  unfolding superblocksOfClass
-  vacated-superblocks-of-class-same none d = total-same (λ x. one (isOwnedOfClass d x)) (ap one (unowned-of-no-class d b owner-after ∙ sym (unowned-of-no-class d (superblockAt s k) none)))
 
   pub vacated-live-of-class : (d : ℕ) → liveOfClass d after ≡ liveOfClass d s
   unfolding liveOfClass
@@ -136,31 +123,3 @@ module _ (s : State) (k : ℕ) (b : Superblock) (vacates : Vacates s k b) where
     where
       same : (m : ℕ) → m < 64 → superblockAt after m .rank ≡ superblockAt s m .rank
       same = each-after (λ m x. x .rank ≡ superblockAt s m .rank) (now ∙ sym before) (λ m l f. refl)
-
-  -- ---- the live blocks: those of the superblock are no more, which is the long block of a run that it began
-  none-live-in-it : (j : ℕ) → j < 256 → (startsRun (superblockAt s k) ≡ true → j ≡ 0 → ⊥) → markBit (liveBlocks (superblockAt s k)) j ≡ 0
-  none-live-in-it j l apart = go (startsRun (superblockAt s k)) refl
-    where
-      go : (t : Bool) → startsRun (superblockAt s k) ≡ t → markBit (liveBlocks (superblockAt s k)) j ≡ 0
-      go true e = ap (λ (x : List ℕ). markBit x j) (live-blocks-of-first (superblockAt s k) e) ∙ with-mark-other noMarks 0 j (apart e) ∙ mark-bit-of-no-marks j
-      go false e = ap (λ (x : List ℕ). markBit x j) (live-blocks-not-first (superblockAt s k) e) ∙ marks-clear-of-live-count-zero (superblockAt s k .live) (vacates .live-before) j l
-
-  pub vacated-live-block : (n : ℕ) → (startsRun (superblockAt s k) ≡ true → n ≡ blockNumber k 0 → ⊥) → T (isLiveBlock s n) → T (isLiveBlock after n)
-  vacated-live-block n apart live = live-block-of-mark after n (go (ℕ-discrete (n / 256) k))
-    where
-      was : markBit (liveBlocks (superblockAt s (n / 256))) (n % 256) ≡ 1
-      was = mark-of-live-block s n live
-
-      go : Dec (n / 256 ≡ k) → markBit (liveBlocks (superblockAt after (n / 256))) (n % 256) ≡ 1
-      go (yes e) =
-          let none : markBit (liveBlocks (superblockAt s k)) (n % 256) ≡ 0 = none-live-in-it (n % 256) (omega arith) (λ starts z. apart starts (omega arith)) in
-          absurd (let z : ⊥ = omega (arith, was, none, ap (λ (m : ℕ). markBit (liveBlocks (superblockAt s m)) (n % 256)) e) in z)
-      go (no f) = ap (λ (x : Superblock). markBit (liveBlocks x) (n % 256)) (superblock-at-others s k b (n / 256) f) ∙ was
-
-  -- where it began none, each held name points at a live block as before
-  pub vacated-names-valid : startsRun (superblockAt s k) ≡ false → T (namesValid s) → T (namesValid after)
-  unfolding namesValid
-  vacated-names-valid first-of-none valid =
-      both-make (eachHeld (isLiveBlock after) (s .names)) _
-      (each-held-of-tests (isLiveBlock s) (isLiveBlock after) (s .names) (λ n. vacated-live-block n (λ starts _. true-not-false (startsRun (superblockAt s k)) starts first-of-none)) (both-left (eachHeld (isLiveBlock s) (s .names)) _ valid))
-      (both-right (eachHeld (isLiveBlock s) (s .names)) _ valid)
