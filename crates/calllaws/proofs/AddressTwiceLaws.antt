@@ -157,7 +157,7 @@ module _ (freed : ℕ → ℕ → ℕ) (s : State) (order : List ℕ) (b : ℕ) 
   freed-refused-5 long = run-refused-5 long b (omega arith, omega (arith, long-effect long .run-before .some))
 
   -- an address in no run is in none then; one in a run still is, or meets 5
-  outside-run-stays : (a : ℕ) → isInRun s a ≡ false → isInRun (blockFreed s b) a ≡ false
+  pub outside-run-stays : (a : ℕ) → isInRun s a ≡ false → isInRun (blockFreed s b) a ≡ false
   unfolding isOfRun
   outside-run-stays a e = go (decLt (superblockIndex a) 64)
     where
