@@ -106,6 +106,26 @@ module _ (t : State) (m n : ℕ) (shape : Shape t) (below : m < 64) (available :
   joined-at-others : (j : ℕ) → j < 64 → (j ≡ m → ⊥) → superblockAt joined j ≡ withRank (rank j) (superblockAt t j)
   joined-at-others j l other = superblock-at-others outRanked m (runPart n) j other ∙ superblock-at-reranked rank t j l
 
+  -- the others stay ranked or unranked, and among two the one ahead stays ahead
+  module _ (j : ℕ) (l : j < 64) (other : j ≡ m → ⊥) where
+    joined-rank : superblockAt joined j .rank ≡ rank j
+    joined-rank = ap (λ (b : Superblock). b .rank) (joined-at-others j l other)
+
+    joined-unranked-iff : (superblockAt joined j .rank ≡ 0) ↔ (superblockAt t j .rank ≡ 0)
+    joined-unranked-iff = (λ z. was z (decLt 0 (superblockAt t j .rank)), λ z. stays z (decLt 0 (rank j)))
+      where
+        was : superblockAt joined j .rank ≡ 0 → Dec (0 < superblockAt t j .rank) → superblockAt t j .rank ≡ 0
+        was z (yes p) = absurd (let y : ⊥ = omega (arith, ranked-after-renewal-of-ranked m (t .table) j other p, joined-rank) in y)
+        was z (no f) = omega arith
+
+        stays : superblockAt t j .rank ≡ 0 → Dec (0 < rank j) → superblockAt joined j .rank ≡ 0
+        stays z (yes p) = absurd (let y : ⊥ = omega (arith, ranked-of-ranked-after-renewal m (t .table) j other p) in y)
+        stays z (no f) = omega (arith, joined-rank)
+
+  joined-order-kept : RanksSound t → (i j : ℕ) → i < 64 → j < 64 → (i ≡ m → ⊥) → (j ≡ m → ⊥) → 0 < superblockAt t i .rank → superblockAt t i .rank < superblockAt t j .rank
+      → superblockAt joined i .rank < superblockAt joined j .rank
+  joined-order-kept sound i j li lj f g pos h = omega (arith, order-kept-by-renewal m t below sound i j li lj f g pos h, joined-rank i li f, joined-rank j lj g)
+
   joined-at-superblock : superblockAt joined m ≡ runPart n
   joined-at-superblock = superblock-at-replaced outRanked m (runPart n) (vacates .shape .length-is) below
 
@@ -129,46 +149,27 @@ run-unranked-of-one-more k j n s t shape below available sound before = record {
     after : State
     after = joined t (k + j) n shape below available
 
-    r : ℕ → ℕ
-    r = rankAfterRenewal (k + j) (t .table)
-
-    others : (m : ℕ) → m < 64 → (m ≡ k + j → ⊥) → superblockAt after m .rank ≡ r m
-    others m l other = ap (λ (b : Superblock). b .rank) (joined-at-others t (k + j) n shape below available m l other)
-
-    zero-of-zero : (m : ℕ) → m < 64 → (m ≡ k + j → ⊥) → superblockAt t m .rank ≡ 0 → superblockAt after m .rank ≡ 0
-    zero-of-zero m l other z = go (decLt 0 (r m))
-      where
-        go : Dec (0 < r m) → superblockAt after m .rank ≡ 0
-        go (yes p) = absurd (let y : ⊥ = omega (arith, ranked-of-ranked-after-renewal (k + j) (t .table) m other p) in y)
-        go (no f) = omega (arith, others m l other)
-
     in-run : (m : ℕ) → InRun k (suc j) m → superblockAt after m .rank ≡ 0
     in-run m (low, high) = go (ℕ-discrete m (k + j))
       where
         go : Dec (m ≡ k + j) → superblockAt after m .rank ≡ 0
         go (yes e) = ap (λ (x : ℕ). superblockAt after x .rank) e ∙ ap (λ (b : Superblock). b .rank) (joined-at-superblock t (k + j) n shape below available)
-        go (no f) = zero-of-zero m (omega arith) f (before .in-run m (low, omega arith))
+        go (no f) = joined-unranked-iff t (k + j) n shape below available m (omega arith) f .1 (before .in-run m (low, omega arith))
 
     apart : (m : ℕ) → (InRun k (suc j) m → ⊥) → (InRun k j m → ⊥) × (m ≡ k + j → ⊥)
     apart m f = (λ h. f (h .0, let q = h .1 in omega arith), λ e. f (omega arith, omega arith))
 
     ranked-iff : (m : ℕ) → m < 64 → (InRun k (suc j) m → ⊥) → (superblockAt after m .rank ≡ 0) ↔ (superblockAt s m .rank ≡ 0)
-    ranked-iff m l f = (λ z. before .ranked-iff m l (apart m f .0) .0 (was z), λ z. zero-of-zero m l (apart m f .1) (before .ranked-iff m l (apart m f .0) .1 z))
-      where
-        was : superblockAt after m .rank ≡ 0 → superblockAt t m .rank ≡ 0
-        was z = go (decLt 0 (superblockAt t m .rank))
-          where
-            go : Dec (0 < superblockAt t m .rank) → superblockAt t m .rank ≡ 0
-            go (yes p) = absurd (let y : ⊥ = omega (arith, ranked-after-renewal-of-ranked (k + j) (t .table) m (apart m f .1) p, others m l (apart m f .1)) in y)
-            go (no g) = omega arith
+    ranked-iff m l f =
+        let step = joined-unranked-iff t (k + j) n shape below available m l (apart m f .1) in
+        let earlier = before .ranked-iff m l (apart m f .0) in
+        (λ z. earlier .0 (step .0 z), λ z. step .1 (earlier .1 z))
 
     order-kept : (m l : ℕ) → m < 64 → l < 64 → (InRun k (suc j) m → ⊥) → (InRun k (suc j) l → ⊥) → 0 < superblockAt s m .rank → superblockAt s m .rank < superblockAt s l .rank
         → superblockAt after m .rank < superblockAt after l .rank
     order-kept m l lm ll f g pos h =
         let ranked : 0 < superblockAt t m .rank = pos-of-ne-zero (λ z. let y : ⊥ = omega (arith, before .ranked-iff m lm (apart m f .0) .0 z) in y) in
-        let kept = before .order-kept m l lm ll (apart m f .0) (apart l g .0) pos h in
-        let ahead = order-kept-by-renewal (k + j) t below sound m l lm ll (apart m f .1) (apart l g .1) ranked kept in
-        omega (arith, others m lm (apart m f .1), others l ll (apart l g .1))
+        joined-order-kept t (k + j) n shape below available sound m l lm ll (apart m f .1) (apart l g .1) ranked (before .order-kept m l lm ll (apart m f .0) (apart l g .0) pos h)
 
 module _ (s : State) (order : List ℕ) (k n : ℕ) (shape : Shape s) (passed : Passed s order) (free : FreeRun n s k) where
   few : s .setup .superblocks ≤ 64

@@ -54,6 +54,29 @@ takenByTests s order i size processor large long run own other =
     (pick long (longTakenAt (runLength size) s order run)
     (takenAt i (classOf size) s order own other)))
 
+-- what the tests give to an accepted one, of a block of a class and of a long one
+module _ (s : State) (order : List ℕ) (i size k : ℕ) (passed : Passed s order) (known : isProcessor s i ≡ true) where
+  take-accepted : isLong size ≡ false
+      → ((fullest i (classOf size) s ≡ At k) × (takeOf s order i size ≡ takenFrom k s order))
+      ⊎ ((fullest i (classOf size) s ≡ Nothing) × (otherPlaces (classOf size) s ≡ At k) × (takeOf s order i size ≡ takenFromOther i (classOf size) k s order))
+      → TakeAccepted s order i size k
+  take-accepted l place = record {
+    passed = passed;
+    processor = bounds-of-is-processor s i (T-of-true (isProcessor s i) known);
+    size-le-2048 = le-2048-of-not-long size l;
+    place = place;
+  }
+
+  long-take-accepted : isTooLarge size ≡ false → isLong size ≡ true → lowestRun (runLength size) s ≡ At k → takeOf s order i size ≡ longTakenFrom k (runLength size) s order → LongTakeAccepted s order i size k
+  long-take-accepted l g run e = record {
+    passed = passed;
+    processor = bounds-of-is-processor s i (T-of-true (isProcessor s i) known);
+    size-above-2048 = above-2048-of-long size g;
+    size-le-65535 = le-65535-of-not-too-large size l;
+    run = run;
+    result-is = e;
+  }
+
 -- a take is refused and changes nothing, or is accepted, of a block of a class or of a long one
 pub take-refused-or-accepted : (s : State) (order : List ℕ) (i size : ℕ)
     → ((r : ℕ) × (takeOf s order i size ≡ refused r s order)) ⊎ ((k : ℕ) × TakeAccepted s order i size k) ⊎ ((k : ℕ) × LongTakeAccepted s order i size k)
@@ -63,37 +86,15 @@ take-refused-or-accepted s order i size =
     (λ h. go (isProcessor s i) (isTooLarge size) (isLong size) (lowestRun (runLength size) s) (fullest i (classOf size) s) (otherPlaces (classOf size) s) refl refl refl refl refl refl (h .0) (h .1))
     (checked-refused-or-passed s order (takeUnchecked s order i size))
   where
-    accepted : (k : ℕ) → isProcessor s i ≡ true → isLong size ≡ false → Passed s order
-        → ((fullest i (classOf size) s ≡ At k) × (takeOf s order i size ≡ takenFrom k s order))
-        ⊎ ((fullest i (classOf size) s ≡ Nothing) × (otherPlaces (classOf size) s ≡ At k) × (takeOf s order i size ≡ takenFromOther i (classOf size) k s order))
-        → TakeAccepted s order i size k
-    accepted k p l passed place = record {
-      passed = passed;
-      processor = bounds-of-is-processor s i (T-of-true (isProcessor s i) p);
-      size-le-2048 = le-2048-of-not-long size l;
-      place = place;
-    }
-
-    accepted-long : (k : ℕ) → isProcessor s i ≡ true → isTooLarge size ≡ false → isLong size ≡ true → Passed s order → lowestRun (runLength size) s ≡ At k
-        → takeOf s order i size ≡ longTakenFrom k (runLength size) s order → LongTakeAccepted s order i size k
-    accepted-long k p l g passed run e = record {
-      passed = passed;
-      processor = bounds-of-is-processor s i (T-of-true (isProcessor s i) p);
-      size-above-2048 = above-2048-of-long size g;
-      size-le-65535 = le-65535-of-not-too-large size l;
-      run = run;
-      result-is = e;
-    }
-
     go : (processor large long : Bool) (run own other : Found) → isProcessor s i ≡ processor → isTooLarge size ≡ large → isLong size ≡ long → lowestRun (runLength size) s ≡ run
         → fullest i (classOf size) s ≡ own → otherPlaces (classOf size) s ≡ other → Passed s order → takeOf s order i size ≡ takenByTests s order i size processor large long run own other
         → ((r : ℕ) × (takeOf s order i size ≡ refused r s order)) ⊎ ((k : ℕ) × TakeAccepted s order i size k) ⊎ ((k : ℕ) × LongTakeAccepted s order i size k)
     go false large long run own other p l n h f g passed e = inl (2, e)
     go true true long run own other p l n h f g passed e = inl (3, e)
-    go true false true (At k) own other p l n h f g passed e = inr (inr (k, accepted-long k p l n passed h e))
+    go true false true (At k) own other p l n h f g passed e = inr (inr (k, long-take-accepted s order i size k passed p l n h e))
     go true false true Nothing own other p l n h f g passed e = inl (17, e)
-    go true false false run (At k) other p l n h f g passed e = inr (inl (k, accepted k p n passed (inl (f, e))))
-    go true false false run Nothing (At k) p l n h f g passed e = inr (inl (k, accepted k p n passed (inr (f, g, e))))
+    go true false false run (At k) other p l n h f g passed e = inr (inl (k, take-accepted s order i size k passed p n (inl (f, e))))
+    go true false false run Nothing (At k) p l n h f g passed e = inr (inl (k, take-accepted s order i size k passed p n (inr (f, g, e))))
     go true false false run Nothing Nothing p l n h f g passed e = inl (4, e)
 
 -- no refusal of the check is 4 or 17
