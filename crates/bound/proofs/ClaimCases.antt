@@ -13,8 +13,8 @@ use Rattle.laws.proofs.SumLaws.{all-at}
 use Rattle.classes.specs.Classes.{counts, blocksOf}
 use Rattle.heap.specs.declared.Setup.{Setup}
 use Rattle.heap.specs.declared.State.{State}
-use Rattle.heap.specs.Table.{unused}
-use Rattle.heap.specs.Counts.{total, isOwnedOfClass, superblocksOfClass, ownersChanged}
+use Rattle.heap.specs.Table.{unused, isOfHeap, runPart}
+use Rattle.heap.specs.Counts.{total, isOwnedOfClass, superblocksOfClass, ownersChanged, passedBetweenHeaps}
 use Rattle.heap.proofs.CaseStates.{unnamedState}
 use Rattle.heap.proofs.TableCases.{of}
 use Rattle.checkrules.specs.Check.{withinLimits}
@@ -74,6 +74,14 @@ pub ledger-after-drop-cases :
 unfolding ledgerDefinitions
 ledger-after-drop-cases = refl
 
+-- a long block stands in the ledger as any other, and counts in no class: not in 0, which its superblocks' field has, and not in 26 (document 02, item 7)
+pub long-entry-cases :
+    ledgerAfter three-entries (Take 2 2049) (Address 16384) ≡ entry 16384 2049 unnamed ∷ three-entries
+    × map (λ (c : ℕ). entriesOf c (entry 16384 2049 unnamed ∷ entry 20480 65535 (named 3) ∷ [])) (0 ∷ 26 ∷ 27 ∷ []) ≡ 0 ∷ 0 ∷ 2 ∷ []
+    × ledgerAfter (entry 16384 2049 unnamed ∷ three-entries) (Free 1 16384) (Moves 0) ≡ three-entries
+unfolding ledgerDefinitions
+long-entry-cases = (refl, refl, refl)
+
 -- M goes up with the live blocks of its class, and does not come down
 pub peak-with-cases : peakWith (λ c. 1) three-entries 23 ∷ peakWith (λ c. 5) three-entries 23 ∷ peakWith (λ c. c) three-entries 16 ∷ peakWith (λ c. 0) three-entries 17 ∷ [] ≡ 2 ∷ 5 ∷ 16 ∷ 0 ∷ []
 unfolding ledgerDefinitions
@@ -100,21 +108,21 @@ not-le-by-test {a} {b} h e = true-not-false (leb a b) (le-leb a b h) e
 
 -- class 23 has 3 blocks; M = 12. With 18 superblocks (q - p) × n × A is 216, above 7 × 12 + 4 × 2 × 5 × 3 = 204
 pub bound-exceeded : Bounded u (state-of-class 23 7) (λ c. 12) → ⊥
-unfolding Bounded superblocksOfClass total isOwnedOfClass sumBelow blocksOf counts
+unfolding Bounded superblocksOfClass total isOwnedOfClass isOfHeap sumBelow blocksOf counts
 bound-exceeded b = not-le-by-test (b 23 (omega arith)) refl
 
 -- M is each class's own: 12 of class 22 do not count, nor 11 of class 23
 pub bound-of-other-class-exceeded : Bounded u (state-of-class 23 6) (λ c. 34 - c) → ⊥
-unfolding Bounded superblocksOfClass total isOwnedOfClass sumBelow blocksOf counts
+unfolding Bounded superblocksOfClass total isOwnedOfClass isOfHeap sumBelow blocksOf counts
 bound-of-other-class-exceeded b = not-le-by-test (b 23 (omega arith)) refl
 
 -- with nothing live, P × K = 10 superblocks, and not 11: of class 0, with 256 blocks, and of class 26, the last
 pub bound-of-class-0-exceeded : Bounded u (only-of-class 0 11) (λ c. 0) → ⊥
-unfolding Bounded superblocksOfClass total isOwnedOfClass sumBelow blocksOf counts
+unfolding Bounded superblocksOfClass total isOwnedOfClass isOfHeap sumBelow blocksOf counts
 bound-of-class-0-exceeded b = not-le-by-test (b 0 (omega arith)) refl
 
 pub bound-of-class-26-exceeded : Bounded u (only-of-class 26 11) (λ c. 0) → ⊥
-unfolding Bounded superblocksOfClass total isOwnedOfClass sumBelow blocksOf counts
+unfolding Bounded superblocksOfClass total isOwnedOfClass isOfHeap sumBelow blocksOf counts
 bound-of-class-26-exceeded b = not-le-by-test (b 26 (omega arith)) refl
 
 -- ---- owners
@@ -128,42 +136,54 @@ pub Refused-not-Moves : {m r : ℕ} → Refused r ≡ Moves m → ⊥
 Refused-not-Moves {m} {r} e = let z : _≡_ {A = ℕ} 0 1 = cc in omega arith
 
 -- q = 7: a free may change 7 owners, and not 8
-pub eight-owner-changes-fail : OwnerChanges 7 8 (Free 2 9) (Moves 8) → ⊥
+pub eight-owner-changes-fail : OwnerChanges 7 8 8 (Free 2 9) (Moves 8) → ⊥
 unfolding OwnerChanges
 eight-owner-changes-fail k = not-le-by-test (k .0) refl
 
 -- as many as it reports: not one more, and not one fewer
-pub unreported-owner-change-fails : OwnerChanges 7 5 (Free 2 9) (Moves 4) → ⊥
+pub unreported-owner-change-fails : OwnerChanges 7 5 5 (Free 2 9) (Moves 4) → ⊥
 unfolding OwnerChanges
 unreported-owner-change-fails k = let z = k .1 4 refl in omega arith
 
-pub reported-move-not-made-fails : OwnerChanges 7 5 (Free 2 9) (Moves 6) → ⊥
+pub reported-move-not-made-fails : OwnerChanges 7 5 5 (Free 2 9) (Moves 6) → ⊥
 unfolding OwnerChanges
 reported-move-not-made-fails k = let z = k .1 6 refl in omega arith
 
 -- a refused call changes none
-pub refused-free-owner-change-fails : OwnerChanges 7 1 (Free 2 9) (Refused 5) → ⊥
+pub refused-free-owner-change-fails : OwnerChanges 7 1 1 (Free 2 9) (Refused 5) → ⊥
 unfolding OwnerChanges
 refused-free-owner-change-fails k = let z = k .2 5 refl in omega arith
 
-pub refused-named-call-owner-change-fails : (OwnerChanges 7 1 (NamedTake 2 3 9) (Refused 14) → ⊥) × (OwnerChanges 7 1 (NamedFree 2 3) (Refused 15) → ⊥)
+pub refused-named-call-owner-change-fails : (OwnerChanges 7 1 1 (NamedTake 2 3 9) (Refused 14) → ⊥) × (OwnerChanges 7 1 1 (NamedFree 2 3) (Refused 15) → ⊥)
 unfolding OwnerChanges
 refused-named-call-owner-change-fails = (λ k. let z = k 14 refl in omega arith, λ k. let z = k .2 15 refl in omega arith)
 
 -- and a named free is held to what a free is
-pub named-free-owner-changes-fail : (OwnerChanges 7 8 (NamedFree 2 3) (Moves 8) → ⊥) × (OwnerChanges 7 5 (NamedFree 2 3) (Moves 4) → ⊥)
+pub named-free-owner-changes-fail : (OwnerChanges 7 8 8 (NamedFree 2 3) (Moves 8) → ⊥) × (OwnerChanges 7 5 5 (NamedFree 2 3) (Moves 4) → ⊥)
 unfolding OwnerChanges
 named-free-owner-changes-fail = (λ k. not-le-by-test (k .0) refl, λ k. let z = k .1 4 refl in omega arith)
 
-pub refused-take-owner-change-fails : OwnerChanges 7 1 (Take 2 9) (Refused 4) → ⊥
+pub refused-take-owner-change-fails : OwnerChanges 7 1 1 (Take 2 9) (Refused 4) → ⊥
 unfolding OwnerChanges
 refused-take-owner-change-fails k = let z = k 4 refl in omega arith
 
 -- a drop of two addresses may change 14 owners, and not 15; it is held to what it reports, and a refused one to none
 pub drop-owner-changes-fail :
-    (OwnerChanges 7 15 (Drop 2 (9 ∷ 25 ∷ [])) (Moves 15) → ⊥) × (OwnerChanges 7 5 (Drop 2 (9 ∷ 25 ∷ [])) (Moves 4) → ⊥) × (OwnerChanges 7 5 (Drop 2 (9 ∷ 25 ∷ [])) (Moves 6) → ⊥) × (OwnerChanges 7 1 (Drop 2 (9 ∷ 25 ∷ [])) (Refused 7) → ⊥)
+    (OwnerChanges 7 15 15 (Drop 2 (9 ∷ 25 ∷ [])) (Moves 15) → ⊥) × (OwnerChanges 7 5 5 (Drop 2 (9 ∷ 25 ∷ [])) (Moves 4) → ⊥) × (OwnerChanges 7 5 5 (Drop 2 (9 ∷ 25 ∷ [])) (Moves 6) → ⊥) × (OwnerChanges 7 1 1 (Drop 2 (9 ∷ 25 ∷ [])) (Refused 7) → ⊥)
 unfolding OwnerChanges
 drop-owner-changes-fail = (λ k. not-le-by-test (k .0) refl, λ k. let z = k .1 4 refl in omega arith, λ k. let z = k .1 6 refl in omega arith, λ k. let z = k .2 7 refl in omega arith)
+
+-- those that pass between heaps count, and not all whose owners change: a free of a run of three changes three owners, and may report none of them, nor one; a
+-- refused one may change no owner, though none passes between heaps (document 02, item 7)
+pub run-counted-in-moves-fails :
+    (OwnerChanges 7 3 0 (Free 2 4096) (Moves 3) → ⊥) × (OwnerChanges 7 3 0 (Free 2 4096) (Moves 1) → ⊥) × (OwnerChanges 7 3 0 (NamedFree 2 5) (Moves 3) → ⊥) × (OwnerChanges 7 4 1 (Drop 2 (9 ∷ 4096 ∷ [])) (Moves 4) → ⊥)
+unfolding OwnerChanges
+run-counted-in-moves-fails = (λ k. let z = k .1 3 refl in omega arith, λ k. let z = k .1 1 refl in omega arith, λ k. let z = k .1 3 refl in omega arith, λ k. let z = k .1 4 refl in omega arith)
+
+pub refused-call-with-run-changed-fails :
+    (OwnerChanges 7 3 0 (Free 2 4096) (Refused 6) → ⊥) × (OwnerChanges 7 3 0 (Take 2 9000) (Refused 17) → ⊥) × (OwnerChanges 7 3 0 (NamedTake 2 5 9000) (Refused 17) → ⊥) × (OwnerChanges 7 3 0 (Drop 2 (9 ∷ 4096 ∷ [])) (Refused 6) → ⊥)
+unfolding OwnerChanges
+refused-call-with-run-changed-fails = (λ k. let z = k .2 6 refl in omega arith, λ k. let z = k 17 refl in omega arith, λ k. let z = k 17 refl in omega arith, λ k. let z = k .2 6 refl in omega arith)
 
 -- ---- lists of calls
 abbrev pub after-with : Outcome → State → After
@@ -182,15 +202,15 @@ take-and-free = step-with (Take 2 1100) (Address 16) (state-of-class 23 6) ∷ s
 
 -- seventeen where the take was refused, or was of another class; eighteen after the last call
 pub claim-fails-of-refused-take : Claims u (after-with Ready (state-of-class 23 5)) eleven-entries (λ c. 11) (step-with (Take 2 1100) (Refused 4) (state-of-class 23 6) ∷ []) → ⊥
-unfolding Claims Bounded superblocksOfClass total isOwnedOfClass sumBelow blocksOf counts ledgerDefinitions
+unfolding Claims Bounded superblocksOfClass total isOwnedOfClass isOfHeap sumBelow blocksOf counts ledgerDefinitions
 claim-fails-of-refused-take k = not-le-by-test (k .2 23 (omega arith)) refl
 
 pub claim-fails-of-other-class-take : Claims u (after-with Ready (state-of-class 23 5)) eleven-entries (λ c. 11) (step-with (Take 2 1000) (Address 16) (state-of-class 23 6) ∷ []) → ⊥
-unfolding Claims Bounded superblocksOfClass total isOwnedOfClass sumBelow blocksOf counts ledgerDefinitions
+unfolding Claims Bounded superblocksOfClass total isOwnedOfClass isOfHeap sumBelow blocksOf counts ledgerDefinitions
 claim-fails-of-other-class-take k = not-le-by-test (k .2 23 (omega arith)) refl
 
 pub claim-fails-after-last-call : Claims u (after-with Ready (state-of-class 23 5)) eleven-entries (λ c. 11) (step-with (Take 2 1100) (Address 16) (state-of-class 23 6) ∷ step-with (Free 1 16) (Moves 1) (state-of-class 23 7) ∷ []) → ⊥
-unfolding Claims Bounded superblocksOfClass total isOwnedOfClass sumBelow blocksOf counts ledgerDefinitions
+unfolding Claims Bounded superblocksOfClass total isOwnedOfClass isOfHeap sumBelow blocksOf counts ledgerDefinitions
 claim-fails-after-last-call k = not-le-by-test (k .2 .2 23 (omega arith)) refl
 
 -- a free that passes eight superblocks to heap 0; a refused one that passes one
@@ -201,12 +221,23 @@ abbrev pub all-in-heap-0 : ℕ → State
 all-in-heap-0 k = unnamedState u (replicate k (of 0 24 0) ++ replicate (64 - k) unused)
 
 pub claim-fails-of-eight-moves : Claims u (after-with Ready (all-in-heap-2 8)) [] (λ c. 0) (step-with (Free 1 16) (Moves 8) (all-in-heap-0 8) ∷ []) → ⊥
-unfolding Claims OwnerChanges ownersChanged sumBelow
+unfolding Claims OwnerChanges ownersChanged passedBetweenHeaps isOfHeap sumBelow
 claim-fails-of-eight-moves k = not-le-by-test (k .1 .0) refl
 
 pub claim-fails-of-refused-free-move : Claims u (after-with Ready (all-in-heap-2 1)) [] (λ c. 0) (step-with (Free 1 16) (Refused 6) (all-in-heap-0 1) ∷ []) → ⊥
-unfolding Claims OwnerChanges ownersChanged sumBelow
+unfolding Claims OwnerChanges ownersChanged passedBetweenHeaps isOfHeap sumBelow
 claim-fails-of-refused-free-move k = let z = k .1 .2 6 refl in omega arith
+
+-- a run of three is freed: a free that reports its superblocks, or one of them, fails the claim
+abbrev pub run-in-state : State
+run-in-state = unnamedState u (of 2 24 1 ∷ runPart 3 ∷ runPart 0 ∷ runPart 0 ∷ replicate 60 unused)
+
+abbrev pub run-freed-state : State
+run-freed-state = unnamedState u (of 2 24 1 ∷ replicate 63 unused)
+
+pub claim-fails-of-run-reported : (m : ℕ) → 0 < m → Claims u (after-with Ready run-in-state) [] (λ c. 0) (step-with (Free 1 4096) (Moves m) run-freed-state ∷ []) → ⊥
+unfolding Claims OwnerChanges ownersChanged passedBetweenHeaps isOfHeap sumBelow
+claim-fails-of-run-reported m l k = let z = k .1 .1 m refl in omega arith
 
 -- "Each gets the state that the one before it returned and the storage as that one left it": here a state whose numbers fail the check, so that each call
 -- is refused with 13; no call of the list may leave another state, storage or outcome
@@ -227,32 +258,43 @@ linked-fails-of-other-outcome k = let z : _≡_ {A = ℕ} 2 13 = ap (λ (x : Aft
 -- ---- what the claim holds of, at the limit
 -- class 23 with 17 superblocks: (q - p) × n × A and the bound are both 204
 pub bound-holds-at-limit : Bounded u (state-of-class 23 6) (λ c. 12)
-unfolding Bounded superblocksOfClass total isOwnedOfClass sumBelow allBelow blocksOf counts
+unfolding Bounded superblocksOfClass total isOwnedOfClass isOfHeap sumBelow allBelow blocksOf counts
 bound-holds-at-limit = each-class-le-by-test _ _ refl
 
 -- with nothing live, P × K = 10 superblocks, of class 0 and of class 26
 pub bound-holds-of-spare : Bounded u (only-of-class 0 10) (λ c. 0) × Bounded u (only-of-class 26 10) (λ c. 0)
-unfolding Bounded superblocksOfClass total isOwnedOfClass sumBelow allBelow blocksOf counts
+unfolding Bounded superblocksOfClass total isOwnedOfClass isOfHeap sumBelow allBelow blocksOf counts
 bound-holds-of-spare = (each-class-le-by-test _ _ refl, each-class-le-by-test _ _ refl)
 
 -- a free that changed 7 owners, and reports them
-pub seven-owner-changes-hold : OwnerChanges 7 7 (Free 2 9) (Moves 7)
+pub seven-owner-changes-hold : OwnerChanges 7 7 7 (Free 2 9) (Moves 7)
 unfolding OwnerChanges
 seven-owner-changes-hold = (omega arith, λ m e. Moves-injective e, λ r e. absurd (Moves-not-Refused e))
 
 -- a drop of two addresses that changed 14
-pub fourteen-owner-changes-of-drop-hold : OwnerChanges 7 14 (Drop 2 (9 ∷ 25 ∷ [])) (Moves 14)
+pub fourteen-owner-changes-of-drop-hold : OwnerChanges 7 14 14 (Drop 2 (9 ∷ 25 ∷ [])) (Moves 14)
 unfolding OwnerChanges
 fourteen-owner-changes-of-drop-hold = (omega arith, λ m e. Moves-injective e, λ r e. absurd (Moves-not-Refused e))
 
+-- frees of runs, by address, by name and in a drop: more than q owners change, none or two superblocks pass between heaps, and so many are reported
+pub free-of-run-holds : OwnerChanges 7 16 0 (Free 2 4096) (Moves 0) × OwnerChanges 7 16 0 (NamedFree 2 5) (Moves 0) × OwnerChanges 7 18 2 (Drop 2 (9 ∷ 4096 ∷ [])) (Moves 2)
+unfolding OwnerChanges
+free-of-run-holds =
+    ((omega arith, λ m e. Moves-injective e, λ r e. absurd (Moves-not-Refused e)), (omega arith, λ m e. Moves-injective e, λ r e. absurd (Moves-not-Refused e)), (omega arith, λ m e. Moves-injective e, λ r e. absurd (Moves-not-Refused e)))
+
 -- refused calls that changed none
-pub refused-without-owner-change-holds : OwnerChanges 7 0 (Free 2 9) (Refused 5) × OwnerChanges 7 0 (Take 2 9) (Refused 4)
+pub refused-without-owner-change-holds : OwnerChanges 7 0 0 (Free 2 9) (Refused 5) × OwnerChanges 7 0 0 (Take 2 9) (Refused 4)
 unfolding OwnerChanges
 refused-without-owner-change-holds = ((omega arith, λ m e. absurd (Refused-not-Moves e), λ r e. refl), λ r e. refl)
 
+-- with nothing live, and the spare superblocks all in use, ten long blocks of class field 0 beside them: they are of no class
+pub bound-holds-beside-runs : Bounded u (unnamedState u (replicate 10 (of 0 0 0) ++ replicate 10 (runPart 1) ++ replicate 44 unused)) (λ c. 0)
+unfolding Bounded superblocksOfClass total isOwnedOfClass isOfHeap sumBelow allBelow blocksOf counts
+bound-holds-beside-runs = each-class-le-by-test _ _ refl
+
 -- a take that makes a twelfth block live, and so comes to seventeen superblocks; when that block is freed M is 12 still
 pub claim-holds-of-take-and-free : Claims u (after-with Ready (state-of-class 23 5)) eleven-entries (λ c. 11) take-and-free
-unfolding Claims OwnerChanges Bounded ownersChanged superblocksOfClass total isOwnedOfClass sumBelow allBelow blocksOf counts ledgerDefinitions
+unfolding Claims OwnerChanges Bounded ownersChanged passedBetweenHeaps superblocksOfClass total isOwnedOfClass isOfHeap sumBelow allBelow blocksOf counts ledgerDefinitions
 claim-holds-of-take-and-free = (each-class-le-by-test _ _ refl, λ r e. absurd (address-refused e), (each-class-le-by-test _ _ refl, (omega arith, λ m e. Moves-injective e, λ r e. absurd (Moves-not-Refused e)), each-class-le-by-test _ _ refl))
   where
     address-refused : {a r : ℕ} → Address a ≡ Refused r → ⊥
@@ -260,8 +302,13 @@ claim-holds-of-take-and-free = (each-class-le-by-test _ _ refl, λ r e. absurd (
 
 -- a free that passes seven superblocks to heap 0
 pub claim-holds-of-seven-moves : Claims u (after-with Ready (all-in-heap-2 7)) [] (λ c. 0) (step-with (Free 1 16) (Moves 7) (all-in-heap-0 7) ∷ [])
-unfolding Claims OwnerChanges Bounded ownersChanged superblocksOfClass total isOwnedOfClass sumBelow allBelow blocksOf counts ledgerDefinitions
+unfolding Claims OwnerChanges Bounded ownersChanged passedBetweenHeaps superblocksOfClass total isOwnedOfClass isOfHeap sumBelow allBelow blocksOf counts ledgerDefinitions
 claim-holds-of-seven-moves = (each-class-le-by-test _ _ refl, (omega arith, λ m e. Moves-injective e, λ r e. absurd (Moves-not-Refused e)), each-class-le-by-test _ _ refl)
+
+-- the free of the run that reports none
+pub claim-holds-of-run-freed : Claims u (after-with Ready run-in-state) [] (λ c. 0) (step-with (Free 1 4096) (Moves 0) run-freed-state ∷ [])
+unfolding Claims OwnerChanges Bounded ownersChanged passedBetweenHeaps superblocksOfClass total isOwnedOfClass isOfHeap sumBelow allBelow blocksOf counts ledgerDefinitions
+claim-holds-of-run-freed = (each-class-le-by-test _ _ refl, (omega arith, λ m e. Moves-injective e, λ r e. absurd (Moves-not-Refused e)), each-class-le-by-test _ _ refl)
 
 -- two calls, each refused with 13
 pub linked-holds-of-refused-calls : Linked (after-refused-13 (4 ∷ [])) (record { call = Take 1 16; after = after-refused-13 (4 ∷ []) } ∷ record { call = Take 2 9; after = after-refused-13 (4 ∷ []) } ∷ [])

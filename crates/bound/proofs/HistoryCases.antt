@@ -5,46 +5,65 @@ use Prim.Native.Nat.{ℕ, _<_}
 use native.Mathlib.Omega.{arith}
 use lib.ListN.{replicate}
 use Rattle.heap.specs.declared.State.{State}
-use Rattle.heap.specs.Table.{unused}
+use Rattle.heap.specs.Table.{unused, isOfRun, runPart}
 use Rattle.heap.specs.States.{withNames}
 use Rattle.heap.proofs.CaseStates.{unnamedState}
 use Rattle.heap.proofs.TableCases.{of, ranked, small-setup}
 use Rattle.calls.specs.Calls.{Call, Take, Free, NamedTake, NamedFree, Drop}
 use Rattle.calls.specs.declared.Outcome.the-variants.{Ready, Address, Moves, Refused}
 use Rattle.calls.proofs.CallDefinitions.{uncheckedCallDefinitions}
-use Rattle.bound.specs.History.{Event, freedInto, renewed, neither, eventOfFree, eventOfTake, eventsAfter, eventsAfterDrop, eventsAgo, notSinceRenewal, oneEventMore, lastFreeAfter, lastFree, RankedByLastFree}
-
--- an accepted free, with moves and without, frees into the superblock that covers the address; another outcome is none
-pub event-of-free-cases :
-    eventOfFree 8191 (Moves 0) ∷ eventOfFree 8192 (Moves 3) ∷ map (eventOfFree 8192) (Refused 7 ∷ Ready ∷ Address 4096 ∷ [])
-    ≡ freedInto 1 ∷ freedInto 2 ∷ neither ∷ neither ∷ neither ∷ []
-unfolding eventOfFree
-event-of-free-cases = refl
+use Rattle.bound.specs.History.{Event, freedInto, renewed, joinedRun, neither, eventOfFree, eventOfTaken, eventOfTake, eventsAfter, eventsAfterDrop, eventsAgo, notSinceRenewal, oneEventMore, lastFreeAfter, lastFree, RankedByLastFree}
 
 -- Superblocks 0 to 4: heap 1's, empty; heap 0's, empty; heap 0's, with a block live; an unused one; and heap 2's, empty. Name 7 is of block 2 of superblock 2.
 abbrev pub history-state : State
 history-state = withNames (unnamedState small-setup (of 1 20 0 ∷ of 0 23 0 ∷ of 0 20 4 ∷ unused ∷ of 2 20 0 ∷ replicate 59 unused)) (replicate 7 65535 ++ 514 ∷ replicate 1016 65535)
 
+-- an accepted free, with moves and without, frees into the superblock that covers the address; another outcome is none
+pub event-of-free-cases :
+    eventOfFree history-state 8191 (Moves 0) ∷ eventOfFree history-state 8192 (Moves 3) ∷ map (eventOfFree history-state 8192) (Refused 7 ∷ Ready ∷ Address 4096 ∷ [])
+    ≡ freedInto 1 ∷ freedInto 2 ∷ neither ∷ neither ∷ neither ∷ []
+unfolding eventOfFree isOfRun
+event-of-free-cases = refl
+
 -- processor 1 took from each of 0 to 3: "A superblock with nothing live is renewed .. when it comes from place 2, 3 or 4; from place 1 it is not"
 pub event-of-take-cases :
-    map (eventOfTake history-state 1) (Address 768 ∷ Address 4096 ∷ Address 9728 ∷ Address 12288 ∷ Refused 4 ∷ Ready ∷ Moves 1 ∷ [])
+    map (eventOfTake history-state 1 700) (Address 768 ∷ Address 4096 ∷ Address 9728 ∷ Address 12288 ∷ Refused 4 ∷ Ready ∷ Moves 1 ∷ [])
     ≡ neither ∷ renewed 1 ∷ neither ∷ renewed 3 ∷ neither ∷ neither ∷ neither ∷ []
-unfolding eventOfTake uncheckedCallDefinitions
+unfolding eventOfTake eventOfTaken uncheckedCallDefinitions
 event-of-take-cases = refl
+
+-- ---- long blocks (document 02, item 7): a take of a long size joins as many superblocks as it has to a run, from that of its address on, though that one was heap 1's; one of 2048
+-- bytes renews; a refused one does neither
+pub event-of-long-take-cases :
+    map (λ (size : ℕ). eventOfTake history-state 2 size (Address 12288)) (2048 ∷ 2049 ∷ 4096 ∷ 4097 ∷ 65535 ∷ []) ++ (eventOfTake history-state 1 4097 (Address 0) ∷ eventOfTake history-state 1 4097 (Refused 17) ∷ [])
+    ≡ renewed 3 ∷ joinedRun 3 1 ∷ joinedRun 3 1 ∷ joinedRun 3 2 ∷ joinedRun 3 16 ∷ joinedRun 0 2 ∷ neither ∷ []
+unfolding eventOfTake eventOfTaken uncheckedCallDefinitions
+event-of-long-take-cases = refl
+
+-- superblocks 1 and 2 are a run, which name 3 holds: its free, by address, by name and in a drop, is none into them, and that of a block of superblock 0 is one
+abbrev pub history-state-with-run : State
+history-state-with-run = withNames (unnamedState small-setup (of 1 20 1 ∷ runPart 2 ∷ runPart 0 ∷ replicate 61 unused)) (replicate 3 65535 ++ 256 ∷ replicate 1020 65535)
+
+pub events-of-run-cases :
+    map (λ (call : Call). eventsAfter (freedInto 9 ∷ []) history-state-with-run call (Moves 0)) (Free 1 4096 ∷ NamedFree 1 3 ∷ Drop 1 (4096 ∷ 0 ∷ []) ∷ [])
+    ++ map (λ (call : Call). eventsAfter (freedInto 9 ∷ []) history-state-with-run call (Address 12288)) (Take 1 8192 ∷ NamedTake 1 5 8193 ∷ [])
+    ≡ (neither ∷ freedInto 9 ∷ []) ∷ (neither ∷ freedInto 9 ∷ []) ∷ (freedInto 0 ∷ neither ∷ freedInto 9 ∷ []) ∷ (joinedRun 3 2 ∷ freedInto 9 ∷ []) ∷ (joinedRun 3 3 ∷ freedInto 9 ∷ []) ∷ []
+unfolding eventsAfter eventsAfterDrop eventOfTake eventOfTaken eventOfFree uncheckedCallDefinitions
+events-of-run-cases = refl
 
 -- each kind of call, before which superblock 9 was freed into; a named free is of the address that its name held
 pub events-after-cases :
     map (λ (call : Call). eventsAfter (freedInto 9 ∷ []) history-state call (Address 4096)) (Take 1 2000 ∷ NamedTake 2 9 700 ∷ []) ++ (eventsAfter (freedInto 9 ∷ []) history-state (Take 2 700) (Address 16384) ∷ [])
     ++ map (λ (call : Call). eventsAfter (freedInto 9 ∷ []) history-state call (Moves 0)) (Free 1 12289 ∷ NamedFree 1 7 ∷ []) ++ (eventsAfter (freedInto 9 ∷ []) history-state (NamedFree 1 7) (Refused 15) ∷ [])
     ≡ (renewed 1 ∷ freedInto 9 ∷ []) ∷ (renewed 1 ∷ freedInto 9 ∷ []) ∷ (neither ∷ freedInto 9 ∷ []) ∷ (freedInto 3 ∷ freedInto 9 ∷ []) ∷ (freedInto 2 ∷ freedInto 9 ∷ []) ∷ (neither ∷ freedInto 9 ∷ []) ∷ []
-unfolding eventsAfter eventOfTake eventOfFree uncheckedCallDefinitions
+unfolding eventsAfter eventOfTake eventOfTaken eventOfFree uncheckedCallDefinitions
 events-after-cases = refl
 
 -- an accepted drop frees into the superblock of each address, the last address's latest; a refused one into none
 pub events-after-drop-cases :
     eventsAfter (freedInto 9 ∷ []) history-state (Drop 1 (4096 ∷ 8191 ∷ 12288 ∷ 0 ∷ [])) (Moves 2) ∷ eventsAfter (freedInto 9 ∷ []) history-state (Drop 1 (4096 ∷ 12288 ∷ [])) (Refused 7) ∷ []
     ≡ (freedInto 0 ∷ freedInto 3 ∷ freedInto 1 ∷ freedInto 1 ∷ freedInto 9 ∷ []) ∷ (neither ∷ neither ∷ freedInto 9 ∷ []) ∷ []
-unfolding eventsAfter eventsAfterDrop eventOfFree
+unfolding eventsAfter eventsAfterDrop eventOfFree isOfRun
 events-after-drop-cases = refl
 
 -- The latest first: 5 was freed into, then 3, another call, 4 twice, 5 again, 4 was renewed, another call. Of 3, 4, 5 and 6, which was never freed into.
@@ -59,6 +78,11 @@ last-free-cases = refl
 pub freed-after-renewal-case : map (λ (k : ℕ). lastFree k (freedInto 4 ∷ history)) (4 ∷ 5 ∷ []) ≡ eventsAgo 0 ∷ eventsAgo 3 ∷ []
 unfolding lastFree lastFreeAfter oneEventMore
 freed-after-renewal-case = refl
+
+-- superblocks 4 and 5 joined a run, and so were not freed into since; 3 and 6 beside it were, and it is one event more
+pub joined-run-cases : map (λ (k : ℕ). lastFree k (joinedRun 4 2 ∷ map freedInto (3 ∷ 4 ∷ 5 ∷ 6 ∷ []))) (3 ∷ 4 ∷ 5 ∷ 6 ∷ []) ≡ eventsAgo 1 ∷ notSinceRenewal ∷ notSinceRenewal ∷ eventsAgo 4 ∷ []
+unfolding lastFree lastFreeAfter oneEventMore
+joined-run-cases = refl
 
 -- ---- what the claim refuses: the earliest first; one that was freed into without a rank; one that was renewed with a rank
 abbrev pub with-ranks-of-0-and-1 : ℕ → ℕ → State

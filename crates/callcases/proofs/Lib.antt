@@ -1,2 +1,3 @@
 pub mod WholeCallCases
 pub mod NamedCallCases
+pub mod LongCallCases

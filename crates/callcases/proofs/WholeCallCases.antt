@@ -238,9 +238,11 @@ nothing-offered = owned-with 2 26 1 (1 ∷ []) ∷ ranked-with 1 26 3 2 [] ∷ r
 abbrev pub refused-case : Call → ℕ → CallCase
 refused-case call r = record { before = nothing-offered; call = call; outcome = Refused r; after = nothing-offered }
 
--- 2 before 3, 3 before 4, then 4; 4, not 3, of size 0
+-- 2 before 3, which no size of 16 bits meets, and before 17; 17, not 4, of the long sizes, where no run is; then 4, of size 0 too
 abbrev pub refused-takes : List CallCase
-refused-takes = refused-case (Take 3 2049) 2 ∷ refused-case (Take 1 2049) 3 ∷ refused-case (Take 1 2048) 4 ∷ refused-case (Take 1 0) 4 ∷ []
+refused-takes =
+    refused-case (Take 3 65536) 2 ∷ refused-case (Take 1 65536) 3 ∷ refused-case (Take 3 2049) 2 ∷ refused-case (Take 1 2049) 17 ∷ refused-case (Take 1 65535) 17 ∷ refused-case (Take 1 2048) 4
+    ∷ refused-case (Take 1 0) 4 ∷ []
 
 -- 2 before 5; 5 before 6, where superblock 5 is unused; 6 before 7, where 1 is misaligned and no block starts there; 7 of block 1 of superblock 0
 abbrev pub refused-frees : List CallCase

@@ -7,3 +7,4 @@ pub mod CheckFirst
 pub mod AddressRefusalLaws
 pub mod TouchedPairLaws
 pub mod DropCases
+pub mod LongBlockCases

@@ -6,7 +6,7 @@ use Prim.Native.Nat.{ℕ}
 use lib.ListN.{replicate}
 use Rattle.names.specs.Names.{noNames, withName}
 use Rattle.heap.specs.declared.State.{State}
-use Rattle.heap.specs.Table.{unused}
+use Rattle.heap.specs.Table.{unused, runPart}
 use Rattle.heap.specs.Totals.{noTotals}
 use Rattle.heap.specs.States.{withSuperblock, withNames}
 use Rattle.checkrules.specs.Check.{passes}
@@ -38,3 +38,18 @@ pub passes-cases :
     ≡ true ∷ false ∷ false ∷ false ∷ false ∷ false ∷ false ∷ false ∷ false ∷ []
 unfolding checkDefinitions
 passes-cases = refl
+
+-- ---- long blocks (document 02, item 7): the same superblocks, and behind them a run of two from 3 on with N superblocks in all, whose first block name 9 holds
+abbrev pub with-run-behind : ℕ → ℕ → State
+with-run-behind n length = withNames (unnamedState (setup-with 1 n 1 3 7) (of 1 23 5 ∷ of 0 24 2 ∷ of 1 25 3 ∷ runPart length ∷ runPart 0 ∷ replicate 59 unused)) (withName noNames 9 768)
+
+-- it passes, though the places of the run hold nothing of use; and does not where it ends behind N; with its last superblock left over; with the name at block 0 of its last
+pub passes-with-run-cases :
+    passes (with-run-behind 5 2) three-superblocks-order
+    ∷ passes (with-run-behind 4 2) three-superblocks-order
+    ∷ passes (with-run-behind 5 1) three-superblocks-order
+    ∷ passes (withNames (with-run-behind 5 2) (withName noNames 9 1024)) three-superblocks-order
+    ∷ []
+    ≡ true ∷ false ∷ false ∷ false ∷ []
+unfolding checkDefinitions
+passes-with-run-cases = refl

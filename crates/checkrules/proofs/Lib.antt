@@ -1,3 +1,4 @@
 pub mod CheckDefinitions
 pub mod CheckCases
 pub mod ClauseLaws
+pub mod RunCheckCases

@@ -1,1 +1,2 @@
 pub mod ChoiceCases
+pub mod RunChoiceCases

@@ -2,3 +2,4 @@ pub mod CaseStates
 pub mod TableCases
 pub mod TotalsCases
 pub mod RankCases
+pub mod RunCases

@@ -1,2 +1,3 @@
 pub mod RecordCases
 pub mod DropCases
+pub mod LongRecordCases

@@ -110,6 +110,6 @@ storage-after-refused-setup : storageOf (0 ∷ 0 ∷ 1 ∷ 1 ∷ 1 ∷ 2 ∷ tak
 unfolding keyDefinitions
 storage-after-refused-setup = refl
 
--- the room holds 10 bytes for each byte of a record of 60000, and 9 times 27 heap lines of 64 bytes with `end`
-room-enough : leb (60000 * 10 + 9 * 27 * 64 + 4) room ≡ true
+-- the room holds 10 bytes for each byte of a record of 60000, 9 times 27 heap lines of 64 bytes, and 64 run lines of 31 with `end`
+room-enough : leb (60000 * 10 + 9 * 27 * 64 + 64 * 31 + 4) room ≡ true
 room-enough = refl

@@ -2,17 +2,17 @@
 -- Assumes nothing.
 use mathlib.Core.Path.{_≡_, refl}
 use mathlib.Core.Bool.{true, false}
-use mathlib.Core.List.{[], _∷_}
+use mathlib.Core.List.{[], _∷_, _++_}
 use Prim.Native.Nat.{ℕ}
 use lib.ListN.{replicate}
 use Rattle.textrules.specs.Text.{letters}
 use Rattle.heap.specs.declared.Superblock.{Superblock}
 use Rattle.heap.specs.declared.State.{State}
-use Rattle.heap.specs.Table.{unused}
+use Rattle.heap.specs.Table.{unused, runPart}
 use Rattle.heap.proofs.CaseStates.{unnamedState}
 use Rattle.calls.specs.declared.CallHeader.the-variants as header
 use Rattle.calls.specs.declared.Outcome.the-variants.{Address, Moves, Refused}
-use Rattle.linerules.specs.Lines.{setupLine, takeLine, freeLine, namedTakeLine, namedFreeLine, dropLine, callLine, stopLine, heapLine, heapLineIf, classLines, finalLines, closingLines}
+use Rattle.linerules.specs.Lines.{setupLine, takeLine, freeLine, namedTakeLine, namedFreeLine, dropLine, callLine, stopLine, heapLine, heapLineIf, classLines, runLine, runLineIf, finalLines, closingLines}
 use Rattle.linerules.proofs.LineDefinitions.{lineDefinitions}
 
 -- ---- the whole case
@@ -24,7 +24,7 @@ take-printed : takeLine 1 2048 (Address 4096) ≡ letters "take 1 2048 at 4096\n
 unfolding lineDefinitions
 take-printed = refl
 
-refused-take-printed : takeLine 1 2049 (Refused 3) ≡ letters "take 1 2049 refused 3\n"
+refused-take-printed : takeLine 1 2049 (Refused 17) ≡ letters "take 1 2049 refused 17\n"
 unfolding lineDefinitions
 refused-take-printed = refl
 
@@ -148,6 +148,29 @@ final-lines-of-whole-case : finalLines (unnamedState (record { processors = 1; s
     ≡ letters "heap 1 class 0 superblocks 1 live 1\nheap 1 class 26 superblocks 1 live 1\nend\n"
 unfolding lineDefinitions
 final-lines-of-whole-case = refl
+
+-- ---- runs (document 02, item 7): the page's line, and numbers that all differ
+run-line-cases : (runLine 3 2 ≡ letters "run 3 superblocks 2\n") × (runLine 48 16 ≡ letters "run 48 superblocks 16\n")
+unfolding lineDefinitions
+run-line-cases = (refl, refl)
+
+-- P = 1: heap 1's superblock, a run of two, one of one beside it, heap 0's superblock, and at the end of the table two runs more; an unused superblock that
+-- carries a length, as no state that passes has, begins no run
+abbrev several-runs : State
+several-runs =
+    unnamedState (record { processors = 1; superblocks = 64; spare = 15; p = 3; q = 8 }) (superblock 1 11 1 0 ∷ runPart 2 ∷ runPart 0 ∷ runPart 1 ∷ superblock 0 9 3 0 ∷ record { owner = 255; class = 0; live = 0 ∷ 0 ∷ 0 ∷ 0 ∷ []; rank = 0; run = 4 }
+    ∷ replicate 55 unused ++ runPart 2 ∷ runPart 0 ∷ runPart 1 ∷ [])
+
+-- a line for the first of a run alone, and none for its others
+run-line-if-cases : (runLineIf 1 several-runs ≡ letters "run 1 superblocks 2\n") × (runLineIf 2 several-runs ≡ []) × (runLineIf 5 several-runs ≡ []) × (runLineIf 4 several-runs ≡ [])
+unfolding lineDefinitions
+run-line-if-cases = (refl, refl, refl, refl)
+
+-- "by first superblock", after the heaps and "before `end`"
+final-lines-with-runs-case : finalLines several-runs
+    ≡ letters "heap 0 class 9 superblocks 1 live 2\nheap 1 class 11 superblocks 1 live 1\nrun 1 superblocks 2\nrun 3 superblocks 1\nrun 61 superblocks 2\nrun 63 superblocks 1\nend\n"
+unfolding lineDefinitions
+final-lines-with-runs-case = refl
 
 -- after a stop line nothing follows
 closing-lines-cases : (closingLines true several-superblocks ≡ []) × (closingLines false several-superblocks ≡ finalLines several-superblocks)

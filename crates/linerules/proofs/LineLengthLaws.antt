@@ -11,10 +11,11 @@ use Rattle.textrules.specs.Text.{decimal}
 use Rattle.textrules.proofs.DigitLaws.{length-of-digits-le-of-lt-pow, length-of-decimal-le-10, length-of-byte-decimal-le-3, length-of-u16-decimal-le-5}
 use Rattle.heap.specs.declared.Setup.{Setup}
 use Rattle.heap.specs.declared.State.{State}
+use Rattle.heap.specs.Table.{superblockAt, startsRun}
 use Rattle.heap.specs.Counts.{superblocksOf, liveOf}
 use Rattle.calls.specs.declared.Outcome.{Outcome}
 use Rattle.calls.specs.declared.Outcome.the-variants.{Ready, Address, Moves, Refused}
-use Rattle.linerules.specs.Lines.{setupLine, result, takeLine, freeLine, namedTakeLine, namedFreeLine, dropLine, stopLine, heapLine, heapLineIf, classLines, heapLines, finalLines}
+use Rattle.linerules.specs.Lines.{setupLine, result, takeLine, freeLine, namedTakeLine, namedFreeLine, dropLine, stopLine, heapLine, heapLineIf, classLines, heapLines, runLine, runLineIf, runLines, finalLines}
 -- the computed cases come first: a wrong definition fails there
 use Rattle.linerules.proofs.LineCases as cases
 
@@ -90,6 +91,23 @@ unfolding heapLines
 length-of-heap-lines-le zero s a = zero-le
 length-of-heap-lines-le (suc h) s a = simp length-append (omega (arith, length-of-heap-lines-le h s (omega arith), length-of-class-lines-le h 27 s (omega arith) (omega arith)))
 
-pub length-of-final-lines-le : (s : State) → s .setup .processors < 256 → length (finalLines s) ≤ (s .setup .processors + 1) * (27 * 64) + 4
+pub length-of-run-line-le-31 : (first n : ℕ) → first < 256 → length (runLine first n) ≤ 31
+unfolding runLine
+length-of-run-line-le-31 first n a = simp length-append (omega (arith, length-of-byte-decimal-le-3 first a, length-of-decimal-le-10 n))
+
+length-of-run-line-if-le-31 : (k : ℕ) (s : State) → k < 256 → length (runLineIf k s) ≤ 31
+unfolding runLineIf
+length-of-run-line-if-le-31 k s a = go (startsRun (superblockAt s k))
+  where
+    go : (t : Bool) → length (pick t (runLine k (superblockAt s k .run)) []) ≤ 31
+    go true = length-of-run-line-le-31 k (superblockAt s k .run) a
+    go false = zero-le
+
+length-of-run-lines-le : (k : ℕ) (s : State) → k ≤ 256 → length (runLines k s) ≤ k * 31
+unfolding runLines
+length-of-run-lines-le zero s a = zero-le
+length-of-run-lines-le (suc k) s a = simp length-append (omega (arith, length-of-run-lines-le k s (omega arith), length-of-run-line-if-le-31 k s (omega arith)))
+
+pub length-of-final-lines-le : (s : State) → s .setup .processors < 256 → length (finalLines s) ≤ (s .setup .processors + 1) * (27 * 64) + 64 * 31 + 4
 unfolding finalLines
-length-of-final-lines-le s a = simp length-append (omega (arith, length-of-heap-lines-le (suc (s .setup .processors)) s (omega arith)))
+length-of-final-lines-le s a = simp length-append (omega (arith, length-of-heap-lines-le (suc (s .setup .processors)) s (omega arith), length-of-run-lines-le 64 s (omega arith)))

@@ -1,4 +1,5 @@
--- The cases marked in document 01, "Edges", with size 0 as document 02, item 1, changes it, as one theorem over one list. Assumes nothing.
+-- The cases marked in document 01, "Edges", with size 0 as document 02, item 1, changes it, and size 2049 as item 7 does, as one theorem over one list.
+-- Assumes nothing.
 use mathlib.Core.Path.{_≡_, refl}
 use mathlib.Core.List.{List, [], _∷_, _++_, map}
 use Prim.Native.Nat.{ℕ, _+_, _-_, _^_}
@@ -13,13 +14,16 @@ use Rattle.calls.specs.Answers.{After}
 use Rattle.calls.specs.Calls.{Call, Take, Free, callOf}
 use Rattle.calls.proofs.CallDefinitions.{callDefinitions}
 
--- a call on a state and storage; its outcome, and then superblock 0's class and what stands in its first order place
+-- a call on a state and storage; its outcome, and then superblock 0's owner, its class, the length of the run of which it is the first, and what stands
+-- in its first order place
 pub record MarkedCase : Type 0 where
   pub state : State
   pub order : List ℕ
   pub call : Call
   pub outcome : Outcome
+  pub owner-after : ℕ
   pub class-after : ℕ
+  pub run-after : ℕ
   pub place-after : ℕ
 
 -- a superblock of heap 1 and class c with these marks
@@ -39,12 +43,12 @@ one-unused-state = stateWith (unused ∷ [])
 -- superblock 0 for the class, so that its first place holds the class's last block
 abbrev pub class-case : ℕ → ℕ → ℕ → MarkedCase
 class-case size c last =
-    record { state = one-unused-state; order = replicate 256 0; call = Take 1 size; outcome = Address 0; class-after = c; place-after = last }
+    record { state = one-unused-state; order = replicate 256 0; call = Take 1 size; outcome = Address 0; owner-after = 1; class-after = c; run-after = 0; place-after = last }
 
--- "2049: refusal 3"
-abbrev pub refused-size-case : ℕ → MarkedCase
-refused-size-case size =
-    record { state = one-unused-state; order = replicate 256 0; call = Take 1 size; outcome = Refused 3; class-after = 0; place-after = 0 }
+-- "2049: refusal 3", but "marked size 2049 becomes a run of one" (document 02, item 7): its order places "keep what they had"
+abbrev pub run-of-one-case : ℕ → MarkedCase
+run-of-one-case size =
+    record { state = one-unused-state; order = replicate 256 9; call = Take 1 size; outcome = Address 0; owner-after = 254; class-after = 0; run-after = 1; place-after = 9 }
 
 -- "Class 1 in superblock 0": all its 170 blocks live, so that a block that is freed goes in the first place
 abbrev pub all-live-state : State
@@ -53,12 +57,12 @@ all-live-state = stateWith (heap-1-superblock 1 ((2 ^ 64 - 1) ∷ (2 ^ 64 - 1) �
 -- "address 4056 is block 169"
 abbrev pub last-block-case : MarkedCase
 last-block-case =
-    record { state = all-live-state; order = replicate 256 0; call = Free 1 4056; outcome = Moves 0; class-after = 1; place-after = 169 }
+    record { state = all-live-state; order = replicate 256 0; call = Free 1 4056; outcome = Moves 0; owner-after = 1; class-after = 1; run-after = 0; place-after = 169 }
 
 -- "4080 is refusal 6"
 abbrev pub misaligned-case : MarkedCase
 misaligned-case =
-    record { state = all-live-state; order = replicate 256 0; call = Free 1 4080; outcome = Refused 6; class-after = 1; place-after = 0 }
+    record { state = all-live-state; order = replicate 256 0; call = Free 1 4080; outcome = Refused 6; owner-after = 1; class-after = 1; run-after = 0; place-after = 0 }
 
 -- "p/q = 1/4, K = 1, heap 1 class 16 with live counts 7, 7, 7, 8, 8, 8: freeing from an 8 moves two superblocks"
 abbrev pub sevens-and-eights : State
@@ -75,19 +79,20 @@ sevens-and-eights-order =
 
 abbrev pub two-moves-case : ℕ → MarkedCase
 two-moves-case address =
-    record { state = sevens-and-eights; order = sevens-and-eights-order; call = Free 1 address; outcome = Moves 2; class-after = 16; place-after = 9 }
+    record { state = sevens-and-eights; order = sevens-and-eights-order; call = Free 1 address; outcome = Moves 2; owner-after = 0; class-after = 16; run-after = 0; place-after = 9 }
 
 abbrev pub marked-cases : List MarkedCase
 marked-cases =
     class-case 0 0 255 ∷ class-case 1 0 255 ∷ class-case 16 0 255 ∷ class-case 17 1 169 ∷ class-case 64 6 63 ∷ class-case 65 7 50 ∷ class-case 80 7 50 ∷ class-case 81 8 41
-    ∷ class-case 2048 26 1 ∷ refused-size-case 2049 ∷ last-block-case ∷ misaligned-case ∷ two-moves-case 12288 ∷ two-moves-case 20480 ∷ []
+    ∷ class-case 2048 26 1 ∷ run-of-one-case 2049 ∷ last-block-case ∷ misaligned-case ∷ two-moves-case 12288 ∷ two-moves-case 20480 ∷ []
 
-abbrev pub result-of : MarkedCase → Outcome × ℕ × ℕ
+abbrev pub result-of : MarkedCase → Outcome × ℕ × ℕ × ℕ × ℕ
 result-of k =
     let after : After = callOf (k .state) (k .order) (k .call) in
-    (after .answer .outcome, superblockAt (after .answer .state) 0 .class, getD (after .order) 0 0)
+    let b : Superblock = superblockAt (after .answer .state) 0 in
+    (after .answer .outcome, b .owner, b .class, b .run, getD (after .order) 0 0)
 
--- the rules give each case its outcome, class and place
-pub marked-cases-are-computed : map result-of marked-cases ≡ map (λ (k : MarkedCase). (k .outcome, k .class-after, k .place-after)) marked-cases
+-- the rules give each case its outcome, owner, class, run and place
+pub marked-cases-are-computed : map result-of marked-cases ≡ map (λ (k : MarkedCase). (k .outcome, k .owner-after, k .class-after, k .run-after, k .place-after)) marked-cases
 unfolding callDefinitions
 marked-cases-are-computed = refl

@@ -9,8 +9,8 @@ use Rattle.order.specs.Order.{cleared}
 use Rattle.heap.specs.declared.Superblock.{Superblock}
 use Rattle.heap.specs.declared.Setup.{Setup}
 use Rattle.heap.specs.declared.Totals.{Totals}
-use Rattle.heap.specs.Table.{isUnused}
-use Rattle.checkrules.specs.Check.{withinLimits, superblockValid, restValid}
+use Rattle.heap.specs.Table.{isUnused, isOfRun}
+use Rattle.checkrules.specs.Check.{withinLimits, isPartOfRun, isOwned, superblockValid, restValid}
 use Rattle.calls.specs.declared.Outcome.{Outcome}
 use Rattle.calls.specs.declared.Outcome.the-variants.{Ready, Refused}
 use Rattle.calls.specs.Answers.{checked}
@@ -118,7 +118,7 @@ row-call-cases =
     ∷ call-refused-case 12 example-control (replicate 65 ranked-superblock) storage-of-255 (Drop 0 []) ∷ call-refused-case 13 example-control (replicate 65 ranked-superblock) storage-of-258 (Drop 0 []) ∷ call-refused-case 13 example-control (replicate 64 invalid-superblock) storage-of-258 (Drop 0 []) ∷ []
 
 pub row-call-cases-are-computed : map (λ (k : CallCase). rowCall (k .control) (k .row) (k .order) (k .call)) row-call-cases ≡ map (λ (k : CallCase). k .after) row-call-cases
-unfolding callOn callOf takeOf dropOf checked withinLimits restValid superblockValid isUnused allBelow
+unfolding callOn callOf takeOf dropOf checked withinLimits restValid superblockValid isOwned isUnused isPartOfRun isOfRun allBelow
 row-call-cases-are-computed = refl
 
 -- a call on 64 records leaves what the call on their state leaves: outcome, setup numbers, names, totals, row and storage, whatever the names, the totals, the

@@ -1,0 +1,134 @@
+-- Long blocks (document 02, item 7) in cases that tell the rules from near misses, by computation. Assumes nothing.
+use mathlib.Core.Path.{_≡_, refl}
+use mathlib.Core.Bool.{true, false}
+use mathlib.Core.List.{List, [], _∷_, map}
+use Prim.Native.Nat.{ℕ}
+use lib.ListN.{replicate}
+use Rattle.names.specs.Names.{noNames, withName}
+use Rattle.heap.specs.declared.Superblock.{Superblock}
+use Rattle.heap.specs.declared.State.{State}
+use Rattle.heap.specs.declared.Found.the-variants.{At, Nothing}
+use Rattle.heap.specs.Table.{unused, runPart}
+use Rattle.heap.specs.States.{withNames}
+use Rattle.heap.proofs.CaseStates.{unnamedState}
+use Rattle.heap.proofs.TableCases.{of, ranked}
+use Rattle.calls.specs.declared.Outcome.the-variants.{Address, Moves}
+use Rattle.calls.specs.Answers.{After, refused}
+use Rattle.calls.specs.Runs.{eachOfRun, runTaken, longTakenAt, runFreed}
+use Rattle.calls.specs.Free.{isRunStart, isMisaligned, isLiveAt, addressRefusal, orderPushed, blockNumberAt, blockFreed, freedAt}
+use Rattle.calls.specs.Named.{heldAddress}
+use Rattle.calls.specs.Drop.{Pair, firstAddressRefusal, isTouched, touchedPairs}
+use Rattle.calls.specs.Calls.{Call, Take, Free, NamedTake, NamedFree, callUnchecked}
+use Rattle.calls.proofs.CallDefinitions.{uncheckedCallDefinitions}
+use Rattle.calls.proofs.RuleCases.{setup-with, after-with}
+
+-- P = 2, N = 6: superblocks 0 and 4 are heap 1's and heap 2's, of class 26, with these ranks; between them stand three, and 5 is unused
+abbrev pub around : ℕ → ℕ → Superblock → Superblock → Superblock → State
+around r t a b c = unnamedState (setup-with 2 6 1 3 7) (ranked 1 26 3 r ∷ a ∷ b ∷ c ∷ ranked 2 26 1 t ∷ replicate 59 unused)
+
+-- superblock 2 is heap 0's, empty, and the second in the ranking
+abbrev pub before-run : State
+before-run = around 1 3 unused (ranked 0 23 0 2) unused
+
+-- "They get owner 254, class field 0, no marks and no rank", and "The first carries the run's length, every other superblock 0"; the gap in the ranking is closed
+abbrev pub with-run : State
+with-run = around 1 2 (runPart 3) (runPart 0) (runPart 0)
+
+-- "a free makes the whole run unused": the ranks are as they were
+abbrev pub run-gone : State
+run-gone = around 1 2 unused unused unused
+
+-- order places of superblocks 0, 1 and 2, which all hold something
+abbrev pub used-places : List ℕ
+used-places = replicate 768 61
+
+-- each superblock of the run, from its first to its last and no other
+pub each-of-run-cases : map (λ (n : ℕ). eachOfRun (λ m s. withNames s (m ∷ s .names)) 4 n (withNames with-run []) .names) (0 ∷ 1 ∷ 3 ∷ []) ≡ [] ∷ (4 ∷ []) ∷ (6 ∷ 5 ∷ 4 ∷ []) ∷ []
+unfolding uncheckedCallDefinitions
+each-of-run-cases = refl
+
+-- three superblocks from 1 on; and one alone, which carries 1
+pub run-taken-cases : runTaken 1 3 before-run ∷ runTaken 2 1 before-run ∷ [] ≡ with-run ∷ around 1 2 unused (runPart 1) unused ∷ []
+unfolding uncheckedCallDefinitions
+run-taken-cases = refl
+
+-- three from 1 on, and one of them; the others stay
+pub run-freed-cases : runFreed 1 3 with-run ∷ runFreed 3 1 (around 1 2 (runPart 2) (runPart 0) (runPart 1)) ∷ [] ≡ run-gone ∷ around 1 2 (runPart 2) (runPart 0) unused ∷ []
+unfolding uncheckedCallDefinitions
+run-freed-cases = refl
+
+-- "The block's address is the start of the run", and order places "keep what they had"; 17 where there is no run
+pub long-taken-at-cases : map (longTakenAt 3 before-run used-places) (At 1 ∷ Nothing ∷ []) ≡ after-with (Address 4096) with-run used-places ∷ refused 17 before-run used-places ∷ []
+unfolding uncheckedCallDefinitions
+long-taken-at-cases = refl
+
+-- ---- addresses: the start of the run; behind it by 1, by 16, as a block of class 0 would be, and by 2048; the starts of its other superblocks, and its last address; then
+-- the start of superblock 4
+abbrev pub addresses-in-run : List ℕ
+addresses-in-run = 4096 ∷ 4097 ∷ 4112 ∷ 6144 ∷ 8192 ∷ 12288 ∷ 16383 ∷ 16384 ∷ []
+
+-- "any other address in it is off-block"
+pub is-misaligned-in-run-cases :
+    map (isMisaligned with-run) addresses-in-run ≡ false ∷ true ∷ true ∷ true ∷ true ∷ true ∷ true ∷ false ∷ [] × map (isRunStart with-run) addresses-in-run ≡ true ∷ replicate 7 false
+unfolding uncheckedCallDefinitions
+is-misaligned-in-run-cases = (refl, refl)
+
+-- the start is a live block's, and inner addresses are 6, never 7; superblock 5 is unused
+pub address-refusal-in-run-cases : isLiveAt with-run 4096 ≡ true × map (addressRefusal with-run) addresses-in-run ≡ 0 ∷ 6 ∷ 6 ∷ 6 ∷ 6 ∷ 6 ∷ 6 ∷ 0 ∷ [] × addressRefusal with-run 20480 ≡ 5
+unfolding uncheckedCallDefinitions
+address-refusal-in-run-cases = (refl, refl, refl)
+
+-- ---- a free: no place is written, and "Its free line has moved 0". Name 7 is of the run, and let go; name 8, of block 0 of superblock 0, stays
+abbrev pub names-7-and-8 : List ℕ
+names-7-and-8 = withName (withName noNames 8 0) 7 256
+
+pub order-pushed-of-run-case : orderPushed with-run used-places 4096 ≡ used-places
+unfolding uncheckedCallDefinitions
+order-pushed-of-run-case = refl
+
+pub run-named-cases : blockNumberAt with-run 4096 ≡ 256 × heldAddress (withNames with-run names-7-and-8) 7 ≡ 4096
+unfolding uncheckedCallDefinitions
+run-named-cases = (refl, refl)
+
+pub long-block-freed-case : blockFreed (withNames with-run names-7-and-8) 4096 ≡ withNames run-gone (withName noNames 8 0)
+unfolding uncheckedCallDefinitions
+long-block-freed-case = refl
+
+pub long-freed-at-case : freedAt with-run used-places 4096 ≡ after-with (Moves 0) run-gone used-places
+unfolding uncheckedCallDefinitions
+long-freed-at-case = refl
+
+-- ---- a drop: the start twice is 5 the second time, as the run is unused then; an inner address is 6 before the start and 5 after it; the start, and a block of superblock 4
+pub first-refusal-in-run-cases :
+    map (firstAddressRefusal with-run) ((4096 ∷ 4096 ∷ []) ∷ (8192 ∷ 4096 ∷ []) ∷ (4096 ∷ 8192 ∷ []) ∷ (4096 ∷ 4112 ∷ []) ∷ (4096 ∷ 16384 ∷ []) ∷ []) ≡ 5 ∷ 6 ∷ 5 ∷ 5 ∷ 0 ∷ []
+unfolding uncheckedCallDefinitions
+first-refusal-in-run-cases = refl
+
+-- a run is of no heap and class
+abbrev heap-2-class-26 : Pair
+heap-2-class-26 = record { heap = 2; class = 26 }
+
+pub touched-beside-run-cases : map (λ (l : List ℕ). touchedPairs (isTouched with-run l) 2) ((4096 ∷ []) ∷ (4096 ∷ 16384 ∷ []) ∷ []) ≡ [] ∷ (heap-2-class-26 ∷ []) ∷ []
+unfolding uncheckedCallDefinitions
+touched-beside-run-cases = refl
+
+-- ---- behind the check
+abbrev long-unchecked : State → Call → After
+long-unchecked s = callUnchecked s used-places
+
+-- 2 before 17; three superblocks for 8193 and for 12288 bytes, for processor 2 as for 1; 17 for four, in place of 4, though heap 0 has an empty superblock and others are unused, and
+-- for 65535 bytes; a named take binds the run
+pub long-take-cases :
+    map (long-unchecked before-run) (Take 0 16384 ∷ Take 1 8193 ∷ Take 2 12288 ∷ Take 1 12289 ∷ Take 1 65535 ∷ NamedTake 1 7 12288 ∷ NamedTake 1 7 12289 ∷ [])
+    ≡ refused 2 before-run used-places ∷ after-with (Address 4096) with-run used-places ∷ after-with (Address 4096) with-run used-places ∷ refused 17 before-run used-places ∷ refused 17 before-run used-places
+    ∷ after-with (Address 4096) (withNames with-run (withName noNames 7 256)) used-places ∷ refused 17 before-run used-places ∷ []
+unfolding uncheckedCallDefinitions
+long-take-cases = refl
+
+-- by its address and by its name; the start of its second superblock is 6, and so is where a block of class 0 would start
+pub long-free-cases :
+    map (long-unchecked (withNames with-run names-7-and-8)) (Free 1 4096 ∷ NamedFree 2 7 ∷ Free 1 8192 ∷ Free 1 4112 ∷ [])
+    ≡ after-with (Moves 0) (withNames run-gone (withName noNames 8 0)) used-places ∷ after-with (Moves 0) (withNames run-gone (withName noNames 8 0)) used-places
+    ∷ refused 6 (withNames with-run names-7-and-8) used-places ∷ refused 6 (withNames with-run names-7-and-8) used-places ∷ []
+unfolding uncheckedCallDefinitions
+long-free-cases = refl

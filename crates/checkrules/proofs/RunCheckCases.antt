@@ -1,0 +1,73 @@
+-- What the check asks of long blocks' runs (document 02, item 7), in cases that tell it from near misses, by computation. Assumes nothing.
+use mathlib.Core.Path.{_≡_, refl}
+use mathlib.Core.Bool.{true, false}
+use mathlib.Core.List.{List, [], _∷_, _++_, map}
+use Prim.Native.Nat.{ℕ, _^_}
+use lib.ListN.{replicate}
+use Rattle.heap.specs.declared.Superblock.{Superblock}
+use Rattle.heap.specs.Table.{unused, runPart, withRank}
+use Rattle.checkrules.specs.Check.{isPartOfRun, superblockValid, unusedFrom, ranksValid, runsWhole, runsValid}
+use Rattle.heap.proofs.TableCases.{of, ranked, small-setup}
+use Rattle.heap.proofs.RunCases.{with-length}
+use Rattle.heap.proofs.CaseStates.{unnamedState}
+use Rattle.checkrules.proofs.CheckDefinitions.{checkDefinitions}
+use Rattle.checkrules.proofs.CheckCases.{valid-as-superblock-1}
+
+-- "owner 254, class field 0, no marks": the first of a run and another; with a class, with its first or last mark, of other owners
+abbrev pub run-parts-and-others : List Superblock
+run-parts-and-others =
+    runPart 3 ∷ runPart 0 ∷ of 254 1 0 ∷ of 254 20 10 ∷ of 254 0 1 ∷ record { owner = 254; class = 0; live = 0 ∷ 0 ∷ 0 ∷ 2 ^ 63 ∷ []; rank = 0; run = 0 } ∷ with-length 253 0 ∷ []
+
+pub is-part-of-run-cases : map isPartOfRun (run-parts-and-others ++ unused ∷ of 0 0 0 ∷ []) ≡ true ∷ true ∷ replicate 7 false
+unfolding checkDefinitions
+is-part-of-run-cases = refl
+
+-- the check "asks nothing of their order places", and they may be past the storage
+pub run-parts-valid-cases : map valid-as-superblock-1 run-parts-and-others ≡ true ∷ true ∷ replicate 5 false × superblockValid small-setup [] 63 (runPart 0) ≡ true
+unfolding checkDefinitions
+run-parts-valid-cases = (refl, refl)
+
+-- N = 5: "all below N"
+pub run-part-unused-from-cases : map (λ (k : ℕ). unusedFrom 5 k (runPart 0)) (4 ∷ 5 ∷ 63 ∷ []) ≡ true ∷ false ∷ false ∷ []
+unfolding checkDefinitions
+run-part-unused-from-cases = refl
+
+-- "no rank": superblocks 0 and 1 are ranked, and the run of two behind them is not; its first, or its last, of the next rank
+pub ranks-beside-run-cases :
+    map (λ (run : List Superblock). ranksValid (unnamedState small-setup (ranked 1 17 1 2 ∷ ranked 0 17 1 1 ∷ run ++ replicate 60 unused)))
+    ((runPart 2 ∷ runPart 0 ∷ []) ∷ (withRank 3 (runPart 2) ∷ runPart 0 ∷ []) ∷ (runPart 2 ∷ withRank 3 (runPart 0) ∷ []) ∷ [])
+    ≡ true ∷ false ∷ false ∷ []
+unfolding checkDefinitions
+ranks-beside-run-cases = refl
+
+-- ---- whole runs: none; of one superblock, and three such side by side; of two and one behind it, between others; of 16
+pub whole-runs-cases :
+    map (runsWhole 0)
+    ([] ∷ (unused ∷ of 0 0 0 ∷ []) ∷ (runPart 1 ∷ runPart 1 ∷ runPart 1 ∷ []) ∷ (of 1 0 1 ∷ runPart 2 ∷ runPart 0 ∷ runPart 1 ∷ unused ∷ []) ∷ (runPart 16 ∷ replicate 15 (runPart 0) ++ unused ∷ []) ∷ [])
+    ≡ replicate 5 true
+unfolding checkDefinitions
+whole-runs-cases = refl
+
+-- a first one of length 0; of 17; past the end; an inner one with a length, as of a run that begins within another, the last too; one left over behind a run; a run over
+-- one of a heap, and over an unused one; a length in a heap's superblock, in an unused one, in one of the run's neighbours
+pub runs-not-whole-cases :
+    map (runsWhole 0)
+    ((runPart 0 ∷ []) ∷ (unused ∷ runPart 0 ∷ unused ∷ []) ∷ (runPart 17 ∷ replicate 16 (runPart 0)) ∷ (runPart 2 ∷ []) ∷ (runPart 2 ∷ runPart 1 ∷ []) ∷ (runPart 3 ∷ runPart 2 ∷ runPart 0 ∷ []) ∷ (runPart 1 ∷ runPart 0 ∷ [])
+    ∷ (runPart 2 ∷ of 0 0 0 ∷ []) ∷ (runPart 2 ∷ unused ∷ []) ∷ (with-length 1 1 ∷ []) ∷ (with-length 255 1 ∷ []) ∷ (runPart 1 ∷ with-length 0 1 ∷ []) ∷ [])
+    ≡ replicate 12 false
+unfolding checkDefinitions
+runs-not-whole-cases = refl
+
+-- within a run, of which so many are to come
+pub rest-of-run-cases :
+    runsWhole 1 (runPart 0 ∷ []) ∷ runsWhole 2 (runPart 0 ∷ runPart 0 ∷ runPart 1 ∷ []) ∷ runsWhole 1 [] ∷ runsWhole 2 (runPart 0 ∷ []) ∷ runsWhole 1 (runPart 1 ∷ []) ∷ runsWhole 1 (runPart 0 ∷ runPart 0 ∷ []) ∷ runsWhole 1 (unused ∷ []) ∷ []
+    ≡ true ∷ true ∷ replicate 5 false
+unfolding checkDefinitions
+rest-of-run-cases = refl
+
+-- a state's: a run of two that ends with the table; one that would end behind it
+pub runs-valid-cases :
+    runsValid (unnamedState small-setup (replicate 62 unused ++ runPart 2 ∷ runPart 0 ∷ [])) ∷ runsValid (unnamedState small-setup (replicate 63 unused ++ runPart 2 ∷ [])) ∷ []
+    ≡ true ∷ false ∷ []
+unfolding checkDefinitions
+runs-valid-cases = refl
