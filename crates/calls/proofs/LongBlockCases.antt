@@ -38,6 +38,10 @@ with-run = around 1 2 (runPart 3) (runPart 0) (runPart 0)
 abbrev pub run-gone : State
 run-gone = around 1 2 unused unused unused
 
+-- order places of superblocks 0, 1 and 2, which all hold something
+abbrev pub used-places : List ℕ
+used-places = replicate 768 61
+
 -- each superblock of the run, from its first to its last and no other
 pub each-of-run-cases : map (λ (n : ℕ). eachOfRun (λ m s. withNames s (m ∷ s .names)) 4 n (withNames with-run []) .names) (0 ∷ 1 ∷ 3 ∷ []) ≡ [] ∷ (4 ∷ []) ∷ (6 ∷ 5 ∷ 4 ∷ []) ∷ []
 unfolding uncheckedCallDefinitions
@@ -54,7 +58,7 @@ unfolding uncheckedCallDefinitions
 run-freed-cases = refl
 
 -- "The block's address is the start of the run", and order places "keep what they had"; 17 where there is no run
-pub long-taken-at-cases : map (longTakenAt 3 before-run (8 ∷ 9 ∷ [])) (At 1 ∷ Nothing ∷ []) ≡ after-with (Address 4096) with-run (8 ∷ 9 ∷ []) ∷ refused 17 before-run (8 ∷ 9 ∷ []) ∷ []
+pub long-taken-at-cases : map (longTakenAt 3 before-run used-places) (At 1 ∷ Nothing ∷ []) ≡ after-with (Address 4096) with-run used-places ∷ refused 17 before-run used-places ∷ []
 unfolding uncheckedCallDefinitions
 long-taken-at-cases = refl
 
@@ -78,7 +82,7 @@ address-refusal-in-run-cases = (refl, refl, refl)
 abbrev pub names-7-and-8 : List ℕ
 names-7-and-8 = withName (withName noNames 8 0) 7 256
 
-pub order-pushed-of-run-case : orderPushed with-run (replicate 300 61) 4096 ≡ replicate 300 61
+pub order-pushed-of-run-case : orderPushed with-run used-places 4096 ≡ used-places
 unfolding uncheckedCallDefinitions
 order-pushed-of-run-case = refl
 
@@ -90,7 +94,7 @@ pub long-block-freed-case : blockFreed (withNames with-run names-7-and-8) 4096 �
 unfolding uncheckedCallDefinitions
 long-block-freed-case = refl
 
-pub long-freed-at-case : freedAt with-run (8 ∷ 9 ∷ []) 4096 ≡ after-with (Moves 0) run-gone (8 ∷ 9 ∷ [])
+pub long-freed-at-case : freedAt with-run used-places 4096 ≡ after-with (Moves 0) run-gone used-places
 unfolding uncheckedCallDefinitions
 long-freed-at-case = refl
 
@@ -108,23 +112,23 @@ pub touched-beside-run-cases : map (λ (l : List ℕ). touchedPairs (isTouched w
 unfolding uncheckedCallDefinitions
 touched-beside-run-cases = refl
 
--- ---- behind the check, the order places being 8 and 9
+-- ---- behind the check
 abbrev long-unchecked : State → Call → After
-long-unchecked s = callUnchecked s (8 ∷ 9 ∷ [])
+long-unchecked s = callUnchecked s used-places
 
 -- 2 before 17; three superblocks for 8193 and for 12288 bytes, for processor 2 as for 1; 17 for four, in place of 4, though heap 0 has an empty superblock and others are unused, and
 -- for 65535 bytes; a named take binds the run
 pub long-take-cases :
     map (long-unchecked before-run) (Take 0 16384 ∷ Take 1 8193 ∷ Take 2 12288 ∷ Take 1 12289 ∷ Take 1 65535 ∷ NamedTake 1 7 12288 ∷ NamedTake 1 7 12289 ∷ [])
-    ≡ refused 2 before-run (8 ∷ 9 ∷ []) ∷ after-with (Address 4096) with-run (8 ∷ 9 ∷ []) ∷ after-with (Address 4096) with-run (8 ∷ 9 ∷ []) ∷ refused 17 before-run (8 ∷ 9 ∷ []) ∷ refused 17 before-run (8 ∷ 9 ∷ [])
-    ∷ after-with (Address 4096) (withNames with-run (withName noNames 7 256)) (8 ∷ 9 ∷ []) ∷ refused 17 before-run (8 ∷ 9 ∷ []) ∷ []
+    ≡ refused 2 before-run used-places ∷ after-with (Address 4096) with-run used-places ∷ after-with (Address 4096) with-run used-places ∷ refused 17 before-run used-places ∷ refused 17 before-run used-places
+    ∷ after-with (Address 4096) (withNames with-run (withName noNames 7 256)) used-places ∷ refused 17 before-run used-places ∷ []
 unfolding uncheckedCallDefinitions
 long-take-cases = refl
 
 -- by its address and by its name; the start of its second superblock is 6, and so is where a block of class 0 would start
 pub long-free-cases :
     map (long-unchecked (withNames with-run names-7-and-8)) (Free 1 4096 ∷ NamedFree 2 7 ∷ Free 1 8192 ∷ Free 1 4112 ∷ [])
-    ≡ after-with (Moves 0) (withNames run-gone (withName noNames 8 0)) (8 ∷ 9 ∷ []) ∷ after-with (Moves 0) (withNames run-gone (withName noNames 8 0)) (8 ∷ 9 ∷ [])
-    ∷ refused 6 (withNames with-run names-7-and-8) (8 ∷ 9 ∷ []) ∷ refused 6 (withNames with-run names-7-and-8) (8 ∷ 9 ∷ []) ∷ []
+    ≡ after-with (Moves 0) (withNames run-gone (withName noNames 8 0)) used-places ∷ after-with (Moves 0) (withNames run-gone (withName noNames 8 0)) used-places
+    ∷ refused 6 (withNames with-run names-7-and-8) used-places ∷ refused 6 (withNames with-run names-7-and-8) used-places ∷ []
 unfolding uncheckedCallDefinitions
 long-free-cases = refl

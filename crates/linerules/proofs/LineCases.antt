@@ -154,12 +154,12 @@ run-line-cases : (runLine 3 2 ≡ letters "run 3 superblocks 2\n") × (runLine 4
 unfolding lineDefinitions
 run-line-cases = (refl, refl)
 
--- P = 1: a run of two, beside it one of one, heap 0 and heap 1 with a superblock each between, and a run of three that ends with the table; an unused superblock that
+-- P = 1: heap 1's superblock, a run of two, one of one beside it, heap 0's superblock, and at the end of the table two runs more; an unused superblock that
 -- carries a length, as no state that passes has, begins no run
 abbrev several-runs : State
 several-runs =
     unnamedState (record { processors = 1; superblocks = 64; spare = 15; p = 3; q = 8 }) (superblock 1 11 1 0 ∷ runPart 2 ∷ runPart 0 ∷ runPart 1 ∷ superblock 0 9 3 0 ∷ record { owner = 255; class = 0; live = 0 ∷ 0 ∷ 0 ∷ 0 ∷ []; rank = 0; run = 4 }
-    ∷ replicate 55 unused ++ runPart 3 ∷ runPart 0 ∷ runPart 0 ∷ [])
+    ∷ replicate 55 unused ++ runPart 2 ∷ runPart 0 ∷ runPart 1 ∷ [])
 
 -- a line for the first of a run alone, and none for its others
 run-line-if-cases : (runLineIf 1 several-runs ≡ letters "run 1 superblocks 2\n") × (runLineIf 2 several-runs ≡ []) × (runLineIf 5 several-runs ≡ []) × (runLineIf 4 several-runs ≡ [])
@@ -168,7 +168,7 @@ run-line-if-cases = (refl, refl, refl, refl)
 
 -- "by first superblock", after the heaps and "before `end`"
 final-lines-with-runs-case : finalLines several-runs
-    ≡ letters "heap 0 class 9 superblocks 1 live 2\nheap 1 class 11 superblocks 1 live 1\nrun 1 superblocks 2\nrun 3 superblocks 1\nrun 61 superblocks 3\nend\n"
+    ≡ letters "heap 0 class 9 superblocks 1 live 2\nheap 1 class 11 superblocks 1 live 1\nrun 1 superblocks 2\nrun 3 superblocks 1\nrun 61 superblocks 2\nrun 63 superblocks 1\nend\n"
 unfolding lineDefinitions
 final-lines-with-runs-case = refl
 
