@@ -17,11 +17,11 @@ use rowrules::RecordsAnswer;
 use rowrules::RowAnswer;
 use stream::Input;
 
-// The longest input that the program takes has 41080 bytes: a drop of 512 addresses on a lent row, with 17000 places
-// (2 + 9 + 4 × 512 + 64 × 35 + 1024 × 2 + 243 × 3 + 4 + 2 × 17000). The buffer has one byte more, so that an input that it truncates is
+// The longest input that the program takes has 41144 bytes: a drop of 512 addresses on a lent row, with 17000 places
+// (2 + 9 + 4 × 512 + 64 × 36 + 1024 × 2 + 243 × 3 + 4 + 2 × 17000). The buffer has one byte more, so that an input that it truncates is
 // bad in any case.
 fn main() {
-    let mut input = [0u8; 41081];
+    let mut input = [0u8; 41145];
     let read = stream::read_input(b"call", &mut input);
     let Input::Bytes(n) = read else {
         return;
@@ -249,6 +249,7 @@ fn other_records() -> [Superblock; 65] {
         class: 9,
         live: [9u64; 4],
         rank: 9,
+        run: 9,
     };
     [b; 65]
 }
@@ -303,7 +304,7 @@ fn print_row(length: usize, l: RecordsAnswer) -> bool
     print_totals(totals)
 }
 
-// Each of the first records that is not unused and unranked.
+// Each of the first records that is not as a new setup has it.
 fn print_records(length: usize, records: [Superblock; 65]) -> bool
     requires { ⌜ length ≤ 65 ⌝ }
 {
@@ -409,20 +410,23 @@ fn put_fraction(out: &mut [u8], at: usize, p: u8, q: u8) -> usize
     put_field(out, next, b" ", q as u64)
 }
 
+// Unused, unranked and first of no run.
+fn is_as_set_up(b: Superblock) -> bool {
+    b.rank == 0 && b.run == 0 && predicates::is_unused(b)
+}
+
 fn print_superblock(k: usize, b: Superblock) -> bool {
-    if b.rank == 0 {
-        if predicates::is_unused(b) {
-            return true;
-        }
+    if is_as_set_up(b) {
+        return true;
     }
     let live = b.live;
-    let mut line = [0u8; 224];
+    let mut line = [0u8; 256];
     let number = put_field(&mut line, 0, b"superblock ", k as u64);
     let owner = put_field(&mut line, number, b" owner ", b.owner as u64);
     let class = put_field(&mut line, owner, b" class ", b.class as u64);
     let marks = put_marks(&mut line, class, live);
-    let rank = put_field(&mut line, marks, b" rank ", b.rank as u64);
-    let end = put_end(&mut line, rank);
+    let rest = put_rank_and_run(&mut line, marks, b.rank, b.run);
+    let end = put_end(&mut line, rest);
     write(&line[..end])
 }
 
@@ -471,6 +475,15 @@ fn put_marks(out: &mut [u8], at: usize, live: [u64; 4]) -> usize
     let second = put_field(out, first, b" ", live[1]);
     let third = put_field(out, second, b" ", live[2]);
     put_field(out, third, b" ", live[3])
+}
+
+// The rank and the run length; the place after them.
+fn put_rank_and_run(out: &mut [u8], at: usize, rank: u8, run: u8) -> usize
+    requires { ⌜ at + 51 ≤ length (now out) ⌝ }
+    ensures { λ r. ⌜ r ≤ at + 51 ⌝ }
+{
+    let next = put_field(out, at, b" rank ", rank as u64);
+    put_field(out, next, b" run ", run as u64)
 }
 
 // A word and a number after it, of at most 20 digits; the place after them. So many digits are put that they hold the number.

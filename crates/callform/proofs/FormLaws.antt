@@ -57,7 +57,7 @@ module _ (b : List ℕ) (first : ℕ) (is : first ≡ byteAt b 0) where
   unfolding placesOffset
   places-offset-of-setup e = rw (← is, eq-eqb _ _ e)
 
-  pub places-offset-of-state : (table : ℕ) → (first ≡ 0 → ⊥) → table ≡ tableOffset b → table + 5021 ≡ placesOffset b
+  pub places-offset-of-state : (table : ℕ) → (first ≡ 0 → ⊥) → table ≡ tableOffset b → table + 5085 ≡ placesOffset b
   unfolding placesOffset
   places-offset-of-state table n t = rw (← is, ne-eqb _ _ n, ← t) (omega arith)
 
@@ -65,10 +65,10 @@ module _ (b : List ℕ) (first : ℕ) (is : first ≡ byteAt b 0) where
   unfolding placeCount
   place-count-of-setup lent e l = rw (← is, eq-eqb _ _ e, ← l)
 
-  pub place-count-of-state : (table lent : ℕ) → (first ≡ 0 → ⊥) → table ≡ tableOffset b → lent ≡ fourAt b (table + 5017) → lent ≡ placeCount b
+  pub place-count-of-state : (table lent : ℕ) → (first ≡ 0 → ⊥) → table ≡ tableOffset b → lent ≡ fourAt b (table + 5081) → lent ≡ placeCount b
   unfolding placeCount
   place-count-of-state table lent n t l =
-      let e : table + 64 * 35 + 1024 * 2 + (243 + 243 * 2) ≡ table + 5017 = omega arith in
+      let e : table + 64 * 36 + 1024 * 2 + (243 + 243 * 2) ≡ table + 5081 = omega arith in
       rw (← is, ne-eqb _ _ n, ← t, e, ← l)
 
   -- ---- the whole form

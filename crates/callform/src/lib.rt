@@ -83,15 +83,15 @@ pub fn table_offset(bytes: &[u8]) -> usize
 
 // ---- the order places
 
-// Where they begin: in all but a setup 64 superblocks of 35 bytes, 1024 names of two bytes, 243 totals of one byte, 243 of two and the
+// Where they begin: in all but a setup 64 superblocks of 36 bytes, 1024 names of two bytes, 243 totals of one byte, 243 of two and the
 // four bytes of L come before.
 pub fn places_offset(bytes: &[u8]) -> usize
-    ensures { λ r. ⌜ (r ≡ placesOffset (now (bytes .entry))) × (r ≤ 267170) ⌝ }
+    ensures { λ r. ⌜ (r ≡ placesOffset (now (bytes .entry))) × (r ≤ 267234) ⌝ }
 {
     if byte_at(bytes, 0) == 0 {
         return 10;
     }
-    table_offset(bytes) + 5021
+    table_offset(bytes) + 5085
 }
 
 // How many are lent: the four bytes before them.
@@ -103,7 +103,7 @@ pub fn place_count(bytes: &[u8]) -> usize
         return lent as usize;
     }
     let at = table_offset(bytes);
-    let lent = four_at(bytes, at + 5017);
+    let lent = four_at(bytes, at + 5081);
     lent as usize
 }
 

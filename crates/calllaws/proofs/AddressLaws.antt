@@ -1,12 +1,13 @@
 -- From a block's address back to its superblock and block, and from any address to its superblock. Assumes nothing.
 use mathlib.Core.Path.{_≡_, sym, ap, _∙_}
 use mathlib.Core.Bool.{false}
-use mathlib.Core.Logic.{_⊎_, inl, inr}
+use mathlib.Core.Logic.{_⊎_, inl, inr, ⊎-elim}
 use mathlib.Core.List.{List}
 use Prim.Native.Nat.{ℕ, _*_, _/_, _%_, _<_}
+use native.Mathlib.Nat.{zero-div}
 use native.Mathlib.Decide.{decLt}
 use native.Mathlib.Omega.{arith}
-use borrow.Author.Tests.{lt-ltb, leb-false}
+use borrow.Author.Tests.{lt-ltb, leb-false, eqb-false}
 use lib.ListN.{length, List·getD-eq-default}
 use lib.Dec.{leb, ltb}
 use Rattle.laws.proofs.Inequalities.{le-of-not-below}
@@ -16,11 +17,11 @@ use Rattle.classes.proofs.OffsetLaws.{offset-lt-4096, block-of-offset}
 use Rattle.names.specs.Names.{blockNumber}
 use Rattle.heap.specs.declared.Superblock.{Superblock}
 use Rattle.heap.specs.declared.State.{State}
-use Rattle.heap.specs.Table.{blank, superblockAt, isUnused}
-use Rattle.heaplaws.proofs.StateFacts.{Unused, Owned, SoundWith}
-use Rattle.heaplaws.proofs.StateCheckLaws.{is-unused-of-facts}
+use Rattle.heap.specs.Table.{blank, superblockAt, isUnused, isOfRun}
+use Rattle.heaplaws.proofs.StateFacts.{Unused, Unowned, Owned, SoundWith}
+use Rattle.heaplaws.proofs.StateCheckLaws.{is-unused-of-facts, unused-of-unowned}
 use Rattle.calls.specs.Take.{addressOf}
-use Rattle.calls.specs.Free.{superblockIndex, offsetOf, superblockHolding, blockOf, isUnmapped, blockNumberAt}
+use Rattle.calls.specs.Free.{superblockIndex, offsetOf, superblockHolding, blockOf, isUnmapped, isInRun, blockNumberAt}
 
 module _ (c k j : ℕ) (known : c < 27) (block : j < blocksOf c) where
   pub address-superblock : addressOf k c j / 4096 ≡ k
@@ -41,7 +42,12 @@ module _ (c k j : ℕ) (known : c < 27) (block : j < blocksOf c) where
     unfolding blockNumberAt
     address-block-number l = rw (address-block, address-superblock) (pick-true (ltb k 64) _ _ (lt-ltb k 64 l))
 
--- an address that is mapped, in a state that passes, lies in a superblock that a heap owns
+-- the block of an address at the start of its superblock
+pub block-of-offset-0 : (s : State) (a : ℕ) → offsetOf a ≡ 0 → blockOf s a ≡ 0
+unfolding blockOf
+block-of-offset-0 s a e = rw e (zero-div (sizeOf (superblockHolding s a .class)))
+
+-- an address that is mapped, in a state that passes, lies in a superblock that a heap owns, or in a run
 module _ {Invariant : ℕ → ℕ → State → Type 0} (s : State) (order : List ℕ) (a : ℕ) (sound : SoundWith Invariant s order) (mapped : isUnmapped s a ≡ false) where
   pub mapped-below-superblocks : superblockIndex a < s .setup .superblocks
   unfolding isUnmapped
@@ -52,12 +58,17 @@ module _ {Invariant : ℕ → ℕ → State → Type 0} (s : State) (order : Lis
   pub mapped-below-64 : superblockIndex a < 64
   mapped-below-64 = omega (arith, mapped-below-superblocks, sound .numbers .superblocks-high)
 
-  pub mapped-is-owned : Owned (s .setup) order (superblockIndex a) (superblockHolding s a)
+  mapped-not-unused : Unused (superblockHolding s a) → ⊥
   unfolding isUnmapped
-  mapped-is-owned = go (sound .each (superblockIndex a) mapped-below-64)
+  mapped-not-unused u =
+      not-T-of-false (isUnused (superblockHolding s a)) (neither-right (leb (s .setup .superblocks * 4096) a) (isUnused (superblockHolding s a)) mapped) (is-unused-of-facts (superblockHolding s a) u)
+
+  pub mapped-is-owned : isInRun s a ≡ false → Owned (s .setup) order (superblockIndex a) (superblockHolding s a)
+  unfolding isOfRun
+  mapped-is-owned outside = go (sound .each (superblockIndex a) mapped-below-64)
     where
-      go : Unused (superblockHolding s a) ⊎ Owned (s .setup) order (superblockIndex a) (superblockHolding s a) → Owned (s .setup) order (superblockIndex a) (superblockHolding s a)
-      go (inl u) = absurd (not-T-of-false (isUnused (superblockHolding s a)) (neither-right (leb (s .setup .superblocks * 4096) a) (isUnused (superblockHolding s a)) mapped) (is-unused-of-facts (superblockHolding s a) u))
+      go : Unowned (superblockHolding s a) ⊎ Owned (s .setup) order (superblockIndex a) (superblockHolding s a) → Owned (s .setup) order (superblockIndex a) (superblockHolding s a)
+      go (inl u) = absurd (⊎-elim (λ e. mapped-not-unused (unused-of-unowned (superblockHolding s a) u e)) (λ e. eqb-false (superblockHolding s a .owner) 254 outside e) (u .owner))
       go (inr o) = o
 
 -- an address is of the same class, and so of the same block, in states whose superblocks have the same classes

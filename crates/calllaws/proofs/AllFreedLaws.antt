@@ -1,32 +1,37 @@
 -- Blocks freed one after another, before any move, in a drop (document 02, item 5). Assumes nothing.
-use mathlib.Core.Path.{_≡_, refl, sym, ap, ap₂, _∙_, subst}
+use mathlib.Core.Path.{_≡_, refl, ap, ap₂, _∙_, subst}
 use mathlib.Core.Bool.{Bool, true, false}
+use mathlib.Core.Logic.{_⊎_, inl, inr}
 use mathlib.Core.List.{List, [], _∷_}
 use Prim.Native.Nat.{ℕ, zero, suc, _+_, _≤_, _<_}
-use native.Mathlib.Decide.{decLt}
+use native.Mathlib.Nat.{pos-of-ne-zero}
+use native.Mathlib.Decide.{ℕ-discrete, decLt}
 use native.Mathlib.Omega.{arith}
 use borrow.Author.Tests.{eqb-true, eqb-false}
-use lib.ListN.{length, getD, take, List·getD-eq-default}
+use lib.ListN.{length, getD, take}
 use lib.Dec.{eqb}
 use Rattle.laws.specs.Sums.{pick, both, one, sumBelow}
 use Rattle.laws.proofs.Inequalities.{le-of-not-below}
 use Rattle.laws.proofs.TestLaws.{neither-left, neither-right}
 use Rattle.laws.proofs.SumLaws.{sum-cong, sum-of-zeros, sum-le-of-terms-le}
 use Rattle.laws.proofs.Counting.{sum-add, indicator-sum-inside, indicator-sum-outside}
+use Rattle.names.specs.Names.{blockNumber}
 use Rattle.heap.specs.declared.Superblock.{Superblock}
 use Rattle.heap.specs.declared.State.{State}
-use Rattle.heap.specs.Table.{blank, superblockAt}
+use Rattle.heap.specs.Table.{superblockAt, isOfRun}
 use Rattle.heap.specs.Counts.{belongs, superblocksOfClass}
 use Rattle.heap.specs.Totals.{TotalsKept}
 use Rattle.heap.specs.Ranks.{RanksFit}
-use Rattle.heaplaws.proofs.StateFacts.{Shape, InvariantBeforeFrees}
+use Rattle.heaplaws.proofs.StateFacts.{Shape, RunsSound}
 use Rattle.heaplaws.proofs.CountLaws.{sum-from-heap-0}
 use Rattle.heaplaws.proofs.RankLaws.{ranks-fit-of-sound}
-use Rattle.calls.specs.Free.{superblockIndex, superblockHolding, addressRefusal, orderPushed, blockFreed}
+use Rattle.heaplaws.proofs.RunLaws.{runs-sound-of-valid}
+use Rattle.calls.specs.Free.{superblockIndex, superblockHolding, blockOf, isInRun, addressRefusal, orderPushed, blockFreed}
 use Rattle.calls.specs.Drop.{allFreed, allPushed, firstAddressRefusal, isTouched}
 use Rattle.calllaws.proofs.CallEffects.{PassedAfterFrees}
-use Rattle.calllaws.proofs.TransferredLaws.{oneMoreFreed}
-use Rattle.calllaws.proofs.BlockFreedLaws.{freed-superblock-lt-64, freed-superblock-owner-le, block-freed-effect, block-freed-owner, block-freed-shape, block-freed-passed}
+use Rattle.calllaws.proofs.TransferredLaws.{oneMoreFreed, passed-after-frees-cong}
+use Rattle.calllaws.proofs.BlockFreedLaws.{freed-superblock-owner-le, small-block-freed-effect}
+use Rattle.calllaws.proofs.AddressFreedLaws.{OwnersKeptOrRunFreed, address-freed, same-belongs, owners-kept-or-run-freed-then}
 
 -- how many of the addresses lie in superblocks of heap h and class c
 unfoldable pub freedOf : State → List ℕ → ℕ → ℕ → ℕ
@@ -84,23 +89,25 @@ freed-of-heaps-le-length s p (a ∷ addresses) = let l = freed-of-heaps-le-lengt
         let one-heap = one-heap-of-superblock p (superblockHolding s a) in
         omega arith
 
--- ---- states with the same owners and classes
-module _ (s t : State) (long : length (s .table) ≡ 64) (long-after : length (t .table) ≡ 64) (owners : (m : ℕ) → m < 64 → superblockAt t m .owner ≡ superblockAt s m .owner)
-    (classes : (m : ℕ) → m < 64 → superblockAt t m .class ≡ superblockAt s m .class) where
-  same-belongs : (h c m : ℕ) → belongs h c (superblockAt t m) ≡ belongs h c (superblockAt s m)
-  unfolding belongs
-  same-belongs h c m = go (decLt m 64)
-    where
-      go : Dec (m < 64) → belongs h c (superblockAt t m) ≡ belongs h c (superblockAt s m)
-      go (yes l) = ap₂ (λ (x y : ℕ). both (eqb x h) (eqb y c)) (owners m l) (classes m l)
-      go (no f) =
-          let g = le-of-not-below f in
-          ap (belongs h c) (List·getD-eq-default (t .table) blank (omega arith) ∙ sym (List·getD-eq-default (s .table) blank (omega arith)))
+-- ---- the frees keep which superblocks are a heap's
+pub freed-of-same : (s t : State) → length (s .table) ≡ 64 → length (t .table) ≡ 64 → OwnersKeptOrRunFreed s t → ((m : ℕ) → m < 64 → superblockAt t m .class ≡ superblockAt s m .class)
+    → (addresses : List ℕ) (h c : ℕ) → h < 254 → freedOf t addresses h c ≡ freedOf s addresses h c
+unfolding freedOf
+freed-of-same s t long long-after owners classes [] h c l = refl
+freed-of-same s t long long-after owners classes (a ∷ addresses) h c l =
+    ap₂ (λ (x : Bool) (n : ℕ). one x + n) (same-belongs s t owners long long-after classes h c (superblockIndex a) l) (freed-of-same s t long long-after owners classes addresses h c l)
 
-  pub freed-of-same : (addresses : List ℕ) (h c : ℕ) → freedOf t addresses h c ≡ freedOf s addresses h c
-  unfolding freedOf
-  freed-of-same [] h c = refl
-  freed-of-same (a ∷ addresses) h c = ap₂ (λ (x : Bool) (n : ℕ). one x + n) (same-belongs h c (superblockIndex a)) (freed-of-same addresses h c)
+-- ---- the blocks at the addresses
+-- one of the addresses is that of block b. A drop changes no class, so the state before it tells the block of each.
+abbrev pub ListsBlock : State → List ℕ → ℕ → Type 0
+ListsBlock s [] b = ⊥
+ListsBlock s (a ∷ addresses) b = (b ≡ blockNumber (superblockIndex a) (blockOf s a)) ⊎ ListsBlock s addresses b
+
+-- a block is listed in one state as in another with the same classes
+pub listed-same : (s t : State) → ((a : ℕ) → blockOf t a ≡ blockOf s a) → (addresses : List ℕ) (b : ℕ) → ListsBlock t addresses b → ListsBlock s addresses b
+listed-same s t same [] b h = h
+listed-same s t same (a ∷ addresses) b (inl e) = inl (e ∙ ap (blockNumber (superblockIndex a)) (same a))
+listed-same s t same (a ∷ addresses) b (inr h) = inr (listed-same s t same addresses b h)
 
 -- ---- an accepted address first, and then the others
 refusal-of-first-zero : (r n : ℕ) → pick (eqb r 0) n r ≡ 0 → (r ≡ 0) × (n ≡ 0)
@@ -114,87 +121,101 @@ pub first-refusal-of-cons : (s : State) (a : ℕ) (addresses : List ℕ) → fir
 unfolding firstAddressRefusal
 first-refusal-of-cons s a addresses e = refusal-of-first-zero (addressRefusal s a) (firstAddressRefusal (blockFreed s a) addresses) e
 
--- as many frees in another way of counting
-pub passed-after-frees-cong : (f g : ℕ → ℕ → ℕ) (s : State) (order : List ℕ) → ((h c : ℕ) → f h c ≡ g h c) → PassedAfterFrees f s order → PassedAfterFrees g s order
-passed-after-frees-cong f g s order same p =
-    record {
-      sound = record {
-        numbers = p .sound .numbers;
-        each = p .sound .each;
-        past-unused = p .sound .past-unused;
-        invariant = λ h c low high known. subst (λ (n : ℕ). InvariantBeforeFrees n h c s) (same h c) (p .sound .invariant h c low high known);
-        sparse = p .sound .sparse;
-      };
-      names = p .names;
-      totals = p .totals;
-      ranks = p .ranks;
-      room = p .room;
-    }
-
 -- ---- all of them
 -- what the frees leave of a state that passed before so many others
 pub record AllFreed (freed : ℕ → ℕ → ℕ) (s : State) (order addresses : List ℕ) : Type 0 where
   pub passed : PassedAfterFrees (λ h c. freed h c + freedOf s addresses h c) (allFreed s addresses) (allPushed s order addresses)
   pub shape : Shape (allFreed s addresses)
   pub setup : allFreed s addresses .setup ≡ s .setup
-  pub owners : (m : ℕ) → m < 64 → superblockAt (allFreed s addresses) m .owner ≡ superblockAt s m .owner
+  pub owners : OwnersKeptOrRunFreed s (allFreed s addresses)
   pub classes : (m : ℕ) → m < 64 → superblockAt (allFreed s addresses) m .class ≡ superblockAt s m .class
   pub owned : (d : ℕ) → superblocksOfClass d (allFreed s addresses) ≡ superblocksOfClass d s
 
 -- one more for the first of them, in the counts before and after it
-counted-with-first : (freed : ℕ → ℕ → ℕ) (s t : State) (a : ℕ) (addresses : List ℕ) → length (s .table) ≡ 64 → length (t .table) ≡ 64 → ((m : ℕ) → m < 64 → superblockAt t m .owner ≡ superblockAt s m .owner)
-    → ((m : ℕ) → m < 64 → superblockAt t m .class ≡ superblockAt s m .class) → (h c : ℕ)
+counted-with-first : (freed : ℕ → ℕ → ℕ) (s t : State) (a : ℕ) (addresses : List ℕ) → length (s .table) ≡ 64 → length (t .table) ≡ 64 → OwnersKeptOrRunFreed s t
+    → ((m : ℕ) → m < 64 → superblockAt t m .class ≡ superblockAt s m .class) → (h c : ℕ) → h < 254
     → oneMoreFreed (superblockHolding s a .owner) (superblockHolding s a .class) freed h c + freedOf t addresses h c ≡ freed h c + (one (belongs h c (superblockHolding s a)) + freedOf s addresses h c)
 unfolding oneMoreFreed belongs
-counted-with-first freed s t a addresses long long-after owners classes h c = omega (arith, freed-of-same s t long long-after owners classes addresses h c)
+counted-with-first freed s t a addresses long long-after owners classes h c l = omega (arith, freed-of-same s t long long-after owners classes addresses h c l)
 
 pub all-freed : (freed : ℕ → ℕ → ℕ) (s : State) (order addresses : List ℕ) → Shape s → PassedAfterFrees freed s order → firstAddressRefusal s addresses ≡ 0 → AllFreed freed s order addresses
 unfolding allFreed allPushed freedOf
 all-freed freed s order [] shape passed ok =
     record {
-      passed = passed-after-frees-cong freed (λ h c. freed h c + 0) s order (λ h c. omega arith) passed;
+      passed = passed-after-frees-cong freed (λ h c. freed h c + 0) s order (λ h c l. omega arith) passed;
       shape = shape;
       setup = refl;
-      owners = λ m l. refl;
+      owners = λ m l. inl refl;
       classes = λ m l. refl;
       owned = λ d. refl;
     }
 all-freed freed s order (a ∷ addresses) shape passed ok =
     let first = first-refusal-of-cons s a addresses ok in
-    let effect = block-freed-effect freed s order a shape passed (first .0) in
-    let owner-same = block-freed-owner freed s order a shape passed (first .0) in
-    let shape-after = block-freed-shape freed s order a shape passed (first .0) in
+    let here = address-freed freed s order a shape passed (first .0) in
     let more = oneMoreFreed (superblockHolding s a .owner) (superblockHolding s a .class) freed in
-    let rest = all-freed more (blockFreed s a) (orderPushed s order a) addresses shape-after (block-freed-passed freed s order a shape passed (first .0)) (first .1) in
+    let rest = all-freed more (blockFreed s a) (orderPushed s order a) addresses (here .shape) (here .passed) (first .1) in
     record {
-      passed = passed-after-frees-cong (λ h c. more h c + freedOf (blockFreed s a) addresses h c) (λ h c. freed h c + (one (belongs h c (superblockHolding s a)) + freedOf s addresses h c)) _ _ (counted-with-first freed s (blockFreed s a) a addresses (shape .length-is) (shape-after .length-is) owner-same (effect .classes)) (rest .passed);
+      passed = passed-after-frees-cong (λ h c. more h c + freedOf (blockFreed s a) addresses h c) (λ h c. freed h c + (one (belongs h c (superblockHolding s a)) + freedOf s addresses h c)) _ _ (counted-with-first freed s (blockFreed s a) a addresses (shape .length-is) (here .shape .length-is) (here .owners) (here .classes)) (rest .passed);
       shape = rest .shape;
-      setup = rest .setup ∙ effect .setup;
-      owners = λ m l. rest .owners m l ∙ owner-same m l;
-      classes = λ m l. rest .classes m l ∙ effect .classes m l;
-      owned = λ d. rest .owned d ∙ effect .owned d;
+      setup = rest .setup ∙ here .setup;
+      owners = owners-kept-or-run-freed-then s (blockFreed s a) (allFreed (blockFreed s a) addresses) (here .owners) (rest .owners);
+      classes = λ m l. rest .classes m l ∙ here .classes m l;
+      owned = λ d. rest .owned d ∙ here .owned d;
     }
 
--- each address of a drop that meets no refusal lies in the table, in a superblock that a heap owns, and the state before its free keeps its totals and ranks
+-- ---- for code
+-- the run that a superblock carries the length of ends in the table
+run-fits : (s : State) (k : ℕ) → RunsSound s → k < 64 → k + superblockAt s k .run ≤ 64
+run-fits s k sound l = go (isOfRun (superblockAt s k)) refl (ℕ-discrete (superblockAt s k .run) 0)
+  where
+    go : (t : Bool) → isOfRun (superblockAt s k) ≡ t → Dec (superblockAt s k .run ≡ 0) → k + superblockAt s k .run ≤ 64
+    go t e (yes q) = omega arith
+    go true e (no f) = sound .first-of-run k l e (pos-of-ne-zero f) .in-table
+    go false e (no f) = absurd (f (sound .outside-carries-0 k l e))
+
+-- the superblock at an address is in the table; where it is of no run, a heap and a class have it
+abbrev pub OfHeapAndClass : State → ℕ → Type 0
+OfHeapAndClass s a = (superblockHolding s a .owner < 9) × (superblockHolding s a .class < 27)
+
+-- .. in a state from which only runs were freed since, if it is there
+of-heap-and-class-before : (s t : State) (a : ℕ) → superblockIndex a < 64 → OwnersKeptOrRunFreed s t → ((m : ℕ) → m < 64 → superblockAt t m .class ≡ superblockAt s m .class)
+    → (isInRun t a ≡ false → OfHeapAndClass t a) → isInRun s a ≡ false → OfHeapAndClass s a
+unfolding isOfRun
+of-heap-and-class-before s t a l owners classes there outside = go (owners (superblockIndex a) l)
+  where
+    go : (superblockHolding t a .owner ≡ superblockHolding s a .owner) ⊎ ((superblockHolding s a .owner ≡ 254) × (superblockHolding t a .owner ≡ 255)) → OfHeapAndClass s a
+    go (inl e) =
+        let is = there (ap (λ (o : ℕ). eqb o 254) e ∙ outside) in
+        (subst (λ (h : ℕ). h < 9) e (is .0), subst (λ (c : ℕ). c < 27) (classes (superblockIndex a) l) (is .1))
+    go (inr (was, now)) = absurd (eqb-false (superblockHolding s a .owner) 254 outside was)
+
+-- each address of a drop that meets no refusal lies in the table, in a superblock that a heap owns where it was in no run before the drop; in the state before its free
+-- the run that may begin there ends in the table, and that state keeps its totals and ranks
 pub frees-in-table : (freed : ℕ → ℕ → ℕ) (s : State) (order addresses : List ℕ) → Shape s → PassedAfterFrees freed s order → firstAddressRefusal s addresses ≡ 0 → (i : ℕ) → i < length addresses
-    → (superblockIndex (getD addresses i 0) < 64) × (superblockHolding s (getD addresses i 0) .owner < 9) × (superblockHolding s (getD addresses i 0) .class < 27)
+    → (superblockIndex (getD addresses i 0) < 64) × (isInRun s (getD addresses i 0) ≡ false → OfHeapAndClass s (getD addresses i 0))
+    × (superblockIndex (getD addresses i 0) + superblockHolding (allFreed s (take i addresses)) (getD addresses i 0) .run ≤ 64)
     × TotalsKept (allFreed s (take i addresses)) × RanksFit (allFreed s (take i addresses))
 unfolding allFreed
 frees-in-table freed s order [] shape passed ok i l = absurd (let z : ⊥ = omega arith in z)
 frees-in-table freed s order (a ∷ addresses) shape passed ok zero l =
-    let first = first-refusal-of-cons s a addresses ok in (
-      freed-superblock-lt-64 freed s order a shape passed (first .0),
-      omega (arith, freed-superblock-owner-le freed s order a shape passed (first .0), passed .sound .numbers .processors-high),
-      block-freed-effect freed s order a shape passed (first .0) .class-lt-27,
+    let first = first-refusal-of-cons s a addresses ok in
+    let below = address-freed freed s order a shape passed (first .0) .below in (
+      below,
+      λ outside. (
+        omega (arith, freed-superblock-owner-le freed s order a shape passed (first .0) outside, passed .sound .numbers .processors-high),
+        small-block-freed-effect freed s order a shape passed (first .0) outside .class-lt-27,
+      ),
+      run-fits s (superblockIndex a) (runs-sound-of-valid s (shape .length-is) (passed .runs)) below,
       passed .totals,
       ranks-fit-of-sound s (passed .ranks),
     )
 frees-in-table freed s order (a ∷ addresses) shape passed ok (suc i) l =
     let first = first-refusal-of-cons s a addresses ok in
-    let rest = frees-in-table _ (blockFreed s a) (orderPushed s order a) addresses (block-freed-shape freed s order a shape passed (first .0)) (block-freed-passed freed s order a shape passed (first .0)) (first .1) i (omega arith) in (
+    let here = address-freed freed s order a shape passed (first .0) in
+    let rest = frees-in-table _ (blockFreed s a) (orderPushed s order a) addresses (here .shape) (here .passed) (first .1) i (omega arith) in (
       rest .0,
-      subst (λ (h : ℕ). h < 9) (block-freed-owner freed s order a shape passed (first .0) (superblockIndex (getD addresses i 0)) (rest .0)) (rest .1),
-      subst (λ (c : ℕ). c < 27) (block-freed-effect freed s order a shape passed (first .0) .classes (superblockIndex (getD addresses i 0)) (rest .0)) (rest .2),
+      of-heap-and-class-before s (blockFreed s a) (getD addresses i 0) (rest .0) (here .owners) (here .classes) (rest .1),
+      rest .2,
       rest .3,
       rest .4,
     )

@@ -11,10 +11,11 @@ use Rattle.laws.specs.Sums.{pick, both}
 use Rattle.laws.proofs.TestLaws.{T-of-true, true-of-T, both-left, both-right}
 use Rattle.heap.specs.declared.State.{State}
 use Rattle.checkrules.specs.Check.{withinLimits, restValid, passes}
-use Rattle.heaplaws.proofs.StateCheckLaws.{passes-of-sound, sound-of-limits-and-rest, names-valid-of-rest, totals-kept-of-rest, ranks-valid-of-rest}
+use Rattle.heaplaws.proofs.StateCheckLaws.{passes-of-sound, sound-of-limits-and-rest, names-valid-of-rest, totals-kept-of-rest, ranks-valid-of-rest, runs-valid-of-rest}
 use Rattle.heap.specs.Ranks.{reranked}
 use Rattle.heaplaws.proofs.StateFacts.{RanksSound}
 use Rattle.heaplaws.proofs.RerankedLaws.{reranked-sound, reranked-names-valid, reranked-totals-kept}
+use Rattle.heaplaws.proofs.RunsKeptLaws.{reranked-runs-valid}
 use Rattle.heaplaws.proofs.RankLaws.{ranks-sound-of-valid, ranks-valid-of-sound}
 use Rattle.calllaws.proofs.CallEffects.{Passed}
 use Rattle.calls.specs.Answers.{After, refused, checked, isProcessor}
@@ -24,7 +25,7 @@ checked-by-tests : (s : State) (order : List ℕ) (next : After) (a b c : Bool) 
     → ((r : ℕ) × (pick a (pick b (pick c next (refused 13 s order)) (refused 12 s order)) (refused 13 s order) ≡ refused r s order))
     ⊎ (Passed s order × (pick a (pick b (pick c next (refused 13 s order)) (refused 12 s order)) (refused 13 s order) ≡ next))
 checked-by-tests s order next true true true e f g =
-    inr (record { sound = sound-of-limits-and-rest s order (T-of-true (withinLimits (s .setup)) e) (T-of-true (restValid s order) g); names = names-valid-of-rest s order (T-of-true (restValid s order) g); totals = totals-kept-of-rest s order (T-of-true (restValid s order) g); ranks = ranks-sound-of-valid s (ranks-valid-of-rest s order (T-of-true (restValid s order) g)); room = leb-true (s .setup .superblocks * 256) (length order) f }, refl)
+    inr (record { sound = sound-of-limits-and-rest s order (T-of-true (withinLimits (s .setup)) e) (T-of-true (restValid s order) g); names = names-valid-of-rest s order (T-of-true (restValid s order) g); totals = totals-kept-of-rest s order (T-of-true (restValid s order) g); ranks = ranks-sound-of-valid s (ranks-valid-of-rest s order (T-of-true (restValid s order) g)); runs = runs-valid-of-rest s order (T-of-true (restValid s order) g); room = leb-true (s .setup .superblocks * 256) (length order) f }, refl)
 checked-by-tests s order next true true false e f g = inl (13, refl)
 checked-by-tests s order next true false c e f g = inl (12, refl)
 checked-by-tests s order next false b c e f g = inl (13, refl)
@@ -40,6 +41,7 @@ passed-of-passes s order e room =
       names = names-valid-of-rest s order rest;
       totals = totals-kept-of-rest s order rest;
       ranks = ranks-sound-of-valid s (ranks-valid-of-rest s order rest);
+      runs = runs-valid-of-rest s order rest;
       room = room;
     }
 
@@ -51,7 +53,7 @@ checked-refused-or-passed s order next = checked-by-tests s order next (withinLi
 pub checked-is-next-of-passed : (s : State) (order : List ℕ) (next : After) → Passed s order → checked s order next ≡ next
 unfolding checked passes
 checked-is-next-of-passed s order next p =
-    let t : T (both (withinLimits (s .setup)) (restValid s order)) = passes-of-sound s order (p .sound) (p .names) (p .totals) (ranks-valid-of-sound s (p .ranks)) in
+    let t : T (both (withinLimits (s .setup)) (restValid s order)) = passes-of-sound s order (p .sound) (p .names) (p .totals) (ranks-valid-of-sound s (p .ranks)) (p .runs) in
     simp (
       true-of-T (withinLimits (s .setup)) (both-left (withinLimits (s .setup)) (restValid s order) t),
       le-leb (s .setup .superblocks * 256) (length order) (p .room),
@@ -78,4 +80,11 @@ bounds-of-is-processor s i t = (leb→le 1 i (both-left (leb 1 i) (leb i (s .set
 -- the state with other ranks passes, where these are a ranking
 pub reranked-passed : (rank : ℕ → ℕ) (s : State) (order : List ℕ) → length (s .table) ≡ 64 → Passed s order → RanksSound (reranked rank s) → Passed (reranked rank s) order
 reranked-passed rank s order long p ranks =
-    record { sound = reranked-sound rank s long order (p .sound); names = reranked-names-valid rank s long (p .names); totals = reranked-totals-kept rank s (p .totals); ranks = ranks; room = p .room }
+    record {
+      sound = reranked-sound rank s long order (p .sound);
+      names = reranked-names-valid rank s long (p .names);
+      totals = reranked-totals-kept rank s (p .totals);
+      ranks = ranks;
+      runs = reranked-runs-valid rank s long (p .runs);
+      room = p .room;
+    }

@@ -9,28 +9,28 @@ use native.Mathlib.Omega.{arith}
 use borrow.Author.Tests.{eqb-true, eqb-false}
 use lib.ListN.{length, getD, take}
 use lib.Dec.{T, eqb}
-use Rattle.laws.specs.Sums.{pick, one, sumBelow}
+use Rattle.laws.specs.Sums.{pick, sumBelow}
 use Rattle.laws.proofs.TestLaws.{T-of-true}
-use Rattle.laws.proofs.SumLaws.{sum-cong}
 use Rattle.heap.specs.declared.Superblock.{Superblock}
 use Rattle.heap.specs.declared.Setup.{Setup}
 use Rattle.heap.specs.declared.State.{State}
 use Rattle.heap.specs.Table.{superblockAt, withOwner}
-use Rattle.heap.specs.Counts.{superblocksOfClass, ownersChanged}
+use Rattle.heap.specs.Counts.{superblocksOfClass, passedBetweenHeaps}
 use Rattle.heap.specs.Totals.{TotalsKept}
 use Rattle.heap.specs.Ranks.{RanksFit}
 use Rattle.checkrules.specs.Check.{passes}
 use Rattle.heaplaws.proofs.StateFacts.{Shape}
+use Rattle.heaplaws.proofs.PassedBetweenHeapsLaws.{passed-between-heaps-is-owners-changed, passed-between-heaps-from-same}
 use Rattle.calls.specs.declared.Outcome.the-variants.{Moves}
 use Rattle.calls.specs.Answers.{After, refused, isProcessor}
-use Rattle.calls.specs.Free.{superblockIndex, superblockHolding}
+use Rattle.calls.specs.Free.{superblockIndex, superblockHolding, isInRun}
 use Rattle.calls.specs.Drop.{allFreed, allPushed, firstAddressRefusal, isTouched, dropMoves, droppedAll, dropUnchecked, dropOf}
 use Rattle.calls.specs.DropLoops.{heapsRestored}
 use Rattle.calls.proofs.TouchedPairLaws.{drop-moves-by-heaps}
 use Rattle.calllaws.proofs.CallEffects.{Passed, PassedAfterFrees}
 use Rattle.calllaws.proofs.CheckedLaws.{checked-refused-or-passed, bounds-of-is-processor, passed-of-passes}
-use Rattle.calllaws.proofs.TransferredLaws.{passed-after-no-frees, passed-of-no-frees-left}
-use Rattle.calllaws.proofs.AllFreedLaws.{freedOf, freed-of-untouched, freed-of-heaps-le-length, AllFreed, all-freed, passed-after-frees-cong, frees-in-table}
+use Rattle.calllaws.proofs.TransferredLaws.{passed-after-no-frees, passed-of-no-frees-left, passed-after-frees-cong}
+use Rattle.calllaws.proofs.AllFreedLaws.{freedOf, freed-of-untouched, freed-of-heaps-le-length, AllFreed, all-freed, OfHeapAndClass, frees-in-table}
 use Rattle.calllaws.proofs.DropTransfersLaws.{Transfers, PairsRestored, all-pairs-restored}
 
 -- an accepted drop: the state passes, the processor is in range, there is an address, and the frees one by one meet no refusal
@@ -68,16 +68,18 @@ drop-refused-or-accepted s order i addresses = by-check (checked-refused-or-pass
     by-check (inl r) = inl r
     by-check (inr (passed, e)) = by-tests (isProcessor s i) (eqb (length addresses) 0) (eqb (firstAddressRefusal s addresses) 0) refl refl refl passed e
 
--- what an accepted drop does to owners and classes: the superblocks of the blocks' heaps and classes that its moves passed to heap 0, and nothing else
+-- what an accepted drop does to owners and classes: the superblocks of the blocks' heaps and classes that its moves passed to heap 0, those of the runs that it
+-- freed, and nothing else
 pub record DropEffect (addresses : List ℕ) (moves : ℕ) (s t : State) : Type 0 where
   pub setup : t .setup ≡ s .setup
   pub classes : (k : ℕ) → k < 64 → superblockAt t k .class ≡ superblockAt s k .class
-  -- an owner stays, or was a processor heap's that lost a block of that class, and is 0
+  -- an owner stays, or was a processor heap's that lost a block of that class, and is 0, or was a run's, and the superblock is unused
   pub owners : (k : ℕ) → k < 64
       → (superblockAt t k .owner ≡ superblockAt s k .owner)
-      ⊎ ((0 < superblockAt s k .owner) × (superblockAt s k .owner < 255) × T (isTouched s addresses (superblockAt s k .owner) (superblockAt s k .class)) × (superblockAt t k .owner ≡ 0))
-  -- "an accepted one changes exactly as many owners as it reports moves"
-  pub changed : ownersChanged s t ≡ moves
+      ⊎ (((0 < superblockAt s k .owner) × (superblockAt s k .owner < 254) × T (isTouched s addresses (superblockAt s k .owner) (superblockAt s k .class)) × (superblockAt t k .owner ≡ 0))
+      ⊎ ((superblockAt s k .owner ≡ 254) × (superblockAt t k .owner ≡ 255)))
+  -- "an accepted one changes exactly as many owners as it reports moves", where "the q and reported moves of a free or drop [count] only those that pass between heaps" (item 7)
+  pub passed-between-heaps : passedBetweenHeaps s t ≡ moves
   -- "a drop moves at most q superblocks for each address"
   pub moves-bound : moves ≤ s .setup .q * length addresses
   pub owned : (d : ℕ) → superblocksOfClass d t ≡ superblocksOfClass d s
@@ -88,7 +90,7 @@ module _ (s : State) (order addresses : List ℕ) (shape : Shape s) (start : Pas
   drop-frees = all-freed (λ h c. 0) s order addresses shape (passed-after-no-frees s order start) ok
 
   freed-passed : PassedAfterFrees (freedOf s addresses) (allFreed s addresses) (allPushed s order addresses)
-  freed-passed = passed-after-frees-cong (λ h c. 0 + freedOf s addresses h c) (freedOf s addresses) (allFreed s addresses) (allPushed s order addresses) (λ h c. omega arith) (drop-frees .passed)
+  freed-passed = passed-after-frees-cong (λ h c. 0 + freedOf s addresses h c) (freedOf s addresses) (allFreed s addresses) (allPushed s order addresses) (λ h c l. omega arith) (drop-frees .passed)
 
   -- ---- the moves
   abbrev bound : ℕ
@@ -125,20 +127,34 @@ module _ (s : State) (order addresses : List ℕ) (shape : Shape s) (start : Pas
   abbrev after : State
   after = dropMoves s addresses .state
 
-  -- the frees change no owner
-  owners-changed-by-moves : ownersChanged s after ≡ ownersChanged before after
-  unfolding ownersChanged
-  owners-changed-by-moves =
-      sum-cong (λ k. one (not (eqb (superblockAt s k .owner) (superblockAt after k .owner)))) (λ k. one (not (eqb (superblockAt before k .owner) (superblockAt after k .owner)))) 64
-      (λ k l. ap (λ (x : ℕ). one (not (eqb x (superblockAt after k .owner)))) (sym (drop-frees .owners k l)))
+  abbrev Each : ℕ → Type 0
+  Each k =
+      (superblockAt after k ≡ superblockAt before k)
+      ⊎ ((0 < superblockAt before k .owner) × (superblockAt before k .owner < 254) × T (isTouched s addresses (superblockAt before k .owner) (superblockAt before k .class)) × (superblockAt after k ≡ withOwner 0 (superblockAt before k)))
+
+  -- no superblock passes between heaps by the frees, and one that a move passes on was a heap's and is heap 0's
+  passed-by-moves : passedBetweenHeaps s after ≡ dropMoves s addresses .moves
+  passed-by-moves =
+      passed-between-heaps-from-same s before after (λ k l. same-heap k (drop-frees .owners k l))
+      ∙ passed-between-heaps-is-owners-changed before after (λ k l. of-heaps k (drop-transfers .each k l))
+      ∙ drop-transfers .changed
+    where
+      same-heap : (k : ℕ) → (superblockAt before k .owner ≡ superblockAt s k .owner) ⊎ ((superblockAt s k .owner ≡ 254) × (superblockAt before k .owner ≡ 255))
+          → (superblockAt s k .owner ≡ superblockAt before k .owner) ⊎ ((254 ≤ superblockAt s k .owner) × (254 ≤ superblockAt before k .owner))
+      same-heap k (inl e) = inl (sym e)
+      same-heap k (inr (was, now)) = inr (omega arith, omega arith)
+
+      of-heaps : (k : ℕ) → Each k → (superblockAt after k .owner ≡ superblockAt before k .owner) ⊎ ((superblockAt before k .owner < 254) × (superblockAt after k .owner < 254))
+      of-heaps k (inl e) = inl (ap (λ (b : Superblock). b .owner) e)
+      of-heaps k (inr w) = let zero : superblockAt after k .owner ≡ 0 = ap (λ (b : Superblock). b .owner) (w .3) in inr (w .1, omega arith)
 
   pub dropped-effect : DropEffect addresses (dropMoves s addresses .moves) s (dropMoves s addresses .state)
   dropped-effect =
       record {
         setup = dropped-setup;
-        classes = λ k l. class-kept k l (drop-transfers .each k l) ∙ drop-frees .classes k l;
-        owners = λ k l. owner-kept-or-0 k l (drop-transfers .each k l);
-        changed = owners-changed-by-moves ∙ drop-transfers .changed;
+        classes = λ k l. class-kept k (drop-transfers .each k l) ∙ drop-frees .classes k l;
+        owners = λ k l. owner-now k l (drop-transfers .each k l) (drop-frees .owners k l);
+        passed-between-heaps = passed-by-moves;
         moves-bound =
             let few = subst (λ (u : Setup). dropMoves s addresses .moves ≤ u .q * bound) (drop-frees .setup) (restored .moves-bound) in
             let all = mul-le-mul-left (s .setup .q) (freed-of-heaps-le-length s (s .setup .processors) addresses) in
@@ -146,26 +162,24 @@ module _ (s : State) (order addresses : List ℕ) (shape : Shape s) (start : Pas
         owned = λ d. drop-transfers .owned d ∙ drop-frees .owned d;
       }
     where
-      Each : ℕ → Type 0
-      Each k =
-          (superblockAt after k ≡ superblockAt before k)
-          ⊎ ((0 < superblockAt before k .owner) × (superblockAt before k .owner < 255) × T (isTouched s addresses (superblockAt before k .owner) (superblockAt before k .class)) × (superblockAt after k ≡ withOwner 0 (superblockAt before k)))
+      class-kept : (k : ℕ) → Each k → superblockAt after k .class ≡ superblockAt before k .class
+      class-kept k (inl e) = ap (λ (b : Superblock). b .class) e
+      class-kept k (inr w) = ap (λ (b : Superblock). b .class) (w .3)
 
-      class-kept : (k : ℕ) → k < 64 → Each k → superblockAt after k .class ≡ superblockAt before k .class
-      class-kept k l (inl e) = ap (λ (b : Superblock). b .class) e
-      class-kept k l (inr w) = ap (λ (b : Superblock). b .class) (w .3)
-
-      owner-kept-or-0 : (k : ℕ) → k < 64 → Each k
+      owner-now : (k : ℕ) → k < 64 → Each k → (superblockAt before k .owner ≡ superblockAt s k .owner) ⊎ ((superblockAt s k .owner ≡ 254) × (superblockAt before k .owner ≡ 255))
           → (superblockAt after k .owner ≡ superblockAt s k .owner)
-          ⊎ ((0 < superblockAt s k .owner) × (superblockAt s k .owner < 255) × T (isTouched s addresses (superblockAt s k .owner) (superblockAt s k .class)) × (superblockAt after k .owner ≡ 0))
-      owner-kept-or-0 k l (inl e) = inl (ap (λ (b : Superblock). b .owner) e ∙ drop-frees .owners k l)
-      owner-kept-or-0 k l (inr w) =
-          inr (
-            subst (λ (o : ℕ). 0 < o) (drop-frees .owners k l) (w .0),
-            subst (λ (o : ℕ). o < 255) (drop-frees .owners k l) (w .1),
-            subst (λ (o : ℕ). T (isTouched s addresses o (superblockAt s k .class))) (drop-frees .owners k l) (subst (λ (c : ℕ). T (isTouched s addresses (superblockAt before k .owner) c)) (drop-frees .classes k l) (w .2)),
+          ⊎ (((0 < superblockAt s k .owner) × (superblockAt s k .owner < 254) × T (isTouched s addresses (superblockAt s k .owner) (superblockAt s k .class)) × (superblockAt after k .owner ≡ 0))
+          ⊎ ((superblockAt s k .owner ≡ 254) × (superblockAt after k .owner ≡ 255)))
+      owner-now k l (inl e) (inl q) = inl (ap (λ (b : Superblock). b .owner) e ∙ q)
+      owner-now k l (inl e) (inr (was, now)) = inr (inr (was, ap (λ (b : Superblock). b .owner) e ∙ now))
+      owner-now k l (inr w) (inl q) =
+          inr (inl (
+            subst (λ (o : ℕ). 0 < o) q (w .0),
+            subst (λ (o : ℕ). o < 254) q (w .1),
+            subst (λ (o : ℕ). T (isTouched s addresses o (superblockAt s k .class))) q (subst (λ (c : ℕ). T (isTouched s addresses (superblockAt before k .owner) c)) (drop-frees .classes k l) (w .2)),
             ap (λ (b : Superblock). b .owner) (w .3),
-          )
+          ))
+      owner-now k l (inr w) (inr (was, now)) = absurd (let z : ⊥ = omega (arith, w .1) in z)
 
 -- ---- of the call
 module _ (s : State) (order : List ℕ) (i : ℕ) (addresses : List ℕ) (shape : Shape s) (acc : DropAccepted s order i addresses) where
@@ -192,8 +206,10 @@ module _ (s : State) (order : List ℕ) (i : ℕ) (addresses : List ℕ) (shape 
       subst (λ (t : State). Passed t (dropOf s order i addresses .order)) (sym drop-state-is)
       (subst (λ (l : List ℕ). Passed (dropMoves s addresses .state) l) (sym drop-order-is) (dropped-passed s order addresses shape (acc .passed) (acc .no-refusal)))
 
--- ---- for code: each address of an accepted drop lies in the table, and the state before its free keeps totals and ranks
+-- ---- for code: each address of an accepted drop lies in the table, in a superblock of a heap and class where it was in no run before the drop, and in the state before its
+-- free the run that may begin there ends in the table, and that state keeps totals and ranks
 pub frees-safe : (s : State) (order addresses : List ℕ) → Shape s → passes s order ≡ true → s .setup .superblocks * 256 ≤ length order → firstAddressRefusal s addresses ≡ 0 → (i : ℕ) → i < length addresses
-    → (superblockIndex (getD addresses i 0) < 64) × (superblockHolding s (getD addresses i 0) .owner < 9) × (superblockHolding s (getD addresses i 0) .class < 27)
+    → (superblockIndex (getD addresses i 0) < 64) × (isInRun s (getD addresses i 0) ≡ false → OfHeapAndClass s (getD addresses i 0))
+    × (superblockIndex (getD addresses i 0) + superblockHolding (allFreed s (take i addresses)) (getD addresses i 0) .run ≤ 64)
     × TotalsKept (allFreed s (take i addresses)) × RanksFit (allFreed s (take i addresses))
 frees-safe s order addresses shape e room ok i l = frees-in-table (λ h c. 0) s order addresses shape (passed-after-no-frees s order (passed-of-passes s order e room)) ok i l

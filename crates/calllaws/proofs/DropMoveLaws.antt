@@ -13,10 +13,11 @@ use Rattle.heaplaws.proofs.MovesKeepLaws.{length-of-invariant-restored, totals-
 use Rattle.heaplaws.proofs.OutsideGlobalLaws.{outsideGlobal, outside-global-le-64, movesAndOutsideGlobal, moves-leave-heaps}
 use Rattle.laws.proofs.ListedLaws.{length-listed}
 use Rattle.heap.specs.Ranks.{rankedLatest}
-use Rattle.calls.specs.Free.{superblockIndex, markCleared, blockFreed}
+use Rattle.calls.specs.Free.{superblockIndex, superblockHolding, isInRun, markCleared, smallBlockFreed, longBlockFreed, blockFreed}
 use Rattle.calls.specs.Drop.{allFreed, isTouched, thenRestored, dropMoves}
 use Rattle.calls.specs.DropLoops.{classesRestored, heapsRestored}
 use Rattle.calls.proofs.TouchedPairLaws.{drop-moves-by-heaps}
+use Rattle.calllaws.proofs.RunEffectLaws.{run-freed-keeps-rest}
 
 -- ---- what the move rule of one heap and class keeps, that of all touched keeps
 module _ (P : Moved → Type 0) (kept : (h c : ℕ) (before : Moved) → P before → P (thenRestored h c before)) (touched : ℕ → ℕ → Bool) where
@@ -65,15 +66,17 @@ drop-moves-le-64 s addresses long =
     (omega (arith, heaps-restored-leave-heaps (isTouched s addresses) (s .setup .processors) (record { moves = 0; state = allFreed s addresses }) long, outside-global-le-64 (allFreed s addresses)))
 
 -- ---- the table has 64 superblocks
--- ranking a superblock makes a table of 64
-pub length-of-block-freed : (s : State) (a : ℕ) → length (blockFreed s a .table) ≡ 64
-unfolding blockFreed markCleared rankedLatest
-length-of-block-freed s a = length-set (rankedLatest (superblockIndex a) s .table) (superblockIndex a) _ ∙ length-listed _ 64
+-- ranking a superblock makes a table of 64, and a run's superblocks are replaced one by one
+pub length-of-block-freed : (s : State) (a : ℕ) → length (s .table) ≡ 64 → length (blockFreed s a .table) ≡ 64
+unfolding blockFreed longBlockFreed smallBlockFreed markCleared rankedLatest
+length-of-block-freed s a long =
+    pick-elim (λ (t : State). length (t .table) ≡ 64) (isInRun s a) (longBlockFreed s a) (smallBlockFreed s a) (λ e. run-freed-keeps-rest (superblockIndex a) (superblockHolding s a .run) s .length-is long)
+    (λ e. length-set (rankedLatest (superblockIndex a) s .table) (superblockIndex a) _ ∙ length-listed _ 64)
 
 pub length-of-all-freed : (s : State) (addresses : List ℕ) → length (s .table) ≡ 64 → length (allFreed s addresses .table) ≡ 64
 unfolding allFreed
 length-of-all-freed s [] long = long
-length-of-all-freed s (a ∷ addresses) long = length-of-all-freed (blockFreed s a) addresses (length-of-block-freed s a)
+length-of-all-freed s (a ∷ addresses) long = length-of-all-freed (blockFreed s a) addresses (length-of-block-freed s a long)
 
 pub length-of-drop-moves : (s : State) (addresses : List ℕ) → length (s .table) ≡ 64 → length (dropMoves s addresses .state .table) ≡ 64
 unfolding thenRestored

@@ -1,23 +1,24 @@
 -- Each refusal of a drop, by its number, given exactly if its condition holds and none before it: "16, count 0, right after 2", and "the refusal of its first
 -- bad address" (document 02, item 5). Assumes nothing.
-use mathlib.Core.Path.{_≡_, refl, sym, ap, _∙_, subst}
+use mathlib.Core.Path.{_≡_, refl, sym, ap, ap₂, _∙_, subst}
 use mathlib.Core.Bool.{Bool, true, false, not}
 use mathlib.Core.Logic.{_↔_, _⊎_, inl, inr}
 use mathlib.Core.List.{List, [], _∷_, _++_}
-use Prim.Native.Nat.{ℕ, _*_, _%_, _≤_, _<_}
-use native.Mathlib.Decide.{ℕ-discrete}
+use Prim.Native.Nat.{ℕ, _*_, _≤_, _<_}
+use native.Mathlib.Decide.{ℕ-discrete, decLt}
 use native.Mathlib.Omega.{arith}
-use borrow.Author.Tests.{eqb-true, eqb-false, eq-eqb, ne-eqb}
+use borrow.Author.Tests.{eqb-true, eqb-false, eq-eqb, ne-eqb, lt-ltb}
 use lib.ListN.{length, length-append}
 use lib.Dec.{eqb}
 use Rattle.laws.specs.Sums.{pick}
 use Rattle.laws.proofs.Decides.{Decides, true-of-decides, false-of-decides, decides}
 use Rattle.laws.proofs.TestLaws.{pick-true, pick-false}
-use Rattle.classes.specs.Classes.{sizeOf, blocksOf}
-use Rattle.marks.specs.Marks.{markBit}
-use Rattle.marklaws.proofs.MarkLaws.{mark-bit-one-of-mark, mark-bit-zero-of-no-mark, mark-of-mark-bit-one, no-mark-of-mark-bit-zero}
+use Rattle.marks.specs.Marks.{markBit, noMarks}
+use Rattle.marklaws.proofs.MarkLaws.{mark-bit-one-of-mark, mark-bit-zero-of-no-mark, mark-of-mark-bit-one, no-mark-of-mark-bit-zero, with-mark-same}
 use Rattle.heap.specs.declared.State.{State}
+use Rattle.heap.specs.Table.{startsRun, liveBlocks}
 use Rattle.heaplaws.proofs.StateFacts.{Unused}
+use Rattle.heaplaws.proofs.RunsKeptLaws.{of-run-of-owner, live-blocks-of-first}
 use Rattle.calls.specs.declared.Outcome.the-variants.{Refused}
 use Rattle.calls.specs.Answers.{After, refused, isProcessor}
 use Rattle.calls.specs.Free.{offsetOf, superblockHolding, blockOf, isUnmapped, isMisaligned, isLiveAt, addressRefusal, blockFreed}
@@ -25,25 +26,25 @@ use Rattle.calls.specs.Drop.{allFreed, firstAddressRefusal, droppedAll, dropUnc
 use Rattle.calls.proofs.AddressRefusalLaws.{address-refusal-is-0-5-6-or-7, address-refusal-5, address-refusal-6, address-refusal-7, no-refusal-of-live-block}
 use Rattle.calllaws.proofs.CallEffects.{Passed}
 use Rattle.calllaws.proofs.CheckedLaws.{checked-is-next-of-passed}
+use Rattle.calllaws.proofs.AddressLaws.{block-of-offset-0}
 use Rattle.calllaws.proofs.AllFreedLaws.{first-refusal-of-cons}
-use Rattle.calllaws.proofs.RefusalConditions.{CheckFails, StorageShort, IsProcessor, NotProcessor, Mapped, ConditionOf, condition-by-number, refused-iff-condition, condition-at-number, moves-not-refused, decides-processor, decides-is-unmapped, decides-is-misaligned, checked-refused, check-fails-refused-13, storage-short-refused-12}
+use Rattle.calllaws.proofs.RefusalConditions.{CheckFails, StorageShort, IsProcessor, NotProcessor, Mapped, OffBlock, inside-run, OnBlock, on-run-start, ConditionOf, condition-by-number, refused-iff-condition, condition-at-number, moves-not-refused, decides-processor, decides-is-unmapped, decides-is-misaligned, checked-refused, check-fails-refused-13, storage-short-refused-12}
 
 -- ---- the refusal of an address, in any state
 -- 5: "address at or past N × 4096, or in an unused superblock"
 abbrev pub AddressUnmapped : State → ℕ → Type 0
 AddressUnmapped s a = (s .setup .superblocks * 4096 ≤ a) ⊎ Unused (superblockHolding s a)
 
--- 6: "offset in the superblock is no multiple of the block size, or block n or above"
+-- 6: "offset in the superblock is no multiple of the block size, or block n or above"; of a run "any other address in it is off-block" (item 7)
 pub record AddressMisaligned (s : State) (a : ℕ) : Type 0 where
   pub mapped : Mapped s a
-  pub misaligned : (offsetOf a % sizeOf (superblockHolding s a .class) ≡ 0 → ⊥) ⊎ (blocksOf (superblockHolding s a .class) ≤ blockOf s a)
+  pub misaligned : OffBlock s a
 
--- a block starts there, and its mark is this: 0 is 7, "the block is not live", and 1 is no refusal
+-- a block starts there, and this tells whether it is live: 0 is 7, "the block is not live", and 1 is no refusal
 pub record BlockStarts (mark : ℕ) (s : State) (a : ℕ) : Type 0 where
   pub mapped : Mapped s a
-  pub multiple : offsetOf a % sizeOf (superblockHolding s a .class) ≡ 0
-  pub block : blockOf s a < blocksOf (superblockHolding s a .class)
-  pub mark-is : markBit (superblockHolding s a .live) (blockOf s a) ≡ mark
+  pub aligned : OnBlock s a
+  pub mark-is : markBit (liveBlocks (superblockHolding s a)) (blockOf s a) ≡ mark
 
 -- what the number says of the address
 abbrev pub addressRefusals : State → ℕ → List (ℕ × Type 0)
@@ -54,20 +55,17 @@ module _ (s : State) (a : ℕ) where
   unfolding addressRefusal isLiveAt
   condition-of-address-refusal = go (isUnmapped s a) (isMisaligned s a) (isLiveAt s a) (decides-is-unmapped s [] 0 a) (decides-is-misaligned s [] 0 a) refl
     where
-      go : (w o l : Bool) → Decides w (AddressUnmapped s a) (Mapped s a)
-          → Decides o ((offsetOf a % sizeOf (superblockHolding s a .class) ≡ 0 → ⊥) ⊎ (blocksOf (superblockHolding s a .class) ≤ blockOf s a)) ((offsetOf a % sizeOf (superblockHolding s a .class) ≡ 0) × (blockOf s a < blocksOf (superblockHolding s a .class)))
-          → isLiveAt s a ≡ l → ConditionOf (addressRefusals s a) (pick w 5 (pick o 6 (pick l 0 7)))
+      go : (w o l : Bool) → Decides w (AddressUnmapped s a) (Mapped s a) → Decides o (OffBlock s a) (OnBlock s a) → isLiveAt s a ≡ l → ConditionOf (addressRefusals s a) (pick w 5 (pick o 6 (pick l 0 7)))
       go true o l dw d e = dw .says
       go false true l dw d e = record { mapped = dw .says; misaligned = d .says }
-      go false false true dw d e = record { mapped = dw .says; multiple = d .says .0; block = d .says .1; mark-is = mark-bit-one-of-mark (superblockHolding s a .live) (blockOf s a) e }
-      go false false false dw d e = record { mapped = dw .says; multiple = d .says .0; block = d .says .1; mark-is = mark-bit-zero-of-no-mark (superblockHolding s a .live) (blockOf s a) e }
+      go false false true dw d e = record { mapped = dw .says; aligned = d .says; mark-is = mark-bit-one-of-mark (liveBlocks (superblockHolding s a)) (blockOf s a) e }
+      go false false false dw d e = record { mapped = dw .says; aligned = d .says; mark-is = mark-bit-zero-of-no-mark (liveBlocks (superblockHolding s a)) (blockOf s a) e }
 
-  module _ (block : (offsetOf a % sizeOf (superblockHolding s a .class) ≡ 0) × (blockOf s a < blocksOf (superblockHolding s a .class))) (mapped : Mapped s a) where
-    is-mapped : isUnmapped s a ≡ false
-    is-mapped = false-of-decides (decides-is-unmapped s [] 0 a) mapped
+  is-mapped : Mapped s a → isUnmapped s a ≡ false
+  is-mapped = false-of-decides (decides-is-unmapped s [] 0 a)
 
-    is-aligned : isMisaligned s a ≡ false
-    is-aligned = false-of-decides (decides-is-misaligned s [] 0 a) block
+  is-aligned : OnBlock s a → isMisaligned s a ≡ false
+  is-aligned = false-of-decides (decides-is-misaligned s [] 0 a)
 
   -- an address meets refusal r, or none for 0, exactly if that holds of it
   pub address-refusal-iff-condition : (r : ℕ) → (addressRefusal s a ≡ r) ↔ ConditionOf (addressRefusals s a) r
@@ -75,14 +73,59 @@ module _ (s : State) (a : ℕ) where
   address-refusal-iff-condition r = (
     λ e. subst (ConditionOf (addressRefusals s a)) e condition-of-address-refusal,
     condition-by-number (λ n. addressRefusal s a ≡ n) (addressRefusals s a)
-        (λ h. no-refusal-of-live-block s a (is-mapped (h .multiple, h .block) (h .mapped)) (is-aligned (h .multiple, h .block) (h .mapped)) (mark-of-mark-bit-one (superblockHolding s a .live) (blockOf s a) (h .mark-is)))
+        (λ h. no-refusal-of-live-block s a (is-mapped (h .mapped)) (is-aligned (h .aligned)) (mark-of-mark-bit-one (liveBlocks (superblockHolding s a)) (blockOf s a) (h .mark-is)))
         (λ h. sym (address-refusal-5 s a (isUnmapped s a) refl (true-of-decides (decides-is-unmapped s [] 0 a) h)))
-        (λ h. sym (address-refusal-6 s a (isUnmapped s a) refl (false-of-decides (decides-is-unmapped s [] 0 a) (h .mapped)) (isMisaligned s a) refl (true-of-decides (decides-is-misaligned s [] 0 a) (h .misaligned))))
+        (λ h. sym (address-refusal-6 s a (isUnmapped s a) refl (is-mapped (h .mapped)) (isMisaligned s a) refl (true-of-decides (decides-is-misaligned s [] 0 a) (h .misaligned))))
         (λ h.
-        sym (address-refusal-7 s a (isUnmapped s a) refl (is-mapped (h .multiple, h .block) (h .mapped)) (isMisaligned s a) refl (is-aligned (h .multiple, h .block) (h .mapped)) (isLiveAt s a) refl
-        (no-mark-of-mark-bit-zero (superblockHolding s a .live) (blockOf s a) (h .mark-is))))
+        sym (address-refusal-7 s a (isUnmapped s a) refl (is-mapped (h .mapped)) (isMisaligned s a) refl (is-aligned (h .aligned)) (isLiveAt s a) refl
+        (no-mark-of-mark-bit-zero (liveBlocks (superblockHolding s a)) (blockOf s a) (h .mark-is))))
         r,
   )
+
+-- ---- an address in a long block's run (document 02, item 7)
+module _ (s : State) (a : ℕ) (inside : a < s .setup .superblocks * 4096) (home : superblockHolding s a .owner ≡ 254) where
+  -- the address is the start of the run
+  abbrev IsStart : Type 0
+  IsStart = (0 < superblockHolding s a .run) × (offsetOf a ≡ 0)
+
+  run-mapped : Mapped s a
+  run-mapped = record { inside = inside; used = λ u. omega (arith, u .owner) }
+
+  -- "The block's address is the start of the run": no refusal is met there ..
+  start-meets-none : IsStart → addressRefusal s a ≡ 0
+  unfolding startsRun
+  start-meets-none start =
+      let starts : startsRun (superblockHolding s a) ≡ true = rw (of-run-of-owner (superblockHolding s a) home, lt-ltb 0 (superblockHolding s a .run) (start .0)) in
+      address-refusal-iff-condition s a 0 .1
+      (record {
+        mapped = run-mapped;
+        aligned = on-run-start home (start .0) (start .1);
+        mark-is = ap₂ markBit (live-blocks-of-first (superblockHolding s a) starts) (block-of-offset-0 s a (start .1)) ∙ with-mark-same noMarks 0 refl (omega arith);
+      })
+
+  -- .. and 6 at any other: "any other address in it is off-block"
+  inner-meets-6 : (IsStart → ⊥) → addressRefusal s a ≡ 6
+  inner-meets-6 other = address-refusal-iff-condition s a 6 .1 (record { mapped = run-mapped; misaligned = inside-run home other })
+
+  pub run-start-iff-no-refusal : (addressRefusal s a ≡ 0) ↔ ((0 < superblockHolding s a .run) × (offsetOf a ≡ 0))
+  run-start-iff-no-refusal = (λ e. go e (decLt 0 (superblockHolding s a .run)) (ℕ-discrete (offsetOf a) 0), start-meets-none)
+    where
+      go : addressRefusal s a ≡ 0 → Dec (0 < superblockHolding s a .run) → Dec (offsetOf a ≡ 0) → IsStart
+      go e (yes l) (yes z) = (l, z)
+      go e (yes l) (no f) = absurd (let six = inner-meets-6 (λ start. f (start .1)) in let z : ⊥ = omega arith in z)
+      go e (no f) d = absurd (let six = inner-meets-6 (λ start. f (start .0)) in let z : ⊥ = omega arith in z)
+
+  pub inner-address-iff-refused-6 : (addressRefusal s a ≡ 6) ↔ ((0 < superblockHolding s a .run) × (offsetOf a ≡ 0) → ⊥)
+  inner-address-iff-refused-6 = (λ e start. let none = start-meets-none start in omega arith, inner-meets-6)
+
+  -- 7 only outside runs
+  pub run-address-never-refused-7 : addressRefusal s a ≡ 7 → ⊥
+  run-address-never-refused-7 e = go (decLt 0 (superblockHolding s a .run)) (ℕ-discrete (offsetOf a) 0)
+    where
+      go : Dec (0 < superblockHolding s a .run) → Dec (offsetOf a ≡ 0) → ⊥
+      go (yes l) (yes z) = let none = start-meets-none (l, z) in omega arith
+      go (yes l) (no f) = let six = inner-meets-6 (λ start. f (start .1)) in omega arith
+      go (no f) d = let six = inner-meets-6 (λ start. f (start .0)) in omega arith
 
 -- ---- "the refusal of its first bad address"
 -- the frees of the addresses before it meet no refusal, and this is so of the address in the state that they leave

@@ -36,7 +36,7 @@ pub record Transfers (touched : ℕ → ℕ → Bool) (s t : State) (n : ℕ) : 
   -- a superblock is as it was, or it was that of a touched processor heap and class, and only its owner has become 0
   pub each : (k : ℕ) → k < 64
       → (superblockAt t k ≡ superblockAt s k)
-      ⊎ ((0 < superblockAt s k .owner) × (superblockAt s k .owner < 255) × T (touched (superblockAt s k .owner) (superblockAt s k .class)) × (superblockAt t k ≡ withOwner 0 (superblockAt s k)))
+      ⊎ ((0 < superblockAt s k .owner) × (superblockAt s k .owner < 254) × T (touched (superblockAt s k .owner) (superblockAt s k .class)) × (superblockAt t k ≡ withOwner 0 (superblockAt s k)))
   pub changed : ownersChanged s t ≡ n
   -- no class changes its number of superblocks or live blocks
   pub owned : (d : ℕ) → superblocksOfClass d t ≡ superblocksOfClass d s
@@ -45,13 +45,13 @@ pub record Transfers (touched : ℕ → ℕ → Bool) (s t : State) (n : ℕ) : 
 transfers-self : (touched : ℕ → ℕ → Bool) (s : State) → Transfers touched s s 0
 transfers-self touched s = record { setup = refl; names = refl; each = λ k l. inl refl; changed = owners-changed-self s; owned = λ d. refl; live = λ d. refl }
 
-module _ (touched : ℕ → ℕ → Bool) (s r t : State) (n m h c : ℕ) (before : Transfers touched s r n) (from : TransferredFrom h c r t) (pos : 0 < h) (low : h < 255) (touches : T (touched h c)) (changed : ownersChanged r t ≡ m) where
+module _ (touched : ℕ → ℕ → Bool) (s r t : State) (n m h c : ℕ) (before : Transfers touched s r n) (from : TransferredFrom h c r t) (pos : 0 < h) (low : h < 254) (touches : T (touched h c)) (changed : ownersChanged r t ≡ m) where
   -- a superblock that has passed on before is heap 0's, so the ones that pass on now are as they were
   abbrev Kept : ℕ → Type 0
   Kept k = superblockAt r k ≡ superblockAt s k
 
   abbrev PassedOn : ℕ → Type 0
-  PassedOn k = (0 < superblockAt s k .owner) × (superblockAt s k .owner < 255) × T (touched (superblockAt s k .owner) (superblockAt s k .class)) × (superblockAt r k ≡ withOwner 0 (superblockAt s k))
+  PassedOn k = (0 < superblockAt s k .owner) × (superblockAt s k .owner < 254) × T (touched (superblockAt s k .owner) (superblockAt s k .class)) × (superblockAt r k ≡ withOwner 0 (superblockAt s k))
 
   not-twice : (k : ℕ) → T (belongs h c (superblockAt r k)) → PassedOn k → ⊥
   not-twice k mine w =
@@ -61,19 +61,19 @@ module _ (touched : ℕ → ℕ → Bool) (s r t : State) (n m h c : ℕ) (befor
 
   next-each : (k : ℕ) → k < 64
       → (superblockAt t k ≡ superblockAt s k)
-      ⊎ ((0 < superblockAt s k .owner) × (superblockAt s k .owner < 255) × T (touched (superblockAt s k .owner) (superblockAt s k .class)) × (superblockAt t k ≡ withOwner 0 (superblockAt s k)))
+      ⊎ ((0 < superblockAt s k .owner) × (superblockAt s k .owner < 254) × T (touched (superblockAt s k .owner) (superblockAt s k .class)) × (superblockAt t k ≡ withOwner 0 (superblockAt s k)))
   next-each k l = go (from .each k l) (before .each k l)
     where
       go : (superblockAt t k ≡ superblockAt r k) ⊎ (T (belongs h c (superblockAt r k)) × Sparse (r .setup) (superblockAt r k) × (superblockAt t k ≡ withOwner 0 (superblockAt r k))) → Kept k ⊎ PassedOn k
           → (superblockAt t k ≡ superblockAt s k)
-          ⊎ ((0 < superblockAt s k .owner) × (superblockAt s k .owner < 255) × T (touched (superblockAt s k .owner) (superblockAt s k .class)) × (superblockAt t k ≡ withOwner 0 (superblockAt s k)))
+          ⊎ ((0 < superblockAt s k .owner) × (superblockAt s k .owner < 254) × T (touched (superblockAt s k .owner) (superblockAt s k .class)) × (superblockAt t k ≡ withOwner 0 (superblockAt s k)))
       go (inl same) (inl q) = inl (same ∙ q)
       go (inl same) (inr w) = inr (w .0, w .1, w .2, same ∙ w .3)
       go (inr x) (inl q) =
           let own = owner-and-class-of-belongs h c (superblockAt r k) (x .0) in
           let owner : superblockAt s k .owner ≡ h = sym (ap (λ (b : Superblock). b .owner) q) ∙ own .0 in
           let class : superblockAt s k .class ≡ c = sym (ap (λ (b : Superblock). b .class) q) ∙ own .1 in
-          inr (subst (λ (i : ℕ). 0 < i) (sym owner) pos, subst (λ (i : ℕ). i < 255) (sym owner) low, rw (owner, class) touches, x .2 ∙ ap (withOwner 0) q)
+          inr (subst (λ (i : ℕ). 0 < i) (sym owner) pos, subst (λ (i : ℕ). i < 254) (sym owner) low, rw (owner, class) touches, x .2 ∙ ap (withOwner 0) q)
       go (inr x) (inr w) = absurd (not-twice k (x .0) w)
 
   abbrev differs : State → State → ℕ → ℕ
@@ -133,7 +133,7 @@ module _ (touched : ℕ → ℕ → Bool) (freed : ℕ → ℕ → ℕ) (s : Sta
     in-range : h ≤ m .state .setup .processors
     in-range = subst (λ (u : Setup). h ≤ u .processors) (sym (r .transfers .setup)) high
 
-    low : h < 255
+    low : h < 254
     low = let p = r .passed .sound .numbers .processors-high in let l = in-range in omega arith
 
     facts : InvariantRestored h c (r .left h c) (m .state) (invariantRestored h c (m .state))

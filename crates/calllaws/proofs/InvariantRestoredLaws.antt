@@ -16,8 +16,9 @@ use Rattle.heap.specs.Counts.{ownersChanged}
 use Rattle.moverules.specs.Moves.{excessTransferred, invariantRestored}
 use Rattle.heaplaws.proofs.StateFacts.{Shape, WithinLimits, InvariantBeforeFrees, TransferredFrom}
 use Rattle.heaplaws.proofs.MoveLaws.{transferred-from-self, owners-changed-self, condition-fails-of-not-must-move, excess-transferred-from, moves-le-q-times-freed, owners-changed-is-moves, not-must-move-after-excess-transferred}
+use Rattle.heaplaws.proofs.RunsKeptLaws.{runs-valid-of-kept}
 use Rattle.calllaws.proofs.CallEffects.{PassedAfterFrees}
-use Rattle.calllaws.proofs.TransferredLaws.{noneFreed, transferred-shape, sound-after-transfers, names-valid-after-transfers, ranks-sound-after-transfers}
+use Rattle.calllaws.proofs.TransferredLaws.{noneFreed, transferred-shape, sound-after-transfers, runs-kept-by-transfers, names-valid-after-transfers, ranks-sound-after-transfers}
 
 -- the move rule followed to its end, for heap h and class c, so many blocks of which were freed, from state s
 pub record InvariantRestored (h c freed : ℕ) (s : State) (m : Moved) : Type 0 where
@@ -31,7 +32,7 @@ invariant-restored-of-heap-0 : (h c freed : ℕ) (s : State) → length (s .tabl
 invariant-restored-of-heap-0 h c freed s long e =
     record { from = transferred-from-self h c s long; moves-bound = zero-le; changed = owners-changed-self s; invariant = λ pos. absurd (let z : ⊥ = omega arith in z) }
 
-module _ (h c freed : ℕ) (s : State) (long : length (s .table) ≡ 64) (numbers : WithinLimits (s .setup)) (low : h < 255) (before : 1 ≤ h → InvariantBeforeFrees freed h c s) where
+module _ (h c freed : ℕ) (s : State) (long : length (s .table) ≡ 64) (numbers : WithinLimits (s .setup)) (low : h < 254) (before : 1 ≤ h → InvariantBeforeFrees freed h c s) where
   invariant-restored-of-moves : 0 < h → InvariantRestored h c freed s (excessTransferred h c s)
   invariant-restored-of-moves pos =
       record {
@@ -51,7 +52,7 @@ module _ (h c freed : ℕ) (s : State) (long : length (s .table) ≡ 64) (number
 
 -- from a state that passed before these frees, heap h and class c being one of its own
 module _ (freed : ℕ → ℕ → ℕ) (s : State) (order : List ℕ) (shape : Shape s) (passed : PassedAfterFrees freed s order) (h c : ℕ) (high : h ≤ s .setup .processors) (known : c < 27) where
-  low : h < 255
+  low : h < 254
   low = let p = passed .sound .numbers .processors-high in omega arith
 
   pub restored-facts : InvariantRestored h c (freed h c) s (invariantRestored h c s)
@@ -66,8 +67,9 @@ module _ (freed : ℕ → ℕ → ℕ) (s : State) (order : List ℕ) (shape : S
       let from = restored-facts .from in
       record {
         sound = sound-after-transfers h c s (invariantRestored h c s .state) from freed order low (passed .sound) (restored-facts .invariant);
-        names = names-valid-after-transfers h c s (invariantRestored h c s .state) from (shape .length-is) (passed .names);
+        names = names-valid-after-transfers h c s (invariantRestored h c s .state) from (shape .length-is) low (passed .names);
         totals = from .totals (passed .totals);
-        ranks = ranks-sound-after-transfers h c s (invariantRestored h c s .state) from low (passed .ranks);
+        ranks = ranks-sound-after-transfers h c s (invariantRestored h c s .state) from (passed .ranks);
+        runs = runs-valid-of-kept s (invariantRestored h c s .state) (shape .length-is) (from .length-is) (runs-kept-by-transfers h c s (invariantRestored h c s .state) from low) (passed .runs);
         room = subst (λ (u : Setup). u .superblocks * 256 ≤ length order) (sym (from .setup)) (passed .room);
       }

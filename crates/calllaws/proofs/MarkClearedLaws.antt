@@ -21,12 +21,12 @@ use Rattle.filledplaces.proofs.PlacesValidLaws.{places-valid-after-free}
 use Rattle.filledplaces.proofs.OwnPlacesOnly.{places-valid-other-with-place}
 use Rattle.heap.specs.declared.Superblock.{Superblock}
 use Rattle.heap.specs.declared.State.{State}
-use Rattle.heap.specs.Table.{blank, superblockAt, liveIn, withoutMarkAt}
+use Rattle.heap.specs.Table.{blank, superblockAt, liveIn, isOfRun, isOfHeap, withoutMarkAt}
 use Rattle.heap.specs.States.{withSuperblock}
 use Rattle.heap.specs.Counts.{total, belongs, isOwnedOfClass, oneIfBelongs, liveIfBelongs, superblocksOf, blocksIn, liveOf, superblocksOfClass, liveOfClass, ownersChanged}
-use Rattle.heaplaws.proofs.StateFacts.{Shape, Unused, Owned, Sparse, InvariantBeforeFrees, SoundAfterFrees}
+use Rattle.heaplaws.proofs.StateFacts.{Shape, Unused, Unowned, Owned, Sparse, RunsKept, InvariantBeforeFrees, SoundAfterFrees}
 use Rattle.heaplaws.proofs.CountLaws.{total-with-superblock, live-if-belongs-is-live-in, live-if-belongs-other-owner, live-if-belongs-other-class}
-use Rattle.heaplaws.proofs.StateCheckLaws.{shape-with-superblock, owned-of-owner}
+use Rattle.heaplaws.proofs.StateCheckLaws.{shape-with-superblock, owned-of-owner, not-of-heap-of-unowned}
 use Rattle.calllaws.proofs.CallEffects.{PassedAfterFrees}
 use Rattle.calllaws.proofs.SuperblockLaws.{owned-of-class-true, owned-of-class-false}
 use Rattle.calllaws.proofs.TransferredLaws.{oneMoreFreed, one-more-freed-of-pair, one-more-freed-of-others, invariant-before-frees-cong}
@@ -37,7 +37,7 @@ pub record LiveBlock (s : State) (order : List ℕ) (k j : ℕ) : Type 0 where
   pub freed : ℕ → ℕ → ℕ
   pub passed : PassedAfterFrees freed s order
   pub below : k < s .setup .superblocks
-  pub owned : superblockAt s k .owner ≡ 255 → ⊥
+  pub owned : superblockAt s k .owner < 254
   pub block : j < blocksOf (superblockAt s k .class)
   pub marked : markBit (superblockAt s k .live) j ≡ 1
 
@@ -107,9 +107,14 @@ module _ (s : State) (order : List ℕ) (k j : ℕ) (live : LiveBlock s order k 
   pub mark-cleared-rank : (m : ℕ) → m < 64 → superblockAt (withMarkCleared s k j) m .rank ≡ superblockAt s m .rank
   mark-cleared-rank = mark-cleared-each (λ m b. b .rank ≡ superblockAt s m .rank) refl (λ m l f. refl)
 
-  -- no more superblocks are unused
-  pub unused-of-mark-cleared-unused : (m : ℕ) → m < 64 → Unused (superblockAt (withMarkCleared s k j) m) → Unused (superblockAt s m)
-  unused-of-mark-cleared-unused = mark-cleared-each (λ m b. Unused b → Unused (superblockAt s m)) (λ u. absurd (live .owned (u .owner))) (λ m l f u. u)
+  -- no more superblocks are without a heap
+  pub unowned-of-mark-cleared-unowned : (m : ℕ) → m < 64 → Unowned (superblockAt (withMarkCleared s k j) m) → Unowned (superblockAt s m)
+  unowned-of-mark-cleared-unowned = mark-cleared-each (λ m b. Unowned b → Unowned (superblockAt s m)) (λ u. absurd (not-of-heap-of-unowned (withoutMarkAt (superblockAt s k) j) u (live .owned))) (λ m l f u. u)
+
+  -- no run changes
+  pub mark-cleared-runs : RunsKept s (withMarkCleared s k j)
+  unfolding isOfRun
+  mark-cleared-runs = mark-cleared-each (λ m b. (isOfRun b ≡ isOfRun (superblockAt s m)) × (b .run ≡ superblockAt s m .run)) (refl, refl) (λ m l f. (refl, refl))
 
   pub mark-cleared-bit : markBit (superblockAt (withMarkCleared s k j) k .live) j ≡ 0
   mark-cleared-bit = ap (λ (b : Superblock). markBit (b .live) j) mark-cleared-at-superblock ∙ without-mark-same (superblockAt s k .live) j
@@ -138,7 +143,7 @@ module _ (s : State) (order : List ℕ) (k j : ℕ) (live : LiveBlock s order k 
   mark-cleared-blocks-in h c = ap (λ (m : ℕ). m * blocksOf c) (mark-cleared-superblocks-of h c)
 
   pub mark-cleared-owned-of : (c : ℕ) → superblocksOfClass c (withMarkCleared s k j) ≡ superblocksOfClass c s
-  unfolding superblocksOfClass isOwnedOfClass
+  unfolding superblocksOfClass isOwnedOfClass isOfHeap
   mark-cleared-owned-of c = mark-cleared-total-same (λ b. one (isOwnedOfClass c b)) refl
 
   pub mark-cleared-live-of : liveOf (ownerAt s k) (classAt s k) s ≡ suc (liveOf (ownerAt s k) (classAt s k) (withMarkCleared s k j))
@@ -185,8 +190,8 @@ module _ (s : State) (order : List ℕ) (k j : ℕ) (live : LiveBlock s order k 
   next-place-lt-256 : blocksOf (classAt s k) - liveIn (superblockAt s k) < 256
   next-place-lt-256 = omega (arith, blocks-of-le-256 (classAt s k), mark-cleared-live-in)
 
-  mark-cleared-unused-or-owned : (m : ℕ) → m < 64 → Unused (superblockAt (withMarkCleared s k j) m) ⊎ Owned (s .setup) (withBlockPushed s order k j) m (superblockAt (withMarkCleared s k j) m)
-  mark-cleared-unused-or-owned = mark-cleared-each (λ m b. Unused b ⊎ Owned (s .setup) (withBlockPushed s order k j) m b)
+  mark-cleared-unowned-or-owned : (m : ℕ) → m < 64 → Unowned (superblockAt (withMarkCleared s k j) m) ⊎ Owned (s .setup) (withBlockPushed s order k j) m (superblockAt (withMarkCleared s k j) m)
+  mark-cleared-unowned-or-owned = mark-cleared-each (λ m b. Unowned b ⊎ Owned (s .setup) (withBlockPushed s order k j) m b)
       (inr (record {
         owner = live-block-superblock-owned .owner;
         class = live-block-superblock-owned .class;
@@ -194,7 +199,7 @@ module _ (s : State) (order : List ℕ) (k j : ℕ) (live : LiveBlock s order k 
       }))
       (λ m l f. beside m f (live .passed .sound .each m l))
     where
-      beside : (m : ℕ) → (m ≡ k → ⊥) → Unused (superblockAt s m) ⊎ Owned (s .setup) order m (superblockAt s m) → Unused (superblockAt s m) ⊎ Owned (s .setup) (withBlockPushed s order k j) m (superblockAt s m)
+      beside : (m : ℕ) → (m ≡ k → ⊥) → Unowned (superblockAt s m) ⊎ Owned (s .setup) order m (superblockAt s m) → Unowned (superblockAt s m) ⊎ Owned (s .setup) (withBlockPushed s order k j) m (superblockAt s m)
       beside m f (inl u) = inl u
       beside m f (inr o) = inr (record {
         owner = o .owner;
@@ -207,7 +212,7 @@ module _ (s : State) (order : List ℕ) (k j : ℕ) (live : LiveBlock s order k 
   mark-cleared-sound =
       record {
         numbers = live .passed .sound .numbers;
-        each = mark-cleared-unused-or-owned;
+        each = mark-cleared-unowned-or-owned;
         past-unused = mark-cleared-each (λ m b. s .setup .superblocks ≤ m → Unused b) (λ far. absurd (let l = live .below in let z : ⊥ = omega arith in z)) (λ m l f. live .passed .sound .past-unused m l);
         invariant = λ i d low high class. condition i d (live .passed .sound .invariant i d low high class) (ℕ-discrete i (ownerAt s k)) (ℕ-discrete d (classAt s k));
         sparse = mark-cleared-each (λ m b. b .owner ≡ 0 → Sparse (s .setup) b) (λ zero. still (live .passed .sound .sparse k live-block-superblock-lt-64 zero)) (λ m l f. live .passed .sound .sparse m l);

@@ -20,36 +20,27 @@ use Rattle.calls.specs.Free.{superblockIndex, superblockHolding, blockOf, addre
 use Rattle.calls.specs.Named.{isUnavailable}
 use Rattle.calls.specs.Drop.{allFreed, firstAddressRefusal, dropOf}
 use Rattle.calls.specs.Calls.{Call, Take, Free, NamedTake, NamedFree, Drop, callOf}
-use Rattle.calllaws.proofs.CallEffects.{PassedAfterFrees, FreeAccepted, NamedTakeAccepted, NamedFreeAccepted}
+use Rattle.calllaws.proofs.CallEffects.{PassedAfterFrees, FreeAccepted, LongFreeAccepted, NamedFreeAccepted, NamedLongFreeAccepted}
 use Rattle.calllaws.proofs.TakeLaws.{take-refused-or-accepted, take-names}
+use Rattle.calllaws.proofs.RunTakenLaws.{long-take-names}
 use Rattle.calllaws.proofs.FreeLaws.{free-refused-or-accepted}
+use Rattle.calllaws.proofs.NamedLongTakeLaws.{named-long-take-keeps-other-names}
 use Rattle.calllaws.proofs.NamedCallLaws.{facts-of-available, named-take-refused-or-accepted, named-take-keeps-other-names, named-free-refused-or-accepted, free-lets-name-go, free-keeps-other-names, named-free-lets-name-go, named-free-keeps-other-names}
 use Rattle.calllaws.proofs.TransferredLaws.{oneMoreFreed, passed-after-no-frees}
-use Rattle.calllaws.proofs.BlockFreedLaws.{block-freed-names, block-freed-shape, block-freed-block, block-freed-passed}
-use Rattle.calllaws.proofs.AllFreedLaws.{first-refusal-of-cons}
+use Rattle.calllaws.proofs.AddressFreedLaws.{address-freed, address-freed-block}
+use Rattle.calllaws.proofs.AllFreedLaws.{ListsBlock, listed-same, first-refusal-of-cons}
 use Rattle.calllaws.proofs.DropLaws.{DropAccepted, drop-refused-or-accepted, drop-transfers, drop-state-is}
 use Rattle.calllaws.proofs.TotalsKeptLaws.{refused-call-keeps-state}
-
--- one of the addresses is that of block b. A drop changes no class, so the state before it tells the block of each.
-abbrev pub ListsBlock : State → List ℕ → ℕ → Type 0
-ListsBlock s [] b = ⊥
-ListsBlock s (a ∷ addresses) b = (b ≡ blockNumber (superblockIndex a) (blockOf s a)) ⊎ ListsBlock s addresses b
 
 -- the call frees the block that name m points at: by its address, alone or in a drop, or by the name
 abbrev pub FreesBlockOf : State → List ℕ → ℕ → Call → Type 0
 FreesBlockOf s order m (Take i size) = ⊥
-FreesBlockOf s order m (Free i a) = FreeAccepted s order i a × (blockNamed (s .names) m ≡ blockNumber (superblockIndex a) (blockOf s a))
+FreesBlockOf s order m (Free i a) = (FreeAccepted s order i a ⊎ LongFreeAccepted s order i a) × (blockNamed (s .names) m ≡ blockNumber (superblockIndex a) (blockOf s a))
 FreesBlockOf s order m (NamedTake i n size) = ⊥
-FreesBlockOf s order m (NamedFree i n) = NamedFreeAccepted s order i n × (n ≡ m)
+FreesBlockOf s order m (NamedFree i n) = (NamedFreeAccepted s order i n ⊎ NamedLongFreeAccepted s order i n) × (n ≡ m)
 FreesBlockOf s order m (Drop i addresses) = DropAccepted s order i addresses × ListsBlock s addresses (blockNamed (s .names) m)
 
 -- ---- the names that the frees of a drop let go
--- a block is listed in one state as in another with the same classes
-pub listed-same : (s t : State) → ((a : ℕ) → blockOf t a ≡ blockOf s a) → (addresses : List ℕ) (b : ℕ) → ListsBlock t addresses b → ListsBlock s addresses b
-listed-same s t same [] b h = h
-listed-same s t same (a ∷ addresses) b (inl e) = inl (e ∙ ap (blockNumber (superblockIndex a)) (same a))
-listed-same s t same (a ∷ addresses) b (inr h) = inr (listed-same s t same addresses b h)
-
 -- a name that is let go stays let go
 none-without-block : (names : List ℕ) (b m : ℕ) → blockNamed names m ≡ notHeld → blockNamed (withoutBlock names b) m ≡ notHeld
 none-without-block names b m e = block-named-without-block names b m ∙ go (eqb (blockNamed names m) b)
@@ -68,7 +59,7 @@ module _ (m : ℕ) where
     block = blockNumber (superblockIndex a) (blockOf s a)
 
     named-then : (b : ℕ) → blockNamed (withoutBlock (s .names) block) m ≡ b → blockNamed (blockFreed s a .names) m ≡ b
-    named-then b e = ap (λ (l : List ℕ). blockNamed l m) (block-freed-names freed s order a shape passed accepted) ∙ e
+    named-then b e = ap (λ (l : List ℕ). blockNamed l m) (address-freed freed s order a shape passed accepted .names) ∙ e
 
     first-keeps-other : (blockNamed (s .names) m ≡ block → ⊥) → blockNamed (blockFreed s a .names) m ≡ blockNamed (s .names) m
     first-keeps-other f = named-then _ (block-named-without-other-block (s .names) block m f)
@@ -87,8 +78,8 @@ module _ (m : ℕ) where
   frees-keep-other freed s order (a ∷ addresses) shape passed ok other =
       let first = first-refusal-of-cons s a addresses ok in
       let kept = first-keeps-other freed s order a shape passed (first .0) (λ e. other (inl e)) in
-      frees-keep-other _ (blockFreed s a) (orderPushed s order a) addresses (block-freed-shape freed s order a shape passed (first .0)) (block-freed-passed freed s order a shape passed (first .0)) (first .1)
-      (λ h. other (inr (subst (ListsBlock s addresses) kept (listed-same s (blockFreed s a) (block-freed-block freed s order a shape passed (first .0)) addresses _ h))))
+      frees-keep-other _ (blockFreed s a) (orderPushed s order a) addresses (address-freed freed s order a shape passed (first .0) .shape) (address-freed freed s order a shape passed (first .0) .passed) (first .1)
+      (λ h. other (inr (subst (ListsBlock s addresses) kept (listed-same s (blockFreed s a) (address-freed-block freed s order a shape passed (first .0)) addresses _ h))))
       ∙ kept
 
   -- .. one that is let go stays so ..
@@ -98,7 +89,7 @@ module _ (m : ℕ) where
   frees-bind-none freed s order [] shape passed ok e = e
   frees-bind-none freed s order (a ∷ addresses) shape passed ok e =
       let first = first-refusal-of-cons s a addresses ok in
-      frees-bind-none _ (blockFreed s a) (orderPushed s order a) addresses (block-freed-shape freed s order a shape passed (first .0)) (block-freed-passed freed s order a shape passed (first .0)) (first .1)
+      frees-bind-none _ (blockFreed s a) (orderPushed s order a) addresses (address-freed freed s order a shape passed (first .0) .shape) (address-freed freed s order a shape passed (first .0) .passed) (first .1)
       (first-binds-none freed s order a shape passed (first .0) e)
 
   -- .. and one whose block is listed is let go
@@ -114,10 +105,10 @@ module _ (m : ℕ) where
       first = first-refusal-of-cons s a addresses ok
 
       shape-then : Shape (blockFreed s a)
-      shape-then = block-freed-shape freed s order a shape passed (first .0)
+      shape-then = address-freed freed s order a shape passed (first .0) .shape
 
       passed-then : PassedAfterFrees (oneMoreFreed (superblockHolding s a .owner) (superblockHolding s a .class) freed) (blockFreed s a) (orderPushed s order a)
-      passed-then = block-freed-passed freed s order a shape passed (first .0)
+      passed-then = address-freed freed s order a shape passed (first .0) .passed
 
       by-first : blockNamed (s .names) m ≡ blockNumber (superblockIndex a) (blockOf s a) → blockNamed (allFreed (blockFreed s a) addresses .names) m ≡ notHeld
       by-first e = frees-bind-none _ (blockFreed s a) (orderPushed s order a) addresses shape-then passed-then (first .1) (first-lets-go freed s order a shape passed (first .0) e)
@@ -129,7 +120,7 @@ module _ (m : ℕ) where
       go (no f) (inl e) rest = by-first e
       go (no f) (inr q) rest =
           rest (subst (ListsBlock (blockFreed s a) addresses) (sym (first-keeps-other freed s order a shape passed (first .0) f))
-          (listed-same (blockFreed s a) s (λ x. sym (block-freed-block freed s order a shape passed (first .0) x)) addresses _ q))
+          (listed-same (blockFreed s a) s (λ x. sym (address-freed-block freed s order a shape passed (first .0) x)) addresses _ q))
 
   -- the moves of the drop change no name
   module _ (s : State) (order : List ℕ) (i : ℕ) (addresses : List ℕ) (shape : Shape s) (acc : DropAccepted s order i addresses) where
@@ -157,14 +148,17 @@ module _ (s : State) (order : List ℕ) (shape : Shape s) (m : ℕ) where
   pub held-name-kept-until-freed : (call : Call) → T (isHeld (s .names) m) → (FreesBlockOf s order m call → ⊥) → blockNamed (callOf s order call .answer .state .names) m ≡ blockNamed (s .names) m
   unfolding callOf
   held-name-kept-until-freed (Take i size) held other =
-      ⊎-elim (block-of-refused _) (λ h. ap (λ (l : List ℕ). blockNamed l m) (take-names s order i size (h .0) shape (h .1))) (take-refused-or-accepted s order i size)
+      ⊎-elim (block-of-refused _)
+      (⊎-elim (λ h. ap (λ (l : List ℕ). blockNamed l m) (take-names s order i size (h .0) shape (h .1))) (λ h. ap (λ (l : List ℕ). blockNamed l m) (long-take-names s order i size (h .0) shape (h .1)))) (take-refused-or-accepted s order i size)
   held-name-kept-until-freed (Free i a) held other =
       ⊎-elim (block-of-refused _) (λ h. free-keeps-other-names s order i a shape h m (λ e. other (h, e))) (free-refused-or-accepted s order i a)
   held-name-kept-until-freed (NamedTake i n size) held other =
-      ⊎-elim (block-of-refused _) (λ h. named-take-keeps-other-names s order i n size (h .0) shape (h .1) m (apart (h .1))) (named-take-refused-or-accepted s order i n size)
+      ⊎-elim (block-of-refused _)
+      (⊎-elim (λ h. named-take-keeps-other-names s order i n size (h .0) shape (h .1) m (apart (h .1 .available))) (λ h. named-long-take-keeps-other-names s order i n size (h .0) shape (h .1) m (apart (h .1 .available))))
+      (named-take-refused-or-accepted s order i n size)
     where
-      apart : {k : ℕ} → NamedTakeAccepted s order i n size k → m ≡ n → ⊥
-      apart acc e = not-T-of-false (isHeld (s .names) n) (facts-of-available s n (acc .available) .1) (subst (λ (x : ℕ). T (isHeld (s .names) x)) e held)
+      apart : isUnavailable s n ≡ false → m ≡ n → ⊥
+      apart available e = not-T-of-false (isHeld (s .names) n) (facts-of-available s n available .1) (subst (λ (x : ℕ). T (isHeld (s .names) x)) e held)
   held-name-kept-until-freed (NamedFree i n) held other =
       ⊎-elim (block-of-refused _) (λ h. named-free-keeps-other-names s order i n shape h m held (λ e. other (h, sym e))) (named-free-refused-or-accepted s order i n)
   held-name-kept-until-freed (Drop i addresses) held other =

@@ -2,7 +2,7 @@
 -- 1023, on a named take after 2 and before 3; 15, name not held, on a named free after 2" (document 02, item 2). Assumes nothing.
 use mathlib.Core.Path.{_≡_, refl, sym, ap, _∙_}
 use mathlib.Core.Bool.{Bool, true, false, not}
-use mathlib.Core.Logic.{_↔_, _⊎_}
+use mathlib.Core.Logic.{_↔_, _⊎_, ⊎-elim}
 use mathlib.Core.List.{List, [], _∷_}
 use Prim.Native.Nat.{ℕ, _≤_, _<_}
 use native.Mathlib.Omega.{arith}
@@ -21,10 +21,10 @@ use Rattle.calls.specs.Take.{takeUnchecked, takeOf}
 use Rattle.calls.specs.Free.{freeUnchecked}
 use Rattle.calls.specs.Named.{isUnavailable, withNameBound, namedTakeUnchecked, namedTakeOf, heldAddress, namedFreeUnchecked, namedFreeOf}
 use Rattle.calllaws.proofs.CallEffects.{Passed}
-use Rattle.calllaws.proofs.FreeLaws.{free-outcome}
+use Rattle.calllaws.proofs.FreeLaws.{free-outcome, long-free-outcome}
 use Rattle.calllaws.proofs.RefusalOrder.{take-is-unchecked, take-refused-3-of-too-large, free-is-unchecked}
 use Rattle.calllaws.proofs.NamedCallLaws.{namedTakeByTests, namedFreeByTests, named-take-is-unchecked, named-take-is-plain-take, named-free-is-unchecked, held-name-free-accepted, name-bound-of-refused}
-use Rattle.calllaws.proofs.RefusalConditions.{CheckFails, StorageShort, IsProcessor, NotProcessor, TooLarge, NothingOffered, takeRefusals, ConditionOf, condition-by-number, refused-iff-condition, condition-at-number, moves-not-refused, decides-processor, checked-refused, check-fails-refused-13, storage-short-refused-12, nothing-offered-refused-4, take-refused-iff-condition}
+use Rattle.calllaws.proofs.RefusalConditions.{CheckFails, StorageShort, IsProcessor, NotProcessor, TooLarge, NothingOffered, NoRun, takeRefusals, ConditionOf, condition-by-number, refused-iff-condition, condition-at-number, moves-not-refused, decides-processor, checked-refused, check-fails-refused-13, storage-short-refused-12, nothing-offered-refused-4, no-run-refused-17, take-refused-iff-condition}
 
 -- ---- the conditions
 -- name m is held: it is one of 0 to 1023, and points at a block
@@ -50,11 +50,12 @@ pub record NameNotHeld (s : State) (order : List ℕ) (i m : ℕ) : Type 0 where
   pub not-held : Held s m → ⊥
 
 -- ---- the numbers, each with its condition, in the page's order
--- of a named take: 13, 12, 13, "after 2 and before 3" 14, then a take's 3 and 4
+-- of a named take: 13, 12, 13, "after 2 and before 3" 14, then a take's 3 and 4, or 17 in place of 4
 abbrev pub namedTakeRefusals : (s : State) (order : List ℕ) (i m size : ℕ) → List (ℕ × Type 0)
 namedTakeRefusals s order i m size =
     (13, CheckFails s order) ∷ (12, StorageShort s order) ∷ (2, NotProcessor s order i) ∷ (14, NameUnavailable s order i m)
-    ∷ (3, NameAvailable s m × TooLarge s order i size) ∷ (4, NameAvailable s m × NothingOffered s order i size) ∷ []
+    ∷ (3, NameAvailable s m × TooLarge s order i size) ∷ (4, NameAvailable s m × NothingOffered s order i size)
+    ∷ (17, NameAvailable s m × NoRun s order i size) ∷ []
 
 -- of a named free: 13, 12, 13, 2, 15, and none of a free's 5, 6 and 7
 abbrev pub namedFreeRefusals : (s : State) (order : List ℕ) (i m : ℕ) → List (ℕ × Type 0)
@@ -79,7 +80,7 @@ module _ (s : State) (order : List ℕ) (i m : ℕ) where
     -- what refuses the plain take refuses the named one, where its name is free
     condition-of-plain-refusal : NameAvailable s m → (r : ℕ) → ConditionOf (takeRefusals s order i size) r → ConditionOf (namedTakeRefusals s order i m size) r
     condition-of-plain-refusal free =
-        condition-by-number (ConditionOf (namedTakeRefusals s order i m size)) (takeRefusals s order i size) (λ h. h) (λ h. h) (λ h. h) (λ h. (free, h)) (λ h. (free, h))
+        condition-by-number (ConditionOf (namedTakeRefusals s order i m size)) (takeRefusals s order i size) (λ h. h) (λ h. h) (λ h. h) (λ h. (free, h)) (λ h. (free, h)) (λ h. (free, h))
 
     condition-of-named-take-refused : (r : ℕ) → namedTakeOf s order i m size .answer .outcome ≡ Refused r → ConditionOf (namedTakeRefusals s order i m size) r
     unfolding namedTakeOf namedTakeUnchecked withNameBound
@@ -114,9 +115,25 @@ module _ (s : State) (order : List ℕ) (i m : ℕ) where
         refused-as-plain 3 (h .0) (h .1 .passed) (h .1 .processor)
         (take-refused-3-of-too-large s order i (h .1 .passed) size (true-of-decides (decides-processor s order i) (h .1 .processor)) (true-of-decides (decides-too-large size) (h .1 .large))))
         (λ h. refused-as-plain 4 (h .0) (h .1 .passed) (h .1 .processor) (nothing-offered-refused-4 s order i size (h .1)))
+        (λ h. refused-as-plain 17 (h .0) (h .1 .passed) (h .1 .processor) (no-run-refused-17 s order i size (h .1)))
 
     pub named-take-refused-14 : (namedTakeOf s order i m size .answer .outcome ≡ Refused 14) ↔ NameUnavailable s order i m
     named-take-refused-14 = named-take-refused-iff-condition 14
+
+    -- "no such run, given exactly then" (document 02, item 7), where the name is free
+    pub named-take-refused-17 : (namedTakeOf s order i m size .answer .outcome ≡ Refused 17) ↔ (NameAvailable s m × NoRun s order i size)
+    named-take-refused-17 = named-take-refused-iff-condition 17
+
+    -- "As a size has 16 bits, refusal 3 can no longer be met"
+    pub named-take-never-refused-3 : size < 65536 → namedTakeOf s order i m size .answer .outcome ≡ Refused 3 → ⊥
+    named-take-never-refused-3 l e = let h = named-take-refused-iff-condition 3 .0 e .1 .large in omega arith
+
+    -- 17 "in place of 4 for a long size", and for no other
+    pub named-long-take-never-refused-4 : 2048 < size → namedTakeOf s order i m size .answer .outcome ≡ Refused 4 → ⊥
+    named-long-take-never-refused-4 l e = let h = named-take-refused-iff-condition 4 .0 e .1 .size-le-2048 in omega arith
+
+    pub named-class-size-never-refused-17 : size ≤ 2048 → namedTakeOf s order i m size .answer .outcome ≡ Refused 17 → ⊥
+    named-class-size-never-refused-17 l e = let h = named-take-refused-17 .0 e .1 .size-above-2048 in omega arith
 
   -- ---- a named free
   module _ (shape : Shape s) where
@@ -131,8 +148,9 @@ module _ (s : State) (order : List ℕ) (i m : ℕ) where
         go false h p t ep eh passed e = condition-at-number (namedFreeRefusals s order i m) 2 r e (record { passed = passed; out = p .says })
         go true false p t ep eh passed e = condition-at-number (namedFreeRefusals s order i m) 15 r e (record { passed = passed; processor = p .says; not-held = t .says })
         go true true p t ep eh passed e =
-            let acc = held-name-free-accepted s order i m shape passed ep (T-of-true _ eh) in
-            absurd (moves-not-refused _ r (sym (free-outcome s order i (heldAddress s m) shape acc) ∙ ap (λ (x : After). x .answer .outcome) (free-is-unchecked s order i passed (heldAddress s m)) ∙ e))
+            let unchecked = ap (λ (x : After). x .answer .outcome) (free-is-unchecked s order i passed (heldAddress s m)) ∙ e in
+            absurd (⊎-elim (λ acc. moves-not-refused _ r (sym (free-outcome s order i (heldAddress s m) shape acc) ∙ unchecked)) (λ acc. moves-not-refused _ r (sym (long-free-outcome s order i (heldAddress s m) shape acc) ∙ unchecked))
+            (held-name-free-accepted s order m shape passed (T-of-true _ eh) i ep))
 
     -- a named free is refused with number r exactly if r's condition holds: so never with 5, 6 or 7
     pub named-free-refused-iff-condition : (r : ℕ) → (namedFreeOf s order i m .answer .outcome ≡ Refused r) ↔ ConditionOf (namedFreeRefusals s order i m) r

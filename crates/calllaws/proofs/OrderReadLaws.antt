@@ -10,7 +10,7 @@ use lib.ListN.{length, take}
 use lib.Dec.{eqb, leb}
 use Rattle.laws.specs.Sums.{pick, both}
 use Rattle.laws.proofs.TestLaws.{T-of-true}
-use Rattle.classes.specs.Classes.{blocksOf, classOf, isTooLarge}
+use Rattle.classes.specs.Classes.{blocksOf, classOf, isLong, runLength, isTooLarge}
 use Rattle.classes.proofs.ClassTableLaws.{blocks-of-le-256}
 use Rattle.names.specs.Names.{isHeld}
 use Rattle.order.specs.Order.{place, lastFilled, renewed}
@@ -23,16 +23,18 @@ use Rattle.heap.specs.declared.Found.the-variants.{At, Nothing}
 use Rattle.heap.specs.Table.{superblockAt, liveIn, withMarkAt}
 use Rattle.heap.specs.States.{withSuperblock}
 use Rattle.choicerules.specs.Choice.{fullest}
+use Rattle.choicerules.specs.Runs.{lowestRun}
 use Rattle.checkrules.specs.Check.{withinLimits, restValid}
-use Rattle.heaplaws.proofs.StateCheckLaws.{sound-of-limits-and-rest, names-valid-of-rest, totals-kept-of-rest, ranks-valid-of-rest}
+use Rattle.heaplaws.proofs.StateCheckLaws.{sound-of-limits-and-rest, names-valid-of-rest, totals-kept-of-rest, ranks-valid-of-rest, runs-valid-of-rest}
 use Rattle.heaplaws.proofs.RankLaws.{ranks-sound-of-valid}
 use Rattle.heaplaws.proofs.CheckReadsLaws.{rest-valid-reads-only-first-places}
 use Rattle.calls.specs.declared.Answer.{Answer}
 use Rattle.calls.specs.declared.Outcome.the-variants.{Address}
 use Rattle.calls.specs.Answers.{After, refused, checked, isProcessor}
 use Rattle.calls.specs.Setup.{setupOf}
+use Rattle.calls.specs.Runs.{longTakenFrom, longTakenAt}
 use Rattle.calls.specs.Take.{otherPlaces, acquired, acquiredOrder, unrankedIfEmpty, nextBlock, addressOf, takenFrom, takenFromOther, takenAt, takeUnchecked}
-use Rattle.calls.specs.Free.{superblockIndex, superblockHolding, blockOf, isUnmapped, isMisaligned, isLiveAt, orderPushed, blockFreed, freedAt, freeUnchecked}
+use Rattle.calls.specs.Free.{superblockIndex, superblockHolding, blockOf, isUnmapped, isInRun, isMisaligned, isLiveAt, blockPushed, orderPushed, blockFreed, smallFreedAt, longFreedAt, freedAt, freeUnchecked}
 use Rattle.calls.specs.Drop.{allPushed, firstAddressRefusal, droppedAll, dropUnchecked}
 use Rattle.calls.specs.Named.{isUnavailable, boundBy, withNameBound, heldAddress, namedTakeUnchecked, namedFreeUnchecked}
 use Rattle.calls.specs.Calls.{Call, Take, Free, NamedTake, NamedFree, Drop, callOf, callUnchecked}
@@ -84,9 +86,18 @@ acquired-order-agrees n c k b x y h l = go (eqb (liveIn b) 0)
     go false = h
 
 -- a block's number goes in one place of its superblock, on both storages the same
+block-pushed-agrees : (n : ℕ) (s : State) (a : ℕ) (x y : List ℕ) → SameFirst n x y → SameFirst n (blockPushed s x a) (blockPushed s y a)
+unfolding blockPushed
+block-pushed-agrees n s a x y h = same-first-with-place n x y h (superblockIndex a) (blocksOf (superblockHolding s a .class) - liveIn (superblockHolding s a)) (blockOf s a)
+
+-- that of a long block nowhere
 pushed-agrees : (n : ℕ) (s : State) (a : ℕ) (x y : List ℕ) → SameFirst n x y → SameFirst n (orderPushed s x a) (orderPushed s y a)
 unfolding orderPushed
-pushed-agrees n s a x y h = same-first-with-place n x y h (superblockIndex a) (blocksOf (superblockHolding s a .class) - liveIn (superblockHolding s a)) (blockOf s a)
+pushed-agrees n s a x y h = go (isInRun s a)
+  where
+    go : (t : Bool) → SameFirst n (pick t x (blockPushed s x a)) (pick t y (blockPushed s y a))
+    go true = h
+    go false = block-pushed-agrees n s a x y h
 
 all-pushed-agree : (n : ℕ) (s : State) (addresses x y : List ℕ) → SameFirst n x y → SameFirst n (allPushed s x addresses) (allPushed s y addresses)
 unfolding allPushed
@@ -106,35 +117,37 @@ module _ (s : State) (x y : List ℕ) (h : SameFirst (s .setup .superblocks * 25
   checked-agree a b f =
       rw (le-leb n (length x) (h .first-covers), le-leb n (length y) (h .second-covers), ← (rest-valid-reads-only-first-places s x y h))
       (agree-pick n (withinLimits (s .setup))
-      (λ l. agree-pick n (restValid s x) (λ g. f (record { sound = sound-of-limits-and-rest s x (T-of-true (withinLimits (s .setup)) l) (T-of-true (restValid s x) g); names = names-valid-of-rest s x (T-of-true (restValid s x) g); totals = totals-kept-of-rest s x (T-of-true (restValid s x) g); ranks = ranks-sound-of-valid s (ranks-valid-of-rest s x (T-of-true (restValid s x) g)); room = h .first-covers })) (λ g. same-refusal 13))
+      (λ l. agree-pick n (restValid s x) (λ g. f (record { sound = sound-of-limits-and-rest s x (T-of-true (withinLimits (s .setup)) l) (T-of-true (restValid s x) g); names = names-valid-of-rest s x (T-of-true (restValid s x) g); totals = totals-kept-of-rest s x (T-of-true (restValid s x) g); ranks = ranks-sound-of-valid s (ranks-valid-of-rest s x (T-of-true (restValid s x) g)); runs = runs-valid-of-rest s x (T-of-true (restValid s x) g); room = h .first-covers })) (λ g. same-refusal 13))
       (λ l. same-refusal 13))
 
   -- a take
   take-agrees : (i size : ℕ) → Passed s x → Agree n (takeUnchecked s x i size) (takeUnchecked s y i size)
-  unfolding takeUnchecked takenAt takenFromOther
-  take-agrees i size = go (isProcessor s i) (isTooLarge size) (fullest i (classOf size) s) (otherPlaces (classOf size) s) refl refl refl
+  unfolding takeUnchecked takenAt takenFromOther longTakenAt longTakenFrom
+  take-agrees i size = go (isProcessor s i) (isTooLarge size) (isLong size) (lowestRun (runLength size) s) (fullest i (classOf size) s) (otherPlaces (classOf size) s) refl refl refl
     where
-      go : (processor large : Bool) (own other : Found) → isProcessor s i ≡ processor → fullest i (classOf size) s ≡ own → otherPlaces (classOf size) s ≡ other → Passed s x
-          → Agree n (takenByTests s x i (classOf size) processor large own other) (takenByTests s y i (classOf size) processor large own other)
-      go false large own other ep eo et passed = same-refusal 2
-      go true true own other ep eo et passed = same-refusal 3
-      go true false (At k) other ep eo et passed =
+      go : (processor large long : Bool) (run own other : Found) → isProcessor s i ≡ processor → fullest i (classOf size) s ≡ own → otherPlaces (classOf size) s ≡ other → Passed s x
+          → Agree n (takenByTests s x i size processor large long run own other) (takenByTests s y i size processor large long run own other)
+      go false large long run own other ep eo et passed = same-refusal 2
+      go true true long run own other ep eo et passed = same-refusal 3
+      go true false true (At k) own other ep eo et passed = record { answer = refl; order = h }
+      go true false true Nothing own other ep eo et passed = same-refusal 17
+      go true false false run (At k) other ep eo et passed =
           taken-from-agrees n k s x y h (omega (arith, fullest-below-superblocks s x passed i (classOf size) k (bounds-of-is-processor s i (T-of-true (isProcessor s i) ep) .1) eo))
-      go true false Nothing (At k) ep eo et passed =
+      go true false false run Nothing (At k) ep eo et passed =
           let l : k * 256 + 256 ≤ n = omega (arith, other-places-below-superblocks s x passed (classOf size) k et) in
           taken-from-agrees n k (withSuperblock (unrankedIfEmpty k s) k (acquired i (classOf size) (superblockAt s k))) (acquiredOrder (classOf size) k (superblockAt s k) x) (acquiredOrder (classOf size) k (superblockAt s k) y)
           (acquired-order-agrees n (classOf size) k (superblockAt s k) x y h l) l
-      go true false Nothing Nothing ep eo et passed = same-refusal 4
+      go true false false run Nothing Nothing ep eo et passed = same-refusal 4
 
   -- a free
   free-agrees : (i a : ℕ) → Agree n (freeUnchecked s x i a) (freeUnchecked s y i a)
-  unfolding freeUnchecked freedAt
+  unfolding freeUnchecked freedAt smallFreedAt longFreedAt
   free-agrees i a =
       agree-pick n (not (isProcessor s i)) (λ e. same-refusal 2) (λ e.
       agree-pick n (isUnmapped s a) (λ e. same-refusal 5) (λ e.
       agree-pick n (isMisaligned s a) (λ e. same-refusal 6) (λ e.
       agree-pick n (not (isLiveAt s a)) (λ e. same-refusal 7) (λ e.
-      record { answer = refl; order = pushed-agrees n s a x y h }))))
+      agree-pick n (isInRun s a) (λ e. record { answer = refl; order = h }) (λ e. record { answer = refl; order = block-pushed-agrees n s a x y h })))))
 
   -- a drop
   drop-agrees : (i : ℕ) (addresses : List ℕ) → Agree n (dropUnchecked s x i addresses) (dropUnchecked s y i addresses)

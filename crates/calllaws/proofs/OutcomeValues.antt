@@ -1,7 +1,7 @@
 -- Each answer by document 01's number and values. Assumes nothing.
 use mathlib.Core.Path.{_≡_, refl}
 use mathlib.Core.List.{List, [], _∷_}
-use Prim.Native.Nat.{ℕ}
+use Prim.Native.Nat.{ℕ, _*_}
 use Rattle.classes.specs.Classes.{classOf}
 use Rattle.heap.specs.declared.State.{State}
 use Rattle.heaplaws.proofs.StateFacts.{Shape}
@@ -9,9 +9,10 @@ use Rattle.calls.specs.declared.Outcome.{Outcome}
 use Rattle.calls.specs.Answers.{refused, numberOf, valuesOf}
 use Rattle.calls.specs.Take.{addressOf, takeOf}
 use Rattle.calls.specs.Free.{freeOf}
-use Rattle.calllaws.proofs.CallEffects.{TakeAccepted, FreeAccepted}
+use Rattle.calllaws.proofs.CallEffects.{TakeAccepted, LongTakeAccepted, FreeAccepted, LongFreeAccepted}
 use Rattle.calllaws.proofs.TakeLaws.{taken-block, take-address}
-use Rattle.calllaws.proofs.FreeLaws.{moves, free-outcome}
+use Rattle.calllaws.proofs.RunTakenLaws.{long-take-address}
+use Rattle.calllaws.proofs.FreeLaws.{moves, free-outcome, long-free-outcome}
 
 -- the number and the values of an outcome
 pub record HasNumberAndValues (outcome : Outcome) (number : ℕ) (values : List ℕ) : Type 0 where
@@ -29,8 +30,19 @@ pub take-number-and-values : (s : State) (order : List ℕ) (i size k : ℕ) (sh
 unfolding numberOf valuesOf
 take-number-and-values s order i size k shape acc = rw (take-address s order i size k shape acc) (record { number-is = refl; values-are = refl })
 
+-- of a long block, "the start of the run" (document 02, item 7)
+pub long-take-number-and-values : (s : State) (order : List ℕ) (i size k : ℕ) (shape : Shape s) (acc : LongTakeAccepted s order i size k)
+    → HasNumberAndValues (takeOf s order i size .answer .outcome) 0 (k * 4096 ∷ [])
+unfolding numberOf valuesOf
+long-take-number-and-values s order i size k shape acc = rw (long-take-address s order i size k shape acc) (record { number-is = refl; values-are = refl })
+
 -- an accepted free: its moves
 pub free-number-and-values : (s : State) (order : List ℕ) (i a : ℕ) (shape : Shape s) (acc : FreeAccepted s order i a)
     → HasNumberAndValues (freeOf s order i a .answer .outcome) 0 (moves s order i a shape acc ∷ [])
 unfolding numberOf valuesOf
 free-number-and-values s order i a shape acc = rw (free-outcome s order i a shape acc) (record { number-is = refl; values-are = refl })
+
+-- of a long block: "Its free line has moved 0" (document 02, item 7)
+pub long-free-number-and-values : (s : State) (order : List ℕ) (i a : ℕ) (shape : Shape s) (acc : LongFreeAccepted s order i a) → HasNumberAndValues (freeOf s order i a .answer .outcome) 0 (0 ∷ [])
+unfolding numberOf valuesOf
+long-free-number-and-values s order i a shape acc = rw (long-free-outcome s order i a shape acc) (record { number-is = refl; values-are = refl })

@@ -2,48 +2,54 @@
 -- state, storage and argument. Assumes nothing.
 use mathlib.Core.Path.{_≡_, refl, sym, ap, _∙_, subst}
 use mathlib.Core.Bool.{Bool, true, false, not}
-use mathlib.Core.Logic.{_↔_, _⊎_}
+use mathlib.Core.Logic.{_↔_, _⊎_, inl, inr}
 use mathlib.Core.List.{List, [], _∷_}
 use Prim.Native.Nat.{ℕ, _*_, _%_, _≤_, _<_}
 use native.Mathlib.Omega.{arith}
-use borrow.Author.Tests.{eqb-true}
+use borrow.Author.Tests.{eqb-true, eq-eqb, lt-ltb}
 use lib.ListN.{length}
-use lib.Dec.{eqb, leb}
-use Rattle.laws.specs.Sums.{pick}
+use lib.Dec.{T, eqb, leb, ltb, eqb→eq, ltb→lt, lt→ltb}
+use Rattle.laws.specs.Sums.{pick, both}
+use Rattle.laws.proofs.TestLaws.{T-of-true, true-not-false, both-left, both-right, both-make, pick-elim}
 use Rattle.laws.proofs.Decides.{TypeIf, type-if-elim, Decides, true-of-decides, false-of-decides, decides-fact, decides-le, decides-nonzero, decides-differs, decides-as, decides-either, decides-both}
-use Rattle.classes.specs.Classes.{sizeOf, blocksOf, classOf, isTooLarge}
-use Rattle.classes.proofs.ClassLaws.{decides-too-large}
-use Rattle.marks.specs.Marks.{markBit}
-use Rattle.marklaws.proofs.MarkLaws.{mark-bit-zero-of-no-mark, no-mark-of-mark-bit-zero}
+use Rattle.classes.specs.Classes.{sizeOf, blocksOf, classOf, isLong, runLength, isTooLarge}
+use Rattle.classes.proofs.ClassLaws.{decides-long, run-length-pos, decides-too-large}
+use Rattle.marks.specs.Marks.{markBit, noMarks}
+use Rattle.marklaws.proofs.MarkLaws.{mark-bit-zero-of-no-mark, no-mark-of-mark-bit-zero, with-mark-same}
 use Rattle.heap.specs.declared.Setup.{Setup}
 use Rattle.heap.specs.declared.State.{State}
 use Rattle.heap.specs.declared.Found.{Found}
 use Rattle.heap.specs.declared.Found.the-variants.{At, Nothing}
-use Rattle.heap.specs.Table.{isUnused}
+use Rattle.heap.specs.Table.{isUnused, isOfRun, startsRun, liveBlocks}
 use Rattle.heap.specs.States.{noState}
 use Rattle.choicerules.specs.Choice.{fullest}
-use Rattle.checkrules.specs.Check.{withinLimits, restValid}
+use Rattle.choicerules.specs.Runs.{lowestRun}
+use Rattle.checkrules.specs.Check.{withinLimits, runsValid, restValid}
 use Rattle.heaplaws.proofs.StateFacts.{WithinLimits, Unused, Sound, NamesSound, RanksSound}
 use Rattle.heap.specs.Totals.{TotalsKept}
-use Rattle.heaplaws.proofs.StateCheckLaws.{facts-of-within-limits, within-limits-of-facts, sound-of-limits-and-rest, names-valid-of-rest, totals-kept-of-rest, ranks-valid-of-rest, names-sound-of-valid, names-valid-of-sound, rest-valid-of-sound, facts-of-is-unused, is-unused-of-facts}
+use Rattle.heaplaws.proofs.StateCheckLaws.{facts-of-within-limits, within-limits-of-facts, sound-of-limits-and-rest, names-valid-of-rest, totals-kept-of-rest, ranks-valid-of-rest, runs-valid-of-rest, names-sound-of-valid, names-valid-of-sound, rest-valid-of-sound, facts-of-is-unused, is-unused-of-facts}
 use Rattle.heaplaws.proofs.RankLaws.{ranks-sound-of-valid, ranks-valid-of-sound}
+use Rattle.heaplaws.proofs.RunsKeptLaws.{live-blocks-of-first, owner-of-run, of-run-of-owner}
+use Rattle.heaplaws.proofs.RunChoiceLaws.{FreeRun, no-run-of-lowest-run-nothing, lowest-run-nothing-of-no-run}
 use Rattle.calls.specs.declared.Outcome.the-variants.{Ready, Address, Moves, Refused}
 use Rattle.calls.specs.Answers.{After, refused, checked, isProcessor}
 use Rattle.calls.specs.Setup.{acceptedSetup, setupOf}
+use Rattle.calls.specs.Runs.{longTakenFrom, longTakenAt}
 use Rattle.calls.specs.Take.{otherPlaces, takenFrom, takenFromOther, takenAt, takeUnchecked, takeOf}
-use Rattle.calls.specs.Free.{offsetOf, superblockHolding, blockOf, isUnmapped, isMisaligned, isLiveAt, freedAt, freeUnchecked, freeOf}
+use Rattle.calls.specs.Free.{offsetOf, superblockHolding, blockOf, isUnmapped, isInRun, isRunStart, isOffBlock, isMisaligned, isLiveAt, smallFreedAt, longFreedAt, freedAt, freeUnchecked, freeOf}
 use Rattle.calllaws.proofs.CallEffects.{Passed}
 use Rattle.calllaws.proofs.CheckedLaws.{checked-refuses-13-of-limits, checked-refuses-12-of-storage, checked-refuses-13-of-rest}
+use Rattle.calllaws.proofs.AddressLaws.{block-of-offset-0}
 use Rattle.calllaws.proofs.SetupLaws.{setup-refused-1-of-limits, setup-refused-12-of-storage}
-use Rattle.calllaws.proofs.RefusalOrder.{take-refused-2-of-processor, take-refused-3-of-too-large, take-of-valid-arguments, free-refused-2-of-processor, free-refused-5-of-unmapped, free-refused-6-of-misaligned, free-refused-7-of-not-live}
-use Rattle.calllaws.proofs.TakeLaws.{takenByTests, nothing-offered-of-refused-4, refused-4-of-nothing-offered}
+use Rattle.calllaws.proofs.RefusalOrder.{take-refused-2-of-processor, take-refused-3-of-too-large, take-of-class-size, free-refused-2-of-processor, free-refused-5-of-unmapped, free-refused-6-of-misaligned, free-refused-7-of-not-live}
+use Rattle.calllaws.proofs.TakeLaws.{takenByTests, nothing-offered-of-refused-4, refused-4-of-nothing-offered, refused-17-of-no-run}
 use Rattle.calllaws.proofs.NothingOfferedLaws.{NotOffered, nothing-found-iff-not-offered}
 
 -- ---- the conditions
 -- what the check asks beside the setup numbers: of the superblocks, of the names, of the totals, which are the recount (heap by heap and class by class: TotalsKeptLaws ·
--- totals-kept-iff-counted), and of the ranks
+-- totals-kept-iff-counted), of the ranks, and of the runs, read superblock by superblock (as facts of each run: heaplaws, RunLaws · runs-sound-of-valid and runs-valid-of-sound)
 abbrev pub RestSound : State → List ℕ → Type 0
-RestSound s order = Sound s order × NamesSound s × TotalsKept s × RanksSound s
+RestSound s order = Sound s order × NamesSound s × TotalsKept s × RanksSound s × T (runsValid s)
 
 -- 13, "the state fails its check": first its setup numbers, then, with the places lent, the rest
 pub data CheckFails (s : State) (order : List ℕ) : Type 0 where
@@ -65,18 +71,27 @@ pub record NotProcessor (s : State) (order : List ℕ) (i : ℕ) : Type 0 where
   pub passed : Passed s order
   pub out : (i ≡ 0) ⊎ (s .setup .processors < i)
 
--- 3: "sizes above 2048" (document 02, item 1)
+-- 3: above the long sizes, "2049 to 65535", which no size of 16 bits is (document 02, item 7)
 pub record TooLarge (s : State) (order : List ℕ) (i size : ℕ) : Type 0 where
   pub passed : Passed s order
   pub processor : IsProcessor s i
-  pub large : 2048 < size
+  pub large : 65535 < size
 
--- 4: "none of the four places offers a superblock"
+-- 4: "none of the four places offers a superblock", of a size that a class holds
 pub record NothingOffered (s : State) (order : List ℕ) (i size : ℕ) : Type 0 where
   pub passed : Passed s order
   pub processor : IsProcessor s i
   pub size-le-2048 : size ≤ 2048
   pub none : (k : ℕ) → k < 64 → NotOffered s i (classOf size) k
+
+-- 17: "no such run, given exactly then and in place of 4 for a long size" (document 02, item 7): no run of as many superblocks as the size takes, "all below N, that are each
+-- unused or empty in heap 0"
+pub record NoRun (s : State) (order : List ℕ) (i size : ℕ) : Type 0 where
+  pub passed : Passed s order
+  pub processor : IsProcessor s i
+  pub size-above-2048 : 2048 < size
+  pub size-le-65535 : size ≤ 65535
+  pub none : (k : ℕ) → FreeRun (runLength size) s k → ⊥
 
 -- 5: "address at or past N × 4096, or in an unused superblock"
 pub record Unmapped (s : State) (order : List ℕ) (i a : ℕ) : Type 0 where
@@ -89,27 +104,38 @@ pub record Mapped (s : State) (a : ℕ) : Type 0 where
   pub inside : a < s .setup .superblocks * 4096
   pub used : Unused (superblockHolding s a) → ⊥
 
--- 6: "offset in the superblock is no multiple of the block size, or block n or above"
+-- no block starts at the address: "offset in the superblock is no multiple of the block size, or block n or above", or, in a long block's run, it is "any other address" than the
+-- start of the run (document 02, item 7)
+pub data OffBlock (s : State) (a : ℕ) : Type 0 where
+  off-blocks-of-class : (superblockHolding s a .owner ≡ 254 → ⊥) → (offsetOf a % sizeOf (superblockHolding s a .class) ≡ 0 → ⊥) ⊎ (blocksOf (superblockHolding s a .class) ≤ blockOf s a) → OffBlock s a
+  inside-run : superblockHolding s a .owner ≡ 254 → ((0 < superblockHolding s a .run) × (offsetOf a ≡ 0) → ⊥) → OffBlock s a
+
+-- a block may start there: one of the class, or the long block, whose "address is the start of the run"
+pub data OnBlock (s : State) (a : ℕ) : Type 0 where
+  on-block-of-class : (superblockHolding s a .owner ≡ 254 → ⊥) → offsetOf a % sizeOf (superblockHolding s a .class) ≡ 0 → blockOf s a < blocksOf (superblockHolding s a .class) → OnBlock s a
+  on-run-start : superblockHolding s a .owner ≡ 254 → 0 < superblockHolding s a .run → offsetOf a ≡ 0 → OnBlock s a
+
+-- 6
 pub record Misaligned (s : State) (order : List ℕ) (i a : ℕ) : Type 0 where
   pub passed : Passed s order
   pub processor : IsProcessor s i
   pub mapped : Mapped s a
-  pub misaligned : (offsetOf a % sizeOf (superblockHolding s a .class) ≡ 0 → ⊥) ⊎ (blocksOf (superblockHolding s a .class) ≤ blockOf s a)
+  pub misaligned : OffBlock s a
 
 -- 7: "the block is not live"
 pub record NotLive (s : State) (order : List ℕ) (i a : ℕ) : Type 0 where
   pub passed : Passed s order
   pub processor : IsProcessor s i
   pub mapped : Mapped s a
-  pub multiple : offsetOf a % sizeOf (superblockHolding s a .class) ≡ 0
-  pub block : blockOf s a < blocksOf (superblockHolding s a .class)
-  pub clear : markBit (superblockHolding s a .live) (blockOf s a) ≡ 0
+  pub aligned : OnBlock s a
+  pub clear : markBit (liveBlocks (superblockHolding s a)) (blockOf s a) ≡ 0
 
 -- ---- the numbers, each with its condition, in the page's order
--- of a take: "13 for setup numbers, 12, the rest of 13, then take 2, 3, 4"
+-- of a take: "13 for setup numbers, 12, the rest of 13, then take 2, 3, 4", and 17 in place of 4
 abbrev pub takeRefusals : (s : State) (order : List ℕ) (i size : ℕ) → List (ℕ × Type 0)
 takeRefusals s order i size =
-    (13, CheckFails s order) ∷ (12, StorageShort s order) ∷ (2, NotProcessor s order i) ∷ (3, TooLarge s order i size) ∷ (4, NothingOffered s order i size) ∷ []
+    (13, CheckFails s order) ∷ (12, StorageShort s order) ∷ (2, NotProcessor s order i) ∷ (3, TooLarge s order i size) ∷ (4, NothingOffered s order i size)
+    ∷ (17, NoRun s order i size) ∷ []
 
 -- of a free: "and free 2, 5, 6, 7"
 abbrev pub freeRefusals : (s : State) (order : List ℕ) (i a : ℕ) → List (ℕ × Type 0)
@@ -160,6 +186,12 @@ address-not-refused a r e = let z : _≡_ {A = ℕ} 0 1 = cc in omega arith
 pub moves-not-refused : (m r : ℕ) → Moves m ≡ Refused r → ⊥
 moves-not-refused m r e = let z : _≡_ {A = ℕ} 0 1 = cc in omega arith
 
+-- a block that is freed, small or long
+pub freed-not-refused : (s : State) (order : List ℕ) (a r : ℕ) → freedAt s order a .answer .outcome ≡ Refused r → ⊥
+unfolding freedAt smallFreedAt longFreedAt
+freed-not-refused s order a r =
+    pick-elim (λ (x : After). x .answer .outcome ≡ Refused r → ⊥) (isInRun s a) (longFreedAt s order a) (smallFreedAt s order a) (λ _. moves-not-refused 0 r) (λ _. moves-not-refused _ r)
+
 -- ---- tests
 decides-within-limits : (u : Setup) → Decides (withinLimits u) (WithinLimits u) (WithinLimits u → ⊥)
 decides-within-limits u = decides-fact (withinLimits u) (facts-of-within-limits u) (within-limits-of-facts u)
@@ -173,8 +205,8 @@ module _ (s : State) (order : List ℕ) (i : ℕ) where
   decides-rest-valid : WithinLimits (s .setup) → Decides (restValid s order) (RestSound s order) (RestSound s order → ⊥)
   decides-rest-valid l =
       decides-fact (restValid s order)
-      (λ t. (sound-of-limits-and-rest s order (within-limits-of-facts (s .setup) l) t, names-sound-of-valid s (names-valid-of-rest s order t), totals-kept-of-rest s order t, ranks-sound-of-valid s (ranks-valid-of-rest s order t)))
-      (λ h. rest-valid-of-sound s order (h .0) (names-valid-of-sound s (h .1)) (h .2) (ranks-valid-of-sound s (h .3)))
+      (λ t. (sound-of-limits-and-rest s order (within-limits-of-facts (s .setup) l) t, names-sound-of-valid s (names-valid-of-rest s order t), totals-kept-of-rest s order t, ranks-sound-of-valid s (ranks-valid-of-rest s order t), runs-valid-of-rest s order t))
+      (λ h. rest-valid-of-sound s order (h .0) (names-valid-of-sound s (h .1)) (h .2) (ranks-valid-of-sound s (h .3)) (h .4))
 
   -- what the check refuses, or what it goes on with
   pub checked-refused : (next : After) (listed : List (ℕ × Type 0)) (r : ℕ) → (CheckFails s order → ConditionOf listed 13) → (StorageShort s order → ConditionOf listed 12)
@@ -189,7 +221,7 @@ module _ (s : State) (order : List ℕ) (i : ℕ) where
       go false y z l m d e = condition-at-number listed 13 r e (f (limits-fail (l .says)))
       go true false z l m d e = condition-at-number listed 12 r e (g (record { numbers = l .says; short = m .says }))
       go true true false l m d e = condition-at-number listed 13 r e (f (rest-fails (l .says) (m .says) (d (l .says) .says)))
-      go true true true l m d e = let q = d (l .says) .says in h (record { sound = q .0; names = names-valid-of-sound s (q .1); totals = q .2; ranks = q .3; room = m .says }) e
+      go true true true l m d e = let q = d (l .says) .says in h (record { sound = q .0; names = names-valid-of-sound s (q .1); totals = q .2; ranks = q .3; runs = q .4; room = m .says }) e
 
   pub check-fails-refused-13 : (next : After) → CheckFails s order → checked s order next ≡ refused 13 s order
   check-fails-refused-13 next (limits-fail f) = checked-refuses-13-of-limits s order next (false-of-decides (decides-within-limits (s .setup)) f)
@@ -200,32 +232,55 @@ module _ (s : State) (order : List ℕ) (i : ℕ) where
 
   -- ---- a take
   module _ (size : ℕ) where
+    -- what it finds, of a size that a class holds, and of a long one
+    none-offered-of-nothing-found : Passed s order → IsProcessor s i → size ≤ 2048 → fullest i (classOf size) s ≡ Nothing → otherPlaces (classOf size) s ≡ Nothing → NothingOffered s order i size
+    unfolding takenAt
+    none-offered-of-nothing-found passed p l eo et =
+        let f = nothing-offered-of-refused-4 s order i size
+        (take-of-class-size s order i passed size (true-of-decides decides-processor p) (false-of-decides (decides-too-large size) (omega arith)) (false-of-decides (decides-long size) l) ∙ rw (eo, et)) in
+        record {
+          passed = passed;
+          processor = p;
+          size-le-2048 = l;
+          none = nothing-found-iff-not-offered s i (classOf size) (passed .sound .numbers .superblocks-high) .0 (record { own = f .1; zero = f .2; empty = f .3; unused = f .4 });
+        }
+
+    no-run-of-nothing-found : Passed s order → IsProcessor s i → 2048 < size → size ≤ 65535 → lowestRun (runLength size) s ≡ Nothing → NoRun s order i size
+    no-run-of-nothing-found passed p above l e =
+        record {
+          passed = passed;
+          processor = p;
+          size-above-2048 = above;
+          size-le-65535 = l;
+          none = no-run-of-lowest-run-nothing (runLength size) s (run-length-pos size (true-of-decides (decides-long size) above)) (passed .sound .numbers .superblocks-high) e;
+        }
+
     condition-of-take-refused : (r : ℕ) → takeOf s order i size .answer .outcome ≡ Refused r → ConditionOf (takeRefusals s order i size) r
-    unfolding takeOf takeUnchecked takenAt takenFromOther takenFrom
+    unfolding takeOf takeUnchecked takenAt takenFromOther takenFrom longTakenAt longTakenFrom
     condition-of-take-refused r = checked-refused (takeUnchecked s order i size)
         (takeRefusals s order i size) r (λ h. h) (λ h. h)
-        (go (isProcessor s i) (isTooLarge size) (fullest i (classOf size) s) (otherPlaces (classOf size) s) decides-processor (decides-too-large size) refl refl)
+        (go (isProcessor s i) (isTooLarge size) (isLong size) (lowestRun (runLength size) s) (fullest i (classOf size) s) (otherPlaces (classOf size) s)
+        decides-processor (decides-too-large size) (decides-long size) refl refl refl)
       where
-        go : (processor large : Bool) (own other : Found) → Decides processor (IsProcessor s i) ((i ≡ 0) ⊎ (s .setup .processors < i))
-            → Decides large (2048 < size) (size ≤ 2048) → fullest i (classOf size) s ≡ own → otherPlaces (classOf size) s ≡ other
-            → Passed s order → takenByTests s order i (classOf size) processor large own other .answer .outcome ≡ Refused r → ConditionOf (takeRefusals s order i size) r
-        go false large own other p l eo et passed e = condition-at-number (takeRefusals s order i size) 2 r e (record { passed = passed; out = p .says })
-        go true true own other p l eo et passed e = condition-at-number (takeRefusals s order i size) 3 r e (record { passed = passed; processor = p .says; large = l .says })
-        go true false (At k) other p l eo et passed e = absurd (address-not-refused _ r e)
-        go true false Nothing (At k) p l eo et passed e = absurd (address-not-refused _ r e)
-        go true false Nothing Nothing p l eo et passed e =
-            let f = nothing-offered-of-refused-4 s order i size (take-of-valid-arguments s order i passed size (true-of-decides decides-processor (p .says)) (false-of-decides (decides-too-large size) (l .says)) ∙ rw (eo, et)) in
-            condition-at-number (takeRefusals s order i size) 4 r e (record {
-              passed = passed;
-              processor = p .says;
-              size-le-2048 = l .says;
-              none = nothing-found-iff-not-offered s i (classOf size) (passed .sound .numbers .superblocks-high) .0 (record { own = f .0; zero = f .1; empty = f .2; unused = f .3 });
-            })
+        go : (processor large long : Bool) (run own other : Found) → Decides processor (IsProcessor s i) ((i ≡ 0) ⊎ (s .setup .processors < i))
+            → Decides large (65535 < size) (size ≤ 65535) → Decides long (2048 < size) (size ≤ 2048) → lowestRun (runLength size) s ≡ run → fullest i (classOf size) s ≡ own → otherPlaces (classOf size) s ≡ other
+            → Passed s order → takenByTests s order i size processor large long run own other .answer .outcome ≡ Refused r → ConditionOf (takeRefusals s order i size) r
+        go false large long run own other p l n er eo et passed e = condition-at-number (takeRefusals s order i size) 2 r e (record { passed = passed; out = p .says })
+        go true true long run own other p l n er eo et passed e = condition-at-number (takeRefusals s order i size) 3 r e (record { passed = passed; processor = p .says; large = l .says })
+        go true false true (At k) own other p l n er eo et passed e = absurd (address-not-refused _ r e)
+        go true false true Nothing own other p l n er eo et passed e = condition-at-number (takeRefusals s order i size) 17 r e (no-run-of-nothing-found passed (p .says) (n .says) (l .says) er)
+        go true false false run (At k) other p l n er eo et passed e = absurd (address-not-refused _ r e)
+        go true false false run Nothing (At k) p l n er eo et passed e = absurd (address-not-refused _ r e)
+        go true false false run Nothing Nothing p l n er eo et passed e = condition-at-number (takeRefusals s order i size) 4 r e (none-offered-of-nothing-found passed (p .says) (n .says) eo et)
 
     pub nothing-offered-refused-4 : NothingOffered s order i size → takeOf s order i size ≡ refused 4 s order
     nothing-offered-refused-4 h =
         let f = nothing-found-iff-not-offered s i (classOf size) (h .passed .sound .numbers .superblocks-high) .1 (h .none) in
         refused-4-of-nothing-offered s order i size (h .passed) (h .processor .low) (h .processor .high) (h .size-le-2048) (f .own) (f .zero) (f .empty) (f .unused)
+
+    pub no-run-refused-17 : NoRun s order i size → takeOf s order i size ≡ refused 17 s order
+    no-run-refused-17 h =
+        refused-17-of-no-run s order i size (h .passed) (h .processor .low) (h .processor .high) (h .size-above-2048) (h .size-le-65535) (lowest-run-nothing-of-no-run (runLength size) s (h .none))
 
     -- a take is refused with number r exactly if r's condition holds: it applies, and none before it in the order
     pub take-refused-iff-condition : (r : ℕ) → (takeOf s order i size .answer .outcome ≡ Refused r) ↔ ConditionOf (takeRefusals s order i size) r
@@ -234,8 +289,9 @@ module _ (s : State) (order : List ℕ) (i : ℕ) where
         (λ h. take-refused-2-of-processor s order i (h .passed) size (false-of-decides decides-processor (h .out)))
         (λ h. take-refused-3-of-too-large s order i (h .passed) size (true-of-decides decides-processor (h .processor)) (true-of-decides (decides-too-large size) (h .large)))
         nothing-offered-refused-4
+        no-run-refused-17
 
-    -- number by number: 13, 12, 2, 3, 4
+    -- number by number: 13, 12, 2, 3, 4, 17
     pub take-refused-13 : (takeOf s order i size .answer .outcome ≡ Refused 13) ↔ CheckFails s order
     take-refused-13 = take-refused-iff-condition 13
 
@@ -251,6 +307,20 @@ module _ (s : State) (order : List ℕ) (i : ℕ) where
     pub take-refused-4 : (takeOf s order i size .answer .outcome ≡ Refused 4) ↔ NothingOffered s order i size
     take-refused-4 = take-refused-iff-condition 4
 
+    pub take-refused-17 : (takeOf s order i size .answer .outcome ≡ Refused 17) ↔ NoRun s order i size
+    take-refused-17 = take-refused-iff-condition 17
+
+    -- "As a size has 16 bits, refusal 3 can no longer be met"
+    pub take-never-refused-3 : size < 65536 → takeOf s order i size .answer .outcome ≡ Refused 3 → ⊥
+    take-never-refused-3 l e = let h = take-refused-3 .0 e .large in omega arith
+
+    -- 17 "in place of 4 for a long size", and for no other
+    pub long-take-never-refused-4 : 2048 < size → takeOf s order i size .answer .outcome ≡ Refused 4 → ⊥
+    long-take-never-refused-4 l e = let h = take-refused-4 .0 e .size-le-2048 in omega arith
+
+    pub class-size-never-refused-17 : size ≤ 2048 → takeOf s order i size .answer .outcome ≡ Refused 17 → ⊥
+    class-size-never-refused-17 l e = let h = take-refused-17 .0 e .size-above-2048 in omega arith
+
   -- ---- a free
   module _ (a : ℕ) where
     pub decides-is-unmapped : Decides (isUnmapped s a) ((s .setup .superblocks * 4096 ≤ a) ⊎ Unused (superblockHolding s a)) (Mapped s a)
@@ -263,12 +333,57 @@ module _ (s : State) (order : List ℕ) (i : ℕ) where
     abbrev rest : ℕ
     rest = offsetOf a % sizeOf (superblockHolding s a .class)
 
-    pub decides-is-misaligned : Decides (isMisaligned s a) ((rest ≡ 0 → ⊥) ⊎ (blocksOf (superblockHolding s a .class) ≤ blockOf s a)) ((rest ≡ 0) × (blockOf s a < blocksOf (superblockHolding s a .class)))
+    not-off-and-on-block : OffBlock s a → OnBlock s a → ⊥
+    not-off-and-on-block (off-blocks-of-class f (inl g)) (on-block-of-class h e l) = g e
+    not-off-and-on-block (off-blocks-of-class f (inr g)) (on-block-of-class h e l) = omega arith
+    not-off-and-on-block (off-blocks-of-class f g) (on-run-start o l e) = f o
+    not-off-and-on-block (inside-run o g) (on-block-of-class h e l) = h o
+    not-off-and-on-block (inside-run o g) (on-run-start p l e) = g (l, e)
+
+    -- the test of a class's superblock, and of a run's
+    decides-is-off-block : Decides (isOffBlock s a) ((rest ≡ 0 → ⊥) ⊎ (blocksOf (superblockHolding s a .class) ≤ blockOf s a)) ((rest ≡ 0) × (blockOf s a < blocksOf (superblockHolding s a .class)))
+    unfolding isOffBlock
+    decides-is-off-block = decides-either (not (eqb rest 0)) (leb (blocksOf (superblockHolding s a .class)) (blockOf s a)) (decides-differs rest 0) (decides-le (blocksOf (superblockHolding s a .class)) (blockOf s a))
+
+    decides-is-run-start : superblockHolding s a .owner ≡ 254 → Decides (isRunStart s a) ((0 < superblockHolding s a .run) × (offsetOf a ≡ 0)) ((0 < superblockHolding s a .run) × (offsetOf a ≡ 0) → ⊥)
+    unfolding isRunStart startsRun isOfRun
+    decides-is-run-start o =
+        decides-fact (both (both (eqb (superblockHolding s a .owner) 254) (ltb 0 (superblockHolding s a .run))) (eqb (offsetOf a) 0))
+        (λ t.
+        let b = both-left (both (eqb (superblockHolding s a .owner) 254) (ltb 0 (superblockHolding s a .run))) _ t in (
+          ltb→lt 0 (superblockHolding s a .run) (both-right (eqb (superblockHolding s a .owner) 254) _ b),
+          eqb→eq (offsetOf a) 0 (both-right (both (eqb (superblockHolding s a .owner) 254) (ltb 0 (superblockHolding s a .run))) _ t),
+        ))
+        (λ h.
+        both-make (both (eqb (superblockHolding s a .owner) 254) (ltb 0 (superblockHolding s a .run))) _
+        (both-make (eqb (superblockHolding s a .owner) 254) _ (T-of-true _ (eq-eqb (superblockHolding s a .owner) 254 o)) (lt→ltb 0 (superblockHolding s a .run) (h .0)))
+        (T-of-true _ (eq-eqb (offsetOf a) 0 (h .1))))
+
+    pub decides-is-misaligned : Decides (isMisaligned s a) (OffBlock s a) (OnBlock s a)
     unfolding isMisaligned
-    decides-is-misaligned = decides-either (not (eqb rest 0)) (leb (blocksOf (superblockHolding s a .class)) (blockOf s a)) (decides-differs rest 0) (decides-le (blocksOf (superblockHolding s a .class)) (blockOf s a))
+    decides-is-misaligned = go (isInRun s a) refl
+      where
+        of-class : isInRun s a ≡ false → superblockHolding s a .owner ≡ 254 → ⊥
+        of-class e o = true-not-false (isInRun s a) (of-run-of-owner (superblockHolding s a) o) e
+
+        go : (x : Bool) → isInRun s a ≡ x → Decides (pick x (not (isRunStart s a)) (isOffBlock s a)) (OffBlock s a) (OnBlock s a)
+        go true e =
+            let o = owner-of-run (superblockHolding s a) e in
+            by-run o (isRunStart s a) (decides-is-run-start o)
+          where
+            by-run : superblockHolding s a .owner ≡ 254 → (y : Bool) → Decides y ((0 < superblockHolding s a .run) × (offsetOf a ≡ 0)) ((0 < superblockHolding s a .run) × (offsetOf a ≡ 0) → ⊥)
+                → Decides (not y) (OffBlock s a) (OnBlock s a)
+            by-run o true d = record { says = on-run-start o (d .says .0) (d .says .1); not-both = not-off-and-on-block }
+            by-run o false d = record { says = inside-run o (d .says); not-both = not-off-and-on-block }
+        go false e = by-class (isOffBlock s a) decides-is-off-block
+          where
+            by-class : (y : Bool) → Decides y ((rest ≡ 0 → ⊥) ⊎ (blocksOf (superblockHolding s a .class) ≤ blockOf s a)) ((rest ≡ 0) × (blockOf s a < blocksOf (superblockHolding s a .class)))
+                → Decides y (OffBlock s a) (OnBlock s a)
+            by-class true d = record { says = off-blocks-of-class (of-class e) (d .says); not-both = not-off-and-on-block }
+            by-class false d = record { says = on-block-of-class (of-class e) (d .says .0) (d .says .1); not-both = not-off-and-on-block }
 
     condition-of-free-refused : (r : ℕ) → freeOf s order i a .answer .outcome ≡ Refused r → ConditionOf (freeRefusals s order i a) r
-    unfolding freeOf freeUnchecked freedAt isLiveAt
+    unfolding freeOf freeUnchecked isLiveAt
     condition-of-free-refused r = checked-refused (freeUnchecked s order i a)
         (freeRefusals s order i a) r (λ h. h) (λ h. h)
         (go (isProcessor s i) (isUnmapped s a) (isMisaligned s a) (isLiveAt s a) decides-processor decides-is-unmapped decides-is-misaligned refl)
@@ -282,7 +397,7 @@ module _ (s : State) (order : List ℕ) (i : ℕ) where
 
         go : (p w o l : Bool) → Decides p (IsProcessor s i) ((i ≡ 0) ⊎ (s .setup .processors < i))
             → Decides w ((s .setup .superblocks * 4096 ≤ a) ⊎ Unused (superblockHolding s a)) (Mapped s a)
-            → Decides o ((rest ≡ 0 → ⊥) ⊎ (blocksOf (superblockHolding s a .class) ≤ blockOf s a)) ((rest ≡ 0) × (blockOf s a < blocksOf (superblockHolding s a .class)))
+            → Decides o (OffBlock s a) (OnBlock s a)
             → isLiveAt s a ≡ l → Passed s order → tests p w o l .answer .outcome ≡ Refused r → ConditionOf (freeRefusals s order i a) r
         go false w o l p z b el passed e = condition-at-number (freeRefusals s order i a) 2 r e (record { passed = passed; out = p .says })
         go true true o l p z b el passed e = condition-at-number (freeRefusals s order i a) 5 r e (record { passed = passed; processor = p .says; out = z .says })
@@ -291,17 +406,16 @@ module _ (s : State) (order : List ℕ) (i : ℕ) where
           passed = passed;
           processor = p .says;
           mapped = z .says;
-          multiple = b .says .0;
-          block = b .says .1;
-          clear = mark-bit-zero-of-no-mark (superblockHolding s a .live) (blockOf s a) el;
+          aligned = b .says;
+          clear = mark-bit-zero-of-no-mark (liveBlocks (superblockHolding s a)) (blockOf s a) el;
         })
-        go true false false true p z b el passed e = absurd (moves-not-refused _ r e)
+        go true false false true p z b el passed e = absurd (freed-not-refused s order a r e)
 
     not-live-refused-7 : NotLive s order i a → freeOf s order i a ≡ refused 7 s order
     unfolding isLiveAt
     not-live-refused-7 h =
-        free-refused-7-of-not-live s order i (h .passed) a (true-of-decides decides-processor (h .processor)) (false-of-decides decides-is-unmapped (h .mapped)) (false-of-decides decides-is-misaligned (h .multiple, h .block))
-        (no-mark-of-mark-bit-zero (superblockHolding s a .live) (blockOf s a) (h .clear))
+        free-refused-7-of-not-live s order i (h .passed) a (true-of-decides decides-processor (h .processor)) (false-of-decides decides-is-unmapped (h .mapped)) (false-of-decides decides-is-misaligned (h .aligned))
+        (no-mark-of-mark-bit-zero (liveBlocks (superblockHolding s a)) (blockOf s a) (h .clear))
 
     -- a free is refused with number r exactly if r's condition holds: it applies, and none before it in the order
     pub free-refused-iff-condition : (r : ℕ) → (freeOf s order i a .answer .outcome ≡ Refused r) ↔ ConditionOf (freeRefusals s order i a) r
@@ -330,6 +444,19 @@ module _ (s : State) (order : List ℕ) (i : ℕ) where
 
     pub free-refused-7 : (freeOf s order i a .answer .outcome ≡ Refused 7) ↔ NotLive s order i a
     free-refused-7 = free-refused-iff-condition 7
+
+    -- in a run an address is refused 6, or a long block starts there, which is live
+    pub run-never-refused-7 : superblockHolding s a .owner ≡ 254 → freeOf s order i a .answer .outcome ≡ Refused 7 → ⊥
+    unfolding startsRun
+    run-never-refused-7 o e = go (free-refused-7 .0 e) (free-refused-7 .0 e .aligned)
+      where
+        go : NotLive s order i a → OnBlock s a → ⊥
+        go h (on-block-of-class f q l) = f o
+        go h (on-run-start p l q) =
+            let first : blockOf s a ≡ 0 = block-of-offset-0 s a q in
+            let starts : startsRun (superblockHolding s a) ≡ true = rw (of-run-of-owner (superblockHolding s a) o, lt-ltb 0 (superblockHolding s a .run) l) in
+            let marked : markBit (liveBlocks (superblockHolding s a)) 0 ≡ 1 = ap (λ (x : List ℕ). markBit x 0) (live-blocks-of-first (superblockHolding s a) starts) ∙ with-mark-same noMarks 0 refl (omega arith) in
+            omega (arith, h .clear, ap (markBit (liveBlocks (superblockHolding s a))) first)
 
 -- ---- a setup
 module _ (u : Setup) (order : List ℕ) where

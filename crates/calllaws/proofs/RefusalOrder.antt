@@ -4,10 +4,12 @@ use mathlib.Core.Path.{_≡_, _∙_}
 use mathlib.Core.Bool.{true, false}
 use mathlib.Core.List.{List}
 use Prim.Native.Nat.{ℕ}
-use Rattle.classes.specs.Classes.{classOf, isTooLarge}
+use Rattle.classes.specs.Classes.{classOf, isLong, runLength, isTooLarge}
 use Rattle.heap.specs.declared.State.{State}
 use Rattle.choicerules.specs.Choice.{fullest}
+use Rattle.choicerules.specs.Runs.{lowestRun}
 use Rattle.calls.specs.Answers.{refused, isProcessor}
+use Rattle.calls.specs.Runs.{longTakenAt}
 use Rattle.calls.specs.Take.{otherPlaces, takenAt, takeUnchecked, takeOf}
 use Rattle.calls.specs.Free.{isUnmapped, isMisaligned, isLiveAt, freedAt, freeUnchecked, freeOf}
 use Rattle.calllaws.proofs.CallEffects.{Passed}
@@ -22,7 +24,7 @@ module _ (s : State) (order : List ℕ) (i : ℕ) (passed : Passed s order) wher
   unfolding freeOf
   free-is-unchecked a = checked-is-next-of-passed s order _ passed
 
-  -- "then take 2, 3, 4"
+  -- "then take 2, 3, 4", and for a long size 17 in place of 4 (document 02, item 7)
   pub take-refused-2-of-processor : (size : ℕ) → isProcessor s i ≡ false → takeOf s order i size ≡ refused 2 s order
   unfolding takeUnchecked
   take-refused-2-of-processor size e = take-is-unchecked size ∙ rw e
@@ -31,10 +33,15 @@ module _ (s : State) (order : List ℕ) (i : ℕ) (passed : Passed s order) wher
   unfolding takeUnchecked
   take-refused-3-of-too-large size e f = take-is-unchecked size ∙ rw (e, f)
 
-  pub take-of-valid-arguments : (size : ℕ) → isProcessor s i ≡ true → isTooLarge size ≡ false
+  pub take-of-class-size : (size : ℕ) → isProcessor s i ≡ true → isTooLarge size ≡ false → isLong size ≡ false
       → takeOf s order i size ≡ takenAt i (classOf size) s order (fullest i (classOf size) s) (otherPlaces (classOf size) s)
   unfolding takeUnchecked
-  take-of-valid-arguments size e f = take-is-unchecked size ∙ rw (e, f)
+  take-of-class-size size e f g = take-is-unchecked size ∙ rw (e, f, g)
+
+  pub take-of-long-size : (size : ℕ) → isProcessor s i ≡ true → isTooLarge size ≡ false → isLong size ≡ true
+      → takeOf s order i size ≡ longTakenAt (runLength size) s order (lowestRun (runLength size) s)
+  unfolding takeUnchecked
+  take-of-long-size size e f g = take-is-unchecked size ∙ rw (e, f, g)
 
   -- "and free 2, 5, 6, 7"
   pub free-refused-2-of-processor : (a : ℕ) → isProcessor s i ≡ false → freeOf s order i a ≡ refused 2 s order

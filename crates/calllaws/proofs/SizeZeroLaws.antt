@@ -3,7 +3,7 @@ use mathlib.Core.Path.{_≡_, refl, subst}
 use mathlib.Core.List.{List}
 use Prim.Native.Nat.{ℕ}
 use native.Mathlib.Omega.{arith}
-use Rattle.classes.specs.Classes.{sizes, sizeOf, firstAtLeast, classOf, isTooLarge}
+use Rattle.classes.specs.Classes.{sizes, sizeOf, firstAtLeast, classOf, isLong, isTooLarge}
 use Rattle.classes.proofs.ClassLaws.{class-of-size-0}
 use Rattle.heap.specs.declared.State.{State}
 use Rattle.heaplaws.proofs.StateFacts.{Shape}
@@ -12,12 +12,12 @@ use Rattle.calls.specs.Take.{takeUnchecked, takeOf}
 use Rattle.calls.specs.Calls.{Take, callOf}
 use Rattle.calllaws.proofs.CallEffects.{TakeAccepted, TakeEffect}
 use Rattle.calllaws.proofs.TakeLaws.{taken-block, take-effect}
-use Rattle.calllaws.proofs.RefusalConditions.{take-refused-3}
+use Rattle.calllaws.proofs.RefusalConditions.{take-never-refused-3}
 
 -- "The controllers' C library turns a size of 0 into the smallest block": a take of size 0 is a take of the smallest block's size, on every state
 -- and storage
 pub take-of-size-0 : (s : State) (order : List ℕ) (i : ℕ) → callOf s order (Take i 0) ≡ callOf s order (Take i (sizeOf 0))
-unfolding callOf takeOf takeUnchecked isTooLarge sizeOf sizes classOf firstAtLeast
+unfolding callOf takeOf takeUnchecked isTooLarge isLong sizeOf sizes classOf firstAtLeast
 take-of-size-0 s order i = refl
 
 -- "Size 0 now takes class 0": an accepted one, on a state of 64 superblocks, takes a block of a superblock of class 0, with all that a take does
@@ -25,6 +25,6 @@ pub size-0-takes-class-0 : (s : State) (order : List ℕ) (i k : ℕ) (shape : S
 size-0-takes-class-0 s order i k shape acc =
     subst (λ (c : ℕ). TakeEffect i c k (taken-block s order i 0 k shape acc) s (takeOf s order i 0 .answer .state)) class-of-size-0 (take-effect s order i 0 k shape acc)
 
--- "Refusal 3 is left for sizes above 2048": size 0 never meets it
+-- no size of 16 bits meets refusal 3, and so size 0 does not
 pub size-0-not-refused-3 : (s : State) (order : List ℕ) (i : ℕ) → takeOf s order i 0 .answer .outcome ≡ Refused 3 → ⊥
-size-0-not-refused-3 s order i e = let l = take-refused-3 s order i 0 .0 e .large in omega arith
+size-0-not-refused-3 s order i = take-never-refused-3 s order i 0 (omega arith)

@@ -3,7 +3,7 @@ use mathlib.Core.Path.{_≡_, refl, ap, ap₂, _∙_}
 use mathlib.Core.Bool.{Bool, true, false, not}
 use Prim.Native.Nat.{ℕ, _≤_, _<_}
 use native.Mathlib.Omega.{arith}
-use borrow.Author.Tests.{eq-eqb, ne-eqb}
+use borrow.Author.Tests.{eq-eqb, ne-eqb, lt-ltb, le-ltb}
 use lib.ListN.{length}
 use lib.Dec.{eqb}
 use Rattle.laws.specs.Sums.{pick, both, one}
@@ -12,22 +12,27 @@ use Rattle.laws.proofs.SumLaws.{sum-of-zeros}
 use Rattle.laws.proofs.ReplacedElement.{sum-set-indexed}
 use Rattle.heap.specs.declared.Superblock.{Superblock}
 use Rattle.heap.specs.declared.State.{State}
-use Rattle.heap.specs.Table.{blank, superblockAt, liveIn}
+use Rattle.heap.specs.Table.{blank, superblockAt, liveIn, isOfHeap}
 use Rattle.heap.specs.States.{withSuperblock}
 use Rattle.heap.specs.Counts.{isOwnedOfClass, ownersChanged}
 
 -- what a superblock adds to a class's counts over all heaps
-pub owned-of-class-true : (c : ℕ) (b : Superblock) → (b .owner ≡ 255 → ⊥) → b .class ≡ c → isOwnedOfClass c b ≡ true
-unfolding isOwnedOfClass
-owned-of-class-true c b f e = ap₂ (λ (x y : Bool). both (not x) y) (ne-eqb (b .owner) 255 f) (eq-eqb (b .class) c e)
+pub owned-of-class-true : (c : ℕ) (b : Superblock) → b .owner < 254 → b .class ≡ c → isOwnedOfClass c b ≡ true
+unfolding isOwnedOfClass isOfHeap
+owned-of-class-true c b l e = ap₂ both (lt-ltb (b .owner) 254 l) (eq-eqb (b .class) c e)
 
 pub owned-of-class-false : (c : ℕ) (b : Superblock) → (b .class ≡ c → ⊥) → isOwnedOfClass c b ≡ false
 unfolding isOwnedOfClass
-owned-of-class-false c b f = ap (both (not (eqb (b .owner) 255))) (ne-eqb (b .class) c f) ∙ neither (not (eqb (b .owner) 255))
+owned-of-class-false c b f = ap (both (isOfHeap b)) (ne-eqb (b .class) c f) ∙ neither (isOfHeap b)
   where
     neither : (x : Bool) → both x false ≡ false
     neither true = refl
     neither false = refl
+
+-- one that no heap owns is of no class
+pub unowned-of-no-class : (c : ℕ) (b : Superblock) → 254 ≤ b .owner → isOwnedOfClass c b ≡ false
+unfolding isOwnedOfClass isOfHeap
+unowned-of-no-class c b l = ap (λ (x : Bool). both x (eqb (b .class) c)) (le-ltb (b .owner) 254 l)
 
 -- nothing live adds nothing, to any class
 pub no-live-adds-nothing : (c : ℕ) (b : Superblock) → liveIn b ≡ 0 → pick (isOwnedOfClass c b) (liveIn b) 0 ≡ 0

@@ -21,16 +21,17 @@ use Rattle.filledplaces.proofs.PlacesValidLaws.{last-filled-below-n, last-fille
 use Rattle.filledplaces.proofs.OwnPlacesOnly.{places-valid-cong}
 use Rattle.heap.specs.declared.Superblock.{Superblock}
 use Rattle.heap.specs.declared.State.{State}
-use Rattle.heap.specs.Table.{blank, superblockAt, liveIn, withMarkAt, withRank}
+use Rattle.heap.specs.Table.{blank, superblockAt, liveIn, isOfRun, withMarkAt, withRank}
 use Rattle.heap.specs.States.{withSuperblock}
 use Rattle.heap.specs.Counts.{total, oneIfBelongs, liveIfBelongs, isOwnedOfClass, superblocksOf, blocksIn, liveOf, superblocksOfClass, liveOfClass}
 use Rattle.moverules.specs.Moves.{bothConditions, mustMove}
-use Rattle.heaplaws.proofs.StateFacts.{Shape, Unused, Owned, Sparse, Sound, RanksSound}
+use Rattle.heaplaws.proofs.StateFacts.{Shape, Unused, Unowned, Owned, Sparse, Sound, RanksSound, RunsKept}
 use Rattle.heaplaws.proofs.CountLaws.{total-with-superblock, one-if-belongs-is-1, one-if-belongs-other-owner, one-if-belongs-other-class, live-if-belongs-is-live-in, live-if-belongs-other-owner, live-if-belongs-other-class}
-use Rattle.heaplaws.proofs.StateCheckLaws.{shape-with-superblock}
+use Rattle.heaplaws.proofs.StateCheckLaws.{shape-with-superblock, not-of-heap-of-unowned}
 use Rattle.heaplaws.proofs.TotalsLaws.{totals-kept-with-superblock}
 use Rattle.heaplaws.proofs.RankLaws.{ranks-sound-of-same-ranks}
-use Rattle.heaplaws.proofs.RerankedLaws.{superblock-keeps-all-but-rank, reranked-owner, reranked-class, reranked-live, reranked-superblocks-of-class, reranked-live-of-class, reranked-owners-changed}
+use Rattle.heaplaws.proofs.RerankedLaws.{superblock-keeps-all-but-rank, reranked-owner, reranked-class, reranked-live, reranked-run, reranked-of-run, reranked-superblocks-of-class, reranked-live-of-class, reranked-owners-changed}
+use Rattle.heaplaws.proofs.RunsKeptLaws.{runs-valid-of-kept, outside-run-of-owner}
 use Rattle.heap.specs.Ranks.{reranked}
 use Rattle.heaplaws.proofs.MoveLaws.{conditions-of-must-move, must-move-of-conditions}
 use Rattle.calllaws.proofs.CallEffects.{Passed, TakeEffect}
@@ -100,8 +101,8 @@ module _ (s : State) (order : List ℕ) (i c k : ℕ) (b : Superblock) (places :
   total-after : (f : Superblock → ℕ) → total f (after .table) + f old ≡ total f (s .table) + f new
   total-after f = total-with-superblock f s k new (shape .length-is) in-table
 
-  new-owner-not-255 : new .owner ≡ 255 → ⊥
-  new-owner-not-255 q = omega (arith, gives .owner, high, passed .sound .numbers .processors-high)
+  new-owner-lt-254 : new .owner < 254
+  new-owner-lt-254 = omega (arith, gives .owner, high, passed .sound .numbers .processors-high)
 
   -- a superblock of heap i and class c counts for no other pair
   counts-for-no-other-pair : (h d : ℕ) (x : Superblock) → ((h ≡ i) × (d ≡ c) → ⊥) → x .owner ≡ i → x .class ≡ c → (oneIfBelongs h d x ≡ 0) × (liveIfBelongs h d x ≡ 0)
@@ -169,18 +170,18 @@ module _ (s : State) (order : List ℕ) (i c k : ℕ) (b : Superblock) (places :
   invariant-here t = ⊎-elim (λ e. invariant-of-own (e .0) (e .1) t) (λ e. invariant-of-acquired (e .0) (e .1) t) (gives .source)
 
   -- ---- the state still passes
-  each-after : (m : ℕ) → m < 64 → Dec (m ≡ k) → Unused (superblockAt after m) ⊎ Owned (s .setup) places m (superblockAt after m)
+  each-after : (m : ℕ) → m < 64 → Dec (m ≡ k) → Unowned (superblockAt after m) ⊎ Owned (s .setup) places m (superblockAt after m)
   each-after m l (yes e) =
       inr (subst (λ (x : ℕ). Owned (s .setup) places x (superblockAt after x)) (sym e) (subst (Owned (s .setup) places k) (sym after-at-superblock) owned))
     where
       owned : Owned (s .setup) places k new
       owned = record { owner = omega (arith, gives .owner, high); class = omega (arith, gives .class, known); places = places-valid-after }
-  each-after m l (no f) = subst (λ (x : Superblock). Unused x ⊎ Owned (s .setup) places m x) (sym (after-at-others m f)) (go (passed .sound .each m l))
+  each-after m l (no f) = subst (λ (x : Superblock). Unowned x ⊎ Owned (s .setup) places m x) (sym (after-at-others m f)) (go (passed .sound .each m l))
     where
       framed : (x : Superblock) → placesValid places (x .live) m (blocksOf (x .class)) ≡ placesValid order (x .live) m (blocksOf (x .class))
       framed x = places-valid-cong places order (x .live) m (blocksOf (x .class)) (gives .length-is) (λ p h. gives .others m p f (omega (arith, blocks-of-le-256 (x .class))))
 
-      go : Unused (superblockAt s m) ⊎ Owned (s .setup) order m (superblockAt s m) → Unused (superblockAt s m) ⊎ Owned (s .setup) places m (superblockAt s m)
+      go : Unowned (superblockAt s m) ⊎ Owned (s .setup) order m (superblockAt s m) → Unowned (superblockAt s m) ⊎ Owned (s .setup) places m (superblockAt s m)
       go (inl u) = inl u
       go (inr o) = inr (record { owner = o .owner; class = o .class; places = subst T (sym (framed (superblockAt s m))) (o .places) })
 
@@ -220,12 +221,12 @@ module _ (s : State) (order : List ℕ) (i c k : ℕ) (b : Superblock) (places :
   new-not-of-other-class d f = owned-of-class-false d new (λ q. f (sym q ∙ gives .class))
 
   new-of-class : isOwnedOfClass c new ≡ true
-  new-of-class = owned-of-class-true c new new-owner-not-255 (gives .class)
+  new-of-class = owned-of-class-true c new new-owner-lt-254 (gives .class)
 
   owned-others : (d : ℕ) → (d ≡ c → ⊥) → superblocksOfClass d after ≤ superblocksOfClass d s
   owned-others d f = omega (arith, owned-after d, ap one (new-not-of-other-class d f))
 
-  owned-not-more : (old .owner ≡ 255 → ⊥) → old .class ≡ c → superblocksOfClass c after ≤ superblocksOfClass c s
+  owned-not-more : old .owner < 254 → old .class ≡ c → superblocksOfClass c after ≤ superblocksOfClass c s
   owned-not-more f e = omega (arith, owned-after c, ap one (owned-of-class-true c old f e), ap one new-of-class)
 
   none-in-global-after : superblocksOf 0 c s ≡ 0 → superblocksOf 0 c after ≡ 0
@@ -251,6 +252,19 @@ module _ (s : State) (order : List ℕ) (i c k : ℕ) (b : Superblock) (places :
   marks-after : (m : ℕ) → markBit (superblockAt after k .live) m ≡ markBit (withMark (b .live) j) m
   marks-after m = ap (λ (x : Superblock). markBit (x .live) m) after-at-superblock
 
+  -- no run changes
+  runs-kept : RunsKept s after
+  runs-kept m l = go (ℕ-discrete m k)
+    where
+      new-outside-run : isOfRun new ≡ false
+      new-outside-run = outside-run-of-owner new (λ (q : new .owner ≡ 254). omega (arith, new-owner-lt-254))
+
+      go : Dec (m ≡ k) → (isOfRun (superblockAt after m) ≡ isOfRun (superblockAt s m)) × (superblockAt after m .run ≡ superblockAt s m .run)
+      go (yes e) =
+          subst (λ (x : ℕ). (isOfRun (superblockAt after x) ≡ isOfRun (superblockAt s x)) × (superblockAt after x .run ≡ superblockAt s x .run)) (sym e)
+          (ap isOfRun after-at-superblock ∙ new-outside-run ∙ sym (gives .outside-run), ap (λ (x : Superblock). x .run) after-at-superblock ∙ gives .run)
+      go (no f) = (ap isOfRun (after-at-others m f), ap (λ (x : Superblock). x .run) (after-at-others m f))
+
   effect : TakeEffect i c k j s after
   effect = record {
     below = gives .below;
@@ -261,6 +275,8 @@ module _ (s : State) (order : List ℕ) (i c k : ℕ) (b : Superblock) (places :
     owner = ap (λ (x : Superblock). x .owner) after-at-superblock ∙ gives .owner;
     class = ap (λ (x : Superblock). x .class) after-at-superblock ∙ gives .class;
     before = gives .before;
+    outside-run = gives .outside-run;
+    runs = runs-kept;
     not-marked = sym (gives .marks j in-marks) ∙ clear;
     is-marked = marks-after j ∙ with-mark-same (b .live) j (gives .marks-length) in-marks;
     marks = λ m l f. marks-after m ∙ with-mark-other (b .live) j m f ∙ gives .marks m l;
@@ -281,14 +297,23 @@ module _ (s : State) (order : List ℕ) (i c k : ℕ) (b : Superblock) (places :
       go (no f) = ap (λ (x : Superblock). x .rank) (after-at-others m f)
 
   ranks-after : RanksSound after
-  ranks-after = ranks-sound-of-same-ranks s after (λ m l. ranks-same m) (λ m l u. was-unused m u (ℕ-discrete m k)) (passed .ranks)
+  ranks-after = ranks-sound-of-same-ranks s after (λ m l. ranks-same m) (λ m l u. was-unowned m u (ℕ-discrete m k)) (passed .ranks)
     where
-      was-unused : (m : ℕ) → Unused (superblockAt after m) → Dec (m ≡ k) → Unused (superblockAt s m)
-      was-unused m u (yes e) = absurd (new-owner-not-255 (sym (ap (λ (x : Superblock). x .owner) after-at-superblock) ∙ ap (λ (x : ℕ). superblockAt after x .owner) (sym e) ∙ u .owner))
-      was-unused m u (no f) = subst Unused (after-at-others m f) u
+      was-unowned : (m : ℕ) → Unowned (superblockAt after m) → Dec (m ≡ k) → Unowned (superblockAt s m)
+      was-unowned m u (yes e) =
+          absurd (not-of-heap-of-unowned new (subst Unowned after-at-superblock (subst (λ (x : ℕ). Unowned (superblockAt after x)) e u)) new-owner-lt-254)
+      was-unowned m u (no f) = subst Unowned (after-at-others m f) u
 
   passed-after : Passed after places
-  passed-after = record { sound = sound-after; names = names-valid-after-take i c k j s after in-marks effect refl (passed .names); totals = totals-kept-with-superblock s k new; ranks = ranks-after; room = omega (arith, passed .room, gives .length-is) }
+  passed-after =
+      record {
+        sound = sound-after;
+        names = names-valid-after-take i c k j s after in-marks (shape .length-is) effect refl (passed .names);
+        totals = totals-kept-with-superblock s k new;
+        ranks = ranks-after;
+        runs = runs-valid-of-kept s after (shape .length-is) (shape-after .length-is) runs-kept (passed .runs);
+        room = omega (arith, passed .room, gives .length-is);
+      }
 
   pub take-result-of-source : TakeResult i c k j s after places
   take-result-of-source = record { effect = effect; shape = shape-after; passed = passed-after; ranks = ranks-same }
@@ -304,7 +329,9 @@ take-effect-of-reranked i c k j rank s t long e =
       others = λ m f. e .others m f ∙ ap (withRank (superblockAt t m .rank)) (superblock-keeps-all-but-rank rank s long m);
       owner = e .owner;
       class = e .class;
-      before = ⊎-elim (λ z. inl (sym (live-in k) ∙ z)) (λ h. inr (sym (reranked-class rank s long k) ∙ h .0, λ q. h .1 (reranked-owner rank s long k ∙ q))) (e .before);
+      before = ⊎-elim (λ z. inl (sym (live-in k) ∙ z)) (λ h. inr (sym (reranked-class rank s long k) ∙ h .0, subst (λ (x : ℕ). x < 254) (reranked-owner rank s long k) (h .1))) (e .before);
+      outside-run = sym (reranked-of-run rank s long k) ∙ e .outside-run;
+      runs = λ m l. (e .runs m l .0 ∙ reranked-of-run rank s long m, e .runs m l .1 ∙ reranked-run rank s long m);
       not-marked = sym (bits j) ∙ e .not-marked;
       is-marked = e .is-marked;
       marks = λ m l f. e .marks m l f ∙ bits m;

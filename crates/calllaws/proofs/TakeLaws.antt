@@ -5,14 +5,14 @@ use mathlib.Core.Logic.{_⊎_, inl, inr, ⊎-elim}
 use mathlib.Core.List.{List}
 use Prim.Native.Nat.{ℕ, _*_, _≤_, _<_}
 use native.Mathlib.Omega.{arith}
-use borrow.Author.Tests.{le-leb, eqb-true, eqb-false}
+use borrow.Author.Tests.{le-leb, eqb-true, eqb-false, ltb-true, ltb-false}
 use lib.ListN.{length}
 use lib.Dec.{eqb, leb}
 use Rattle.laws.specs.Sums.{pick}
 use Rattle.laws.proofs.TestLaws.{T-of-true}
-use Rattle.laws.proofs.Decides.{false-of-decides}
-use Rattle.classes.specs.Classes.{classOf, isTooLarge}
-use Rattle.classes.proofs.ClassLaws.{class-of-lt-27, decides-too-large, le-2048-of-not-too-large}
+use Rattle.laws.proofs.Decides.{true-of-decides, false-of-decides}
+use Rattle.classes.specs.Classes.{classOf, isLong, runLength, isTooLarge}
+use Rattle.classes.proofs.ClassLaws.{class-of-lt-27, decides-long, le-2048-of-not-long, decides-too-large}
 use Rattle.heap.specs.declared.Superblock.{Superblock}
 use Rattle.heap.specs.declared.Setup.{Setup}
 use Rattle.heap.specs.declared.State.{State}
@@ -21,79 +21,123 @@ use Rattle.heap.specs.declared.Found.the-variants.{At, Nothing}
 use Rattle.heap.specs.Table.{superblockAt, liveIn}
 use Rattle.heap.specs.Ranks.{rankAfterRenewal, unranked}
 use Rattle.choicerules.specs.Choice.{fullest, lowestEmpty, lowestUnused, orElse}
+use Rattle.choicerules.specs.Runs.{lowestRun}
 use Rattle.checkrules.specs.Check.{withinLimits, restValid}
 use Rattle.heaplaws.proofs.StateFacts.{Shape}
 use Rattle.heaplaws.proofs.RankLaws.{superblock-at-unranked, unranked-ranks-sound}
 use Rattle.heaplaws.proofs.RerankedLaws.{reranked-shape}
 use Rattle.calls.specs.declared.Outcome.the-variants.{Address}
 use Rattle.calls.specs.Answers.{After, numberOf, refused, checked, isProcessor}
+use Rattle.calls.specs.Runs.{longTakenFrom, longTakenAt}
 use Rattle.calls.specs.Take.{otherPlaces, acquired, acquiredOrder, unrankedIfEmpty, addressOf, takenFrom, takenFromOther, takenAt, takeUnchecked, takeOf}
 use Rattle.calllaws.proofs.CheckedLaws.{checked-refused-or-passed, checked-is-next-of-passed, bounds-of-is-processor}
-use Rattle.calllaws.proofs.CallEffects.{Passed, TakeAccepted, TakeEffect, Renews, RenewsNot, TakeRanks}
+use Rattle.calllaws.proofs.CallEffects.{Passed, TakeAccepted, LongTakeAccepted, TakeEffect, Renews, RenewsNot, TakeRanks}
 use Rattle.calllaws.proofs.TakeSourceLaws.{lastBlockOf, takenWith, taken-from-is-taken-with, taken-from-other-is-taken-with, TakeSource, source-of-own-heap, offered-of-other-places, source-of-other-places}
 use Rattle.calllaws.proofs.TakeEffectLaws.{TakeResult, take-result-of-source, take-effect-of-reranked}
 use Rattle.calllaws.proofs.CheckedLaws.{reranked-passed}
 
 -- ---- refusals
--- a take past the check, by its two tests and by what place 1 and the other places offer
-abbrev pub takenByTests : State → List ℕ → ℕ → ℕ → Bool → Bool → Found → Found → After
-takenByTests s order i c processor large own other =
-    pick (not processor) (refused 2 s order) (pick large (refused 3 s order) (takenAt i c s order own other))
+-- "A size of 2049 to 65535" (document 02, item 7), by its two tests
+above-2048-of-long : (size : ℕ) → isLong size ≡ true → 2048 < size
+unfolding isLong
+above-2048-of-long size = ltb-true 2048 size
 
--- a take is refused and changes nothing, or is accepted
-pub take-refused-or-accepted : (s : State) (order : List ℕ) (i size : ℕ) → ((r : ℕ) × (takeOf s order i size ≡ refused r s order)) ⊎ ((k : ℕ) × TakeAccepted s order i size k)
-unfolding takeOf takeUnchecked takenAt
+le-65535-of-not-too-large : (size : ℕ) → isTooLarge size ≡ false → size ≤ 65535
+unfolding isTooLarge
+le-65535-of-not-too-large size = ltb-false 65535 size
+
+-- a take past the check, by its three tests and by the run, and by what place 1 and the other places offer
+abbrev pub takenByTests : State → List ℕ → ℕ → ℕ → Bool → Bool → Bool → Found → Found → Found → After
+takenByTests s order i size processor large long run own other =
+    pick (not processor) (refused 2 s order)
+    (pick large (refused 3 s order)
+    (pick long (longTakenAt (runLength size) s order run)
+    (takenAt i (classOf size) s order own other)))
+
+-- what the tests give to an accepted one, of a block of a class and of a long one
+module _ (s : State) (order : List ℕ) (i size k : ℕ) (passed : Passed s order) (known : isProcessor s i ≡ true) where
+  take-accepted : isLong size ≡ false
+      → ((fullest i (classOf size) s ≡ At k) × (takeOf s order i size ≡ takenFrom k s order))
+      ⊎ ((fullest i (classOf size) s ≡ Nothing) × (otherPlaces (classOf size) s ≡ At k) × (takeOf s order i size ≡ takenFromOther i (classOf size) k s order))
+      → TakeAccepted s order i size k
+  take-accepted l place = record {
+    passed = passed;
+    processor = bounds-of-is-processor s i (T-of-true (isProcessor s i) known);
+    size-le-2048 = le-2048-of-not-long size l;
+    place = place;
+  }
+
+  long-take-accepted : isTooLarge size ≡ false → isLong size ≡ true → lowestRun (runLength size) s ≡ At k → takeOf s order i size ≡ longTakenFrom k (runLength size) s order → LongTakeAccepted s order i size k
+  long-take-accepted l g run e = record {
+    passed = passed;
+    processor = bounds-of-is-processor s i (T-of-true (isProcessor s i) known);
+    size-above-2048 = above-2048-of-long size g;
+    size-le-65535 = le-65535-of-not-too-large size l;
+    run = run;
+    result-is = e;
+  }
+
+-- a take is refused and changes nothing, or is accepted, of a block of a class or of a long one
+pub take-refused-or-accepted : (s : State) (order : List ℕ) (i size : ℕ)
+    → ((r : ℕ) × (takeOf s order i size ≡ refused r s order)) ⊎ ((k : ℕ) × TakeAccepted s order i size k) ⊎ ((k : ℕ) × LongTakeAccepted s order i size k)
+unfolding takeOf takeUnchecked takenAt longTakenAt
 take-refused-or-accepted s order i size =
-    ⊎-elim inl (λ h. go (isProcessor s i) (isTooLarge size) (fullest i (classOf size) s) (otherPlaces (classOf size) s) refl refl refl refl (h .0) (h .1))
+    ⊎-elim inl
+    (λ h. go (isProcessor s i) (isTooLarge size) (isLong size) (lowestRun (runLength size) s) (fullest i (classOf size) s) (otherPlaces (classOf size) s) refl refl refl refl refl refl (h .0) (h .1))
     (checked-refused-or-passed s order (takeUnchecked s order i size))
   where
-    accepted : (k : ℕ) → isProcessor s i ≡ true → isTooLarge size ≡ false → Passed s order
-        → ((fullest i (classOf size) s ≡ At k) × (takeOf s order i size ≡ takenFrom k s order))
-        ⊎ ((fullest i (classOf size) s ≡ Nothing) × (otherPlaces (classOf size) s ≡ At k) × (takeOf s order i size ≡ takenFromOther i (classOf size) k s order))
-        → TakeAccepted s order i size k
-    accepted k p l passed place = record {
-      passed = passed;
-      processor = bounds-of-is-processor s i (T-of-true (isProcessor s i) p);
-      size-le-2048 = le-2048-of-not-too-large size l;
-      place = place;
-    }
+    go : (processor large long : Bool) (run own other : Found) → isProcessor s i ≡ processor → isTooLarge size ≡ large → isLong size ≡ long → lowestRun (runLength size) s ≡ run
+        → fullest i (classOf size) s ≡ own → otherPlaces (classOf size) s ≡ other → Passed s order → takeOf s order i size ≡ takenByTests s order i size processor large long run own other
+        → ((r : ℕ) × (takeOf s order i size ≡ refused r s order)) ⊎ ((k : ℕ) × TakeAccepted s order i size k) ⊎ ((k : ℕ) × LongTakeAccepted s order i size k)
+    go false large long run own other p l n h f g passed e = inl (2, e)
+    go true true long run own other p l n h f g passed e = inl (3, e)
+    go true false true (At k) own other p l n h f g passed e = inr (inr (k, long-take-accepted s order i size k passed p l n h e))
+    go true false true Nothing own other p l n h f g passed e = inl (17, e)
+    go true false false run (At k) other p l n h f g passed e = inr (inl (k, take-accepted s order i size k passed p n (inl (f, e))))
+    go true false false run Nothing (At k) p l n h f g passed e = inr (inl (k, take-accepted s order i size k passed p n (inr (f, g, e))))
+    go true false false run Nothing Nothing p l n h f g passed e = inl (4, e)
 
-    go : (processor large : Bool) (own other : Found) → isProcessor s i ≡ processor → isTooLarge size ≡ large → fullest i (classOf size) s ≡ own → otherPlaces (classOf size) s ≡ other
-        → Passed s order → takeOf s order i size ≡ takenByTests s order i (classOf size) processor large own other
-        → ((r : ℕ) × (takeOf s order i size ≡ refused r s order)) ⊎ ((k : ℕ) × TakeAccepted s order i size k)
-    go false large own other p l f g passed e = inl (2, e)
-    go true true own other p l f g passed e = inl (3, e)
-    go true false (At k) other p l f g passed e = inr (k, accepted k p l passed (inl (f, e)))
-    go true false Nothing (At k) p l f g passed e = inr (k, accepted k p l passed (inr (f, g, e)))
-    go true false Nothing Nothing p l f g passed e = inl (4, e)
-
--- no refusal of the check is 4
-next-of-checked-refused-4 : (s : State) (order : List ℕ) (next : After) → checked s order next ≡ refused 4 s order → next ≡ refused 4 s order
+-- no refusal of the check is 4 or 17
+next-of-checked-refused : (r : ℕ) → (r ≡ 12 → ⊥) → (r ≡ 13 → ⊥) → (s : State) (order : List ℕ) (next : After) → checked s order next ≡ refused r s order → next ≡ refused r s order
 unfolding checked numberOf
-next-of-checked-refused-4 s order next = go (withinLimits (s .setup)) (leb (s .setup .superblocks * 256) (length order)) (restValid s order)
+next-of-checked-refused r not-12 not-13 s order next = go (withinLimits (s .setup)) (leb (s .setup .superblocks * 256) (length order)) (restValid s order)
   where
-    same : (r : ℕ) → refused r s order ≡ refused 4 s order → r ≡ 4
-    same r e = ap (λ (x : After). numberOf (x .answer .outcome)) e
+    same : (n : ℕ) → refused n s order ≡ refused r s order → r ≡ n
+    same n e = ap (λ (x : After). numberOf (x .answer .outcome)) (sym e)
 
-    go : (numbers lent rest : Bool) → pick numbers (pick lent (pick rest next (refused 13 s order)) (refused 12 s order)) (refused 13 s order) ≡ refused 4 s order → next ≡ refused 4 s order
-    go false lent rest e = absurd (let z : ⊥ = omega (arith, same 13 e) in z)
-    go true false rest e = absurd (let z : ⊥ = omega (arith, same 12 e) in z)
-    go true true false e = absurd (let z : ⊥ = omega (arith, same 13 e) in z)
+    go : (numbers lent rest : Bool) → pick numbers (pick lent (pick rest next (refused 13 s order)) (refused 12 s order)) (refused 13 s order) ≡ refused r s order → next ≡ refused r s order
+    go false lent rest e = absurd (not-13 (same 13 e))
+    go true false rest e = absurd (not-12 (same 12 e))
+    go true true false e = absurd (not-13 (same 13 e))
     go true true true e = e
 
-nothing-found-of-refused-4 : (s : State) (order : List ℕ) (i c : ℕ) (processor large : Bool) (own other : Found) → takenByTests s order i c processor large own other ≡ refused 4 s order → (own ≡ Nothing) × (other ≡ Nothing)
-unfolding takenAt takenFromOther takenFrom numberOf
-nothing-found-of-refused-4 s order i c = go
-  where
-    number : (a : After) → a ≡ refused 4 s order → numberOf (a .answer .outcome) ≡ 4
-    number a e = ap (λ (x : After). numberOf (x .answer .outcome)) e
+-- what the tests and the choices are where the number is 4, or 17
+module _ (s : State) (order : List ℕ) (i size : ℕ) where
+  number : (r : ℕ) (a : After) → a ≡ refused r s order → numberOf (a .answer .outcome) ≡ r
+  unfolding numberOf
+  number r a e = ap (λ (x : After). numberOf (x .answer .outcome)) e
 
-    go : (processor large : Bool) (own other : Found) → takenByTests s order i c processor large own other ≡ refused 4 s order → (own ≡ Nothing) × (other ≡ Nothing)
-    go false large own other e = absurd (let z : ⊥ = omega (arith, number (refused 2 s order) e) in z)
-    go true true own other e = absurd (let z : ⊥ = omega (arith, number (refused 3 s order) e) in z)
-    go true false (At k) other e = absurd (let z : ⊥ = omega (arith, number (takenFrom k s order) e) in z)
-    go true false Nothing (At k) e = absurd (let z : ⊥ = omega (arith, number (takenFromOther i c k s order) e) in z)
-    go true false Nothing Nothing e = (refl, refl)
+  nothing-found-of-refused-4 : (processor large long : Bool) (run own other : Found) → takenByTests s order i size processor large long run own other ≡ refused 4 s order
+      → (long ≡ false) × (own ≡ Nothing) × (other ≡ Nothing)
+  unfolding takenAt takenFromOther takenFrom longTakenAt longTakenFrom numberOf
+  nothing-found-of-refused-4 false large long run own other e = absurd (let z : ⊥ = omega (arith, number 4 (refused 2 s order) e) in z)
+  nothing-found-of-refused-4 true true long run own other e = absurd (let z : ⊥ = omega (arith, number 4 (refused 3 s order) e) in z)
+  nothing-found-of-refused-4 true false true (At k) own other e = absurd (let z : ⊥ = omega (arith, number 4 (longTakenFrom k (runLength size) s order) e) in z)
+  nothing-found-of-refused-4 true false true Nothing own other e = absurd (let z : ⊥ = omega (arith, number 4 (refused 17 s order) e) in z)
+  nothing-found-of-refused-4 true false false run (At k) other e = absurd (let z : ⊥ = omega (arith, number 4 (takenFrom k s order) e) in z)
+  nothing-found-of-refused-4 true false false run Nothing (At k) e = absurd (let z : ⊥ = omega (arith, number 4 (takenFromOther i (classOf size) k s order) e) in z)
+  nothing-found-of-refused-4 true false false run Nothing Nothing e = (refl, refl, refl)
+
+  no-run-found-of-refused-17 : (processor large long : Bool) (run own other : Found) → takenByTests s order i size processor large long run own other ≡ refused 17 s order
+      → (large ≡ false) × (long ≡ true) × (run ≡ Nothing)
+  unfolding takenAt takenFromOther takenFrom longTakenAt longTakenFrom numberOf
+  no-run-found-of-refused-17 false large long run own other e = absurd (let z : ⊥ = omega (arith, number 17 (refused 2 s order) e) in z)
+  no-run-found-of-refused-17 true true long run own other e = absurd (let z : ⊥ = omega (arith, number 17 (refused 3 s order) e) in z)
+  no-run-found-of-refused-17 true false true (At k) own other e = absurd (let z : ⊥ = omega (arith, number 17 (longTakenFrom k (runLength size) s order) e) in z)
+  no-run-found-of-refused-17 true false true Nothing own other e = (refl, refl, refl)
+  no-run-found-of-refused-17 true false false run (At k) other e = absurd (let z : ⊥ = omega (arith, number 17 (takenFrom k s order) e) in z)
+  no-run-found-of-refused-17 true false false run Nothing (At k) e = absurd (let z : ⊥ = omega (arith, number 17 (takenFromOther i (classOf size) k s order) e) in z)
+  no-run-found-of-refused-17 true false false run Nothing Nothing e = absurd (let z : ⊥ = omega (arith, number 17 (refused 4 s order) e) in z)
 
 places-2-to-4-find-nothing : (c : ℕ) (s : State) → otherPlaces c s ≡ Nothing → (fullest 0 c s ≡ Nothing) × (lowestEmpty s ≡ Nothing) × (lowestUnused s ≡ Nothing)
 unfolding otherPlaces
@@ -104,15 +148,16 @@ places-2-to-4-find-nothing c s = go (fullest 0 c s) (lowestEmpty s) (lowestUnuse
     go Nothing (At k) h e = absurd (let z : _≡_ {A = ℕ} 0 1 = cc in omega arith)
     go Nothing Nothing h e = (refl, refl, e)
 
--- refusal 4: given exactly if all four places offer nothing, to a call that no refusal before it meets
+-- refusal 4: given exactly if the size is one of a class and all four places offer nothing, to a call that no refusal before it meets
 pub nothing-offered-of-refused-4 : (s : State) (order : List ℕ) (i size : ℕ) → takeOf s order i size ≡ refused 4 s order
-    → (fullest i (classOf size) s ≡ Nothing) × (fullest 0 (classOf size) s ≡ Nothing) × (lowestEmpty s ≡ Nothing) × (lowestUnused s ≡ Nothing)
+    → (size ≤ 2048) × (fullest i (classOf size) s ≡ Nothing) × (fullest 0 (classOf size) s ≡ Nothing) × (lowestEmpty s ≡ Nothing) × (lowestUnused s ≡ Nothing)
 unfolding takeOf takeUnchecked
 nothing-offered-of-refused-4 s order i size e =
     let c = classOf size in
-    let d = nothing-found-of-refused-4 s order i c (isProcessor s i) (isTooLarge size) (fullest i c s) (otherPlaces c s) (next-of-checked-refused-4 s order _ e) in
-    let o = places-2-to-4-find-nothing c s (d .1) in
-    (d .0, o .0, o .1, o .2)
+    let d = nothing-found-of-refused-4 s order i size (isProcessor s i) (isTooLarge size) (isLong size) (lowestRun (runLength size) s) (fullest i c s) (otherPlaces c s)
+    (next-of-checked-refused 4 (λ q. omega arith) (λ q. omega arith) s order _ e) in
+    let o = places-2-to-4-find-nothing c s (d .2) in
+    (le-2048-of-not-long size (d .0), d .1, o .0, o .1, o .2)
 
 pub refused-4-of-nothing-offered : (s : State) (order : List ℕ) (i size : ℕ) → Passed s order → 1 ≤ i → i ≤ s .setup .processors → size ≤ 2048
     → fullest i (classOf size) s ≡ Nothing → fullest 0 (classOf size) s ≡ Nothing → lowestEmpty s ≡ Nothing → lowestUnused s ≡ Nothing
@@ -120,7 +165,23 @@ pub refused-4-of-nothing-offered : (s : State) (order : List ℕ) (i size : ℕ)
 unfolding takeOf takeUnchecked takenAt otherPlaces isProcessor
 refused-4-of-nothing-offered s order i size p h₁ h₂ h₃ a b c d =
     checked-is-next-of-passed s order (takeUnchecked s order i size) p
-    ∙ simp (le-leb 1 i h₁, le-leb i (s .setup .processors) h₂, false-of-decides (decides-too-large size) h₃, a, b, c, d)
+    ∙ simp (le-leb 1 i h₁, le-leb i (s .setup .processors) h₂, false-of-decides (decides-too-large size) (omega arith), false-of-decides (decides-long size) h₃, a, b, c, d)
+
+-- refusal 17, "no such run, given exactly then and in place of 4 for a long size" (document 02, item 7): the size is a long one and no run is found
+pub no-run-of-refused-17 : (s : State) (order : List ℕ) (i size : ℕ) → takeOf s order i size ≡ refused 17 s order → (2048 < size) × (size ≤ 65535) × (lowestRun (runLength size) s ≡ Nothing)
+unfolding takeOf takeUnchecked
+no-run-of-refused-17 s order i size e =
+    let c = classOf size in
+    let d = no-run-found-of-refused-17 s order i size (isProcessor s i) (isTooLarge size) (isLong size) (lowestRun (runLength size) s) (fullest i c s) (otherPlaces c s)
+    (next-of-checked-refused 17 (λ q. omega arith) (λ q. omega arith) s order _ e) in
+    (above-2048-of-long size (d .1), le-65535-of-not-too-large size (d .0), d .2)
+
+pub refused-17-of-no-run : (s : State) (order : List ℕ) (i size : ℕ) → Passed s order → 1 ≤ i → i ≤ s .setup .processors → 2048 < size → size ≤ 65535 → lowestRun (runLength size) s ≡ Nothing
+    → takeOf s order i size ≡ refused 17 s order
+unfolding takeOf takeUnchecked longTakenAt isProcessor
+refused-17-of-no-run s order i size p h₁ h₂ h₃ h₄ a =
+    checked-is-next-of-passed s order (takeUnchecked s order i size) p
+    ∙ simp (le-leb 1 i h₁, le-leb i (s .setup .processors) h₂, false-of-decides (decides-too-large size) h₄, true-of-decides (decides-long size) h₃, a)
 
 -- ---- an accepted take
 -- the state with superblock k out of the ranking where it is renewed, then the superblock that gives the block, and all order places, as they are then

@@ -25,7 +25,7 @@ use Rattle.heap.specs.declared.Superblock.{Superblock}
 use Rattle.heap.specs.declared.State.{State}
 use Rattle.heap.specs.declared.Found.{Found}
 use Rattle.heap.specs.declared.Found.the-variants.{At, Nothing}
-use Rattle.heap.specs.Table.{blank, superblockAt, liveIn, withOwner, withMarkAt}
+use Rattle.heap.specs.Table.{blank, superblockAt, liveIn, isOfRun, withOwner, withMarkAt}
 use Rattle.heap.specs.States.{withSuperblock}
 use Rattle.heap.specs.Counts.{superblocksOf, liveOf}
 use Rattle.heap.specs.Totals.{recounted}
@@ -39,7 +39,9 @@ use Rattle.heaplaws.proofs.ChoiceLaws.{best-of-fullest, none-free-of-fullest-no
 use Rattle.heaplaws.proofs.CountLaws.{owner-and-class-of-belongs, superblocks-zero-of-none-belongs, live-of-at-least-each}
 use Rattle.heaplaws.proofs.StateCheckLaws.{facts-of-is-unused, owned-below-superblocks, owned-of-owner, free-block-in-global}
 use Rattle.heaplaws.proofs.RankLaws.{superblock-at-unranked, rank-after-renewal-of-superblock}
-use Rattle.heaplaws.proofs.RerankedLaws.{reranked-owner, reranked-class, reranked-live, reranked-superblocks-of, reranked-live-of}
+use Rattle.heaplaws.proofs.RerankedLaws.{reranked-owner, reranked-class, reranked-live, reranked-run, reranked-of-run, reranked-superblocks-of, reranked-live-of}
+use Rattle.heaplaws.proofs.RunLaws.{runs-sound-of-valid}
+use Rattle.heaplaws.proofs.RunsKeptLaws.{outside-run-of-owner}
 use Rattle.calllaws.proofs.CallEffects.{Passed}
 
 -- the block in the last filled place of superblock k, where it is b
@@ -89,47 +91,57 @@ pub record TakeSource (s : State) (order : List ℕ) (i c k : ℕ) (b : Superblo
   pub marks-length : length (b .live) ≡ 4
   pub places-valid : T (placesValid places (b .live) k (blocksOf (b .class)))
   pub rank : b .rank ≡ superblockAt s k .rank
+  -- it is of no run, and carries the length that it did
+  pub outside-run : isOfRun (superblockAt s k) ≡ false
+  pub run : b .run ≡ superblockAt s k .run
   -- nothing is marked or cleared yet
   pub marks : (m : ℕ) → m < 256 → markBit (b .live) m ≡ markBit (superblockAt s k .live) m
   -- no other superblock's places are touched
   pub length-is : length places ≡ length order
   pub others : (m p : ℕ) → (m ≡ k → ⊥) → p < 256 → place places m p ≡ place order m p
-  pub before : (liveIn (superblockAt s k) ≡ 0) ⊎ ((superblockAt s k .class ≡ c) × (superblockAt s k .owner ≡ 255 → ⊥))
+  pub before : (liveIn (superblockAt s k) ≡ 0) ⊎ ((superblockAt s k .class ≡ c) × (superblockAt s k .owner < 254))
   -- it was heap i's of the class, or no processor heap's, and then heap i's superblocks of the class are full
   pub source : ((superblockAt s k .owner ≡ i) × (superblockAt s k .class ≡ c)) ⊎ (((superblockAt s k .owner ≡ 0) ⊎ (superblockAt s k .owner ≡ 255)) × (superblocksOf i c s * blocksOf c ≤ liveOf i c s))
   -- it was a superblock of the class, or heap 0 has none of the class
-  pub supply : ((superblockAt s k .owner ≡ 255 → ⊥) × (superblockAt s k .class ≡ c)) ⊎ (superblocksOf 0 c s ≡ 0)
+  pub supply : ((superblockAt s k .owner < 254) × (superblockAt s k .class ≡ c)) ⊎ (superblocksOf 0 c s ≡ 0)
 
 -- What places 2 to 4 offer for class c.
 pub record OfferedByOthers (s : State) (c k : ℕ) : Type 0 where
   pub below : k < s .setup .superblocks
   pub owner : (superblockAt s k .owner ≡ 0) ⊎ (superblockAt s k .owner ≡ 255)
   pub live : (liveIn (superblockAt s k) ≡ 0) ⊎ ((superblockAt s k .owner ≡ 0) × (superblockAt s k .class ≡ c) × (liveIn (superblockAt s k) < blocksOf (superblockAt s k .class)))
-  pub supply : ((superblockAt s k .owner ≡ 255 → ⊥) × (superblockAt s k .class ≡ c)) ⊎ (superblocksOf 0 c s ≡ 0)
+  pub supply : ((superblockAt s k .owner < 254) × (superblockAt s k .class ≡ c)) ⊎ (superblocksOf 0 c s ≡ 0)
 
 module _ (s : State) (order : List ℕ) (shape : Shape s) (passed : Passed s order) where
-  owner-not-255 : (m h : ℕ) → h ≤ s .setup .processors → superblockAt s m .owner ≡ h → superblockAt s m .owner ≡ 255 → ⊥
-  owner-not-255 m h l e q = omega (arith, passed .sound .numbers .processors-high)
+  owner-lt-254 : (m h : ℕ) → h ≤ s .setup .processors → superblockAt s m .owner ≡ h → superblockAt s m .owner < 254
+  owner-lt-254 m h l e = omega (arith, passed .sound .numbers .processors-high)
+
+  -- what one that is not of a run carries
+  length-outside-run : (m : ℕ) → m < 64 → isOfRun (superblockAt s m) ≡ false → superblockAt s m .run ≡ 0
+  length-outside-run m l e = runs-sound-of-valid s (shape .length-is) (passed .runs) .outside-carries-0 m l e
 
   -- ---- place 1
   pub source-of-own-heap : (i c k : ℕ) → i ≤ s .setup .processors → fullest i c s ≡ At k → TakeSource s order i c k (superblockAt s k) order
   source-of-own-heap i c k l e =
       let best = best-of-fullest i c s k e in
       let h = facts-of-has-free i c (superblockAt s k) (best .meets-criterion) in
+      let somebody = owner-lt-254 k i l (h .0) in
       record {
-        below = owned-below-superblocks s order (passed .sound) k (best .below) (owner-not-255 k i l (h .0));
+        below = owned-below-superblocks s order (passed .sound) k (best .below) (λ (q : superblockAt s k .owner ≡ 255). omega arith);
         owner = h .0;
         class = h .1;
         room = subst (λ (d : ℕ). liveIn (superblockAt s k) < blocksOf d) (sym (h .1)) (h .2);
         marks-length = shape .marks-length k (best .below);
-        places-valid = owned-of-owner s order (passed .sound) k (best .below) (owner-not-255 k i l (h .0)) .places;
+        places-valid = owned-of-owner s order (passed .sound) k (best .below) somebody .places;
         rank = refl;
+        outside-run = outside-run-of-owner (superblockAt s k) (λ (q : superblockAt s k .owner ≡ 254). omega arith);
+        run = refl;
         marks = λ m lm. refl;
         length-is = refl;
         others = λ m p f lp. refl;
-        before = inr (h .1, owner-not-255 k i l (h .0));
+        before = inr (h .1, somebody);
         source = inl (h .0, h .1);
-        supply = inl (owner-not-255 k i l (h .0), h .1);
+        supply = inl (somebody, h .1);
       }
 
   -- ---- places 2 to 4
@@ -155,7 +167,7 @@ module _ (s : State) (order : List ℕ) (shape : Shape s) (passed : Passed s ord
         below = global-below-superblocks k (best .below) (h .0);
         owner = inl (h .0);
         live = inr (h .0, h .1, subst (λ (d : ℕ). liveIn (superblockAt s k) < blocksOf d) (sym (h .1)) (h .2));
-        supply = inl (λ (q : superblockAt s k .owner ≡ 255). omega arith, h .1);
+        supply = inl (omega arith, h .1);
       }
 
   offered-by-place-3 : (c k : ℕ) → fullest 0 c s ≡ Nothing → lowestEmpty s ≡ At k → OfferedByOthers s c k
@@ -183,6 +195,9 @@ module _ (s : State) (order : List ℕ) (shape : Shape s) (passed : Passed s ord
     in-table : k < 64
     in-table = omega (arith, offered .below, passed .sound .numbers .superblocks-high)
 
+    offered-outside-run : isOfRun (superblockAt s k) ≡ false
+    offered-outside-run = outside-run-of-owner (superblockAt s k) (λ q. ⊎-elim (λ z. omega arith) (λ z. omega arith) (offered .owner))
+
     places-fit : k * 256 + blocksOf c ≤ length order
     places-fit = omega (arith, offered .below, passed .room, blocks-of-le-256 c)
 
@@ -197,12 +212,14 @@ module _ (s : State) (order : List ℕ) (shape : Shape s) (passed : Passed s ord
       marks-length = refl;
       places-valid = places-valid-after-renewal order k (blocksOf c) (blocks-of-le-256 c) places-fit;
       rank = sym (ap (λ (b : Superblock). b .rank) (superblock-at-unranked k s k in-table) ∙ rank-after-renewal-of-superblock k (s .table));
+      outside-run = reranked-of-run rank s long k ∙ offered-outside-run;
+      run = sym (reranked-run rank s long k ∙ length-outside-run k in-table offered-outside-run);
       marks = λ m l. mark-bit-of-no-marks m ∙ sym (ap (λ (x : List ℕ). markBit x m) (reranked-live rank s long k) ∙ marks-clear-of-live-count-zero (superblockAt s k .live) e m l);
       length-is = length-renewed order k (blocksOf c);
       others = λ m p f l. renewed-other-superblock order k (blocksOf c) m p f l;
       before = inl (ap liveCount (reranked-live rank s long k) ∙ e);
       source = inr (⊎-elim (λ z. inl (reranked-owner rank s long k ∙ z)) (λ z. inr (reranked-owner rank s long k ∙ z)) (offered .owner), full-after);
-      supply = ⊎-elim (λ h. inl (λ q. h .0 (sym (reranked-owner rank s long k) ∙ q), reranked-class rank s long k ∙ h .1)) (λ z. inr (reranked-superblocks-of rank s long 0 c ∙ z)) (offered .supply);
+      supply = ⊎-elim (λ h. inl (subst (λ (x : ℕ). x < 254) (sym (reranked-owner rank s long k)) (h .0), reranked-class rank s long k ∙ h .1)) (λ z. inr (reranked-superblocks-of rank s long 0 c ∙ z)) (offered .supply);
     }
       where
         rank : ℕ → ℕ
@@ -224,6 +241,8 @@ module _ (s : State) (order : List ℕ) (shape : Shape s) (passed : Passed s ord
       marks-length = shape .marks-length k in-table;
       places-valid = owned-of-owner s order (passed .sound) k in-table somebody .places;
       rank = refl;
+      outside-run = offered-outside-run;
+      run = refl;
       marks = λ m l. refl;
       length-is = refl;
       others = λ m p f l. refl;
@@ -232,8 +251,8 @@ module _ (s : State) (order : List ℕ) (shape : Shape s) (passed : Passed s ord
       supply = offered .supply;
     }
       where
-        somebody : superblockAt s k .owner ≡ 255 → ⊥
-        somebody q = omega (arith, h .0)
+        somebody : superblockAt s k .owner < 254
+        somebody = omega (arith, h .0)
 
     pub source-of-other-places : TakeSource (unrankedIfEmpty k s) order i c k (acquired i c (superblockAt s k)) (acquiredOrder c k (superblockAt s k) order)
     unfolding acquired acquiredOrder unrankedIfEmpty

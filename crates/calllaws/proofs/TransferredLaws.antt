@@ -11,25 +11,25 @@ use lib.ListN.{length}
 use borrow.Author.Tests.{eq-eqb}
 use lib.Dec.{T, eqb, eqb→eq}
 use Rattle.laws.specs.Sums.{pick, both, one}
-use Rattle.laws.proofs.TestLaws.{false-of-not-T, both-left, both-right, both-make, pick-elim}
+use Rattle.laws.proofs.TestLaws.{false-of-not-T, both-left, both-right, pick-elim}
 use Rattle.heap.specs.declared.Superblock.{Superblock}
 use Rattle.heap.specs.declared.Setup.{Setup}
 use Rattle.heap.specs.declared.Totals.{Totals}
 use Rattle.heap.specs.declared.State.{State}
-use Rattle.marks.specs.Marks.{isMarked, liveCount}
-use Rattle.names.specs.Names.{eachHeld}
-use Rattle.namelaws.proofs.NameLaws.{each-held-of-tests}
-use Rattle.heap.specs.Table.{superblockAt, withOwner, isLiveBlock}
+use Rattle.marks.specs.Marks.{markBit, liveCount}
+use Rattle.heap.specs.Table.{superblockAt, isOfRun, withOwner, isLiveBlock}
 use Rattle.heap.specs.Counts.{belongs, superblocksOf, blocksIn, liveOf}
 use Rattle.checkrules.specs.Check.{namesValid}
-use Rattle.heaplaws.proofs.StateFacts.{Shape, WithinLimits, Unused, Owned, Sparse, RanksSound, InvariantBeforeFrees, SoundAfterFrees, TransferredFrom}
+use Rattle.heaplaws.proofs.StateFacts.{Shape, WithinLimits, Unused, Unowned, Owned, Sparse, RanksSound, RunsKept, InvariantBeforeFrees, SoundAfterFrees, TransferredFrom}
 use Rattle.heap.specs.Totals.{TotalsKept}
 use Rattle.heaplaws.proofs.CountLaws.{owner-and-class-of-belongs}
 use Rattle.heaplaws.proofs.MoveLaws.{condition-fails-of-not-must-move, not-must-move-of-condition-fails}
+use Rattle.heaplaws.proofs.StateCheckLaws.{unowned-of-unused, not-of-heap-of-unowned}
+use Rattle.heaplaws.proofs.RunsKeptLaws.{outside-run-of-owner}
 use Rattle.heaplaws.proofs.RankLaws.{ranks-sound-of-same-ranks}
 use Rattle.heaplaws.proofs.TotalsLaws.{length-recounted-superblocks, length-recounted-live}
 use Rattle.calllaws.proofs.CallEffects.{Passed, PassedAfterFrees}
-use Rattle.calllaws.proofs.NamesKeptLaws.{live-block-in-table}
+use Rattle.calllaws.proofs.NamesKeptLaws.{mark-of-live-block, live-block-of-mark, live-block-in-table, live-mark-kept, names-valid-of-live-kept}
 
 -- ---- so many blocks of each heap and class
 -- one more of heap h and class c
@@ -86,6 +86,7 @@ passed-after-no-frees s order p =
       names = p .names;
       totals = p .totals;
       ranks = p .ranks;
+      runs = p .runs;
       room = p .room;
     }
 
@@ -102,6 +103,25 @@ passed-of-no-frees-left freed s order none p =
       names = p .names;
       totals = p .totals;
       ranks = p .ranks;
+      runs = p .runs;
+      room = p .room;
+    }
+
+-- as many frees of each heap in another way of counting
+pub passed-after-frees-cong : (f g : ℕ → ℕ → ℕ) (s : State) (order : List ℕ) → ((h c : ℕ) → h < 254 → f h c ≡ g h c) → PassedAfterFrees f s order → PassedAfterFrees g s order
+passed-after-frees-cong f g s order same p =
+    record {
+      sound = record {
+        numbers = p .sound .numbers;
+        each = p .sound .each;
+        past-unused = p .sound .past-unused;
+        invariant = λ h c low high known. subst (λ (n : ℕ). InvariantBeforeFrees n h c s) (same h c (omega (arith, p .sound .numbers .processors-high))) (p .sound .invariant h c low high known);
+        sparse = p .sound .sparse;
+      };
+      names = p .names;
+      totals = p .totals;
+      ranks = p .ranks;
+      runs = p .runs;
       room = p .room;
     }
 
@@ -158,21 +178,21 @@ module _ (h c : ℕ) (s t : State) (m : TransferredFrom h c s t) where
       go (inr (mine, sparse, now)) = subst (λ (b : Superblock). P k b) (sym now) (pass k l (owner-and-class-of-belongs h c (superblockAt s k) mine .0) sparse (before k l))
 
   -- the moves that end where the rule is no longer met leave a state in which no frees of the heap and class are left to follow up
-  pub sound-after-transfers : (freed : ℕ → ℕ → ℕ) (order : List ℕ) → h < 255 → SoundAfterFrees freed s order → (1 ≤ h → InvariantBeforeFrees 0 h c t) → SoundAfterFrees (noneFreed h c freed) t order
+  pub sound-after-transfers : (freed : ℕ → ℕ → ℕ) (order : List ℕ) → h < 254 → SoundAfterFrees freed s order → (1 ≤ h → InvariantBeforeFrees 0 h c t) → SoundAfterFrees (noneFreed h c freed) t order
   sound-after-transfers freed order low before done =
       record {
         numbers = subst WithinLimits (sym (m .setup)) (before .numbers);
-        each = subst (λ (u : Setup). (k : ℕ) → k < 64 → Unused (superblockAt t k) ⊎ Owned u order k (superblockAt t k)) (sym (m .setup)) (transferred-keeps-each (λ k b. Unused b ⊎ Owned (s .setup) order k b) (before .each) (λ k l mine sparse. passes-on k mine));
-        past-unused = subst (λ (u : Setup). (k : ℕ) → k < 64 → u .superblocks ≤ k → Unused (superblockAt t k)) (sym (m .setup)) (transferred-keeps-each (λ k b. s .setup .superblocks ≤ k → Unused b) (before .past-unused) (λ k l mine sparse unused far. absurd (not-unused k mine (unused far))));
+        each = subst (λ (u : Setup). (k : ℕ) → k < 64 → Unowned (superblockAt t k) ⊎ Owned u order k (superblockAt t k)) (sym (m .setup)) (transferred-keeps-each (λ k b. Unowned b ⊎ Owned (s .setup) order k b) (before .each) (λ k l mine sparse. passes-on k mine));
+        past-unused = subst (λ (u : Setup). (k : ℕ) → k < 64 → u .superblocks ≤ k → Unused (superblockAt t k)) (sym (m .setup)) (transferred-keeps-each (λ k b. s .setup .superblocks ≤ k → Unused b) (before .past-unused) (λ k l mine sparse unused far. absurd (not-unowned k mine (unowned-of-unused (superblockAt s k) (unused far)))));
         invariant = λ i d low high known. held-now i d low (subst (λ (u : Setup). i ≤ u .processors) (m .setup) high) known (ℕ-discrete i h) (ℕ-discrete d c);
         sparse = subst (λ (u : Setup). (k : ℕ) → k < 64 → superblockAt t k .owner ≡ 0 → Sparse u (superblockAt t k)) (sym (m .setup)) (transferred-keeps-each (λ k b. b .owner ≡ 0 → Sparse (s .setup) b) (before .sparse) (λ k l mine sparse was zero. sparse));
       }
     where
-      not-unused : (k : ℕ) → superblockAt s k .owner ≡ h → Unused (superblockAt s k) → ⊥
-      not-unused k mine u = let e = u .owner in omega arith
+      not-unowned : (k : ℕ) → superblockAt s k .owner ≡ h → Unowned (superblockAt s k) → ⊥
+      not-unowned k mine u = not-of-heap-of-unowned (superblockAt s k) u (omega arith)
 
-      passes-on : (k : ℕ) → superblockAt s k .owner ≡ h → Unused (superblockAt s k) ⊎ Owned (s .setup) order k (superblockAt s k) → Unused (withOwner 0 (superblockAt s k)) ⊎ Owned (s .setup) order k (withOwner 0 (superblockAt s k))
-      passes-on k mine (inl u) = absurd (not-unused k mine u)
+      passes-on : (k : ℕ) → superblockAt s k .owner ≡ h → Unowned (superblockAt s k) ⊎ Owned (s .setup) order k (superblockAt s k) → Unowned (withOwner 0 (superblockAt s k)) ⊎ Owned (s .setup) order k (withOwner 0 (superblockAt s k))
+      passes-on k mine (inl u) = absurd (not-unowned k mine u)
       passes-on k mine (inr o) = inr (record { owner = zero-le; class = o .class; places = o .places })
 
       other : (i d : ℕ) → 1 ≤ i → i ≤ s .setup .processors → d < 27 → ((i ≡ h) × (d ≡ c) → ⊥) → InvariantBeforeFrees (noneFreed h c freed i d) i d t
@@ -186,26 +206,36 @@ module _ (h c : ℕ) (s t : State) (m : TransferredFrom h c s t) where
       held-now i d low high known (yes e) (no g) = other i d low high known (λ q. g (q .1))
       held-now i d low high known (no e) q = other i d low high known (λ r. e (r .0))
 
+  -- heaps own what moves, before and after, so that no run changes
+  pub runs-kept-by-transfers : h < 254 → RunsKept s t
+  unfolding isOfRun
+  runs-kept-by-transfers low k l = (go (transferred-owner h c s t m k l), transferred-keeps h c s t m k l (λ b. b .run) refl)
+    where
+      go : (superblockAt t k .owner ≡ superblockAt s k .owner) ⊎ ((superblockAt s k .owner ≡ h) × (superblockAt t k .owner ≡ 0)) → isOfRun (superblockAt t k) ≡ isOfRun (superblockAt s k)
+      go (inl e) = ap (λ (o : ℕ). eqb o 254) e
+      go (inr (was, now)) =
+          outside-run-of-owner (superblockAt t k) (λ (q : superblockAt t k .owner ≡ 254). omega arith)
+          ∙ sym (outside-run-of-owner (superblockAt s k) (λ (q : superblockAt s k .owner ≡ 254). omega arith))
+
   -- names that point at live blocks still do
-  pub names-valid-after-transfers : length (s .table) ≡ 64 → T (namesValid s) → T (namesValid t)
-  unfolding namesValid isLiveBlock
-  names-valid-after-transfers long valid =
-      rw (m .names)
-      (both-make (eachHeld (isLiveBlock t) (s .names)) _
-      (each-held-of-tests (isLiveBlock s) (isLiveBlock t) (s .names) still-live (both-left (eachHeld (isLiveBlock s) (s .names)) _ valid))
-      (both-right (eachHeld (isLiveBlock s) (s .names)) _ valid))
+  pub names-valid-after-transfers : length (s .table) ≡ 64 → h < 254 → T (namesValid s) → T (namesValid t)
+  names-valid-after-transfers long low valid = names-valid-of-live-kept s t still-live (m .names) valid
     where
       still-live : (b : ℕ) → T (isLiveBlock s b) → T (isLiveBlock t b)
-      still-live b live = subst (λ (l : List ℕ). T (isMarked l (b % 256))) (sym (transferred-live h c s t m (b / 256) (live-block-in-table s b long live))) live
+      still-live b live =
+          let l = live-block-in-table s b long live in
+          let kept = runs-kept-by-transfers low (b / 256) l in
+          live-block-of-mark t b
+          (live-mark-kept (superblockAt s (b / 256)) (superblockAt t (b / 256)) (b % 256) (kept .0) (kept .1) (λ was. ap (λ (x : List ℕ). markBit x (b % 256)) (transferred-live h c s t m (b / 256) l) ∙ was) (mark-of-live-block s b live))
 
-  -- no more superblocks are unused, and ranks stay: "passing between heaps keeps the rank"
-  pub ranks-sound-after-transfers : h < 255 → RanksSound s → RanksSound t
-  ranks-sound-after-transfers low = ranks-sound-of-same-ranks s t (transferred-rank h c s t m) was-unused
+  -- no more superblocks are without a heap, and ranks stay: "passing between heaps keeps the rank"
+  pub ranks-sound-after-transfers : RanksSound s → RanksSound t
+  ranks-sound-after-transfers = ranks-sound-of-same-ranks s t (transferred-rank h c s t m) was-unowned
     where
-      was-unused : (k : ℕ) → k < 64 → Unused (superblockAt t k) → Unused (superblockAt s k)
-      was-unused k l u =
+      was-unowned : (k : ℕ) → k < 64 → Unowned (superblockAt t k) → Unowned (superblockAt s k)
+      was-unowned k l u =
           record {
-            owner = ⊎-elim (λ e. sym e ∙ u .owner) (λ h. absurd (let z : ⊥ = omega (arith, h .1, u .owner) in z)) (transferred-owner h c s t m k l);
+            owner = ⊎-elim (λ e. subst (λ (o : ℕ). (o ≡ 255) ⊎ (o ≡ 254)) e (u .owner)) (λ h. absurd (not-of-heap-of-unowned (superblockAt t k) u (let z = h .1 in omega arith))) (transferred-owner h c s t m k l);
             class = sym (transferred-class h c s t m k l) ∙ u .class;
             live = sym (ap liveCount (transferred-live h c s t m k l)) ∙ u .live;
           }

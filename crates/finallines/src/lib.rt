@@ -2,6 +2,7 @@
 use fields::put_nothing;
 use heap::State;
 use heapline::heap_line_if;
+use runlines::run_lines;
 use text::put_text;
 ghost use mathlib.Core.Path.{_≡_};
 ghost use Prim.Native.Nat.{_≤_, _<_};
@@ -42,8 +43,9 @@ fn final_lines(out: &mut [u8], at: usize, s: State) -> usize
     requires { ⌜ TotalsKept s × (s .setup .processors ≤ 8) ⌝ }
     ensures { λ r. ⌜ record { end = r; buffer = now (out .exit) } ≡ pasted (now (out .entry)) at (finalLines s) ⌝ }
 {
-    let end = heap_lines(out, at, s.setup.processors as usize + 1, s);
-    put_text(out, end, b"end\n")
+    let heaps = heap_lines(out, at, s.setup.processors as usize + 1, s);
+    let runs = run_lines(out, heaps, s);
+    put_text(out, runs, b"end\n")
 }
 
 // The lines after the last command of a record: none after a stop line.

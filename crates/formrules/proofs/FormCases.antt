@@ -49,29 +49,29 @@ totals-of-live-blocks-in-cases : (take 3 (totalsIn totals-bytes 1 .live) ≡ 179
 unfolding totalsIn listed
 totals-of-live-blocks-in-cases = (refl, refl)
 
--- ---- the state: superblocks from byte 3 on, 7 the last byte of the last of them, its rank, then name 0
+-- ---- the state: superblocks from byte 3 on, 7 the last byte of the last of them, its run length, then name 0
 abbrev state-bytes : List ℕ
-state-bytes = replicate 2242 255 ++ (7 ∷ 1 ∷ 2 ∷ [])
+state-bytes = replicate 2306 255 ++ (7 ∷ 1 ∷ 2 ∷ [])
 
 names-after-superblocks : getD (stateIn state-bytes 3 .names) 0 0 ≡ 513
 unfolding stateIn namesIn listed
 names-after-superblocks = refl
 
-superblocks-before-names : getD (stateIn state-bytes 3 .table) 63 blank ≡ record { owner = 255; class = 255; live = 18446744073709551615 ∷ 18446744073709551615 ∷ 18446744073709551615 ∷ 18446744073709551615 ∷ []; rank = 7; run = 0 }
+superblocks-before-names : getD (stateIn state-bytes 3 .table) 63 blank ≡ record { owner = 255; class = 255; live = 18446744073709551615 ∷ 18446744073709551615 ∷ 18446744073709551615 ∷ 18446744073709551615 ∷ []; rank = 255; run = 7 }
 unfolding stateIn superblockIn listed
 superblocks-before-names = refl
 
--- superblock 0 has the bytes 1 to 35 and superblock 63 the bytes 41 to 75: owner, class, marks and rank each from its own
+-- superblock 0 has the bytes 1 to 36 and superblock 63 the bytes 41 to 76: owner, class, marks, rank and run length each from its own
 abbrev distinct-superblock-bytes : List ℕ
-distinct-superblock-bytes = replicate 3 255 ++ (listed (λ k. 1 + k) 35 ++ (replicate 2170 255 ++ (listed (λ k. 41 + k) 35 ++ (255 ∷ []))))
+distinct-superblock-bytes = replicate 3 255 ++ (listed (λ k. 1 + k) 36 ++ (replicate 2232 255 ++ (listed (λ k. 41 + k) 36 ++ (255 ∷ []))))
 
-superblock-fields-in-order : (getD (stateIn distinct-superblock-bytes 3 .table) 0 blank ≡ record { owner = 1; class = 2; live = 723118041428460547 ∷ 1301839424133073931 ∷ 1880560806837687315 ∷ 2459282189542300699 ∷ []; rank = 35; run = 0 }) × (getD (stateIn distinct-superblock-bytes 3 .table) 63 blank ≡ record { owner = 41; class = 42; live = 3616724954951527467 ∷ 4195446337656140851 ∷ 4774167720360754235 ∷ 5352889103065367619 ∷ []; rank = 75; run = 0 })
+superblock-fields-in-order : (getD (stateIn distinct-superblock-bytes 3 .table) 0 blank ≡ record { owner = 1; class = 2; live = 723118041428460547 ∷ 1301839424133073931 ∷ 1880560806837687315 ∷ 2459282189542300699 ∷ []; rank = 35; run = 36 }) × (getD (stateIn distinct-superblock-bytes 3 .table) 63 blank ≡ record { owner = 41; class = 42; live = 3616724954951527467 ∷ 4195446337656140851 ∷ 4774167720360754235 ∷ 5352889103065367619 ∷ []; rank = 75; run = 76 })
 unfolding stateIn superblockIn listed
 superblock-fields-in-order = (refl, refl)
 
 -- 1 and 2 the last name, then the totals
 abbrev names-then-totals : List ℕ
-names-then-totals = replicate 4289 255 ++ (1 ∷ 2 ∷ 3 ∷ 4 ∷ [])
+names-then-totals = replicate 4353 255 ++ (1 ∷ 2 ∷ 3 ∷ 4 ∷ [])
 
 totals-after-names : (getD (stateIn names-then-totals 3 .names) 1023 0 ≡ 513) × (take 3 (stateIn names-then-totals 3 .totals .superblocks) ≡ 3 ∷ 4 ∷ 0 ∷ [])
 unfolding stateIn namesIn totalsIn listed
@@ -82,18 +82,18 @@ table-offset-cases : (tableOffset (1 ∷ []) ≡ 9) × (tableOffset (2 ∷ []) �
 unfolding tableOffset
 table-offset-cases = (refl, refl, refl, refl)
 
-places-offset-cases : (placesOffset (0 ∷ []) ≡ 10) × (placesOffset (1 ∷ []) ≡ 5030) × (placesOffset (2 ∷ []) ≡ 5032) × (placesOffset (3 ∷ []) ≡ 5032) × (placesOffset (4 ∷ []) ≡ 5030)
+places-offset-cases : (placesOffset (0 ∷ []) ≡ 10) × (placesOffset (1 ∷ []) ≡ 5094) × (placesOffset (2 ∷ []) ≡ 5096) × (placesOffset (3 ∷ []) ≡ 5096) × (placesOffset (4 ∷ []) ≡ 5094)
 unfolding placesOffset tableOffset
 places-offset-cases = (refl, refl, refl, refl, refl)
 
 -- where superblocks and order places begin, with C of 0, 1, 3 and the largest
-drop-offset-cases : (tableOffset (drop-bytes 0 0 0) ≡ 9) × (tableOffset (drop-bytes 1 0 0) ≡ 13) × (tableOffset (drop-bytes 3 0 0) ≡ 21) × (tableOffset (drop-bytes 255 255 0) ≡ 262149) × (placesOffset (drop-bytes 0 0 0) ≡ 5030) × (placesOffset (drop-bytes 1 0 0) ≡ 5034) × (placesOffset (drop-bytes 3 0 0) ≡ 5042)
+drop-offset-cases : (tableOffset (drop-bytes 0 0 0) ≡ 9) × (tableOffset (drop-bytes 1 0 0) ≡ 13) × (tableOffset (drop-bytes 3 0 0) ≡ 21) × (tableOffset (drop-bytes 255 255 0) ≡ 262149) × (placesOffset (drop-bytes 0 0 0) ≡ 5094) × (placesOffset (drop-bytes 1 0 0) ≡ 5098) × (placesOffset (drop-bytes 3 0 0) ≡ 5106)
 unfolding placesOffset tableOffset listed
 drop-offset-cases = (refl, refl, refl, refl, refl, refl, refl)
 
 -- ---- L: of a setup behind its numbers, of a call on a state behind the totals
 abbrev totals-then-length : List ℕ
-totals-then-length = replicate 5025 255 ++ (1 ∷ 2 ∷ 3 ∷ 4 ∷ 5 ∷ 6 ∷ [])
+totals-then-length = replicate 5089 255 ++ (1 ∷ 2 ∷ 3 ∷ 4 ∷ 5 ∷ 6 ∷ [])
 
 place-count-cases : (placeCount (0 ∷ distinct-bytes) ≡ 151521030) × (placeCount (3 ∷ totals-then-length) ≡ 100992003) × (placeCount (4 ∷ totals-then-length) ≡ 67305985)
 unfolding placeCount tableOffset
@@ -103,12 +103,12 @@ place-count-cases = (refl, refl, refl)
 -- place. Every other byte is 255
 abbrev drop-on-state : ℕ → List ℕ
 drop-on-state c =
-    5 ∷ (replicate 6 255 ++ (c ∷ 0 ∷ (replicate (4 * c) 255 ++ (10 ∷ (replicate 2238 255 ++ (11 ∷ 12 ∷ 13 ∷ (replicate 2046 255 ++ (14 ∷ (replicate 242 255 ++ (15 ∷ 16 ∷ (replicate 484 255 ++ (1 ∷ 0 ∷ 0 ∷ 0 ∷ 17 ∷ 18 ∷ []))))))))))))
+    5 ∷ (replicate 6 255 ++ (c ∷ 0 ∷ (replicate (4 * c) 255 ++ (10 ∷ (replicate 2302 255 ++ (11 ∷ 12 ∷ 13 ∷ (replicate 2046 255 ++ (14 ∷ (replicate 242 255 ++ (15 ∷ 16 ∷ (replicate 484 255 ++ (1 ∷ 0 ∷ 0 ∷ 0 ∷ 17 ∷ 18 ∷ []))))))))))))
 
 -- the first byte of the superblocks and the last, name 0, the first totals of superblocks and of live blocks, L, the places
 abbrev landmarks : List ℕ → ℕ → List ℕ
 landmarks b at =
-    byteAt b at ∷ byteAt b (at + 2239) ∷ twoAt b (namesOffset at) ∷ byteAt b (totalsOffset at) ∷ twoAt b (totalsOffset at + 243) ∷ placeCount b ∷ placesIn b (placesOffset b) (placeCount b)
+    byteAt b at ∷ byteAt b (at + 2303) ∷ twoAt b (namesOffset at) ∷ byteAt b (totalsOffset at) ∷ twoAt b (totalsOffset at + 243) ∷ placeCount b ∷ placesIn b (placesOffset b) (placeCount b)
 
 -- with C of 0, 1 and 3
 all-behind-addresses : (landmarks (drop-on-state 0) (tableOffset (drop-on-state 0)) ≡ 10 ∷ 11 ∷ 3340 ∷ 14 ∷ 4111 ∷ 1 ∷ 4625 ∷ []) × (landmarks (drop-on-state 1) (tableOffset (drop-on-state 1)) ≡ 10 ∷ 11 ∷ 3340 ∷ 14 ∷ 4111 ∷ 1 ∷ 4625 ∷ []) × (landmarks (drop-on-state 3) (tableOffset (drop-on-state 3)) ≡ 10 ∷ 11 ∷ 3340 ∷ 14 ∷ 4111 ∷ 1 ∷ 4625 ∷ [])
@@ -116,32 +116,32 @@ unfolding tableOffset placesOffset placeCount placesIn listed
 all-behind-addresses = (refl, refl, refl)
 
 -- ---- the whole form: named calls without a place; a byte missing or left over; the length of the other; one place
-well-formed-named-take : (wellFormed (3 ∷ replicate 5031 0) ≡ true) × (wellFormed (3 ∷ replicate 5030 0) ≡ false) × (wellFormed (3 ∷ replicate 5032 0) ≡ false) × (wellFormed (3 ∷ replicate 5029 0) ≡ false)
+well-formed-named-take : (wellFormed (3 ∷ replicate 5095 0) ≡ true) × (wellFormed (3 ∷ replicate 5094 0) ≡ false) × (wellFormed (3 ∷ replicate 5096 0) ≡ false) × (wellFormed (3 ∷ replicate 5093 0) ≡ false)
 unfolding wellFormed placesOffset placeCount tableOffset
 well-formed-named-take = (refl, refl, refl, refl)
 
-well-formed-named-free : (wellFormed (4 ∷ replicate 5029 0) ≡ true) × (wellFormed (4 ∷ replicate 5028 0) ≡ false) × (wellFormed (4 ∷ replicate 5030 0) ≡ false) × (wellFormed (4 ∷ replicate 5031 0) ≡ false)
+well-formed-named-free : (wellFormed (4 ∷ replicate 5093 0) ≡ true) × (wellFormed (4 ∷ replicate 5092 0) ≡ false) × (wellFormed (4 ∷ replicate 5094 0) ≡ false) × (wellFormed (4 ∷ replicate 5095 0) ≡ false)
 unfolding wellFormed placesOffset placeCount tableOffset
 well-formed-named-free = (refl, refl, refl, refl)
 
 abbrev one-place-lent : List ℕ
-one-place-lent = 4 ∷ (replicate 5025 0 ++ (1 ∷ 0 ∷ 0 ∷ 0 ∷ []))
+one-place-lent = 4 ∷ (replicate 5089 0 ++ (1 ∷ 0 ∷ 0 ∷ 0 ∷ []))
 
 well-formed-with-place : (wellFormed (one-place-lent ++ (8 ∷ 9 ∷ [])) ≡ true) × (wellFormed (one-place-lent ++ (8 ∷ [])) ≡ false) × (wellFormed one-place-lent ≡ false)
 unfolding wellFormed placesOffset placeCount tableOffset
 well-formed-with-place = (refl, refl, refl)
 
 -- a drop of 0, 1 and 3 addresses with one place lent; a byte missing or left over
-well-formed-drop : (wellFormed (drop-on-state 0) ≡ true) × (wellFormed (drop-on-state 1) ≡ true) × (wellFormed (drop-on-state 3) ≡ true) × (wellFormed (take 5043 (drop-on-state 3)) ≡ false) × (wellFormed (drop-on-state 3 ++ (0 ∷ [])) ≡ false)
+well-formed-drop : (wellFormed (drop-on-state 0) ≡ true) × (wellFormed (drop-on-state 1) ≡ true) × (wellFormed (drop-on-state 3) ≡ true) × (wellFormed (take 5107 (drop-on-state 3)) ≡ false) × (wellFormed (drop-on-state 3 ++ (0 ∷ [])) ≡ false)
 unfolding wellFormed placesOffset placeCount tableOffset
 well-formed-drop = (refl, refl, refl, refl, refl)
 
 -- without a place: C one too large, so that the last address is read from the state; one too small; and 256
-drop-with-other-count : (wellFormed (drop-bytes 1 0 0 ++ replicate 5021 0) ≡ false) × (wellFormed (drop-bytes 0 0 0 ++ replicate 5025 0) ≡ false) × (wellFormed (drop-bytes 0 1 0 ++ replicate 5021 0) ≡ false)
+drop-with-other-count : (wellFormed (drop-bytes 1 0 0 ++ replicate 5085 0) ≡ false) × (wellFormed (drop-bytes 0 0 0 ++ replicate 5089 0) ≡ false) × (wellFormed (drop-bytes 0 1 0 ++ replicate 5085 0) ≡ false)
 unfolding wellFormed placesOffset placeCount tableOffset listed
 drop-with-other-count = (refl, refl, refl)
 
 -- 6 is no call
-unknown-call-not-well-formed : (wellFormed (6 ∷ replicate 5031 0) ≡ false) × (wellFormed (6 ∷ replicate 5029 0) ≡ false)
+unknown-call-not-well-formed : (wellFormed (6 ∷ replicate 5095 0) ≡ false) × (wellFormed (6 ∷ replicate 5093 0) ≡ false)
 unfolding wellFormed placesOffset placeCount tableOffset
 unknown-call-not-well-formed = (refl, refl)

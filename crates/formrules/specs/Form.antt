@@ -29,7 +29,7 @@ callIn b =
 unfoldable pub setupIn : List ℕ → Setup
 setupIn b = record { processors = byteAt b 1; superblocks = byteAt b 2; spare = byteAt b 3; p = byteAt b 4; q = byteAt b 5 }
 
--- 35 bytes: owner, class, live marks in four 8-byte numbers, rank
+-- 36 bytes: owner, class, live marks in four 8-byte numbers, rank, run length
 unfoldable pub superblockIn : List ℕ → ℕ → Superblock
 superblockIn b at =
     record {
@@ -37,6 +37,7 @@ superblockIn b at =
       class = byteAt b (at + 1);
       live = eightAt b (at + 2) ∷ eightAt b (at + 10) ∷ eightAt b (at + 18) ∷ eightAt b (at + 26) ∷ [];
       rank = byteAt b (at + 34);
+      run = byteAt b (at + 35);
     }
 
 -- names 0 to 1023, of two bytes each, from a position on
@@ -45,7 +46,7 @@ namesIn b at = listed (λ m. twoAt b (at + 2 * m)) 1024
 
 -- where the names begin: after the 64 superblocks, which begin at a position
 abbrev pub namesOffset : ℕ → ℕ
-namesOffset at = at + 64 * 35
+namesOffset at = at + 64 * 36
 
 -- the totals of each heap and class from a position on: first 243 of superblocks, of one byte each, then 243 of live blocks, of two bytes each
 unfoldable pub totalsIn : List ℕ → ℕ → Totals
@@ -60,7 +61,7 @@ unfoldable pub stateIn : List ℕ → ℕ → State
 stateIn b at =
     record {
       setup = setupIn b;
-      table = listed (λ k. superblockIn b (at + 35 * k)) 64;
+      table = listed (λ k. superblockIn b (at + 36 * k)) 64;
       names = namesIn b (namesOffset at);
       totals = totalsIn b (totalsOffset at);
     }

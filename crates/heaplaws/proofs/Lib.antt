@@ -1,13 +1,17 @@
 pub mod StateFacts
+pub mod RunLaws
 pub mod ChoiceLaws
 pub mod CountLaws
 pub mod TotalsLaws
 pub mod StateCheckLaws
+pub mod RunChoiceLaws
 pub mod MoveLaws
 pub mod ShapeLaws
+pub mod RunsKeptLaws
 pub mod CheckReadsLaws
 pub mod RerankedLaws
 pub mod Pigeonhole
 pub mod RankLaws
 pub mod MovesKeepLaws
 pub mod OutsideGlobalLaws
+pub mod PassedBetweenHeapsLaws

@@ -127,6 +127,10 @@ pub record RunsSound (s : State) : Type 0 where
   -- "every other superblock 0"
   pub outside-carries-0 : (k : ℕ) → k < 64 → isOfRun (superblockAt s k) ≡ false → superblockAt s k .run ≡ 0
 
+-- each superblock is of a run if it was, and carries the length that it did
+abbrev pub RunsKept : State → State → Type 0
+RunsKept s t = (m : ℕ) → m < 64 → (isOfRun (superblockAt t m) ≡ isOfRun (superblockAt s m)) × (superblockAt t m .run ≡ superblockAt s m .run)
+
 -- what the moves of heap h and class c, from state s, have come to: t is s with some superblocks of (h, c) passed to heap 0
 pub record TransferredFrom (h c : ℕ) (s t : State) : Type 0 where
   pub setup : t .setup ≡ s .setup

@@ -3,7 +3,7 @@ ghost use mathlib.Core.Path.{_≡_};
 ghost use Prim.Native.Nat.{_≤_};
 ghost use lib.Dec.{eqb};
 ghost use Rattle.laws.specs.Sums.{both};
-ghost use Rattle.heap.specs.Table.{liveIn, isUnused};
+ghost use Rattle.heap.specs.Table.{liveIn, isUnused, startsRun};
 ghost use Rattle.checkrules.specs.Check.{isPartOfRun, isUnowned};
 use heap::Superblock;
 
@@ -47,4 +47,11 @@ pub fn is_unowned(b: Superblock) -> bool
         return true;
     }
     is_part_of_run(b)
+}
+
+// The first superblock of a long block's run, which carries the run's length.
+pub fn starts_run(b: Superblock) -> bool
+    ensures { λ r. ⌜ r ≡ startsRun b ⌝ }
+{
+    b.owner == 254 && 0 < b.run
 }

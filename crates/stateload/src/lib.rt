@@ -20,11 +20,13 @@ fn superblock_in(bytes: &[u8], at: usize) -> Superblock
     let c = eight_at(bytes, at + 18);
     let d = eight_at(bytes, at + 26);
     let rank = byte_at(bytes, at + 34);
+    let run = byte_at(bytes, at + 35);
     Superblock {
         owner,
         class,
         live: [a, b, c, d],
         rank,
+        run,
     }
 }
 
@@ -37,16 +39,17 @@ pub fn state_at(bytes: &[u8], at: usize) -> State
         class: 0,
         live: [0u64; 4],
         rank: 0,
+        run: 0,
     };
     let mut table = [none; 64];
     let mut k = 0;
     while k < 64 {
-        let b = superblock_in(bytes, position_after(bytes, at, 35 * k));
+        let b = superblock_in(bytes, position_after(bytes, at, 36 * k));
         table[k] = b;
         k += 1;
     }
-    let names = namesload::names_at(bytes, position_after(bytes, at, 2240));
-    let totals = totalsload::totals_at(bytes, position_after(bytes, at, 4288));
+    let names = namesload::names_at(bytes, position_after(bytes, at, 2304));
+    let totals = totalsload::totals_at(bytes, position_after(bytes, at, 4352));
     let setup = callform::setup_in(bytes);
     State {
         setup,

@@ -1,10 +1,6 @@
--- `finallines::final_lines` meets its contract: the heaps, then the last line. Assumes nothing.
-use mathlib.Core.Path.{refl}
-use native.Mathlib.Omega.{arith}
+-- `finallines::final_lines` meets its contract: the heaps, then the runs, then the last line. Assumes nothing.
 use borrow.Author.Needs.{needs}
-use Rattle.textrules.specs.Text.{letters}
-use Rattle.fields.proofs.FieldLaws.{word-put}
-use Rattle.finallines.proofs.FinalLinesLaws.{final-lines-after-heap-lines}
+use Rattle.finallines.proofs.FinalLinesLaws.{final-lines-of-heaps-runs-and-end}
 use Rattle.finallines.proofs.final_lines.Statement.{statement}
 use Rattle.finallines.proofs.final_lines.Tie as tie
 
@@ -17,6 +13,9 @@ add-heap-lines c = search needs
 heap-lines-requires : tie.Need-heap-lines-requires
 heap-lines-requires c κs = search needs
 
+run-lines-requires : tie.Need-run-lines-requires
+run-lines-requires c κs = search needs
+
 slice-aggregate-put-text : tie.Need-slice-aggregate-put-text
 slice-aggregate-put-text c = search needs
 
@@ -27,9 +26,7 @@ same-length : tie.Need-same-length
 same-length c = search needs
 
 returns : tie.Need-returns
-returns c =
-    let h = c .before .before .before .before .before .before .before .heap-lines in
-    final-lines-after-heap-lines _ _ _ _ (h .ensures) (omega arith) (word-put _ _ _ (c .before .before .put-text .ensures) (letters "end\n") refl)
+returns c = search (final-lines-of-heaps-runs-and-end, needs)
 
 pub final-lines-spec : {M : Type 1} → statement M
 final-lines-spec =
@@ -38,6 +35,7 @@ final-lines-spec =
     cast-heap-lines
     add-heap-lines
     heap-lines-requires
+    run-lines-requires
     slice-aggregate-put-text
     put-text-requires
     same-length

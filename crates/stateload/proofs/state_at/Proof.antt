@@ -15,7 +15,7 @@ use Rattle.stateload.proofs.state_at.Statement.{statement}
 use Rattle.stateload.proofs.state_at.Tie as tie
 
 abbrev Inv-loop : tie.InvT-loop
-Inv-loop bytes at table₀ k₀ table k = (k ≤ 64) × (length table ≡ 64) × (take k table ≡ listed (λ j. superblockIn bytes (at + 35 * j)) k)
+Inv-loop bytes at table₀ k₀ table k = (k ≤ 64) × (length table ≡ 64) × (take k table ≡ listed (λ j. superblockIn bytes (at + 36 * j)) k)
 
 abbrev μ-loop : tie.MeasureT-loop
 μ-loop bytes at table₀ k₀ table k = 64 - k

@@ -43,6 +43,12 @@ add-byte-at-2 c = search needs
 byte-at-requires-3 : tie.Need-byte-at-requires-3
 byte-at-requires-3 c κs = search needs
 
+add-byte-at-3 : tie.Need-add-byte-at-3
+add-byte-at-3 c = search needs
+
+byte-at-requires-4 : tie.Need-byte-at-requires-4
+byte-at-requires-4 c κs = search needs
+
 returns : tie.Need-returns
 unfolding superblockIn
 returns c = cc
@@ -64,4 +70,6 @@ superblock-in-spec =
     eight-at-requires-4
     add-byte-at-2
     byte-at-requires-3
+    add-byte-at-3
+    byte-at-requires-4
     returns)
