@@ -4,7 +4,7 @@
 ghost use mathlib.Core.Path.{_≡_};
 ghost use Prim.Native.Nat.{_/_, _≤_};
 ghost use Rattle.classes.specs.Classes.{sizeOf};
-ghost use Rattle.calls.specs.Free.{offsetOf, blockOf, isUnmapped, isMisaligned, isLiveAt, addressRefusal, blockNumberAt};
+ghost use Rattle.calls.specs.Free.{offsetOf, blockOf, isUnmapped, isRunStart, isOffBlock, isMisaligned, isLiveAt, addressRefusal, blockNumberAt};
 ghost use Rattle.addresses.specs.Holding.{TellsIn, TellsOf};
 use heap::State;
 use heap::Superblock;
@@ -52,9 +52,9 @@ fn is_unmapped(superblocks: u8, b: Superblock, address: u32) -> bool
     predicates::is_unused(b)
 }
 
-// No block of its superblock starts at the address.
-fn is_misaligned(b: Superblock, address: u32) -> bool
-    ensures { λ r. ⌜ TellsIn r isMisaligned b address ⌝ }
+// No block of its superblock, which is of no run, starts at the address.
+fn is_off_block(b: Superblock, address: u32) -> bool
+    ensures { λ r. ⌜ TellsIn r isOffBlock b address ⌝ }
 {
     let size = classes::block_size(b.class);
     if size == 0 {
@@ -67,11 +67,34 @@ fn is_misaligned(b: Superblock, address: u32) -> bool
     classes::block_count(b.class) <= offset / size
 }
 
-// The block at the address is live.
+// A run starts at the address: its superblock is the first of one, and the address is its first.
+fn is_run_start(b: Superblock, address: u32) -> bool
+    ensures { λ r. ⌜ TellsIn r isRunStart b address ⌝ }
+{
+    if address % 4096 != 0 {
+        return false;
+    }
+    predicates::starts_run(b)
+}
+
+// No block starts at the address; in a run its start is the only one.
+fn is_misaligned(b: Superblock, address: u32) -> bool
+    ensures { λ r. ⌜ TellsIn r isMisaligned b address ⌝ }
+{
+    if b.owner == 254 {
+        return !is_run_start(b, address);
+    }
+    is_off_block(b, address)
+}
+
+// The block at the address is live. A run's first superblock has no marks: its block 0 is live.
 fn is_live_in(b: Superblock, address: u32) -> bool
     ensures { λ r. ⌜ TellsIn r isLiveAt b address ⌝ }
 {
     let j = block_in(b.class, address) as usize;
+    if predicates::starts_run(b) {
+        return j == 0;
+    }
     let live = b.live;
     bitmap::is_live(live, j)
 }

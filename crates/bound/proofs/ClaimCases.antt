@@ -236,7 +236,7 @@ abbrev pub run-freed-state : State
 run-freed-state = unnamedState u (of 2 24 1 ∷ replicate 63 unused)
 
 pub claim-fails-of-run-reported : (m : ℕ) → 0 < m → Claims u (after-with Ready run-in-state) [] (λ c. 0) (step-with (Free 1 4096) (Moves m) run-freed-state ∷ []) → ⊥
-unfolding Claims OwnerChanges passedBetweenHeaps isOfHeap sumBelow
+unfolding Claims OwnerChanges ownersChanged passedBetweenHeaps isOfHeap sumBelow
 claim-fails-of-run-reported m l k = let z = k .1 .1 m refl in omega arith
 
 -- "Each gets the state that the one before it returned and the storage as that one left it": here a state whose numbers fail the check, so that each call

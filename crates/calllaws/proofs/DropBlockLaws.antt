@@ -1,23 +1,24 @@
 -- What a drop leaves of marks and ranks, in the page's words (document 02, item 5). Assumes nothing.
 use mathlib.Core.Path.{_≡_, refl, sym, ap, ap₂, _∙_}
-use mathlib.Core.Bool.{Bool}
+use mathlib.Core.Bool.{Bool, false}
 use mathlib.Core.Logic.{inl, inr, ⊎-elim}
 use mathlib.Core.List.{List, [], _∷_, _++_}
 use Prim.Native.Nat.{ℕ, _<_}
 use native.Mathlib.Decide.{ℕ-discrete}
 use native.Mathlib.Omega.{arith}
-use Rattle.classes.proofs.ClassTableLaws.{blocks-of-le-256}
 use Rattle.marks.specs.Marks.{markBit}
 use Rattle.names.specs.Names.{blockNumber}
 use Rattle.heap.specs.declared.Superblock.{Superblock}
 use Rattle.heap.specs.declared.State.{State}
 use Rattle.heap.specs.Table.{superblockAt, withOwner}
 use Rattle.heaplaws.proofs.StateFacts.{Shape}
-use Rattle.calls.specs.Free.{superblockIndex, superblockHolding, blockOf, addressRefusal, orderPushed, blockFreed}
+use Rattle.calls.specs.Free.{superblockIndex, blockOf, isInRun, addressRefusal, orderPushed, smallBlockFreed, blockFreed}
 use Rattle.calls.specs.Drop.{allFreed, firstAddressRefusal, dropOf}
-use Rattle.calllaws.proofs.CallEffects.{PassedAfterFrees, FreeEffect, RanksKept}
+use Rattle.calllaws.proofs.CallEffects.{PassedAfterFrees, RanksKept}
 use Rattle.calllaws.proofs.TransferredLaws.{passed-after-no-frees}
-use Rattle.calllaws.proofs.BlockFreedLaws.{freed-superblock-lt-64, block-freed-effect, block-freed-ranks, block-freed-shape, block-freed-block, block-freed-passed}
+use Rattle.calllaws.proofs.BlockFreedLaws.{freed-superblock-lt-64, small-block-freed-ranks}
+use Rattle.calllaws.proofs.AddressFreedLaws.{AddressFreed, block-freed-outside-run, address-freed, address-freed-block}
+use Rattle.calllaws.proofs.AddressTwiceLaws.{outside-run-stays}
 use Rattle.calllaws.proofs.AllFreedLaws.{first-refusal-of-cons}
 use Rattle.calllaws.proofs.DropTransfersLaws.{Transfers}
 use Rattle.calllaws.proofs.DropLaws.{DropAccepted, drop-transfers, drop-state-is}
@@ -29,17 +30,14 @@ module _ (m b : ℕ) (inside : m < 64) (small : b < 256) where
   abbrev markIn : State → ℕ
   markIn s = markBit (superblockAt s m .live) b
 
-  -- the first block freed: its mark is cleared, and no other changes
+  -- the first block freed: its mark is clear then, that of a long block before, too, and no other changes
   module _ (freed : ℕ → ℕ → ℕ) (s : State) (order : List ℕ) (a : ℕ) (shape : Shape s) (passed : PassedAfterFrees freed s order) (accepted : addressRefusal s a ≡ 0) where
-    effect : FreeEffect (superblockHolding s a .class) (superblockIndex a) (blockOf s a) 0 s (blockFreed s a)
-    effect = block-freed-effect freed s order a shape passed accepted
-
-    block-lt-256 : blockOf s a < 256
-    block-lt-256 = omega (arith, effect .block, blocks-of-le-256 (superblockHolding s a .class))
+    effect : AddressFreed freed s order a
+    effect = address-freed freed s order a shape passed accepted
 
     first-clears : blockNumber m b ≡ blockNumber (superblockIndex a) (blockOf s a) → markIn (blockFreed s a) ≡ 0
     first-clears e =
-        let low = block-lt-256 in
+        let low = effect .block in
         let home : m ≡ superblockIndex a = omega arith in
         let block : b ≡ blockOf s a = omega arith in
         ap₂ (λ (k j : ℕ). markBit (superblockAt (blockFreed s a) k .live) j) home block ∙ effect .not-marked
@@ -61,8 +59,8 @@ module _ (m b : ℕ) (inside : m < 64) (small : b < 256) where
   frees-keep-other-marks freed s order [] shape passed ok other = refl
   frees-keep-other-marks freed s order (a ∷ addresses) shape passed ok other =
       let first = first-refusal-of-cons s a addresses ok in
-      frees-keep-other-marks _ (blockFreed s a) (orderPushed s order a) addresses (block-freed-shape freed s order a shape passed (first .0)) (block-freed-passed freed s order a shape passed (first .0)) (first .1)
-      (λ h. other (inr (listed-same s (blockFreed s a) (block-freed-block freed s order a shape passed (first .0)) addresses _ h)))
+      frees-keep-other-marks _ (blockFreed s a) (orderPushed s order a) addresses (address-freed freed s order a shape passed (first .0) .shape) (address-freed freed s order a shape passed (first .0) .passed) (first .1)
+      (λ h. other (inr (listed-same s (blockFreed s a) (address-freed-block freed s order a shape passed (first .0)) addresses _ h)))
       ∙ first-keeps-other freed s order a shape passed (first .0) (λ e. other (inl e))
 
   -- .. one that is cleared stays so ..
@@ -72,7 +70,7 @@ module _ (m b : ℕ) (inside : m < 64) (small : b < 256) where
   frees-set-no-mark freed s order [] shape passed ok e = e
   frees-set-no-mark freed s order (a ∷ addresses) shape passed ok e =
       let first = first-refusal-of-cons s a addresses ok in
-      frees-set-no-mark _ (blockFreed s a) (orderPushed s order a) addresses (block-freed-shape freed s order a shape passed (first .0)) (block-freed-passed freed s order a shape passed (first .0)) (first .1)
+      frees-set-no-mark _ (blockFreed s a) (orderPushed s order a) addresses (address-freed freed s order a shape passed (first .0) .shape) (address-freed freed s order a shape passed (first .0) .passed) (first .1)
       (first-sets-none freed s order a shape passed (first .0) e)
 
   -- .. and that of a listed one is cleared
@@ -82,24 +80,28 @@ module _ (m b : ℕ) (inside : m < 64) (small : b < 256) where
   frees-clear-marks freed s order [] shape passed ok h = absurd h
   frees-clear-marks freed s order (a ∷ addresses) shape passed ok (inl e) =
       let first = first-refusal-of-cons s a addresses ok in
-      frees-set-no-mark _ (blockFreed s a) (orderPushed s order a) addresses (block-freed-shape freed s order a shape passed (first .0)) (block-freed-passed freed s order a shape passed (first .0)) (first .1)
+      frees-set-no-mark _ (blockFreed s a) (orderPushed s order a) addresses (address-freed freed s order a shape passed (first .0) .shape) (address-freed freed s order a shape passed (first .0) .passed) (first .1)
       (first-clears freed s order a shape passed (first .0) e)
   frees-clear-marks freed s order (a ∷ addresses) shape passed ok (inr h) =
       let first = first-refusal-of-cons s a addresses ok in
-      frees-clear-marks _ (blockFreed s a) (orderPushed s order a) addresses (block-freed-shape freed s order a shape passed (first .0)) (block-freed-passed freed s order a shape passed (first .0)) (first .1)
-      (listed-same (blockFreed s a) s (λ x. sym (block-freed-block freed s order a shape passed (first .0) x)) addresses _ h)
+      frees-clear-marks _ (blockFreed s a) (orderPushed s order a) addresses (address-freed freed s order a shape passed (first .0) .shape) (address-freed freed s order a shape passed (first .0) .passed) (first .1)
+      (listed-same (blockFreed s a) s (λ x. sym (address-freed-block freed s order a shape passed (first .0) x)) addresses _ h)
 
--- ---- the frees: the superblock of the last address is in front of the ranking
+-- ---- the frees: the superblock of the last address, where that lies in no run, is in front of the ranking
 last-freed-ranked-1 : (freed : ℕ → ℕ → ℕ) (s : State) (order earlier : List ℕ) (a : ℕ) → Shape s → PassedAfterFrees freed s order → firstAddressRefusal s (earlier ++ (a ∷ [])) ≡ 0
-    → (superblockIndex a < 64) × (superblockAt (allFreed s (earlier ++ (a ∷ []))) (superblockIndex a) .rank ≡ 1)
+    → isInRun s a ≡ false → (superblockIndex a < 64) × (superblockAt (allFreed s (earlier ++ (a ∷ []))) (superblockIndex a) .rank ≡ 1)
 unfolding allFreed
-last-freed-ranked-1 freed s order [] a shape passed ok =
+last-freed-ranked-1 freed s order [] a shape passed ok outside =
     let first = first-refusal-of-cons s a [] ok in
-    let inside = freed-superblock-lt-64 freed s order a shape passed (first .0) in
-    (inside, freed-superblock-is-latest s (blockFreed s a) (superblockIndex a) inside (block-freed-ranks freed s order a shape passed (first .0)))
-last-freed-ranked-1 freed s order (x ∷ earlier) a shape passed ok =
+    let inside = freed-superblock-lt-64 freed s order a shape passed (first .0) outside in (
+      inside,
+      ap (λ (t : State). superblockAt t (superblockIndex a) .rank) (block-freed-outside-run s a outside)
+      ∙ freed-superblock-is-latest s (smallBlockFreed s a) (superblockIndex a) inside (small-block-freed-ranks freed s order a shape passed (first .0) outside),
+    )
+last-freed-ranked-1 freed s order (x ∷ earlier) a shape passed ok outside =
     let first = first-refusal-of-cons s x (earlier ++ (a ∷ [])) ok in
-    last-freed-ranked-1 _ (blockFreed s x) (orderPushed s order x) earlier a (block-freed-shape freed s order x shape passed (first .0)) (block-freed-passed freed s order x shape passed (first .0)) (first .1)
+    last-freed-ranked-1 _ (blockFreed s x) (orderPushed s order x) earlier a (address-freed freed s order x shape passed (first .0) .shape) (address-freed freed s order x shape passed (first .0) .passed) (first .1)
+    (outside-run-stays freed s order x shape passed (first .0) a outside)
 
 -- ---- the moves: what does not depend on the owner stays
 transfers-keep : {A : Type 0} (of : Superblock → A) → ((b : Superblock) → of (withOwner 0 b) ≡ of b) → (touched : ℕ → ℕ → Bool) (s t : State) (n : ℕ) → Transfers touched s t n → (m : ℕ) → m < 64
@@ -132,9 +134,9 @@ module _ (s : State) (order : List ℕ) (i : ℕ) (addresses : List ℕ) (shape 
   pub drop-ranks : RanksKept (allFreed s addresses) after
   drop-ranks = drop-keeps (λ x. x .rank) (λ x. refl)
 
--- the superblock of the last address is the last freed into: it has rank 1
-pub last-dropped-ranked-1 : (s : State) (order : List ℕ) (i : ℕ) (earlier : List ℕ) (a : ℕ) → Shape s → DropAccepted s order i (earlier ++ (a ∷ []))
+-- the superblock of the last address, where that lies in no run, is the last freed into: it has rank 1
+pub last-dropped-ranked-1 : (s : State) (order : List ℕ) (i : ℕ) (earlier : List ℕ) (a : ℕ) → Shape s → DropAccepted s order i (earlier ++ (a ∷ [])) → isInRun s a ≡ false
     → superblockAt (dropOf s order i (earlier ++ (a ∷ [])) .answer .state) (superblockIndex a) .rank ≡ 1
-last-dropped-ranked-1 s order i earlier a shape acc =
-    let last = last-freed-ranked-1 (λ h c. 0) s order earlier a shape (passed-after-no-frees s order (acc .passed)) (acc .no-refusal) in
+last-dropped-ranked-1 s order i earlier a shape acc outside =
+    let last = last-freed-ranked-1 (λ h c. 0) s order earlier a shape (passed-after-no-frees s order (acc .passed)) (acc .no-refusal) outside in
     drop-ranks s order i (earlier ++ (a ∷ [])) shape acc (superblockIndex a) (last .0) ∙ last .1

@@ -32,6 +32,7 @@ pub mod RefusalConditions
 pub mod NamedRefusalConditions
 pub mod DropRefusalConditions
 pub mod AddressReadsLaws
+pub mod AddressTwiceLaws
 pub mod DropAsFrees
 pub mod TouchedLaws
 pub mod NameLifetime

@@ -1,20 +1,51 @@
-// What freeing a block does to its superblock, the names and the order places.
+// What freeing a block does to its superblock, or those of its run, to the names and to the order places.
 ghost use mathlib.Core.Path.{_≡_};
-ghost use Prim.Native.Nat.{_<_};
+ghost use Prim.Native.Nat.{_+_, _≤_, _<_};
+ghost use Rattle.laws.specs.Sums.{pick};
 ghost use Rattle.heap.specs.Totals.{TotalsKept};
-ghost use Rattle.heap.specs.Ranks.{RanksFit};
-ghost use Rattle.calls.specs.Free.{superblockIndex, markCleared, orderPushed, blockFreed};
+ghost use Rattle.heap.specs.Ranks.{rankedLatest, RanksFit};
+ghost use Rattle.calls.specs.Runs.{runFreed};
+ghost use Rattle.calls.specs.Free.{superblockIndex, superblockHolding, isInRun, markCleared, blockPushed, orderPushed, blockFreed};
 use heap::State;
 use heap::Superblock;
 
-// The block at the address is free again, and its number in the next place of its superblock's order: both in one function, so that its callers
-// hand the state over once.
+// The block at the address is free again, no name points at it, and its number stands in the next place of its superblock's order, unless it is long:
+// all in one function, so that its callers hand the state over once.
 pub fn release_block(s: State, order: &mut [u16], address: u32) -> State
-    requires { ⌜ (superblockIndex address < 64) × TotalsKept s × RanksFit s ⌝ }
+    requires { ⌜ (superblockIndex address < 64) × (superblockIndex address + superblockHolding s address .run ≤ 64) × TotalsKept s × RanksFit s ⌝ }
     ensures { λ r. ⌜ (r ≡ blockFreed s address) × (now (order .exit) ≡ orderPushed s (now (order .entry)) address) ⌝ }
 {
+    let block = addresses::block_number_at(s, address);
+    let held = s.names;
+    let names = nametable::release_block(held, block);
+    let mut t = vacate(s, order, address);
+    t.names = names;
+    t
+}
+
+// The state with the run at the address unused; or with the block's superblock the last freed into and the block no longer live, and with its number
+// in its place.
+fn vacate(s: State, order: &mut [u16], address: u32) -> State
+    requires { ⌜ (superblockIndex address < 64) × (superblockIndex address + superblockHolding s address .run ≤ 64) × TotalsKept s × RanksFit s ⌝ }
+    ensures { λ r.
+        ⌜
+        (
+        r ≡ pick
+        (isInRun s address)
+        (runFreed (superblockIndex address) (superblockHolding s address .run) s)
+        (markCleared (rankedLatest (superblockIndex address) s) address)
+        )
+        × (now (order .exit) ≡ orderPushed s (now (order .entry)) address)
+        ⌝ }
+{
+    let k = (address / 4096) as usize;
+    let b = s.table[k];
+    if b.owner == 254 {
+        return runs::free_run(s, k, b.run);
+    }
     push_block(s, order, address);
-    free_block(s, address)
+    let ranked = ranks::rank_latest(s, k);
+    clear_mark(ranked, address)
 }
 
 // The state with the block at the address no longer live.
@@ -37,25 +68,10 @@ fn clear_mark(s: State, address: u32) -> State
     table::replace(s, k, cleared)
 }
 
-// The state with that, with its superblock the last freed into, and with no name that points at the block.
-fn free_block(s: State, address: u32) -> State
-    requires { ⌜ (superblockIndex address < 64) × TotalsKept s × RanksFit s ⌝ }
-    ensures { λ r. ⌜ r ≡ blockFreed s address ⌝ }
-{
-    let k = (address / 4096) as usize;
-    let block = addresses::block_number_at(s, address);
-    let held = s.names;
-    let names = nametable::release_block(held, block);
-    let ranked = ranks::rank_latest(s, k);
-    let mut t = clear_mark(ranked, address);
-    t.names = names;
-    t
-}
-
 // Puts the number of the block at the address in the next place of its superblock's order.
 fn push_block(s: State, order: &mut [u16], address: u32)
     requires { ⌜ superblockIndex address < 64 ⌝ }
-    ensures { λ _. ⌜ now (order .exit) ≡ orderPushed s (now (order .entry)) address ⌝ }
+    ensures { λ _. ⌜ now (order .exit) ≡ blockPushed s (now (order .entry)) address ⌝ }
 {
     let k = address / 4096;
     let i = k as usize;

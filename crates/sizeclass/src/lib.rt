@@ -1,6 +1,7 @@
-// The class of a size, from the table of specs/SizeTable.antt, and whether any class holds it. The contracts name the definitions of crate classes.
+// The class of a size, from the table of specs/SizeTable.antt, and of a long size, which no class holds, the superblocks that it takes. The contracts
+// name the definitions of crate classes.
 ghost use mathlib.Core.Path.{_≡_};
-ghost use Rattle.classes.specs.Classes.{classOf, isTooLarge};
+ghost use Rattle.classes.specs.Classes.{classOf, isLong, runLength};
 
 // The smallest class that holds a size; 27 where none does.
 pub fn class_of(size: u16) -> u8
@@ -13,11 +14,18 @@ pub fn class_of(size: u16) -> u8
     CLASS_BY_SIZE[index]
 }
 
-// No class holds a size above 2048.
-pub fn is_too_large(size: u16) -> bool
-    ensures { λ r. ⌜ r ≡ isTooLarge size ⌝ }
+// No class holds a size above 2048: it takes a run.
+pub fn is_long(size: u16) -> bool
+    ensures { λ r. ⌜ r ≡ isLong size ⌝ }
 {
     2048 < size
+}
+
+// How many superblocks a long size takes: size / 4096 rounded up.
+pub fn run_length(size: u16) -> u8
+    ensures { λ r. ⌜ r ≡ runLength size ⌝ }
+{
+    ((size as u32 + 4095) / 4096) as u8
 }
 
 // The class of each multiple of 8 up to 2048, with that size beside it: a size has the class of its size rounded up.

@@ -1,4 +1,5 @@
--- The rest of the check as the code goes: each superblock alone, the totals and the emptiness invariant by one recount, the names and the ranks. Assumes nothing.
+-- The rest of the check as the code goes: each superblock alone, the totals and the emptiness invariant by one recount, the names, the
+-- ranks and the runs. Assumes nothing.
 use mathlib.Core.Path.{_≡_, refl, sym, ap, _∙_}
 use mathlib.Core.Bool.{Bool, true, false, not}
 use mathlib.Core.List.{List}
@@ -14,7 +15,7 @@ use Rattle.heap.specs.declared.Totals.{Totals}
 use Rattle.heap.specs.declared.State.{State}
 use Rattle.heap.specs.Table.{superblockAt}
 use Rattle.heap.specs.Totals.{heapCount, recounted}
-use Rattle.checkrules.specs.Check.{withinLimits, superblockValid, unusedFrom, sparseIfGlobal, emptinessInvariant, namesValid, sameTotals, totalsValid, ranksValid, restValid}
+use Rattle.checkrules.specs.Check.{withinLimits, superblockValid, unusedFrom, sparseIfGlobal, emptinessInvariant, namesValid, sameTotals, totalsValid, ranksValid, runsWhole, runsValid, restValid}
 use Rattle.heaplaws.proofs.StateCheckLaws.{facts-of-within-limits}
 use Rattle.superblockcheck.specs.Alone.{aloneValid, eachValid}
 use Rattle.invariantcheck.specs.TotalsInvariant.{totalsInvariant}
@@ -22,12 +23,12 @@ use Rattle.invariantcheck.proofs.EmptinessInvariantLaws.{totals-invariant-of-re
 use Rattle.limits.specs.SetupRefusal.{setupRefusal}
 
 -- the clauses in the code's order
-rest-valid-by-parts : (s : State) (order : List ℕ) → restValid s order ≡ both (eachValid (s .setup) (s .table) order) (both (totalsValid s) (both (emptinessInvariant s) (both (namesValid s) (ranksValid s))))
+rest-valid-by-parts : (s : State) (order : List ℕ) → restValid s order ≡ both (eachValid (s .setup) (s .table) order) (both (totalsValid s) (both (emptinessInvariant s) (both (namesValid s) (both (ranksValid s) (runsValid s)))))
 unfolding restValid eachValid aloneValid
 rest-valid-by-parts s order =
     sym
-    (ap (λ (t : Bool). both t (both (totalsValid s) (both (emptinessInvariant s) (both (namesValid s) (ranksValid s))))) (all-both good (λ k. both (past k) (thin k)) 64 ∙ ap (both (allBelow good 64)) (all-both past thin 64))
-    ∙ regroup (allBelow good 64) (allBelow past 64) (emptinessInvariant s) (allBelow thin 64) (namesValid s) (totalsValid s) (ranksValid s))
+    (ap (λ (t : Bool). both t (both (totalsValid s) (both (emptinessInvariant s) (both (namesValid s) (both (ranksValid s) (runsValid s)))))) (all-both good (λ k. both (past k) (thin k)) 64 ∙ ap (both (allBelow good 64)) (all-both past thin 64))
+    ∙ regroup (allBelow good 64) (allBelow past 64) (emptinessInvariant s) (allBelow thin 64) (namesValid s) (totalsValid s) (both (ranksValid s) (runsValid s)))
   where
     good : ℕ → Bool
     good k = superblockValid (s .setup) order k (superblockAt s k)
@@ -80,22 +81,30 @@ module _ (s : State) (order : List ℕ) (first : ℕ) (lawful : first ≡ setupR
       rest-valid-false-of-emptiness-invariant j = sym (rw (rest-valid-by-parts s order, ← e, not-false t f, ← same-is-totals-valid, not-false v g, ← invariant-is-emptiness-invariant, not-true u j))
 
       module _ (j : not u ≡ false) (w : Bool) (n : w ≡ namesValid s) where
-        rest-valid-is-names-and-ranks : restValid s order ≡ both w (ranksValid s)
-        rest-valid-is-names-and-ranks =
-            rw (rest-valid-by-parts s order, ← e, not-false t f, ← same-is-totals-valid, not-false v g, ← invariant-is-emptiness-invariant, not-false u j) (ap (λ (x : Bool). both x (ranksValid s)) (sym n))
+        rest-valid-is-names-ranks-and-runs : restValid s order ≡ both w (both (ranksValid s) (runsValid s))
+        rest-valid-is-names-ranks-and-runs =
+            rw (rest-valid-by-parts s order, ← e, not-false t f, ← same-is-totals-valid, not-false v g, ← invariant-is-emptiness-invariant, not-false u j) (ap (λ (x : Bool). both x (both (ranksValid s) (runsValid s))) (sym n))
 
         pub rest-valid-false-of-names : not w ≡ true → false ≡ restValid s order
-        rest-valid-false-of-names k = sym (rest-valid-is-names-and-ranks ∙ ap (λ (x : Bool). both x (ranksValid s)) (not-true w k))
+        rest-valid-false-of-names k = sym (rest-valid-is-names-ranks-and-runs ∙ ap (λ (x : Bool). both x (both (ranksValid s) (runsValid s))) (not-true w k))
 
         module _ (k : not w ≡ false) (x : Bool) (r : x ≡ ranksValid s) where
-          rest-valid-is-ranks-valid : restValid s order ≡ x
-          rest-valid-is-ranks-valid = rest-valid-is-names-and-ranks ∙ ap (λ (y : Bool). both y (ranksValid s)) (not-false w k) ∙ sym r
+          rest-valid-is-ranks-and-runs : restValid s order ≡ both x (runsValid s)
+          rest-valid-is-ranks-and-runs = rest-valid-is-names-ranks-and-runs ∙ rw (not-false w k, ← r)
 
           pub rest-valid-false-of-ranks : not x ≡ true → false ≡ restValid s order
-          rest-valid-false-of-ranks l = sym (rest-valid-is-ranks-valid ∙ not-true x l)
+          rest-valid-false-of-ranks l = sym (rest-valid-is-ranks-and-runs ∙ ap (λ (y : Bool). both y (runsValid s)) (not-true x l))
 
-          pub rest-valid-of-parts : not x ≡ false → true ≡ restValid s order
-          rest-valid-of-parts l = sym (rest-valid-is-ranks-valid ∙ not-false x l)
+          module _ (l : not x ≡ false) (y : Bool) (whole : y ≡ runsWhole 0 (s .table)) where
+            rest-valid-is-runs-whole : restValid s order ≡ y
+            unfolding runsValid
+            rest-valid-is-runs-whole = rest-valid-is-ranks-and-runs ∙ ap (λ (z : Bool). both z (runsValid s)) (not-false x l) ∙ sym whole
+
+            pub rest-valid-false-of-runs : not y ≡ true → false ≡ restValid s order
+            rest-valid-false-of-runs m = sym (rest-valid-is-runs-whole ∙ not-true y m)
+
+            pub rest-valid-of-parts : not y ≡ false → true ≡ restValid s order
+            rest-valid-of-parts m = sym (rest-valid-is-runs-whole ∙ not-false y m)
 
 -- how a proof finds which of them it asks
-pub ruleset rest-valid-rules = (rest-valid-false-of-each, rest-valid-false-of-totals, rest-valid-false-of-emptiness-invariant, rest-valid-false-of-names, rest-valid-false-of-ranks, rest-valid-of-parts)
+pub ruleset rest-valid-rules = (rest-valid-false-of-each, rest-valid-false-of-totals, rest-valid-false-of-emptiness-invariant, rest-valid-false-of-names, rest-valid-false-of-ranks, rest-valid-false-of-runs, rest-valid-of-parts)

@@ -1,5 +1,5 @@
 // The check of a state handed in: the setup numbers, the order places lent, then the rest. The rest is what is asked of each
-// superblock alone, then, by one recount, the totals and the emptiness invariant, the names, and the ranks.
+// superblock alone, then, by one recount, the totals and the emptiness invariant, the names, the ranks, and the runs.
 ghost use mathlib.Core.Path.{_≡_};
 ghost use Rattle.statecheck.specs.FirstRefusal.{firstRefusal};
 use heap::State;
@@ -29,6 +29,9 @@ pub fn first_refusal(s: State, order: &[u16]) -> u8
         return 13;
     }
     if !rankcheck::ranks_valid(s) {
+        return 13;
+    }
+    if !runcheck::runs_whole(table) {
         return 13;
     }
     0

@@ -1,42 +1,20 @@
--- `addresses::is_misaligned` meets its contract: a class with no block size has no blocks, so that every address is misaligned. Assumes nothing.
+-- `addresses::is_misaligned` meets its contract: by whether the superblock is of a run. Assumes nothing.
 use borrow.Author.Needs.{needs}
-use Rattle.addresses.proofs.FreedAddressLaws.{is-misaligned-of-size-0, is-misaligned-of-remainder, is-misaligned-is-past-last-block}
+use Rattle.addresses.proofs.FreedAddressLaws.{is-misaligned-in-run, is-misaligned-of-class}
 use Rattle.addresses.proofs.is_misaligned.Statement.{statement}
 use Rattle.addresses.proofs.is_misaligned.Tie as tie
 
-block-size-requires : tie.Need-block-size-requires
-block-size-requires c κs = search needs
+is-run-start-requires : tie.Need-is-run-start-requires
+is-run-start-requires c κs = search needs
 
 returns : tie.Need-returns
-returns c s eb = search is-misaligned-of-size-0
+returns c s eb = let p = c .is-run-start .ensures s eb in search is-misaligned-in-run
 
-cast-offset : tie.Need-cast-offset
-cast-offset c = search needs
-
-rem-if2 : tie.Need-rem-if2
-rem-if2 c = search needs
+is-off-block-requires : tie.Need-is-off-block-requires
+is-off-block-requires c κs = search needs
 
 returns-2 : tie.Need-returns-2
-returns-2 c s eb = search is-misaligned-of-remainder
-
-block-count-requires : tie.Need-block-count-requires
-block-count-requires c κs = search needs
-
-div-result : tie.Need-div-result
-div-result c = search needs
-
-returns-3 : tie.Need-returns-3
-returns-3 c s eb = search is-misaligned-is-past-last-block
+returns-2 c s eb = let p = c .is-off-block .ensures s eb in search is-misaligned-of-class
 
 pub is-misaligned-spec : {M : Type 1} → statement M
-is-misaligned-spec =
-    tie.close
-    (tie.spec
-    block-size-requires
-    returns
-    cast-offset
-    rem-if2
-    returns-2
-    block-count-requires
-    div-result
-    returns-3)
+is-misaligned-spec = tie.close (tie.spec is-run-start-requires returns is-off-block-requires returns-2)

@@ -1,5 +1,5 @@
 -- `release::push_block` meets its contract. Assumes nothing.
-use Rattle.release.proofs.FreeStepLaws.{order-pushed-by-steps}
+use Rattle.release.proofs.FreeStepLaws.{block-pushed-by-steps}
 use borrow.Author.Needs.{needs}
 use Rattle.release.proofs.push_block.Statement.{statement}
 use Rattle.release.proofs.push_block.Tie as tie
@@ -26,7 +26,7 @@ same-length : tie.Need-same-length
 same-length c = search needs
 
 returns : tie.Need-returns
-returns c = search order-pushed-by-steps
+returns c = search block-pushed-by-steps
 
 pub push-block-spec : {M : Type 1} → statement M
 push-block-spec =

@@ -47,6 +47,12 @@ ranks-valid-requires c κs = search needs
 returns-7 : tie.Need-returns-7
 returns-7 c = search (first-refusal-rules, rest-valid-rules)
 
+runs-whole-requires : tie.Need-runs-whole-requires
+runs-whole-requires c κs = search needs
+
+returns-8 : tie.Need-returns-8
+returns-8 c = search (first-refusal-rules, rest-valid-rules)
+
 pub first-refusal-spec : {M : Type 1} → statement M
 first-refusal-spec =
     tie.close
@@ -64,4 +70,6 @@ first-refusal-spec =
     returns-5
     ranks-valid-requires
     returns-6
-    returns-7)
+    runs-whole-requires
+    returns-7
+    returns-8)

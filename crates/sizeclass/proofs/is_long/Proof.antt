@@ -1,0 +1,12 @@
+-- `sizeclass::is_long` meets its contract: it is the definition's test. Assumes nothing.
+use mathlib.Core.Path.{refl}
+use Rattle.classes.specs.Classes.{isLong}
+use Rattle.sizeclass.proofs.is_long.Statement.{statement}
+use Rattle.sizeclass.proofs.is_long.Tie as tie
+
+returns : tie.Need-returns
+unfolding isLong
+returns c = refl
+
+pub is-long-spec : {M : Type 1} → statement M
+is-long-spec = tie.close (tie.spec returns)
