@@ -96,7 +96,7 @@ last-freed-ranked-1 freed s order [] a shape passed ok outside =
     let inside = freed-superblock-lt-64 freed s order a shape passed (first .0) outside in (
       inside,
       ap (λ (t : State). superblockAt t (superblockIndex a) .rank) (block-freed-outside-run s a outside)
-      ∙ freed-superblock-is-latest s (smallBlockFreed s a) (superblockIndex a) inside (small-block-freed-ranks freed s order a shape passed (first .0) outside),
+          ∙ freed-superblock-is-latest s (smallBlockFreed s a) (superblockIndex a) inside (small-block-freed-ranks freed s order a shape passed (first .0) outside),
     )
 last-freed-ranked-1 freed s order (x ∷ earlier) a shape passed ok outside =
     let first = first-refusal-of-cons s x (earlier ++ (a ∷ [])) ok in
