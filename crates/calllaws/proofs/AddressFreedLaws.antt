@@ -3,17 +3,18 @@ use mathlib.Core.Path.{_≡_, refl, sym, ap, _∙_, subst}
 use mathlib.Core.Bool.{Bool, true, false}
 use mathlib.Core.Logic.{_⊎_, inl, inr}
 use mathlib.Core.List.{List}
-use Prim.Native.Nat.{ℕ, _<_}
+use Prim.Native.Nat.{ℕ, _≤_, _<_}
 use native.Mathlib.Decide.{decLt}
 use native.Mathlib.Omega.{arith}
 use lib.ListN.{length, List·getD-eq-default}
+use lib.Dec.{eqb}
 use Rattle.laws.proofs.Inequalities.{le-of-not-below}
 use Rattle.laws.proofs.TestLaws.{pick-true, pick-false}
 use Rattle.classes.proofs.ClassTableLaws.{blocks-of-le-256}
 use Rattle.marks.specs.Marks.{markBit}
 use Rattle.names.specs.Names.{blockNumber, withoutBlock}
 use Rattle.heap.specs.declared.State.{State}
-use Rattle.heap.specs.Table.{blank, superblockAt}
+use Rattle.heap.specs.Table.{blank, superblockAt, isOfRun}
 use Rattle.heap.specs.Counts.{belongs, superblocksOfClass}
 use Rattle.heaplaws.proofs.StateFacts.{Shape}
 use Rattle.heaplaws.proofs.CountLaws.{not-belongs-of-other-owner}
@@ -41,6 +42,11 @@ module _ (s : State) (a : ℕ) where
   pub order-pushed-in-run : (order : List ℕ) → isInRun s a ≡ true → orderPushed s order a ≡ order
   unfolding orderPushed
   order-pushed-in-run order e = pick-true (isInRun s a) _ _ e
+
+-- past the table there is no run
+pub outside-run-past-table : (s : State) (a : ℕ) → length (s .table) ≡ 64 → 64 ≤ superblockIndex a → isInRun s a ≡ false
+unfolding isOfRun
+outside-run-past-table s a long far = ap isOfRun (List·getD-eq-default (s .table) blank (omega arith))
 
 -- each owner stays, or was that of a run's superblock and is that of an unused one
 abbrev pub OwnersKeptOrRunFreed : State → State → Type 0
@@ -138,6 +144,19 @@ module _ (s t : State) (owners : OwnersKeptOrRunFreed s t) where
       go : (superblockAt t m .owner ≡ superblockAt s m .owner) ⊎ ((superblockAt s m .owner ≡ 254) × (superblockAt t m .owner ≡ 255)) → superblockAt t m .owner ≡ h
       go (inl q) = q ∙ e
       go (inr (was, now)) = absurd (let z : ⊥ = omega arith in z)
+
+  -- an address in no run is in none then
+  pub outside-run-kept : length (t .table) ≡ 64 → (a : ℕ) → isInRun s a ≡ false → isInRun t a ≡ false
+  unfolding isOfRun
+  outside-run-kept long-after a e = go (decLt (superblockIndex a) 64)
+    where
+      by-owners : (superblockHolding t a .owner ≡ superblockHolding s a .owner) ⊎ ((superblockHolding s a .owner ≡ 254) × (superblockHolding t a .owner ≡ 255)) → isInRun t a ≡ false
+      by-owners (inl same) = ap (λ (o : ℕ). eqb o 254) same ∙ e
+      by-owners (inr (was, now)) = ap (λ (o : ℕ). eqb o 254) now
+
+      go : Dec (superblockIndex a < 64) → isInRun t a ≡ false
+      go (yes l) = by-owners (owners (superblockIndex a) l)
+      go (no f) = outside-run-past-table t a long-after (le-of-not-below f)
 
   module _ (long : length (s .table) ≡ 64) (long-after : length (t .table) ≡ 64) (classes : (m : ℕ) → m < 64 → superblockAt t m .class ≡ superblockAt s m .class) where
     pub same-belongs : (h c m : ℕ) → h < 254 → belongs h c (superblockAt t m) ≡ belongs h c (superblockAt s m)

@@ -4,10 +4,10 @@ use mathlib.Core.Path.{_≡_, refl, sym, ap, _∙_, subst}
 use mathlib.Core.Bool.{Bool, true, false}
 use mathlib.Core.Logic.{_⊎_, inl, inr, ⊎-elim}
 use mathlib.Core.List.{List, [], _∷_, _++_, append-assoc, List·Memᴰ, List·Memᴰ·head, List·Memᴰ·tail, List·Memᴰ·not-nil, List·Memᴰ·cases-cons}
-use Prim.Native.Nat.{ℕ, _+_, _*_, _≤_, _<_}
+use Prim.Native.Nat.{ℕ, _*_, _<_}
 use native.Mathlib.Decide.{ℕ-discrete, decLt}
 use native.Mathlib.Omega.{arith}
-use lib.ListN.{length, List·getD-eq-default}
+use lib.ListN.{length}
 use lib.Dec.{eqb}
 use Rattle.laws.proofs.Inequalities.{le-of-not-below}
 use Rattle.laws.proofs.TestLaws.{true-not-false}
@@ -15,7 +15,7 @@ use Rattle.classes.proofs.ClassTableLaws.{blocks-of-le-256}
 use Rattle.marks.specs.Marks.{markBit}
 use Rattle.heap.specs.declared.Superblock.{Superblock}
 use Rattle.heap.specs.declared.State.{State}
-use Rattle.heap.specs.Table.{blank, superblockAt, isOfRun}
+use Rattle.heap.specs.Table.{superblockAt, isOfRun}
 use Rattle.heaplaws.proofs.StateFacts.{Shape, Unused, RunAt, SoundWith}
 use Rattle.heaplaws.proofs.StateCheckLaws.{unused-is-unused}
 use Rattle.heaplaws.proofs.RunLaws.{Outside, side-of-range, outside-not-inside, runs-apart, run-at-of-same, run-below-superblocks}
@@ -28,7 +28,7 @@ use Rattle.calllaws.proofs.CallEffects.{Passed, PassedAfterFrees, FreeE
 use Rattle.calllaws.proofs.TransferredLaws.{passed-after-no-frees}
 use Rattle.calllaws.proofs.BlockFreedLaws.{small-block-freed-effect, small-block-freed-owner, small-block-freed-passed}
 use Rattle.calllaws.proofs.RunFreedLaws.{freed-run-address, long-block-freed-effect, long-block-freed-passed}
-use Rattle.calllaws.proofs.AddressFreedLaws.{block-freed-outside-run, block-freed-in-run, AddressFreed, address-freed}
+use Rattle.calllaws.proofs.AddressFreedLaws.{block-freed-outside-run, block-freed-in-run, outside-run-past-table, AddressFreed, address-freed, outside-run-kept}
 use Rattle.calllaws.proofs.AllFreedLaws.{first-refusal-of-cons}
 use Rattle.calllaws.proofs.DropLaws.{drop-refused-or-accepted}
 use Rattle.calllaws.proofs.RefusalConditions.{IsProcessor, OnBlock, on-block-of-class, on-run-start}
@@ -43,11 +43,7 @@ block-lt-256-of-start mark s a h outside = go (h .aligned)
     go (on-block-of-class f e l) = omega (arith, blocks-of-le-256 (superblockHolding s a .class))
     go (on-run-start home first offset) = absurd (true-not-false (isInRun s a) (of-run-of-owner (superblockHolding s a) home) outside)
 
--- past the table there is no run
-outside-run-past-table : (s : State) (a : ℕ) → length (s .table) ≡ 64 → 64 ≤ superblockIndex a → isInRun s a ≡ false
-unfolding isOfRun
-outside-run-past-table s a long far = ap isOfRun (List·getD-eq-default (s .table) blank (omega arith))
-
+-- a run lies in the table
 in-run-in-table : (s : State) (a : ℕ) → length (s .table) ≡ 64 → isInRun s a ≡ true → superblockIndex a < 64
 in-run-in-table s a long e = go (decLt (superblockIndex a) 64)
   where
@@ -157,17 +153,8 @@ module _ (freed : ℕ → ℕ → ℕ) (s : State) (order : List ℕ) (b : ℕ) 
   freed-refused-5 long = run-refused-5 long b (omega arith, omega (arith, long-effect long .run-before .some))
 
   -- an address in no run is in none then; one in a run still is, or meets 5
-  pub outside-run-stays : (a : ℕ) → isInRun s a ≡ false → isInRun (blockFreed s b) a ≡ false
-  unfolding isOfRun
-  outside-run-stays a e = go (decLt (superblockIndex a) 64)
-    where
-      by-owners : (superblockHolding (blockFreed s b) a .owner ≡ superblockHolding s a .owner) ⊎ ((superblockHolding s a .owner ≡ 254) × (superblockHolding (blockFreed s b) a .owner ≡ 255)) → isInRun (blockFreed s b) a ≡ false
-      by-owners (inl same) = ap (λ (o : ℕ). eqb o 254) same ∙ e
-      by-owners (inr (was, now)) = ap (λ (o : ℕ). eqb o 254) now
-
-      go : Dec (superblockIndex a < 64) → isInRun (blockFreed s b) a ≡ false
-      go (yes l) = by-owners (address-freed freed s order b shape passed accepted .owners (superblockIndex a) l)
-      go (no f) = outside-run-past-table (blockFreed s b) a (address-freed freed s order b shape passed accepted .shape .length-is) (le-of-not-below f)
+  outside-run-stays : (a : ℕ) → isInRun s a ≡ false → isInRun (blockFreed s b) a ≡ false
+  outside-run-stays = let here = address-freed freed s order b shape passed accepted in outside-run-kept s (blockFreed s b) (here .owners) (here .shape .length-is)
 
   in-run-stays-or-refused-5 : (a : ℕ) → isInRun s a ≡ true → (isInRun (blockFreed s b) a ≡ true) ⊎ (addressRefusal (blockFreed s b) a ≡ 5)
   in-run-stays-or-refused-5 a e =

@@ -15,6 +15,7 @@ use Rattle.laws.proofs.Inequalities.{le-of-not-below}
 use Rattle.laws.proofs.TestLaws.{neither-left, neither-right}
 use Rattle.laws.proofs.SumLaws.{sum-cong, sum-of-zeros, sum-le-of-terms-le}
 use Rattle.laws.proofs.Counting.{sum-add, indicator-sum-inside, indicator-sum-outside}
+use Rattle.names.specs.Names.{blockNumber}
 use Rattle.heap.specs.declared.Superblock.{Superblock}
 use Rattle.heap.specs.declared.State.{State}
 use Rattle.heap.specs.Table.{superblockAt, isOfRun}
@@ -25,7 +26,7 @@ use Rattle.heaplaws.proofs.StateFacts.{Shape, RunsSound}
 use Rattle.heaplaws.proofs.CountLaws.{sum-from-heap-0}
 use Rattle.heaplaws.proofs.RankLaws.{ranks-fit-of-sound}
 use Rattle.heaplaws.proofs.RunLaws.{runs-sound-of-valid}
-use Rattle.calls.specs.Free.{superblockIndex, superblockHolding, isInRun, addressRefusal, orderPushed, blockFreed}
+use Rattle.calls.specs.Free.{superblockIndex, superblockHolding, blockOf, isInRun, addressRefusal, orderPushed, blockFreed}
 use Rattle.calls.specs.Drop.{allFreed, allPushed, firstAddressRefusal, isTouched}
 use Rattle.calllaws.proofs.CallEffects.{PassedAfterFrees}
 use Rattle.calllaws.proofs.TransferredLaws.{oneMoreFreed, passed-after-frees-cong}
@@ -95,6 +96,18 @@ unfolding freedOf
 freed-of-same s t long long-after owners classes [] h c l = refl
 freed-of-same s t long long-after owners classes (a ∷ addresses) h c l =
     ap₂ (λ (x : Bool) (n : ℕ). one x + n) (same-belongs s t owners long long-after classes h c (superblockIndex a) l) (freed-of-same s t long long-after owners classes addresses h c l)
+
+-- ---- the blocks at the addresses
+-- one of the addresses is that of block b. A drop changes no class, so the state before it tells the block of each.
+abbrev pub ListsBlock : State → List ℕ → ℕ → Type 0
+ListsBlock s [] b = ⊥
+ListsBlock s (a ∷ addresses) b = (b ≡ blockNumber (superblockIndex a) (blockOf s a)) ⊎ ListsBlock s addresses b
+
+-- a block is listed in one state as in another with the same classes
+pub listed-same : (s t : State) → ((a : ℕ) → blockOf t a ≡ blockOf s a) → (addresses : List ℕ) (b : ℕ) → ListsBlock t addresses b → ListsBlock s addresses b
+listed-same s t same [] b h = h
+listed-same s t same (a ∷ addresses) b (inl e) = inl (e ∙ ap (blockNumber (superblockIndex a)) (same a))
+listed-same s t same (a ∷ addresses) b (inr h) = inr (listed-same s t same addresses b h)
 
 -- ---- an accepted address first, and then the others
 refusal-of-first-zero : (r n : ℕ) → pick (eqb r 0) n r ≡ 0 → (r ≡ 0) × (n ≡ 0)

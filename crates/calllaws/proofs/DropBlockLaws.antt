@@ -1,5 +1,5 @@
--- What a drop leaves of marks and ranks, in the page's words (document 02, item 5). Assumes nothing.
-use mathlib.Core.Path.{_≡_, refl, sym, ap, ap₂, _∙_}
+-- What a drop leaves of marks and ranks, in the page's words (document 02, item 5). Long blocks have neither (item 7). Assumes nothing.
+use mathlib.Core.Path.{_≡_, refl, sym, ap, ap₂, _∙_, subst}
 use mathlib.Core.Bool.{Bool, false}
 use mathlib.Core.Logic.{inl, inr, ⊎-elim}
 use mathlib.Core.List.{List, [], _∷_, _++_}
@@ -12,17 +12,15 @@ use Rattle.heap.specs.declared.Superblock.{Superblock}
 use Rattle.heap.specs.declared.State.{State}
 use Rattle.heap.specs.Table.{superblockAt, withOwner}
 use Rattle.heaplaws.proofs.StateFacts.{Shape}
-use Rattle.calls.specs.Free.{superblockIndex, blockOf, isInRun, addressRefusal, orderPushed, smallBlockFreed, blockFreed}
+use Rattle.calls.specs.Free.{superblockIndex, blockOf, isInRun, addressRefusal, orderPushed, blockFreed}
 use Rattle.calls.specs.Drop.{allFreed, firstAddressRefusal, dropOf}
-use Rattle.calllaws.proofs.CallEffects.{PassedAfterFrees, RanksKept}
+use Rattle.calllaws.proofs.CallEffects.{PassedAfterFrees, RanksKept, RankedLatest}
 use Rattle.calllaws.proofs.TransferredLaws.{passed-after-no-frees}
-use Rattle.calllaws.proofs.BlockFreedLaws.{freed-superblock-lt-64, small-block-freed-ranks}
-use Rattle.calllaws.proofs.AddressFreedLaws.{AddressFreed, block-freed-outside-run, address-freed, address-freed-block}
-use Rattle.calllaws.proofs.AddressTwiceLaws.{outside-run-stays}
-use Rattle.calllaws.proofs.AllFreedLaws.{first-refusal-of-cons}
+use Rattle.calllaws.proofs.BlockFreedLaws.{small-block-freed-ranks}
+use Rattle.calllaws.proofs.AddressFreedLaws.{block-freed-outside-run, AddressFreed, address-freed, address-freed-block, outside-run-kept}
+use Rattle.calllaws.proofs.AllFreedLaws.{ListsBlock, listed-same, first-refusal-of-cons}
 use Rattle.calllaws.proofs.DropTransfersLaws.{Transfers}
 use Rattle.calllaws.proofs.DropLaws.{DropAccepted, drop-transfers, drop-state-is}
-use Rattle.calllaws.proofs.NameLifetime.{ListsBlock, listed-same}
 use Rattle.calllaws.proofs.CallRankLaws.{freed-superblock-is-latest}
 
 -- ---- the frees: the mark of block b of superblock m
@@ -30,20 +28,20 @@ module _ (m b : ℕ) (inside : m < 64) (small : b < 256) where
   abbrev markIn : State → ℕ
   markIn s = markBit (superblockAt s m .live) b
 
-  -- the first block freed: its mark is clear then, that of a long block before, too, and no other changes
+  -- the first block freed: its mark is cleared, and no other changes
   module _ (freed : ℕ → ℕ → ℕ) (s : State) (order : List ℕ) (a : ℕ) (shape : Shape s) (passed : PassedAfterFrees freed s order) (accepted : addressRefusal s a ≡ 0) where
-    effect : AddressFreed freed s order a
-    effect = address-freed freed s order a shape passed accepted
+    here : AddressFreed freed s order a
+    here = address-freed freed s order a shape passed accepted
 
     first-clears : blockNumber m b ≡ blockNumber (superblockIndex a) (blockOf s a) → markIn (blockFreed s a) ≡ 0
     first-clears e =
-        let low = effect .block in
+        let low = here .block in
         let home : m ≡ superblockIndex a = omega arith in
         let block : b ≡ blockOf s a = omega arith in
-        ap₂ (λ (k j : ℕ). markBit (superblockAt (blockFreed s a) k .live) j) home block ∙ effect .not-marked
+        ap₂ (λ (k j : ℕ). markBit (superblockAt (blockFreed s a) k .live) j) home block ∙ here .not-marked
 
     first-keeps-other : (blockNumber m b ≡ blockNumber (superblockIndex a) (blockOf s a) → ⊥) → markIn (blockFreed s a) ≡ markIn s
-    first-keeps-other f = effect .marks m b inside (λ q. f (ap₂ blockNumber (q .0) (q .1))) small
+    first-keeps-other f = here .marks m b inside (λ q. f (ap₂ blockNumber (q .0) (q .1))) small
 
     first-sets-none : markIn s ≡ 0 → markIn (blockFreed s a) ≡ 0
     first-sets-none e = go (ℕ-discrete (blockNumber m b) (blockNumber (superblockIndex a) (blockOf s a)))
@@ -87,21 +85,21 @@ module _ (m b : ℕ) (inside : m < 64) (small : b < 256) where
       frees-clear-marks _ (blockFreed s a) (orderPushed s order a) addresses (address-freed freed s order a shape passed (first .0) .shape) (address-freed freed s order a shape passed (first .0) .passed) (first .1)
       (listed-same (blockFreed s a) s (λ x. sym (address-freed-block freed s order a shape passed (first .0) x)) addresses _ h)
 
--- ---- the frees: the superblock of the last address, where that lies in no run, is in front of the ranking
-last-freed-ranked-1 : (freed : ℕ → ℕ → ℕ) (s : State) (order earlier : List ℕ) (a : ℕ) → Shape s → PassedAfterFrees freed s order → firstAddressRefusal s (earlier ++ (a ∷ [])) ≡ 0
-    → isInRun s a ≡ false → (superblockIndex a < 64) × (superblockAt (allFreed s (earlier ++ (a ∷ []))) (superblockIndex a) .rank ≡ 1)
+-- ---- the frees: the superblock of the last address is in front of the ranking, unless a long block was freed there
+last-freed-ranked-1 : (freed : ℕ → ℕ → ℕ) (s : State) (order earlier : List ℕ) (a : ℕ) → Shape s → PassedAfterFrees freed s order → isInRun s a ≡ false → firstAddressRefusal s (earlier ++ (a ∷ [])) ≡ 0
+    → (superblockIndex a < 64) × (superblockAt (allFreed s (earlier ++ (a ∷ []))) (superblockIndex a) .rank ≡ 1)
 unfolding allFreed
-last-freed-ranked-1 freed s order [] a shape passed ok outside =
+last-freed-ranked-1 freed s order [] a shape passed outside ok =
     let first = first-refusal-of-cons s a [] ok in
-    let inside = freed-superblock-lt-64 freed s order a shape passed (first .0) outside in (
+    let inside = address-freed freed s order a shape passed (first .0) .below in (
       inside,
-      ap (λ (t : State). superblockAt t (superblockIndex a) .rank) (block-freed-outside-run s a outside)
-          ∙ freed-superblock-is-latest s (smallBlockFreed s a) (superblockIndex a) inside (small-block-freed-ranks freed s order a shape passed (first .0) outside),
+      freed-superblock-is-latest s (blockFreed s a) (superblockIndex a) inside
+          (subst (RankedLatest (superblockIndex a) s) (sym (block-freed-outside-run s a outside)) (small-block-freed-ranks freed s order a shape passed (first .0) outside)),
     )
-last-freed-ranked-1 freed s order (x ∷ earlier) a shape passed ok outside =
+last-freed-ranked-1 freed s order (x ∷ earlier) a shape passed outside ok =
     let first = first-refusal-of-cons s x (earlier ++ (a ∷ [])) ok in
-    last-freed-ranked-1 _ (blockFreed s x) (orderPushed s order x) earlier a (address-freed freed s order x shape passed (first .0) .shape) (address-freed freed s order x shape passed (first .0) .passed) (first .1)
-    (outside-run-stays freed s order x shape passed (first .0) a outside)
+    let here = address-freed freed s order x shape passed (first .0) in
+    last-freed-ranked-1 _ (blockFreed s x) (orderPushed s order x) earlier a (here .shape) (here .passed) (outside-run-kept s (blockFreed s x) (here .owners) (here .shape .length-is) a outside) (first .1)
 
 -- ---- the moves: what does not depend on the owner stays
 transfers-keep : {A : Type 0} (of : Superblock → A) → ((b : Superblock) → of (withOwner 0 b) ≡ of b) → (touched : ℕ → ℕ → Bool) (s t : State) (n : ℕ) → Transfers touched s t n → (m : ℕ) → m < 64
@@ -134,9 +132,9 @@ module _ (s : State) (order : List ℕ) (i : ℕ) (addresses : List ℕ) (shape 
   pub drop-ranks : RanksKept (allFreed s addresses) after
   drop-ranks = drop-keeps (λ x. x .rank) (λ x. refl)
 
--- the superblock of the last address, where that lies in no run, is the last freed into: it has rank 1
+-- the superblock of the last address is the last freed into, where it was in no run: it has rank 1
 pub last-dropped-ranked-1 : (s : State) (order : List ℕ) (i : ℕ) (earlier : List ℕ) (a : ℕ) → Shape s → DropAccepted s order i (earlier ++ (a ∷ [])) → isInRun s a ≡ false
     → superblockAt (dropOf s order i (earlier ++ (a ∷ [])) .answer .state) (superblockIndex a) .rank ≡ 1
 last-dropped-ranked-1 s order i earlier a shape acc outside =
-    let last = last-freed-ranked-1 (λ h c. 0) s order earlier a shape (passed-after-no-frees s order (acc .passed)) (acc .no-refusal) outside in
+    let last = last-freed-ranked-1 (λ h c. 0) s order earlier a shape (passed-after-no-frees s order (acc .passed)) outside (acc .no-refusal) in
     drop-ranks s order i (earlier ++ (a ∷ [])) shape acc (superblockIndex a) (last .0) ∙ last .1

@@ -28,14 +28,9 @@ use Rattle.calllaws.proofs.NamedLongTakeLaws.{named-long-take-keeps-oth
 use Rattle.calllaws.proofs.NamedCallLaws.{facts-of-available, named-take-refused-or-accepted, named-take-keeps-other-names, named-free-refused-or-accepted, free-lets-name-go, free-keeps-other-names, named-free-lets-name-go, named-free-keeps-other-names}
 use Rattle.calllaws.proofs.TransferredLaws.{oneMoreFreed, passed-after-no-frees}
 use Rattle.calllaws.proofs.AddressFreedLaws.{address-freed, address-freed-block}
-use Rattle.calllaws.proofs.AllFreedLaws.{first-refusal-of-cons}
+use Rattle.calllaws.proofs.AllFreedLaws.{ListsBlock, listed-same, first-refusal-of-cons}
 use Rattle.calllaws.proofs.DropLaws.{DropAccepted, drop-refused-or-accepted, drop-transfers, drop-state-is}
 use Rattle.calllaws.proofs.TotalsKeptLaws.{refused-call-keeps-state}
-
--- one of the addresses is that of block b. A drop changes no class, so the state before it tells the block of each.
-abbrev pub ListsBlock : State → List ℕ → ℕ → Type 0
-ListsBlock s [] b = ⊥
-ListsBlock s (a ∷ addresses) b = (b ≡ blockNumber (superblockIndex a) (blockOf s a)) ⊎ ListsBlock s addresses b
 
 -- the call frees the block that name m points at: by its address, alone or in a drop, or by the name
 abbrev pub FreesBlockOf : State → List ℕ → ℕ → Call → Type 0
@@ -46,12 +41,6 @@ FreesBlockOf s order m (NamedFree i n) = (NamedFreeAccepted s order i n ⊎ Name
 FreesBlockOf s order m (Drop i addresses) = DropAccepted s order i addresses × ListsBlock s addresses (blockNamed (s .names) m)
 
 -- ---- the names that the frees of a drop let go
--- a block is listed in one state as in another with the same classes
-pub listed-same : (s t : State) → ((a : ℕ) → blockOf t a ≡ blockOf s a) → (addresses : List ℕ) (b : ℕ) → ListsBlock t addresses b → ListsBlock s addresses b
-listed-same s t same [] b h = h
-listed-same s t same (a ∷ addresses) b (inl e) = inl (e ∙ ap (blockNumber (superblockIndex a)) (same a))
-listed-same s t same (a ∷ addresses) b (inr h) = inr (listed-same s t same addresses b h)
-
 -- a name that is let go stays let go
 none-without-block : (names : List ℕ) (b m : ℕ) → blockNamed names m ≡ notHeld → blockNamed (withoutBlock names b) m ≡ notHeld
 none-without-block names b m e = block-named-without-block names b m ∙ go (eqb (blockNamed names m) b)

@@ -168,6 +168,15 @@ names-valid-without-block s b valid =
     (each-held-without-block (isLiveBlock s) (isLiveBlock s) (s .names) b (λ x f t. t) (both-left (eachHeld (isLiveBlock s) (s .names)) _ valid))
     (no-two-without-block (s .names) b (both-right (eachHeld (isLiveBlock s) (s .names)) _ valid))
 
+-- ---- where every live block but one stays live, and its name is let go
+pub names-valid-of-others-kept : (s t : State) (b : ℕ) → ((x : ℕ) → (x ≡ b → ⊥) → T (isLiveBlock s x) → T (isLiveBlock t x)) → t .names ≡ withoutBlock (s .names) b → T (namesValid s) → T (namesValid t)
+unfolding namesValid isLiveBlock
+names-valid-of-others-kept s t b kept same valid =
+    rw same
+    (both-make (eachHeld (isLiveBlock t) (withoutBlock (s .names) b)) _
+    (each-held-without-block (isLiveBlock s) (isLiveBlock t) (s .names) b kept (both-left (eachHeld (isLiveBlock s) (s .names)) _ valid))
+    (no-two-without-block (s .names) b (both-right (eachHeld (isLiveBlock s) (s .names)) _ valid)))
+
 -- ---- a free: every other live block stays live
 module _ (c k j moves : ℕ) (s t : State) (long : length (s .table) ≡ 64) (effect : FreeEffect c k j moves s t) where
   live-blocks-after-free : (b : ℕ) → (b ≡ blockNumber k j → ⊥) → T (isLiveBlock s b) → T (isLiveBlock t b)
@@ -179,9 +188,4 @@ module _ (c k j moves : ℕ) (s t : State) (long : length (s .table) ≡ 64) (ef
       (λ was. effect .marks (b / 256) (b % 256) inside (λ h. other (let a = h .0 in let d = h .1 in omega arith)) (omega arith) ∙ was) (mark-of-live-block s b live))
 
   pub names-valid-after-free : t .names ≡ withoutBlock (s .names) (blockNumber k j) → T (namesValid s) → T (namesValid t)
-  unfolding namesValid isLiveBlock
-  names-valid-after-free same valid =
-      rw same
-      (both-make (eachHeld (isLiveBlock t) (withoutBlock (s .names) (blockNumber k j))) _
-      (each-held-without-block (isLiveBlock s) (isLiveBlock t) (s .names) (blockNumber k j) live-blocks-after-free (both-left (eachHeld (isLiveBlock s) (s .names)) _ valid))
-      (no-two-without-block (s .names) (blockNumber k j) (both-right (eachHeld (isLiveBlock s) (s .names)) _ valid)))
+  names-valid-after-free = names-valid-of-others-kept s t (blockNumber k j) live-blocks-after-free

@@ -1,8 +1,8 @@
 -- A long block freed, before any move: "a free makes the whole run unused" (document 02, item 7). What becomes of a state that passed its check before
 -- these frees. Assumes nothing.
 use mathlib.Core.Path.{_≡_, refl, sym, ap, _∙_, subst}
-use mathlib.Core.Bool.{Bool, true, false, not}
-use mathlib.Core.Logic.{_⊎_, inl, inr, ⊎-elim}
+use mathlib.Core.Bool.{true, false}
+use mathlib.Core.Logic.{_⊎_, inl, inr}
 use mathlib.Core.List.{List}
 use Prim.Native.Nat.{ℕ, _+_, _*_, _/_, _%_, _≤_, _<_}
 use native.Mathlib.Decide.{ℕ-discrete, decLt}
@@ -10,14 +10,14 @@ use native.Mathlib.Omega.{arith}
 use borrow.Author.Tests.{eqb-true, ltb-true, lt-ltb, not-false}
 use lib.ListN.{length, List·getD-eq-default}
 use lib.Dec.{T, eqb, ltb}
-use Rattle.laws.specs.Sums.{pick, both, one}
+use Rattle.laws.specs.Sums.{pick, one}
 use Rattle.laws.proofs.Inequalities.{le-of-not-below}
-use Rattle.laws.proofs.TestLaws.{T-of-true, true-of-T, both-left, both-right, both-make, pick-true}
+use Rattle.laws.proofs.TestLaws.{T-of-true, true-of-T, both-left, both-right, pick-true}
 use Rattle.laws.proofs.SumLaws.{sum-cong}
 use Rattle.marks.specs.Marks.{markBit, noMarks, withMark}
 use Rattle.marklaws.proofs.MarkLaws.{with-mark-other, mark-bit-of-no-marks, live-count-of-no-marks, marks-clear-of-live-count-zero}
-use Rattle.names.specs.Names.{blockNumber, withoutBlock, eachHeld}
-use Rattle.namelaws.proofs.NameLaws.{length-without-block, each-held-without-block, no-two-without-block}
+use Rattle.names.specs.Names.{blockNumber, withoutBlock}
+use Rattle.namelaws.proofs.NameLaws.{length-without-block}
 use Rattle.heap.specs.declared.Superblock.{Superblock}
 use Rattle.heap.specs.declared.Setup.{Setup}
 use Rattle.heap.specs.declared.Totals.{Totals}
@@ -41,7 +41,7 @@ use Rattle.calllaws.proofs.CallEffects.{PassedAfterFrees, InRun, LongFr
 use Rattle.calllaws.proofs.EachOfRunLaws.{EachMade}
 use Rattle.calllaws.proofs.RunEffectLaws.{RestKept, run-freed-made, run-freed-keeps-rest, run-freed-runs-sound}
 use Rattle.calllaws.proofs.AddressLaws.{mapped-below-64, block-of-offset-0}
-use Rattle.calllaws.proofs.NamesKeptLaws.{mark-of-live-block, live-block-of-mark, live-block-in-table}
+use Rattle.calllaws.proofs.NamesKeptLaws.{mark-of-live-block, live-block-of-mark, names-valid-of-others-kept}
 use Rattle.calllaws.proofs.SuperblockLaws.{unowned-of-no-class}
 use Rattle.calllaws.proofs.TransferredLaws.{invariant-before-frees-cong}
 
@@ -288,12 +288,7 @@ module _ (freed : ℕ → ℕ → ℕ) (s : State) (order : List ℕ) (a : ℕ) 
           absurd (other (let p = is .0 in let q = is .1 in omega arith))
 
   long-block-freed-names-valid : T (namesValid after)
-  unfolding namesValid isLiveBlock
-  long-block-freed-names-valid =
-      rw long-block-freed-names
-      (both-make (eachHeld (isLiveBlock after) (withoutBlock (s .names) (blockNumber k 0))) _
-      (each-held-without-block (isLiveBlock s) (isLiveBlock after) (s .names) (blockNumber k 0) still-live (both-left (eachHeld (isLiveBlock s) (s .names)) _ (passed .names)))
-      (no-two-without-block (s .names) (blockNumber k 0) (both-right (eachHeld (isLiveBlock s) (s .names)) _ (passed .names))))
+  long-block-freed-names-valid = names-valid-of-others-kept s after (blockNumber k 0) still-live long-block-freed-names (passed .names)
 
   long-block-freed-runs-valid : T (runsValid after)
   unfolding longBlockFreed runsValid

@@ -11,14 +11,12 @@ use lib.ListN.{length}
 use borrow.Author.Tests.{eq-eqb}
 use lib.Dec.{T, eqb, eqb→eq}
 use Rattle.laws.specs.Sums.{pick, both, one}
-use Rattle.laws.proofs.TestLaws.{false-of-not-T, both-left, both-right, both-make, pick-elim}
+use Rattle.laws.proofs.TestLaws.{false-of-not-T, both-left, both-right, pick-elim}
 use Rattle.heap.specs.declared.Superblock.{Superblock}
 use Rattle.heap.specs.declared.Setup.{Setup}
 use Rattle.heap.specs.declared.Totals.{Totals}
 use Rattle.heap.specs.declared.State.{State}
 use Rattle.marks.specs.Marks.{markBit, liveCount}
-use Rattle.names.specs.Names.{eachHeld}
-use Rattle.namelaws.proofs.NameLaws.{each-held-of-tests}
 use Rattle.heap.specs.Table.{superblockAt, isOfRun, withOwner, isLiveBlock}
 use Rattle.heap.specs.Counts.{belongs, superblocksOf, blocksIn, liveOf}
 use Rattle.checkrules.specs.Check.{namesValid}
@@ -31,7 +29,7 @@ use Rattle.heaplaws.proofs.RunsKeptLaws.{outside-run-of-owner}
 use Rattle.heaplaws.proofs.RankLaws.{ranks-sound-of-same-ranks}
 use Rattle.heaplaws.proofs.TotalsLaws.{length-recounted-superblocks, length-recounted-live}
 use Rattle.calllaws.proofs.CallEffects.{Passed, PassedAfterFrees}
-use Rattle.calllaws.proofs.NamesKeptLaws.{mark-of-live-block, live-block-of-mark, live-block-in-table, live-mark-kept}
+use Rattle.calllaws.proofs.NamesKeptLaws.{mark-of-live-block, live-block-of-mark, live-block-in-table, live-mark-kept, names-valid-of-live-kept}
 
 -- ---- so many blocks of each heap and class
 -- one more of heap h and class c
@@ -221,12 +219,7 @@ module _ (h c : ℕ) (s t : State) (m : TransferredFrom h c s t) where
 
   -- names that point at live blocks still do
   pub names-valid-after-transfers : length (s .table) ≡ 64 → h < 254 → T (namesValid s) → T (namesValid t)
-  unfolding namesValid isLiveBlock
-  names-valid-after-transfers long low valid =
-      rw (m .names)
-      (both-make (eachHeld (isLiveBlock t) (s .names)) _
-      (each-held-of-tests (isLiveBlock s) (isLiveBlock t) (s .names) still-live (both-left (eachHeld (isLiveBlock s) (s .names)) _ valid))
-      (both-right (eachHeld (isLiveBlock s) (s .names)) _ valid))
+  names-valid-after-transfers long low valid = names-valid-of-live-kept s t still-live (m .names) valid
     where
       still-live : (b : ℕ) → T (isLiveBlock s b) → T (isLiveBlock t b)
       still-live b live =
