@@ -160,14 +160,6 @@ module _ (freed : ℕ → ℕ → ℕ) (s : State) (order : List ℕ) (a : ℕ) 
 
 -- ---- states whose owners are kept, but for runs freed, and whose classes are kept
 module _ (s t : State) (owners : OwnersKeptOrRunFreed s t) where
-  -- a heap's superblocks stay its own, and no heap gets more
-  pub heap-kept : (h m : ℕ) → h < 254 → m < 64 → superblockAt s m .owner ≡ h → superblockAt t m .owner ≡ h
-  heap-kept h m l lm e = go (owners m lm)
-    where
-      go : (superblockAt t m .owner ≡ superblockAt s m .owner) ⊎ ((superblockAt s m .owner ≡ 254) × (superblockAt t m .owner ≡ 255)) → superblockAt t m .owner ≡ h
-      go (inl q) = q ∙ e
-      go (inr (was, now)) = absurd (let z : ⊥ = omega arith in z)
-
   -- an address in no run is in none then
   pub outside-run-kept : length (t .table) ≡ 64 → (a : ℕ) → isInRun s a ≡ false → isInRun t a ≡ false
   unfolding isOfRun

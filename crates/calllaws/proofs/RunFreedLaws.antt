@@ -108,9 +108,6 @@ module _ (freed : ℕ → ℕ → ℕ) (s : State) (order : List ℕ) (a : ℕ) 
   pub freed-run-owner : superblockHolding s a .owner ≡ 254
   freed-run-owner = part-owner k first-inside
 
-  pub freed-run-class : superblockHolding s a .class ≡ 0
-  freed-run-class = part-unowned k first-inside .class
-
   pub freed-run-no-marks : (b : ℕ) → b < 256 → markBit (superblockHolding s a .live) b ≡ 0
   freed-run-no-marks = marks-clear-of-live-count-zero (superblockHolding s a .live) (part-unowned k first-inside .live)
 
