@@ -67,7 +67,7 @@ module _ (s : State) (order : List ℕ) (sound : Sound s order) (c : ℕ) (known
       regroup : (d m n r : ℕ) → d * (m * n) ≤ r → d * n * m ≤ r
       regroup d m n r h = omega arith
 
-  few-processors : s .setup .processors < 255
+  few-processors : s .setup .processors < 254
   few-processors = let h = sound .numbers .processors-high in omega arith
 
   -- where heap 0 has none of the class, the class's superblocks are few for its live blocks

@@ -5,7 +5,8 @@ use Prim.Native.Nat.{ℕ, _*_}
 use lib.ListN.{getD, replicate, drop}
 use Rattle.heap.specs.declared.Setup.{Setup}
 use Rattle.heap.specs.declared.State.{State}
-use Rattle.heap.specs.Counts.{isOwnedOfClass, superblocksOfClass, ownersChanged}
+use Rattle.heap.specs.Table.{isOfHeap}
+use Rattle.heap.specs.Counts.{isOwnedOfClass, superblocksOfClass, ownersChanged, passedBetweenHeaps}
 use Rattle.checkrules.specs.Check.{withinLimits}
 use Rattle.calls.specs.declared.Outcome.{Outcome}
 use Rattle.calls.specs.declared.Outcome.the-variants.{Ready, Address, Moves, Refused}
@@ -18,13 +19,21 @@ use Rattle.bound.specs.Claim.{Step, Claims}
 use Rattle.bound.proofs.LedgerDefinitions.{ledgerDefinitions}
 use Rattle.boundlaws.proofs.CallListLaws.{stepsBy, steps-are-unchecked, demand-3-calls}
 
--- What one call of a list answered, how many owners it changed, and after it, for some classes, the ledger's live blocks and
--- the superblocks that any heap owns.
+-- What one call of a list answered, how many owners it changed, how many of the superblocks passed between heaps where it was a free or a drop, and after it,
+-- for some classes, the ledger's live blocks and the superblocks that any heap owns.
 pub record CallRow : Type 0 where
   pub outcome : Outcome
   pub changed : ℕ
+  pub passed : ℕ
   pub live : List ℕ
   pub owned : List ℕ
+
+-- "the q and reported moves of a free or drop [count] only those that pass between heaps" (document 02, item 7)
+unfoldable pub passedByFree : Outcome → State → State → ℕ
+passedByFree Ready s t = 0
+passedByFree (Address a) s t = 0
+passedByFree (Moves m) s t = passedBetweenHeaps s t
+passedByFree (Refused r) s t = 0
 
 unfoldable pub rowsOf : List ℕ → State → List Entry → List Step → List CallRow
 rowsOf classes s ledger [] = []
@@ -32,7 +41,7 @@ rowsOf classes s ledger (step ∷ steps) =
     let outcome = step .after .answer .outcome in
     let t = step .after .answer .state in
     let new = ledgerAfter ledger (step .call) outcome in
-    record { outcome = outcome; changed = ownersChanged s t; live = map (λ c. entriesOf c new) classes; owned = map (λ c. superblocksOfClass c t) classes }
+    record { outcome = outcome; changed = ownersChanged s t; passed = passedByFree outcome s t; live = map (λ c. entriesOf c new) classes; owned = map (λ c. superblocksOfClass c t) classes }
     ∷ rowsOf classes t new steps
 
 -- the rows of a list of calls after a setup
@@ -64,22 +73,30 @@ order-of k = replicate (k .setup .superblocks * 256) 0
 abbrev pub both-of : ℕ × ℕ → List ℕ
 both-of c = c .0 ∷ c .1 ∷ []
 
+-- the moves that it reports
+unfoldable pub reported : Outcome → ℕ
+reported Ready = 0
+reported (Address a) = 0
+reported (Moves m) = m
+reported (Refused r) = 0
+
+-- as many passed as it reports
 abbrev row : Outcome → ℕ → ℕ × ℕ → ℕ × ℕ → CallRow
-row outcome changed live owned = record { outcome = outcome; changed = changed; live = both-of live; owned = both-of owned }
+row outcome changed live owned = record { outcome = outcome; changed = changed; passed = reported outcome; live = both-of live; owned = both-of owned }
 
 -- ---- document 01's whole case: classes 26 and 0. The second accepted free moves superblock 0 to heap 0; from there place 3 gives it to
--- class 0, which grows.
+-- class 0, which grows, so that no superblock is left for a long block.
 abbrev pub whole-list : ListCase
 whole-list = list-case (setup-with 1 2 1 1 4) (26, 0)
     (Take 1 2048 ∷ Take 1 2048 ∷ Take 1 2048 ∷ Free 1 0 ∷ Free 1 0 ∷ Free 1 2048 ∷ Take 1 16 ∷ Take 1 2049 ∷ []) 0
     (row (Address 0) 1 (1, 0) (1, 0) ∷ row (Address 2048) 0 (2, 0) (1, 0) ∷ row (Address 4096) 1 (3, 0) (2, 0) ∷ row (Moves 0) 0 (2, 0) (2, 0)
-    ∷ row (Refused 7) 0 (2, 0) (2, 0) ∷ row (Moves 1) 1 (1, 0) (2, 0) ∷ row (Address 0) 1 (1, 1) (1, 1) ∷ row (Refused 3) 0 (1, 1) (1, 1) ∷ [])
+    ∷ row (Refused 7) 0 (2, 0) (2, 0) ∷ row (Moves 1) 1 (1, 0) (2, 0) ∷ row (Address 0) 1 (1, 1) (1, 1) ∷ row (Refused 17) 0 (1, 1) (1, 1) ∷ [])
 
 -- ---- each refusal that a call of a list can meet, with one superblock: a refused call changes no owner and adds nothing to the ledger
 abbrev pub refused-list : ListCase
 refused-list = list-case (setup-with 1 1 1 1 4) (26, 0)
-    (Take 1 2048 ∷ Take 2 16 ∷ Take 1 2049 ∷ Take 1 0 ∷ Free 0 0 ∷ Free 1 4096 ∷ Free 1 16 ∷ Free 1 2048 ∷ Free 1 0 ∷ []) 0
-    (row (Address 0) 1 (1, 0) (1, 0) ∷ map (λ (r : ℕ). row (Refused r) 0 (1, 0) (1, 0)) (2 ∷ 3 ∷ 4 ∷ 2 ∷ 5 ∷ 6 ∷ 7 ∷ []) ++ row (Moves 0) 0 (0, 0) (1, 0) ∷ [])
+    (Take 1 2048 ∷ Take 2 16 ∷ Take 1 65536 ∷ Take 1 2049 ∷ Take 1 0 ∷ Free 0 0 ∷ Free 1 4096 ∷ Free 1 16 ∷ Free 1 2048 ∷ Free 1 0 ∷ []) 0
+    (row (Address 0) 1 (1, 0) (1, 0) ∷ map (λ (r : ℕ). row (Refused r) 0 (1, 0) (1, 0)) (2 ∷ 3 ∷ 17 ∷ 4 ∷ 2 ∷ 5 ∷ 6 ∷ 7 ∷ []) ++ row (Moves 0) 0 (0, 0) (1, 0) ∷ [])
 
 -- ---- a free that moves two superblocks: twelve blocks of class 26 fill six superblocks; with 1, 1, 1, 1, 2, 2 live the heap meets
 -- both conditions of the move rule, and still does after one move
@@ -104,12 +121,12 @@ size-0-list = list-case (setup-with 1 1 1 1 4) (0, 1)
     ∷ row (Address 0) 0 (3, 0) (1, 0) ∷ row (Refused 4) 0 (3, 0) (1, 0) ∷ [])
 
 -- ---- document 02, item 2: plain and named calls mixed, with two superblocks of class 26. Name 5 is bound, held (14), let go by a free of its address, so
--- that it is not held (15) and may be bound again, and freed by name; 1024 is no name; a take refused with 3 binds none
+-- that it is not held (15) and may be bound again, and freed by name; 1024 is no name; a take refused with 17 binds none
 abbrev pub named-list : ListCase
 named-list = list-case (setup-with 1 2 1 1 4) (26, 0)
-    (NamedTake 1 5 2048 ∷ NamedTake 1 5 2048 ∷ Take 1 2048 ∷ NamedTake 1 1024 16 ∷ Free 1 0 ∷ NamedFree 1 5 ∷ NamedTake 1 5 2000 ∷ NamedTake 1 7 2049 ∷ NamedFree 1 7 ∷ NamedTake 1 1023 2048 ∷ NamedFree 1 5 ∷ NamedFree 1 1023 ∷ []) 0
+    (NamedTake 1 5 2048 ∷ NamedTake 1 5 2048 ∷ Take 1 2048 ∷ NamedTake 1 1024 16 ∷ Free 1 0 ∷ NamedFree 1 5 ∷ NamedTake 1 5 2000 ∷ NamedTake 1 7 4097 ∷ NamedFree 1 7 ∷ NamedTake 1 1023 2048 ∷ NamedFree 1 5 ∷ NamedFree 1 1023 ∷ []) 0
     (row (Address 0) 1 (1, 0) (1, 0) ∷ row (Refused 14) 0 (1, 0) (1, 0) ∷ row (Address 2048) 0 (2, 0) (1, 0) ∷ row (Refused 14) 0 (2, 0) (1, 0) ∷ row (Moves 0) 0 (1, 0) (1, 0)
-    ∷ row (Refused 15) 0 (1, 0) (1, 0) ∷ row (Address 0) 0 (2, 0) (1, 0) ∷ row (Refused 3) 0 (2, 0) (1, 0) ∷ row (Refused 15) 0 (2, 0) (1, 0) ∷ row (Address 4096) 1 (3, 0) (2, 0)
+    ∷ row (Refused 15) 0 (1, 0) (1, 0) ∷ row (Address 0) 0 (2, 0) (1, 0) ∷ row (Refused 17) 0 (2, 0) (1, 0) ∷ row (Refused 15) 0 (2, 0) (1, 0) ∷ row (Address 4096) 1 (3, 0) (2, 0)
     ∷ row (Moves 0) 0 (2, 0) (2, 0) ∷ row (Moves 1) 1 (1, 0) (2, 0) ∷ [])
 
 -- ---- document 02, item 5: seven blocks of class 26 fill superblocks 0 to 2 and half of 3. A drop of one block of 0 and the one of 3 empties 3, which passes on, and
@@ -121,9 +138,21 @@ drop-list = list-case (setup-with 1 4 1 1 4) (26, 0)
     (row (Address 12288) 1 (7, 0) (4, 0) ∷ row (Moves 0) 0 (6, 0) (4, 0) ∷ row (Moves 1) 1 (4, 0) (4, 0) ∷ row (Refused 7) 0 (4, 0) (4, 0) ∷ row (Refused 16) 0 (4, 0) (4, 0) ∷ row (Refused 6) 0 (4, 0) (4, 0)
     ∷ row (Moves 1) 1 (2, 0) (4, 0) ∷ [])
 
+-- ---- document 02, item 7: five blocks of class 26 fill superblocks 0 and 1 and half of 2, which two frees empty and pass to heap 0. A long block of three superblocks takes it
+-- and the unused 3 and 4, so that class 26 has one less; one of two finds only 5 (17), one of one takes it by a name. Other addresses in a run are refused 6. The named
+-- free makes 5 unused. The drop frees the run and all but one of the blocks of class 26 and passes superblock 1 on, which the last long block takes with the unused 2. No run counts in
+-- class 0, and a run's owners change and pass between no heaps.
+abbrev pub long-list : ListCase
+long-list = list-case (setup-with 1 6 1 1 4) (26, 0)
+    (replicate 5 (Take 1 2048) ++ Free 1 8192 ∷ Free 1 6144 ∷ Take 1 8193 ∷ Take 1 4097 ∷ NamedTake 1 9 2049 ∷ Free 1 12288 ∷ Free 1 8208 ∷ NamedFree 1 9 ∷ Take 1 2048
+    ∷ Drop 1 (8192 ∷ 0 ∷ 4096 ∷ 6144 ∷ []) ∷ Take 1 4097 ∷ Free 1 8192 ∷ Free 1 4096 ∷ []) 5
+    (row (Moves 0) 0 (4, 0) (3, 0) ∷ row (Moves 1) 1 (3, 0) (3, 0) ∷ row (Address 8192) 3 (3, 0) (2, 0) ∷ row (Refused 17) 0 (3, 0) (2, 0) ∷ row (Address 20480) 1 (3, 0) (2, 0)
+    ∷ row (Refused 6) 0 (3, 0) (2, 0) ∷ row (Refused 6) 0 (3, 0) (2, 0) ∷ row (Moves 0) 1 (3, 0) (2, 0) ∷ row (Address 6144) 0 (4, 0) (2, 0) ∷ row (Moves 1) 4 (1, 0) (2, 0)
+    ∷ row (Address 4096) 2 (1, 0) (1, 0) ∷ row (Refused 6) 0 (1, 0) (1, 0) ∷ row (Moves 0) 2 (1, 0) (1, 0) ∷ [])
+
 -- ---- all of them, computed
 abbrev pub list-cases : List ListCase
-list-cases = whole-list ∷ refused-list ∷ two-moves-list ∷ spare-list ∷ size-0-list ∷ named-list ∷ drop-list ∷ []
+list-cases = whole-list ∷ refused-list ∷ two-moves-list ∷ spare-list ∷ size-0-list ∷ named-list ∷ drop-list ∷ long-list ∷ []
 
 abbrev pub outcome-of-setup : ListCase → Outcome
 outcome-of-setup k = setupOf (k .setup) (order-of k) .answer .outcome
@@ -141,7 +170,7 @@ each-ready = refl
 
 -- the rows, by the calls behind the check
 each-answered : map rows-answered-of list-cases ≡ map (λ (k : ListCase). k .expected) list-cases
-unfolding rowsAnswered rowsOf ledgerDefinitions stepsBy callDefinitions superblocksOfClass isOwnedOfClass ownersChanged
+unfolding rowsAnswered rowsOf ledgerDefinitions stepsBy callDefinitions superblocksOfClass isOwnedOfClass isOfHeap ownersChanged passedBetweenHeaps passedByFree reported
 each-answered = refl
 
 -- in a list whose setup is accepted the check passes before each call

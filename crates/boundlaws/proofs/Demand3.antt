@@ -24,8 +24,10 @@ use Rattle.calllaws.proofs.SetupLaws.{accepted-setup-of-ready, setup-refused-12
 use Rattle.heaplaws.proofs.StateCheckLaws.{new-state-names-valid}
 use Rattle.heaplaws.proofs.RankLaws.{new-state-ranks-sound}
 use Rattle.heaplaws.proofs.TotalsLaws.{new-state-totals-kept}
+use Rattle.heaplaws.proofs.RunLaws.{runs-valid-of-sound, new-state-runs-sound}
 use Rattle.heaplaws.proofs.CountLaws.{owned-of-new-state, live-of-class-of-new-state}
 use Rattle.boundlaws.proofs.LedgerLaws.{entries-at-empty, entries-of-empty}
+use Rattle.boundlaws.proofs.LongAtLaws.{long-at-of-new-state}
 use Rattle.boundlaws.proofs.LiveAtLaws.{live-at-of-new-state}
 use Rattle.boundlaws.proofs.LedgerNames.{EntryAgrees, each-entry-empty}
 use Rattle.boundlaws.proofs.ListedLaws.{Listed}
@@ -37,6 +39,7 @@ ledger-of-new-state u =
     record {
       blocks = λ a c l. entries-at-empty a c ∙ sym (live-at-of-new-state u a c);
       counted = λ c l. entries-of-empty c ∙ sym (live-of-class-of-new-state u c);
+      runs = λ a. entries-at-empty a 27 ∙ sym (long-at-of-new-state u a);
     }
 
 bound-of-new-state : (u : Setup) → Bounded u (newState u) (λ c. 0)
@@ -63,7 +66,7 @@ list-invariant-after-setup u order start e started =
     let room : u .superblocks * 256 ≤ length (cleared order (u .superblocks * 256)) = subst (λ (n : ℕ). u .superblocks * 256 ≤ n) (sym (length-cleared order (u .superblocks * 256))) (storage-of-ready-setup u order (h .0) ready) in
     subst (λ (x : After). ListInvariant u (x .answer .state) (x .order) [] (λ c. 0)) (sym (e ∙ h .1))
     (record {
-      passed = record { sound = h .2; names = new-state-names-valid u; totals = new-state-totals-kept u; ranks = new-state-ranks-sound u; room = room };
+      passed = record { sound = h .2; names = new-state-names-valid u; totals = new-state-totals-kept u; ranks = new-state-ranks-sound u; runs = runs-valid-of-sound (newState u) (h .3 .length-is) (new-state-runs-sound u); room = room };
       shape = h .3;
       setup = refl;
       listed = ledger-of-new-state u;

@@ -1,13 +1,15 @@
--- Where the ranks of a state go by the last frees, so do those after one more free, renewal or other call. Assumes nothing.
-use mathlib.Core.Path.{_≡_, refl, sym, ap, _∙_}
+-- Where the ranks of a state go by the last frees, so do those after one more free, renewal, long block taken or other call. Assumes nothing.
+use mathlib.Core.Path.{_≡_, refl, sym, ap, ap₂, _∙_}
 use mathlib.Core.Logic.{_↔_}
 use mathlib.Core.List.{List, [], _∷_}
-use Prim.Native.Nat.{ℕ, zero, suc, _<_}
+use Prim.Native.Nat.{ℕ, zero, suc, _+_, _<_}
 use native.Mathlib.Nat.{pos-of-ne-zero}
 use native.Mathlib.Decide.{ℕ-discrete}
 use native.Mathlib.Omega.{arith}
-use borrow.Author.Tests.{eq-eqb, ne-eqb}
-use Rattle.laws.proofs.TestLaws.{pick-true, pick-false}
+use borrow.Author.Tests.{eq-eqb, ne-eqb, le-leb, lt-ltb, leb-true, ltb-true}
+use lib.Dec.{leb, ltb}
+use Rattle.laws.specs.Sums.{both}
+use Rattle.laws.proofs.TestLaws.{true-of-T, false-of-not-T, both-left, both-right, pick-true, pick-false}
 use Rattle.heap.specs.declared.Setup.{Setup}
 use Rattle.heap.specs.declared.State.{State}
 use Rattle.heap.specs.Table.{superblockAt}
@@ -16,7 +18,9 @@ use Rattle.heap.specs.Ranks.{rankAfterFree, rankAfterRenewal}
 use Rattle.heaplaws.proofs.StateFacts.{RanksSound}
 use Rattle.heaplaws.proofs.RankLaws.{rank-in-new-state, rank-after-free-of-superblock, rank-after-renewal-of-superblock, ranked-of-ranked-after-free, ranked-after-free-of-ranked}
 use Rattle.heaplaws.proofs.RankLaws.{ranked-of-ranked-after-renewal, ranked-after-renewal-of-ranked, order-kept-by-free, order-kept-by-renewal, latest-after-free}
-use Rattle.bound.specs.History.{Event, freedInto, renewed, neither, LastFree, eventsAgo, notSinceRenewal, oneEventMore, lastFreeAfter, lastFree, RankedByLastFree}
+use Rattle.calllaws.proofs.CallEffects.{InRun, RunUnranked}
+use Rattle.bound.specs.History.{Event, freedInto, renewed, joinedRun, neither, LastFree, eventsAgo, notSinceRenewal, oneEventMore, lastFreeAfter, lastFree, RankedByLastFree}
+use Rattle.boundlaws.proofs.OneMoreLongLaws.{in-run-or-not}
 
 -- ---- one event more
 -- what was freed into so many events ago was freed into since it was last renewed
@@ -64,7 +68,7 @@ module _ (s : State) (event : Event) (events : List Event) (ranked : RankedByLas
       let b = before-events-ago (lastFree j events) y (sym other-j ∙ f) in
       ranked .later-first i j (a .0) (b .0) li lj (a .1) (b .1) (omega arith)
 
--- ---- the three kinds of call
+-- ---- the kinds of call
 module _ (k : ℕ) (events : List Event) where
   -- the superblock freed into, or renewed, and the others
   last-free-of-freed : (m : ℕ) → m ≡ k → lastFree m (freedInto k ∷ events) ≡ eventsAgo 0
@@ -140,7 +144,40 @@ module _ (s t : State) (k : ℕ) (events : List Event) (below : k < 64) (sound :
           order-kept-by-renewal k s below sound i j li lj a b (ranked-before s (renewed k) events ranked i x li (last-free-of-not-renewed k events i a) e)
           (order-before s (renewed k) events ranked i j x y li lj (last-free-of-not-renewed k events i a) (last-free-of-not-renewed k events j b) e f h)
 
--- after a call that is neither
+-- after a long block was taken: the superblocks of its run have "no rank" (document 02, item 7), and the others keep their order
+module _ (s t : State) (k n : ℕ) (events : List Event) (unranked : RunUnranked k n s t) where
+  last-free-in-run : (m : ℕ) → InRun k n m → lastFree m (joinedRun k n ∷ events) ≡ notSinceRenewal
+  unfolding lastFree lastFreeAfter
+  last-free-in-run m h = pick-true _ _ _ (ap₂ both (le-leb k m (h .0)) (lt-ltb m (k + n) (h .1)))
+
+  last-free-outside-run : (m : ℕ) → (InRun k n m → ⊥) → lastFree m (joinedRun k n ∷ events) ≡ oneEventMore (lastFree m events)
+  unfolding lastFree lastFreeAfter
+  last-free-outside-run m out = pick-false (both (leb k m) (ltb m (k + n))) notSinceRenewal _
+      (false-of-not-T (both (leb k m) (ltb m (k + n))) (λ h. out (leb-true k m (true-of-T _ (both-left (leb k m) (ltb m (k + n)) h)), ltb-true m (k + n) (true-of-T _ (both-right (leb k m) (ltb m (k + n)) h)))))
+
+  pub ranked-by-last-free-after-run : RankedByLastFree s events → RankedByLastFree t (joinedRun k n ∷ events)
+  ranked-by-last-free-after-run ranked =
+      record {
+        unranked-iff = λ m l. iff m l (in-run-or-not k n m);
+        later-first = λ i j x y li lj e f h. order i j x y li lj e f h (in-run-or-not k n i) (in-run-or-not k n j);
+      }
+    where
+      iff : (m : ℕ) → m < 64 → Dec (InRun k n m) → (superblockAt t m .rank ≡ 0) ↔ (lastFree m (joinedRun k n ∷ events) ≡ notSinceRenewal)
+      iff m l (yes inside) = (λ e. last-free-in-run m inside, λ e. unranked .in-run m inside)
+      iff m l (no out) =
+          let same = unranked .ranked-iff m l out in
+          unranked-iff-of-other s (joinedRun k n) events ranked m (superblockAt t m .rank) l (last-free-outside-run m out)
+          (λ h. pos-of-ne-zero (λ z. let e = same .1 z in let w : ⊥ = omega arith in w)) (λ h. pos-of-ne-zero (λ z. let e = same .0 z in let w : ⊥ = omega arith in w))
+
+      order : (i j x y : ℕ) → i < 64 → j < 64 → lastFree i (joinedRun k n ∷ events) ≡ eventsAgo x → lastFree j (joinedRun k n ∷ events) ≡ eventsAgo y → x < y → Dec (InRun k n i) → Dec (InRun k n j)
+          → superblockAt t i .rank < superblockAt t j .rank
+      order i j x y li lj e f h (yes p) d = absurd (not-both-of-last-free _ x e (last-free-in-run i p))
+      order i j x y li lj e f h (no a) (yes q) = absurd (not-both-of-last-free _ y f (last-free-in-run j q))
+      order i j x y li lj e f h (no a) (no b) =
+          unranked .order-kept i j li lj a b (ranked-before s (joinedRun k n) events ranked i x li (last-free-outside-run i a) e)
+          (order-before s (joinedRun k n) events ranked i j x y li lj (last-free-outside-run i a) (last-free-outside-run j b) e f h)
+
+-- after a call that is none of these
 pub ranked-by-last-free-after-neither : (s t : State) (events : List Event) → ((m : ℕ) → m < 64 → superblockAt t m .rank ≡ superblockAt s m .rank) → RankedByLastFree s events
     → RankedByLastFree t (neither ∷ events)
 unfolding lastFree lastFreeAfter

@@ -1,10 +1,10 @@
 -- The names of the ledger, which come from the calls and their answers, and the names of the state agree: each block of the ledger has just the name
--- that the state has for it. Assumes nothing.
+-- that the state has for it, and is a run of the state where it is long. Assumes nothing.
 use mathlib.Core.Path.{_≡_, refl, sym, ap, ap₂, _∙_, subst}
 use mathlib.Core.Bool.{Bool, true, false}
 use mathlib.Core.Logic.{_⊎_, inl, inr}
 use mathlib.Core.List.{List, [], _∷_}
-use Prim.Native.Nat.{ℕ, _*_, _/_, _%_, _<_}
+use Prim.Native.Nat.{ℕ, _*_, _/_, _%_, _≤_, _<_}
 use native.Mathlib.Decide.{ℕ-discrete, decLt}
 use native.Mathlib.Omega.{arith}
 use borrow.Author.Tests.{eq-eqb, ne-eqb, eqb-false}
@@ -13,8 +13,9 @@ use lib.Dec.{T, eqb}
 use Rattle.laws.specs.Sums.{pick, both, one}
 use Rattle.laws.proofs.Inequalities.{le-of-not-below}
 use Rattle.laws.proofs.TestLaws.{T-of-true, true-of-T, both-false-right}
-use Rattle.classes.specs.Classes.{sizeOf, blocksOf, classOf}
+use Rattle.classes.specs.Classes.{blocksOf}
 use Rattle.classes.proofs.ClassTableLaws.{blocks-of-le-256}
+use Rattle.classes.proofs.ClassLaws.{class-of-le-27}
 use Rattle.classes.proofs.OffsetLaws.{offset-injective}
 use Rattle.marks.specs.Marks.{markBit}
 use Rattle.marklaws.proofs.MarkLaws.{marks-clear-of-live-count-zero}
@@ -22,19 +23,21 @@ use Rattle.names.specs.Names.{notHeld, blockNumber, blockNamed, isHeld, withNam
 use Rattle.namelaws.proofs.NameLaws.{held-facts, held-of-facts, held-cong, block-named-with-name, block-named-with-other-name, not-held-without-block, block-named-without-other-block}
 use Rattle.heap.specs.declared.Superblock.{Superblock}
 use Rattle.heap.specs.declared.State.{State}
-use Rattle.heap.specs.Table.{blank, superblockAt, liveIn}
+use Rattle.heap.specs.Table.{blank, superblockAt, liveIn, isOfRun}
 use Rattle.checkrules.specs.Check.{namesValid}
-use Rattle.heaplaws.proofs.StateFacts.{Shape}
-use Rattle.heaplaws.proofs.StateCheckLaws.{names-sound-of-valid}
+use Rattle.heaplaws.proofs.StateFacts.{Shape, SoundWith, RunsKept}
+use Rattle.heaplaws.proofs.StateCheckLaws.{names-sound-of-valid, unowned-of-owner}
+use Rattle.heaplaws.proofs.RunsKeptLaws.{owner-of-run}
 use Rattle.calls.specs.Take.{addressOf}
 use Rattle.calls.specs.Named.{heldAddress}
-use Rattle.calllaws.proofs.CallEffects.{Passed, TakeEffect, FreeEffect}
+use Rattle.calllaws.proofs.CallEffects.{Passed, TakeEffect, FreeEffect, InRun, LongTakeEffect, LongFreeEffect}
 use Rattle.calllaws.proofs.AddressLaws.{address-superblock, address-offset}
 use Rattle.calllaws.proofs.NamesKeptLaws.{live-block-in-table}
-use Rattle.calllaws.proofs.MarkClearedLaws.{LiveBlock}
-use Rattle.calllaws.proofs.NamedCallLaws.{held-block-is-live, live-class-lt-27}
+use Rattle.calllaws.proofs.NamedCallLaws.{held-block-is-live, held-block-is-run, live-class-lt-27}
 use Rattle.bound.specs.Ledger.{named, unnamed, Entry, classOfEntry, isAt, isCalled, hasName, removed}
 use Rattle.boundlaws.proofs.LedgerLaws.{entriesAt}
+use Rattle.boundlaws.proofs.OneMoreLongLaws.{in-run-or-not, available-is-empty, available-is-outside-run}
+use Rattle.boundlaws.proofs.LedgerRuns.{LongAgrees, long-agrees-of-kept, long-agrees-after-long-take, long-agrees-after-long-free}
 
 -- ---- what is so of each entry
 unfoldable pub EachEntry : (Entry → Type 0) → List Entry → Type 0
@@ -74,9 +77,9 @@ removed-cong f g (e ∷ ledger) h = ap₂ (λ (t : Bool) (l : List Entry). pick 
 unfoldable pub holdsAddress : State → ℕ → ℕ → Bool
 holdsAddress s m a = both (isHeld (s .names) m) (eqb a (heldAddress s m))
 
--- a block of the ledger has a size that some class holds, and just the name that the state has for it
+-- a block of the ledger that no class holds is a run of the state, and each has just the name that the state has for it
 pub record EntryAgrees (s : State) (e : Entry) : Type 0 where
-  pub class-lt-27 : classOfEntry e < 27
+  pub long : 2048 < e .size → LongAgrees s e
   pub name-agrees : (m : ℕ) → hasName m e ≡ holdsAddress s m (e .address)
 
 holds-address-of-held : (s : State) (m a : ℕ) → isHeld (s .names) m ≡ true → holdsAddress s m a ≡ eqb a (heldAddress s m)
@@ -105,57 +108,118 @@ held-address-cong : (s t : State) (m : ℕ) → blockNamed (t .names) m ≡ bloc
 unfolding heldAddress
 held-address-cong s t m e f = rw (e, f)
 
--- two blocks of one state with the same address are one
-same-block-of-same-address : (s : State) (k j l i : ℕ) → superblockAt s k .class < 27 → superblockAt s l .class < 27 → j < blocksOf (superblockAt s k .class) → i < blocksOf (superblockAt s l .class)
-    → addressOf k (superblockAt s k .class) j ≡ addressOf l (superblockAt s l .class) i → (k ≡ l) × (j ≡ i)
-same-block-of-same-address s k j l i known other block inside e = (same, offset-injective (superblockAt s k .class) known j i offsets)
-  where
-    same : k ≡ l
-    same = sym (address-superblock (superblockAt s k .class) k j known block) ∙ ap (λ (a : ℕ). a / 4096) e ∙ address-superblock (superblockAt s l .class) l i other inside
+-- ---- a held name's block
+-- it is in its superblock: a block of a class, or the long block of a run that begins there
+module _ (s : State) (order : List ℕ) (shape : Shape s) (passed : Passed s order) (m : ℕ) (held : T (isHeld (s .names) m)) where
+  abbrev home : ℕ
+  home = blockNamed (s .names) m / 256
 
-    class : superblockAt s l .class ≡ superblockAt s k .class
-    class = ap (λ (n : ℕ). superblockAt s n .class) (sym same)
+  abbrev block : ℕ
+  block = blockNamed (s .names) m % 256
 
-    offsets : j * sizeOf (superblockAt s k .class) ≡ i * sizeOf (superblockAt s k .class)
-    offsets =
-        sym (address-offset (superblockAt s k .class) k j known block) ∙ ap (λ (a : ℕ). a % 4096) e ∙ address-offset (superblockAt s l .class) l i other inside
-        ∙ ap (λ (c : ℕ). i * sizeOf c) class
-
--- ---- a take
-module _ (i c k j : ℕ) (s t : State) (order places : List ℕ) (shape : Shape s) (passed : Passed s order) (shape-after : Shape t) (passed-after : Passed t places) (below : k < 64) (effect : TakeEffect i c k j s t) where
-  abbrev address : ℕ
-  address = addressOf k c j
-
-  -- a name that was held keeps its address, where it keeps its block
-  take-keeps-held-address : (m : ℕ) → T (isHeld (s .names) m) → blockNamed (t .names) m ≡ blockNamed (s .names) m → heldAddress t m ≡ heldAddress s m
-  take-keeps-held-address m held e = held-address-cong s t m e (go (ℕ-discrete (blockNamed (s .names) m / 256) k))
+  held-address-superblock : heldAddress s m / 4096 ≡ blockNamed (s .names) m / 256
+  unfolding heldAddress addressOf
+  held-address-superblock = go (isOfRun (superblockAt s home)) refl
     where
-      live : LiveBlock s order (blockNamed (s .names) m / 256) (blockNamed (s .names) m % 256)
-      live = held-block-is-live s order shape passed m held
+      go : (x : Bool) → isOfRun (superblockAt s home) ≡ x → addressOf home (superblockAt s home .class) block / 4096 ≡ home
+      go true e = let z : block ≡ 0 = held-block-is-run s order shape passed m held e .0 in rw z (omega arith)
+      go false e =
+          let live = held-block-is-live s order shape passed m held e in
+          address-superblock (superblockAt s home .class) home block (live-class-lt-27 s order home block live) (live .block)
 
-      same-class : blockNamed (s .names) m / 256 ≡ k → (liveIn (superblockAt s k) ≡ 0) ⊎ ((superblockAt s k .class ≡ c) × (superblockAt s k .owner ≡ 255 → ⊥)) → superblockAt t k .class ≡ superblockAt s k .class
-      same-class q (inl z) =
+-- ---- a take of block j of superblock k, at address a: what the names of the ledger and the state go by
+pub record BlockTaken (a k j : ℕ) (s t : State) : Type 0 where
+  pub block : j < 256
+  pub address : addressOf k (superblockAt t k .class) j ≡ a
+  -- a name that is held keeps its superblock's class, and so its address, and is not at the address
+  pub held-class : (m : ℕ) → T (isHeld (s .names) m) → superblockAt t (blockNamed (s .names) m / 256) .class ≡ superblockAt s (blockNamed (s .names) m / 256) .class
+  pub held-elsewhere : (m : ℕ) → T (isHeld (s .names) m) → a ≡ heldAddress s m → ⊥
+  -- and the long blocks stay
+  pub long-kept : (e : Entry) → LongAgrees s e → LongAgrees t e
+
+-- of a block of a class
+module _ (i c k j : ℕ) (s t : State) (order : List ℕ) (shape : Shape s) (passed : Passed s order) (effect : TakeEffect i c k j s t) where
+  -- a name that is held in superblock k is of a block that is live there, and so of class c; not of block j, which is not live
+  held-in-superblock : (m : ℕ) → T (isHeld (s .names) m) → blockNamed (s .names) m / 256 ≡ k → (superblockAt s k .class ≡ c) × (blockNamed (s .names) m % 256 ≡ j → ⊥)
+  held-in-superblock m held q = (class (effect .before), λ r. omega (arith, effect .not-marked, ap (markBit (superblockAt s k .live)) r, marked))
+    where
+      marked : markBit (superblockAt s k .live) (blockNamed (s .names) m % 256) ≡ 1
+      marked =
+          ap (λ (n : ℕ). markBit (superblockAt s n .live) (blockNamed (s .names) m % 256)) (sym q)
+          ∙ held-block-is-live s order shape passed m held (ap (λ (n : ℕ). isOfRun (superblockAt s n)) q ∙ effect .outside-run) .marked
+
+      class : (liveIn (superblockAt s k) ≡ 0) ⊎ ((superblockAt s k .class ≡ c) × (superblockAt s k .owner < 254)) → superblockAt s k .class ≡ c
+      class (inl z) =
           let clear = marks-clear-of-live-count-zero (superblockAt s k .live) z (blockNamed (s .names) m % 256) (omega arith) in
-          let marked : markBit (superblockAt s k .live) (blockNamed (s .names) m % 256) ≡ 1 = ap (λ (n : ℕ). markBit (superblockAt s n .live) (blockNamed (s .names) m % 256)) (sym q) ∙ live .marked in
-          absurd (let z : ⊥ = omega arith in z)
-      same-class q (inr h) = effect .class ∙ sym (h .0)
+          absurd (let z : ⊥ = omega (arith, marked) in z)
+      class (inr h) = h .0
 
+  take-keeps-held-class : (m : ℕ) → T (isHeld (s .names) m) → superblockAt t (blockNamed (s .names) m / 256) .class ≡ superblockAt s (blockNamed (s .names) m / 256) .class
+  take-keeps-held-class m held = go (ℕ-discrete (blockNamed (s .names) m / 256) k)
+    where
       go : Dec (blockNamed (s .names) m / 256 ≡ k) → superblockAt t (blockNamed (s .names) m / 256) .class ≡ superblockAt s (blockNamed (s .names) m / 256) .class
-      go (yes q) = rw q (same-class q (effect .before))
+      go (yes q) = rw q (effect .class ∙ sym (held-in-superblock m held q .0))
       go (no f) = ap (λ (b : Superblock). b .class) (effect .others (blockNamed (s .names) m / 256) f)
 
-  -- and does not point at the block that is taken, which was not live
-  held-not-at-taken : (m : ℕ) → T (isHeld (s .names) m) → blockNamed (t .names) m ≡ blockNamed (s .names) m → address ≡ heldAddress t m → ⊥
+  held-not-at-taken : (m : ℕ) → T (isHeld (s .names) m) → addressOf k c j ≡ heldAddress s m → ⊥
   unfolding heldAddress
-  held-not-at-taken m held e q =
-      let held-after : T (isHeld (t .names) m) = subst T (sym (held-cong (t .names) (s .names) m e)) held in
-      let live = held-block-is-live t places shape-after passed-after m held-after in
-      let before = held-block-is-live s order shape passed m held in
-      let known = live-class-lt-27 t places (blockNamed (t .names) m / 256) (blockNamed (t .names) m % 256) live in
-      let same = same-block-of-same-address t k j (blockNamed (t .names) m / 256) (blockNamed (t .names) m % 256) (subst (λ (d : ℕ). d < 27) (sym (effect .class)) (effect .class-lt-27)) known (subst (λ (d : ℕ). j < blocksOf d) (sym (effect .class)) (effect .block)) (live .block)
-      (ap (λ (d : ℕ). addressOf k d j) (effect .class) ∙ q) in
-      let marked : markBit (superblockAt s k .live) j ≡ 1 = ap₂ (λ (x y : ℕ). markBit (superblockAt s x .live) y) (same .0 ∙ ap (λ (b : ℕ). b / 256) e) (same .1 ∙ ap (λ (b : ℕ). b % 256) e) ∙ before .marked in
-      omega (arith, effect .not-marked)
+  held-not-at-taken m held q =
+      let home : blockNamed (s .names) m / 256 ≡ k = sym (held-address-superblock s order shape passed m held) ∙ ap (λ (a : ℕ). a / 4096) (sym q) ∙ address-superblock c k j (effect .class-lt-27) (effect .block) in
+      let there = held-in-superblock m held home in
+      let live = held-block-is-live s order shape passed m held (ap (λ (n : ℕ). isOfRun (superblockAt s n)) home ∙ effect .outside-run) in
+      let class : superblockAt s (blockNamed (s .names) m / 256) .class ≡ c = ap (λ (n : ℕ). superblockAt s n .class) home ∙ there .0 in
+      let inside : blockNamed (s .names) m % 256 < blocksOf c = subst (λ (d : ℕ). blockNamed (s .names) m % 256 < blocksOf d) class (live .block) in
+      there .1
+      (offset-injective c (effect .class-lt-27) (blockNamed (s .names) m % 256) j
+      (sym (address-offset c k (blockNamed (s .names) m % 256) (effect .class-lt-27) inside)
+      ∙ ap (λ (a : ℕ). a % 4096) (ap₂ (λ (x d : ℕ). addressOf x d (blockNamed (s .names) m % 256)) (sym home) (sym class) ∙ sym q)
+      ∙ address-offset c k j (effect .class-lt-27) (effect .block)))
+
+  pub block-taken-of-take : BlockTaken (addressOf k c j) k j s t
+  block-taken-of-take =
+      record {
+        block = omega (arith, effect .block, blocks-of-le-256 c);
+        address = ap (λ (d : ℕ). addressOf k d j) (effect .class);
+        held-class = take-keeps-held-class;
+        held-elsewhere = held-not-at-taken;
+        long-kept = λ e h. long-agrees-of-kept s t e h (effect .runs);
+      }
+
+-- of a long block
+module _ (k n : ℕ) (s t : State) (order : List ℕ) (shape : Shape s) (passed : Passed s order) (effect : LongTakeEffect k n s t) where
+  -- no name is held in the superblocks of its run: they had no live block
+  held-outside-run : (m : ℕ) → T (isHeld (s .names) m) → InRun k n (blockNamed (s .names) m / 256) → ⊥
+  held-outside-run m held inside =
+      let b : Superblock = superblockAt s (blockNamed (s .names) m / 256) in
+      let available = effect .available (blockNamed (s .names) m / 256) inside in
+      let live = held-block-is-live s order shape passed m held (available-is-outside-run b available) in
+      omega (arith, live .marked, marks-clear-of-live-count-zero (b .live) (available-is-empty b available) (blockNamed (s .names) m % 256) (omega arith))
+
+  pub block-taken-of-long-take : BlockTaken (k * 4096) k 0 s t
+  unfolding addressOf
+  block-taken-of-long-take =
+      record {
+        block = omega arith;
+        address = omega arith;
+        held-class = λ m held. ap (λ (b : Superblock). b .class) (effect .others (blockNamed (s .names) m / 256) (held-outside-run m held));
+        held-elsewhere = λ m held q.
+            let home : blockNamed (s .names) m / 256 ≡ k = sym (held-address-superblock s order shape passed m held) ∙ ap (λ (a : ℕ). a / 4096) (sym q) ∙ (let z : k * 4096 / 4096 ≡ k = omega arith in z) in
+            held-outside-run m held (omega arith, omega (arith, effect .some));
+        long-kept = λ e h. long-agrees-after-long-take s t e h k n effect;
+      }
+
+-- ---- the names after it
+module _ (a k j : ℕ) (s t : State) (taken : BlockTaken a k j s t) where
+  take-keeps-held-address : (m : ℕ) → T (isHeld (s .names) m) → blockNamed (t .names) m ≡ blockNamed (s .names) m → heldAddress t m ≡ heldAddress s m
+  take-keeps-held-address m held e = held-address-cong s t m e (taken .held-class m held)
+
+  -- no name that keeps its block holds the address
+  not-held-at-taken : (m : ℕ) → blockNamed (t .names) m ≡ blockNamed (s .names) m → holdsAddress t m a ≡ false
+  not-held-at-taken m same = go (isHeld (s .names) m) refl
+    where
+      go : (h : Bool) → isHeld (s .names) m ≡ h → holdsAddress t m a ≡ false
+      go true q = not-holds-of-other-address t m a (λ r. taken .held-elsewhere m (T-of-true _ q) (r ∙ take-keeps-held-address m (T-of-true _ q) same))
+      go false q = holds-address-of-not-held t m a (held-cong (t .names) (s .names) m same ∙ q)
 
   -- ---- a plain take
   module _ (names : t .names ≡ s .names) where
@@ -165,42 +229,35 @@ module _ (i c k j : ℕ) (s t : State) (order places : List ℕ) (shape : Shape 
     pub plain-take-keeps-agreement : (e : Entry) → EntryAgrees s e → EntryAgrees t e
     plain-take-keeps-agreement e h =
         record {
-          class-lt-27 = h .class-lt-27;
+          long = λ l. taken .long-kept e (h .long l);
           name-agrees = λ m. h .name-agrees m ∙ sym (holds-address-cong s t m (e .address) (held-cong (t .names) (s .names) m (same-block m)) (λ q. take-keeps-held-address m (T-of-true _ q) (same-block m)));
         }
 
-    pub plain-take-entry-agrees : (size : ℕ) → classOf size ≡ c → EntryAgrees t (record { address = address; size = size; name = unnamed })
+    pub plain-take-entry-agrees : (size : ℕ) → (2048 < size → LongAgrees t (record { address = a; size = size; name = unnamed })) → EntryAgrees t (record { address = a; size = size; name = unnamed })
     unfolding isCalled
-    plain-take-entry-agrees size e = record { class-lt-27 = subst (λ (d : ℕ). d < 27) (sym e) (effect .class-lt-27); name-agrees = λ m. sym (none m (isHeld (s .names) m) refl) }
-      where
-        none : (m : ℕ) (h : Bool) → isHeld (s .names) m ≡ h → holdsAddress t m address ≡ false
-        none m true q = not-holds-of-other-address t m address (held-not-at-taken m (T-of-true _ q) (same-block m))
-        none m false q = holds-address-of-not-held t m address (held-cong (t .names) (s .names) m (same-block m) ∙ q)
+    plain-take-entry-agrees size long = record { long = long; name-agrees = λ m. sym (not-held-at-taken m (same-block m)) }
 
   -- ---- a take that binds name n
-  module _ (n : ℕ) (is-name : n < 1024) (free : isHeld (s .names) n ≡ false) (names : t .names ≡ withName (s .names) n (blockNumber k j)) where
+  module _ (n : ℕ) (is-name : n < 1024) (free : isHeld (s .names) n ≡ false) (names-length : length (s .names) ≡ 1024) (names : t .names ≡ withName (s .names) n (blockNumber k j)) where
     bound-block : blockNamed (t .names) n ≡ blockNumber k j
-    bound-block = ap (λ (l : List ℕ). blockNamed l n) names ∙ block-named-with-name (s .names) n (blockNumber k j) (let l = shape .names-length in omega arith)
+    bound-block = ap (λ (l : List ℕ). blockNamed l n) names ∙ block-named-with-name (s .names) n (blockNumber k j) (omega arith)
 
     other-block : (m : ℕ) → (m ≡ n → ⊥) → blockNamed (t .names) m ≡ blockNamed (s .names) m
     other-block m f = ap (λ (l : List ℕ). blockNamed l m) names ∙ block-named-with-other-name (s .names) n (blockNumber k j) m f
 
-    small : j < 256
-    small = omega (arith, effect .block, blocks-of-le-256 c)
+    bound-held : k < 64 → isHeld (t .names) n ≡ true
+    bound-held below = true-of-T _ (held-of-facts (t .names) n is-name (λ (q : blockNamed (t .names) n ≡ notHeld). omega (arith, bound-block, taken .block)))
 
-    bound-held : isHeld (t .names) n ≡ true
-    bound-held = true-of-T _ (held-of-facts (t .names) n is-name (λ (q : blockNamed (t .names) n ≡ notHeld). let b = bound-block in let l = small in omega arith))
-
-    bound-address : heldAddress t n ≡ address
+    bound-address : heldAddress t n ≡ a
     unfolding heldAddress
     bound-address =
-        let x : blockNamed (t .names) n / 256 ≡ k = let b = bound-block in let l = small in omega arith in
-        let y : blockNamed (t .names) n % 256 ≡ j = let b = bound-block in let l = small in omega arith in
-        rw (x, y, effect .class)
+        let x : blockNamed (t .names) n / 256 ≡ k = omega (arith, bound-block, taken .block) in
+        let y : blockNamed (t .names) n % 256 ≡ j = omega (arith, bound-block, taken .block) in
+        rw (x, y) (taken .address)
 
     -- the entries before it, none of which is at the address
-    pub named-take-keeps-agreement : (e : Entry) → (e .address ≡ address → ⊥) → EntryAgrees s e → EntryAgrees t e
-    named-take-keeps-agreement e apart h = record { class-lt-27 = h .class-lt-27; name-agrees = λ m. at m (ℕ-discrete m n) }
+    pub named-take-keeps-agreement : (e : Entry) → (e .address ≡ a → ⊥) → EntryAgrees s e → EntryAgrees t e
+    named-take-keeps-agreement e apart h = record { long = λ l. taken .long-kept e (h .long l); name-agrees = λ m. at m (ℕ-discrete m n) }
       where
         at : (m : ℕ) → Dec (m ≡ n) → hasName m e ≡ holdsAddress t m (e .address)
         at m (yes q) =
@@ -209,66 +266,97 @@ module _ (i c k j : ℕ) (s t : State) (order places : List ℕ) (shape : Shape 
             ∙ sym (not-holds-of-other-address t n (e .address) (λ r. apart (r ∙ bound-address))))
         at m (no f) = h .name-agrees m ∙ sym (holds-address-cong s t m (e .address) (held-cong (t .names) (s .names) m (other-block m f)) (λ q. take-keeps-held-address m (T-of-true _ q) (other-block m f)))
 
-    pub named-take-entry-agrees : (size : ℕ) → classOf size ≡ c → EntryAgrees t (record { address = address; size = size; name = named n })
+    pub named-take-entry-agrees : k < 64 → (size : ℕ) → (2048 < size → LongAgrees t (record { address = a; size = size; name = named n })) → EntryAgrees t (record { address = a; size = size; name = named n })
     unfolding isCalled
-    named-take-entry-agrees size e = record { class-lt-27 = subst (λ (d : ℕ). d < 27) (sym e) (effect .class-lt-27); name-agrees = λ m. at m (ℕ-discrete m n) }
+    named-take-entry-agrees below size long = record { long = long; name-agrees = λ m. at m (ℕ-discrete m n) }
       where
-        none : (m : ℕ) → (m ≡ n → ⊥) → (h : Bool) → isHeld (s .names) m ≡ h → holdsAddress t m address ≡ false
-        none m f true q = not-holds-of-other-address t m address (held-not-at-taken m (T-of-true _ q) (other-block m f))
-        none m f false q = holds-address-of-not-held t m address (held-cong (t .names) (s .names) m (other-block m f) ∙ q)
-
-        at : (m : ℕ) → Dec (m ≡ n) → eqb n m ≡ holdsAddress t m address
-        at m (yes q) = rw q (eq-eqb n n refl ∙ sym (holds-address-of-held t n address bound-held ∙ eq-eqb address (heldAddress t n) (sym bound-address)))
-        at m (no f) = ne-eqb n m (λ q. f (sym q)) ∙ sym (none m f (isHeld (s .names) m) refl)
+        at : (m : ℕ) → Dec (m ≡ n) → eqb n m ≡ holdsAddress t m a
+        at m (yes q) = rw q (eq-eqb n n refl ∙ sym (holds-address-of-held t n a (bound-held below) ∙ eq-eqb a (heldAddress t n) (sym bound-address)))
+        at m (no f) = ne-eqb n m (λ q. f (sym q)) ∙ sym (not-held-at-taken m (other-block m f))
 
 -- ---- no entry is where the ledger counts none
-pub no-entry-at : (s : State) (a : ℕ) (ledger : List Entry) → EachEntry (EntryAgrees s) ledger → ((d : ℕ) → d < 27 → entriesAt ledger a d ≡ 0) → EachEntry (λ e. e .address ≡ a → ⊥) ledger
+pub no-entry-at : (a : ℕ) (ledger : List Entry) → ((d : ℕ) → d ≤ 27 → entriesAt ledger a d ≡ 0) → EachEntry (λ e. e .address ≡ a → ⊥) ledger
 unfolding EachEntry entriesAt
-no-entry-at s a [] h none = tt
-no-entry-at s a (e ∷ ledger) h none = (apart, no-entry-at s a ledger (h .1) (λ d l. omega (arith, none d l)))
+no-entry-at a [] none = tt
+no-entry-at a (e ∷ ledger) none = (apart, no-entry-at a ledger (λ d l. omega (arith, none d l)))
   where
     apart : e .address ≡ a → ⊥
     apart q =
         let one : one (both (isAt a e) (eqb (classOfEntry e) (classOfEntry e))) ≡ 1 = rw (eq-eqb (e .address) a q, eq-eqb (classOfEntry e) (classOfEntry e) refl) in
-        omega (arith, none (classOfEntry e) (h .0 .class-lt-27))
+        omega (arith, none (classOfEntry e) (class-of-le-27 (e .size)))
 
--- ---- a free of block j of superblock k
-module _ (c k j moves : ℕ) (s t : State) (long : length (s .table) ≡ 64) (valid : T (namesValid s)) (effect : FreeEffect c k j moves s t) (names : t .names ≡ withoutBlock (s .names) (blockNumber k j)) where
-  small-block : j < 256
-  small-block = omega (arith, effect .block, blocks-of-le-256 c)
+-- ---- a free of block j of superblock k, at address a
+pub record BlockLetGo (a k j : ℕ) (s t : State) : Type 0 where
+  pub block : j < 256
+  pub address : addressOf k (superblockAt s k .class) j ≡ a
+  pub classes : (m : ℕ) → m < 64 → superblockAt t m .class ≡ superblockAt s m .class
+  -- the long blocks elsewhere stay
+  pub long-kept : (e : Entry) → (e .address ≡ a → ⊥) → LongAgrees s e → LongAgrees t e
 
-  -- a name that points at it held its address
-  freed-address : (m : ℕ) → blockNamed (s .names) m ≡ blockNumber k j → heldAddress s m ≡ addressOf k c j
+-- of a block of a class
+pub block-let-go-of-free : (c k j moves : ℕ) (s t : State) → FreeEffect c k j moves s t → BlockLetGo (addressOf k c j) k j s t
+block-let-go-of-free c k j moves s t effect =
+    record {
+      block = omega (arith, effect .block, blocks-of-le-256 c);
+      address = ap (λ (d : ℕ). addressOf k d j) (effect .class-before);
+      classes = effect .classes;
+      long-kept = λ e apart h. long-agrees-of-kept s t e h (effect .runs);
+    }
+
+-- of a long block: class 0 is the class field of a run's superblocks and of unused ones
+pub block-let-go-of-long-free : {Invariant : ℕ → ℕ → State → Type 0} (k n : ℕ) (s t : State) (order : List ℕ) → SoundWith Invariant s order → LongFreeEffect k n s t → BlockLetGo (k * 4096) k 0 s t
+unfolding addressOf
+block-let-go-of-long-free k n s t order sound effect =
+    record {
+      block = omega arith;
+      address = omega arith;
+      classes = λ m l. same m l (in-run-or-not k n m);
+      long-kept = λ e apart h. long-agrees-after-long-free s t e h k n effect apart;
+    }
+  where
+    same : (m : ℕ) → m < 64 → Dec (InRun k n m) → superblockAt t m .class ≡ superblockAt s m .class
+    same m l (yes inside) =
+        ap (λ (b : Superblock). b .class) (effect .run m inside)
+        ∙ sym (unowned-of-owner s order sound m l (omega (arith, owner-of-run (superblockAt s m) (effect .run-before .of-run m (inside .0) (inside .1)))) .class)
+    same m l (no out) = ap (λ (b : Superblock). b .class) (effect .others m out)
+
+module _ (a k j : ℕ) (s t : State) (long : length (s .table) ≡ 64) (valid : T (namesValid s)) (freed : BlockLetGo a k j s t) (names : t .names ≡ withoutBlock (s .names) (blockNumber k j)) where
+  -- a name that points at the block held its address
+  let-go-address : (m : ℕ) → blockNamed (s .names) m ≡ blockNumber k j → heldAddress s m ≡ a
   unfolding heldAddress
-  freed-address m e =
-      let x : blockNamed (s .names) m / 256 ≡ k = let l = small-block in omega arith in
-      let y : blockNamed (s .names) m % 256 ≡ j = let l = small-block in omega arith in
-      rw (x, y, effect .class-before)
+  let-go-address m e =
+      let x : blockNamed (s .names) m / 256 ≡ k = omega (arith, freed .block) in
+      let y : blockNamed (s .names) m % 256 ≡ j = omega (arith, freed .block) in
+      rw (x, y) (freed .address)
 
   free-keeps-held-address : (m : ℕ) → T (isHeld (s .names) m) → blockNamed (t .names) m ≡ blockNamed (s .names) m → heldAddress t m ≡ heldAddress s m
   free-keeps-held-address m held e =
       held-address-cong s t m e
-      (effect .classes (blockNamed (s .names) m / 256) (live-block-in-table s (blockNamed (s .names) m) long (names-sound-of-valid s valid .live m (held-facts (s .names) m held .1))))
+      (freed .classes (blockNamed (s .names) m / 256) (live-block-in-table s (blockNamed (s .names) m) long (names-sound-of-valid s valid .live m (held-facts (s .names) m held .1))))
 
-  free-keeps-agreement : (e : Entry) → isAt (addressOf k c j) e ≡ false → EntryAgrees s e → EntryAgrees t e
-  free-keeps-agreement e apart h = record { class-lt-27 = h .class-lt-27; name-agrees = λ m. h .name-agrees m ∙ at m (ℕ-discrete (blockNamed (s .names) m) (blockNumber k j)) }
+  free-keeps-agreement : (e : Entry) → isAt a e ≡ false → EntryAgrees s e → EntryAgrees t e
+  free-keeps-agreement e apart h =
+      record {
+        long = λ l. freed .long-kept e (eqb-false (e .address) a apart) (h .long l);
+        name-agrees = λ m. h .name-agrees m ∙ at m (ℕ-discrete (blockNamed (s .names) m) (blockNumber k j));
+      }
     where
       at : (m : ℕ) → Dec (blockNamed (s .names) m ≡ blockNumber k j) → holdsAddress s m (e .address) ≡ holdsAddress t m (e .address)
       at m (yes q) =
-          not-holds-of-other-address s m (e .address) (λ r. eqb-false (e .address) (addressOf k c j) apart (r ∙ freed-address m q))
+          not-holds-of-other-address s m (e .address) (λ r. eqb-false (e .address) a apart (r ∙ let-go-address m q))
           ∙ sym (holds-address-of-not-held t m (e .address) (ap (λ (l : List ℕ). isHeld l m) names ∙ not-held-without-block (s .names) (blockNumber k j) m q))
       at m (no f) =
           let same : blockNamed (t .names) m ≡ blockNamed (s .names) m = ap (λ (l : List ℕ). blockNamed l m) names ∙ block-named-without-other-block (s .names) (blockNumber k j) m f in
           sym (holds-address-cong s t m (e .address) (held-cong (t .names) (s .names) m same) (λ q. free-keeps-held-address m (T-of-true _ q) same))
 
-  pub agreement-after-free : (ledger : List Entry) → EachEntry (EntryAgrees s) ledger → EachEntry (EntryAgrees t) (removed (isAt (addressOf k c j)) ledger)
-  agreement-after-free ledger h = each-entry-removed (EntryAgrees s) (EntryAgrees t) (isAt (addressOf k c j)) ledger free-keeps-agreement h
+  pub agreement-after-free : (ledger : List Entry) → EachEntry (EntryAgrees s) ledger → EachEntry (EntryAgrees t) (removed (isAt a) ledger)
+  agreement-after-free ledger h = each-entry-removed (EntryAgrees s) (EntryAgrees t) (isAt a) ledger free-keeps-agreement h
 
--- ---- moves: names and classes stay
-pub agreement-of-same-names-and-classes : (s t : State) → length (s .table) ≡ 64 → length (t .table) ≡ 64 → t .names ≡ s .names → ((k : ℕ) → k < 64 → superblockAt t k .class ≡ superblockAt s k .class)
+-- ---- moves: names, classes and runs stay
+pub agreement-of-same-names-and-classes : (s t : State) → length (s .table) ≡ 64 → length (t .table) ≡ 64 → t .names ≡ s .names → RunsKept s t → ((k : ℕ) → k < 64 → superblockAt t k .class ≡ superblockAt s k .class)
     → (ledger : List Entry) → EachEntry (EntryAgrees s) ledger → EachEntry (EntryAgrees t) ledger
-agreement-of-same-names-and-classes s t long long-after names classes ledger h =
-    each-entry-map (EntryAgrees s) (EntryAgrees s) (EntryAgrees t) ledger (λ e g _. record { class-lt-27 = g .class-lt-27; name-agrees = λ m. g .name-agrees m ∙ sym (same m (e .address)) }) h h
+agreement-of-same-names-and-classes s t long long-after names runs classes ledger h =
+    each-entry-map (EntryAgrees s) (EntryAgrees s) (EntryAgrees t) ledger (λ e g _. record { long = λ l. long-agrees-of-kept s t e (g .long l) runs; name-agrees = λ m. g .name-agrees m ∙ sym (same m (e .address)) }) h h
   where
     class-same : (k : ℕ) → Dec (k < 64) → superblockAt t k .class ≡ superblockAt s k .class
     class-same k (yes l) = classes k l

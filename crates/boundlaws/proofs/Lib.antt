@@ -1,5 +1,8 @@
 pub mod LedgerLaws
+pub mod LongAtLaws
 pub mod LiveAtLaws
+pub mod OneMoreLongLaws
+pub mod LedgerRuns
 pub mod LedgerNames
 pub mod BoundLaws
 pub mod ListedLaws
@@ -7,6 +10,7 @@ pub mod CallInvariantLaws
 pub mod Demand3
 pub mod NamesAgree
 pub mod TotalsOverLists
+pub mod LongBlocksOverLists
 pub mod CallListLaws
 pub mod CallListCases
 pub mod EventLaws

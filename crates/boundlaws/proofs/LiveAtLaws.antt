@@ -1,6 +1,6 @@
 -- The live blocks of a state by address and class, and what one block more or less does to them. Assumes nothing.
-use mathlib.Core.Path.{_≡_, refl, sym, ap, ap₂, _∙_}
-use mathlib.Core.Bool.{Bool, true, false, not}
+use mathlib.Core.Path.{_≡_, refl, sym, ap, ap₂, _∙_, subst}
+use mathlib.Core.Bool.{Bool, true, false}
 use mathlib.Core.Logic.{_⊎_, inl, inr}
 use Prim.Native.Nat.{ℕ, suc, _+_, _*_, _/_, _%_, _≤_, _<_}
 use native.Mathlib.Nat.{div-lt-iff-lt-mul, mul-le-mul-left}
@@ -19,12 +19,15 @@ use Rattle.marklaws.proofs.MarkLaws.{marks-clear-of-live-count-zero}
 use Rattle.heap.specs.declared.Superblock.{Superblock}
 use Rattle.heap.specs.declared.State.{State}
 use Rattle.heap.specs.declared.Setup.{Setup}
-use Rattle.heap.specs.Table.{blank, unused, superblockAt, liveIn}
+use Rattle.heap.specs.Table.{blank, unused, superblockAt, liveIn, isOfRun, startsRun, isOfHeap}
 use Rattle.heap.specs.States.{newState}
 use Rattle.heap.specs.Counts.{isOwnedOfClass, liveOfClass}
+use Rattle.heaplaws.proofs.RunsKeptLaws.{outside-run-of-owner}
 use Rattle.calls.specs.Take.{addressOf}
 use Rattle.calllaws.proofs.CallEffects.{TakeEffect, FreeEffect}
 use Rattle.calllaws.proofs.AddressLaws.{address-superblock, address-offset}
+use Rattle.calllaws.proofs.SuperblockLaws.{owned-of-class-true, owned-of-class-false, unowned-of-no-class}
+use Rattle.boundlaws.proofs.LongAtLaws.{longAt, long-at-of-kept, long-at-none}
 
 -- 1 where a heap owns the superblock for class c and its block j is live, else 0
 unfoldable pub liveFor : ℕ → Superblock → ℕ → ℕ
@@ -39,27 +42,20 @@ liveAt s a c =
 
 -- ---- one superblock
 module _ (c : ℕ) (b : Superblock) where
-  owned-of-class-true : (b .owner ≡ 255 → ⊥) → b .class ≡ c → isOwnedOfClass c b ≡ true
-  unfolding isOwnedOfClass
-  owned-of-class-true f e = ap₂ (λ (x y : Bool). both (not x) y) (ne-eqb (b .owner) 255 f) (eq-eqb (b .class) c e)
-
-  owned-of-class-false : (b .class ≡ c → ⊥) → isOwnedOfClass c b ≡ false
-  unfolding isOwnedOfClass
-  owned-of-class-false f = ap (both (not (eqb (b .owner) 255))) (ne-eqb (b .class) c f) ∙ both-false (not (eqb (b .owner) 255))
-    where
-      both-false : (t : Bool) → both t false ≡ false
-      both-false true = refl
-      both-false false = refl
-
-  pub live-for-owned : (j : ℕ) → (b .owner ≡ 255 → ⊥) → b .class ≡ c → liveFor c b j ≡ markBit (b .live) j
+  pub live-for-owned : (j : ℕ) → b .owner < 254 → b .class ≡ c → liveFor c b j ≡ markBit (b .live) j
   unfolding liveFor
-  live-for-owned j f e = rw (owned-of-class-true f e)
+  live-for-owned j l e = rw (owned-of-class-true c b l e)
 
   live-for-other : (j : ℕ) → (b .class ≡ c → ⊥) → liveFor c b j ≡ 0
   unfolding liveFor
-  live-for-other j f = rw (owned-of-class-false f)
+  live-for-other j f = rw (owned-of-class-false c b f)
 
-  live-for-clear : (j : ℕ) → markBit (b .live) j ≡ 0 → liveFor c b j ≡ 0
+  -- no heap owns it: nothing in it is of a class
+  pub live-for-unowned : (j : ℕ) → 254 ≤ b .owner → liveFor c b j ≡ 0
+  unfolding liveFor
+  live-for-unowned j l = rw (unowned-of-no-class c b l)
+
+  pub live-for-clear : (j : ℕ) → markBit (b .live) j ≡ 0 → liveFor c b j ≡ 0
   unfolding liveFor
   live-for-clear j e = rw e (same (isOwnedOfClass c b))
     where
@@ -83,6 +79,27 @@ address-of-block-at a c e = let o = offset-of-block c (a % 4096) e in omega arit
 address-same : (a c d k j : ℕ) → a % 4096 % sizeOf d ≡ 0 → d ≡ c → a / 4096 ≡ k → a % 4096 / sizeOf d ≡ j → addressOf k c j ≡ a
 address-same a c d k j e p q r = rw (← p, ← q, ← r) (address-of-block-at a d e)
 
+-- the live blocks of a class go only by those of each superblock
+pub live-at-same : (s t : State) (a d : ℕ) → d < 27 → ((m b : ℕ) → m < 64 → b < 256 → liveFor d (superblockAt t m) b ≡ liveFor d (superblockAt s m) b) → liveAt t a d ≡ liveAt s a d
+unfolding liveAt
+live-at-same s t a d l same = go (ltb (a / 4096) 64) (eqb (a % 4096 % sizeOf d) 0) refl
+  where
+    go : (x y : Bool) → ltb (a / 4096) 64 ≡ x
+        → pick x (pick y (liveFor d (superblockAt t (a / 4096)) (a % 4096 / sizeOf d)) 0) 0 ≡ pick x (pick y (liveFor d (superblockAt s (a / 4096)) (a % 4096 / sizeOf d)) 0) 0
+    go true true p = same (a / 4096) (a % 4096 / sizeOf d) (ltb-true (a / 4096) 64 p) (block-below d a l)
+    go true false p = refl
+    go false y p = refl
+
+-- and there are none at an address of a superblock that has none
+pub live-at-none : (s : State) (a d : ℕ) → d < 27 → ((b : ℕ) → b < 256 → liveFor d (superblockAt s (a / 4096)) b ≡ 0) → liveAt s a d ≡ 0
+unfolding liveAt
+live-at-none s a d l none = rw (none (a % 4096 / sizeOf d) (block-below d a l)) (go (ltb (a / 4096) 64) (eqb (a % 4096 % sizeOf d) 0))
+  where
+    go : (x y : Bool) → pick {A = ℕ} x (pick y 0 0) 0 ≡ 0
+    go true true = refl
+    go true false = refl
+    go false y = refl
+
 -- ---- one live block more
 -- In state t block j of superblock k, of class c, is live; in s it is not, and no other block differs.
 pub record OneMoreLive (c k j : ℕ) (s t : State) : Type 0 where
@@ -94,6 +111,9 @@ pub record OneMoreLive (c k j : ℕ) (s t : State) : Type 0 where
   pub no-other-class : (d b : ℕ) → b < 256 → (d ≡ c → ⊥) → liveFor d (superblockAt s k) b ≡ 0
   pub others-same : (d m b : ℕ) → m < 64 → b < 256 → ((d ≡ c) × (m ≡ k) × (b ≡ j) → ⊥) → liveFor d (superblockAt t m) b ≡ liveFor d (superblockAt s m) b
   pub live : (d : ℕ) → liveOfClass d t ≡ liveOfClass d s + one (eqb c d)
+  -- the superblock is of no run, and long blocks are as they were
+  pub outside-run : isOfRun (superblockAt s k) ≡ false
+  pub long-same : (a : ℕ) → longAt t a ≡ longAt s a
 
 pub live-at-of-address : (s : State) (c k j : ℕ) → c < 27 → k < 64 → j < blocksOf c → liveAt s (addressOf k c j) c ≡ liveFor c (superblockAt s k) j
 unfolding liveAt
@@ -103,17 +123,18 @@ live-at-of-address s c k j known below block =
 module _ (c k j : ℕ) (s t : State) (more : OneMoreLive c k j s t) where
   -- in s nothing is live at the address, in any class
   pub live-at-before-is-zero : (d : ℕ) → d < 27 → liveAt s (addressOf k c j) d ≡ 0
-  unfolding liveAt
   live-at-before-is-zero d l = go (ℕ-discrete d c)
     where
-      away : (d ≡ c → ⊥) → (x y : Bool) → pick x (pick y (liveFor d (superblockAt s (addressOf k c j / 4096)) (addressOf k c j % 4096 / sizeOf d)) 0) 0 ≡ 0
-      away f true true = rw (address-superblock c k j (more .class-lt-27) (more .block)) (more .no-other-class d (addressOf k c j % 4096 / sizeOf d) (block-below d (addressOf k c j) l) f)
-      away f true false = refl
-      away f false y = refl
-
       go : Dec (d ≡ c) → liveAt s (addressOf k c j) d ≡ 0
       go (yes e) = ap (liveAt s (addressOf k c j)) e ∙ live-at-of-address s c k j (more .class-lt-27) (more .below) (more .block) ∙ more .not-live-before
-      go (no f) = away f (ltb (addressOf k c j / 4096) 64) (eqb (addressOf k c j % 4096 % sizeOf d) 0)
+      go (no f) = live-at-none s (addressOf k c j) d l (λ b h. ap (λ (x : ℕ). liveFor d (superblockAt s x) b) (address-superblock c k j (more .class-lt-27) (more .block)) ∙ more .no-other-class d b h f)
+
+  -- nor a long block
+  pub long-at-before-is-zero : longAt s (addressOf k c j) ≡ 0
+  unfolding startsRun
+  long-at-before-is-zero =
+      long-at-none s (addressOf k c j)
+      (ap (λ (x : ℕ). startsRun (superblockAt s x)) (address-superblock c k j (more .class-lt-27) (more .block)) ∙ ap (λ (x : Bool). both x (ltb 0 (superblockAt s k .run))) (more .outside-run))
 
   -- another address or class is as it was
   live-at-of-others : (a d : ℕ) → d < 27 → ((d ≡ c) × (addressOf k c j ≡ a) → ⊥) → liveAt t a d ≡ liveAt s a d
@@ -160,30 +181,30 @@ live-of-class-one-more c s t here others d = go (ℕ-discrete d c)
     go (yes e) = rw e (let z : one (eqb c c) ≡ 1 = one-of-equal c in omega arith)
     go (no f) = let x = others d f in let z : one (eqb c d) ≡ 0 = one-of-different c d (λ q. f (sym q)) in omega arith
 
-module _ (i c k j : ℕ) (s t : State) (below : k < 64) (owner : i ≡ 255 → ⊥) (e : TakeEffect i c k j s t) where
+module _ (i c k j : ℕ) (s t : State) (below : k < 64) (owner : i < 254) (e : TakeEffect i c k j s t) where
   -- the marks that superblock k had were of class c
   live-for-other-class-before-take : (d b : ℕ) → b < 256 → (d ≡ c → ⊥) → liveFor d (superblockAt s k) b ≡ 0
   live-for-other-class-before-take d b l f = go (e .before)
     where
-      go : (liveIn (superblockAt s k) ≡ 0) ⊎ ((superblockAt s k .class ≡ c) × (superblockAt s k .owner ≡ 255 → ⊥)) → liveFor d (superblockAt s k) b ≡ 0
+      go : (liveIn (superblockAt s k) ≡ 0) ⊎ ((superblockAt s k .class ≡ c) × (superblockAt s k .owner < 254)) → liveFor d (superblockAt s k) b ≡ 0
       go (inl z) = live-for-clear d (superblockAt s k) b (marks-clear-of-live-count-zero (superblockAt s k .live) z b l)
       go (inr h) = live-for-other d (superblockAt s k) b (λ q. f (sym q ∙ h .0))
 
   live-for-before-take : (b : ℕ) → b < 256 → liveFor c (superblockAt s k) b ≡ markBit (superblockAt s k .live) b
   live-for-before-take b l = go (e .before)
     where
-      go : (liveIn (superblockAt s k) ≡ 0) ⊎ ((superblockAt s k .class ≡ c) × (superblockAt s k .owner ≡ 255 → ⊥)) → liveFor c (superblockAt s k) b ≡ markBit (superblockAt s k .live) b
+      go : (liveIn (superblockAt s k) ≡ 0) ⊎ ((superblockAt s k .class ≡ c) × (superblockAt s k .owner < 254)) → liveFor c (superblockAt s k) b ≡ markBit (superblockAt s k .live) b
       go (inl z) = let m = marks-clear-of-live-count-zero (superblockAt s k .live) z b l in live-for-clear c (superblockAt s k) b m ∙ sym m
       go (inr h) = live-for-owned c (superblockAt s k) b (h .1) (h .0)
 
   live-for-after-take : (b : ℕ) → liveFor c (superblockAt t k) b ≡ markBit (superblockAt t k .live) b
-  live-for-after-take b = live-for-owned c (superblockAt t k) b (λ q. owner (sym (e .owner) ∙ q)) (e .class)
+  live-for-after-take b = live-for-owned c (superblockAt t k) b (subst (λ (h : ℕ). h < 254) (sym (e .owner)) owner) (e .class)
 
   block-in : j < 256
   block-in = let b = blocks-of-le-256 c in let h = e .block in omega arith
 
   live-for-others-of-take : (d m b : ℕ) → b < 256 → ((d ≡ c) × (m ≡ k) × (b ≡ j) → ⊥) → liveFor d (superblockAt t m) b ≡ liveFor d (superblockAt s m) b
-  unfolding liveFor isOwnedOfClass
+  unfolding liveFor isOwnedOfClass isOfHeap
   live-for-others-of-take d m b l f = go (ℕ-discrete m k) (ℕ-discrete d c)
     where
       go : Dec (m ≡ k) → Dec (d ≡ c) → liveFor d (superblockAt t m) b ≡ liveFor d (superblockAt s m) b
@@ -203,6 +224,8 @@ module _ (i c k j : ℕ) (s t : State) (below : k < 64) (owner : i ≡ 255 → �
         no-other-class = live-for-other-class-before-take;
         others-same = λ d m b h. live-for-others-of-take d m b;
         live = live-of-class-one-more c s t (e .live-of-class) (e .live-of-others);
+        outside-run = e .outside-run;
+        long-same = long-at-of-kept s t (e .runs);
       }
 
 module _ (c k j moves : ℕ) (s t : State) (below : k < 64) (e : FreeEffect c k j moves s t) where
@@ -211,13 +234,13 @@ module _ (c k j moves : ℕ) (s t : State) (below : k < 64) (e : FreeEffect c k 
 
   -- a superblock that a heap owns is still owned, by heap 0 where it has moved
   still-owned : (d m : ℕ) → m < 64 → isOwnedOfClass d (superblockAt t m) ≡ isOwnedOfClass d (superblockAt s m)
-  unfolding isOwnedOfClass
-  still-owned d m l = ap₂ (λ (x y : Bool). both (not x) y) (go (e .owners m l)) (ap (λ (x : ℕ). eqb x d) (e .classes m l))
+  unfolding isOwnedOfClass isOfHeap
+  still-owned d m l = ap₂ both (go (e .owners m l)) (ap (λ (x : ℕ). eqb x d) (e .classes m l))
     where
       go : (superblockAt t m .owner ≡ superblockAt s m .owner) ⊎ ((superblockAt s m .owner ≡ superblockAt s k .owner) × (superblockAt t m .owner ≡ 0))
-          → eqb (superblockAt t m .owner) 255 ≡ eqb (superblockAt s m .owner) 255
-      go (inl q) = ap (λ (x : ℕ). eqb x 255) q
-      go (inr h) = ap (λ (x : ℕ). eqb x 255) (h .1) ∙ sym (ne-eqb (superblockAt s m .owner) 255 (λ q. e .owned-before (sym (h .0) ∙ q)))
+          → ltb (superblockAt t m .owner) 254 ≡ ltb (superblockAt s m .owner) 254
+      go (inl q) = ap (λ (x : ℕ). ltb x 254) q
+      go (inr h) = ap (λ (x : ℕ). ltb x 254) (h .1) ∙ sym (lt-ltb (superblockAt s m .owner) 254 (subst (λ (x : ℕ). x < 254) (sym (h .0)) (e .owned-before)))
 
   live-for-others-of-free : (d m b : ℕ) → m < 64 → b < 256 → ((d ≡ c) × (m ≡ k) × (b ≡ j) → ⊥) → liveFor d (superblockAt s m) b ≡ liveFor d (superblockAt t m) b
   unfolding liveFor
@@ -246,11 +269,13 @@ module _ (c k j moves : ℕ) (s t : State) (below : k < 64) (e : FreeEffect c k 
         no-other-class = λ d b h f. live-for-other d (superblockAt t k) b (λ q. f (sym q ∙ class-after));
         others-same = live-for-others-of-free;
         live = live-of-class-one-more c t s (e .live-of-class) (λ d f. sym (e .live-of-others d f));
+        outside-run = e .runs k below .0 ∙ outside-run-of-owner (superblockAt s k) (λ (q : superblockAt s k .owner ≡ 254). omega (arith, e .owned-before));
+        long-same = λ a. sym (long-at-of-kept s t (e .runs) a);
       }
 
 -- ---- nothing is live in a new state
-live-for-unused : (c j : ℕ) → liveFor c unused j ≡ 0
-unfolding liveFor isOwnedOfClass
+pub live-for-unused : (c j : ℕ) → liveFor c unused j ≡ 0
+unfolding liveFor isOwnedOfClass isOfHeap
 live-for-unused c j = refl
 
 pub live-at-of-new-state : (u : Setup) (a c : ℕ) → liveAt (newState u) a c ≡ 0

@@ -3,7 +3,7 @@
 use mathlib.Core.Path.{_≡_, refl, ap, ap₂, _∙_}
 use mathlib.Core.Bool.{Bool, true, false}
 use mathlib.Core.List.{List, [], _∷_}
-use Prim.Native.Nat.{ℕ, _+_, _/_, _%_, _<_}
+use Prim.Native.Nat.{ℕ, _*_, _/_, _%_, _<_}
 use native.Mathlib.Decide.{ℕ-discrete}
 use native.Mathlib.Omega.{arith}
 use borrow.Author.Tests.{eq-eqb, ne-eqb}
@@ -11,18 +11,23 @@ use lib.Dec.{T, eqb}
 use Rattle.laws.specs.Sums.{both, either, one}
 use Rattle.laws.proofs.TestLaws.{T-of-true, true-of-T, both-make, either-left, either-right}
 use Rattle.names.specs.Names.{blockNamed, isHeld}
+use Rattle.namelaws.proofs.NameLaws.{held-facts}
 use Rattle.heap.specs.declared.Setup.{Setup}
 use Rattle.heap.specs.declared.State.{State}
-use Rattle.heap.specs.Table.{superblockAt}
+use Rattle.heap.specs.Table.{superblockAt, isOfRun}
+use Rattle.heaplaws.proofs.StateCheckLaws.{names-sound-of-valid}
 use Rattle.calls.specs.declared.Outcome.the-variants.{Ready}
 use Rattle.calls.specs.Answers.{After}
 use Rattle.calls.specs.Setup.{setupOf}
+use Rattle.calls.specs.Take.{addressOf}
 use Rattle.calls.specs.Named.{heldAddress}
+use Rattle.calllaws.proofs.NamesKeptLaws.{live-block-in-table}
 use Rattle.calllaws.proofs.MarkClearedLaws.{LiveBlock}
-use Rattle.calllaws.proofs.NamedCallLaws.{held-block-is-live, live-class-lt-27}
+use Rattle.calllaws.proofs.NamedCallLaws.{held-block-is-live, held-block-is-run, live-class-lt-27}
 use Rattle.bound.specs.Ledger.{Entry, classOfEntry, isAt, hasName, ledgerAfter}
 use Rattle.bound.specs.Claim.{Step, Linked, peakWith}
 use Rattle.boundlaws.proofs.LedgerLaws.{entriesAt}
+use Rattle.boundlaws.proofs.LongAtLaws.{longAt, long-at-start}
 use Rattle.boundlaws.proofs.LiveAtLaws.{liveAt, live-for-owned, live-at-of-address}
 use Rattle.boundlaws.proofs.LedgerNames.{EachEntry, each-entry-map, holdsAddress, EntryAgrees}
 use Rattle.boundlaws.proofs.CallInvariantLaws.{ListInvariant, AfterCall, after-step}
@@ -56,18 +61,26 @@ module _ (s : State) (m : ℕ) (held : T (isHeld (s .names) m)) (c : ℕ) where
           either-right (both (hasName m e) (isAt (heldAddress s m) e)) _ (ih (omega arith))
 
 names-agree-of-list-invariant : (u : Setup) (s : State) (order : List ℕ) (ledger : List Entry) (peak : ℕ → ℕ) → ListInvariant u s order ledger peak → NamesAgree s ledger
-unfolding heldAddress
+unfolding heldAddress addressOf
 names-agree-of-list-invariant u s order ledger peak g =
     record {
       entries = each-entry-map (EntryAgrees s) (EntryAgrees s) (λ e. (m : ℕ) → hasName m e ≡ holdsAddress s m (e .address)) ledger (λ e h _. h .name-agrees) (g .names) (g .names);
-      held = λ m held. listed m held;
+      held = λ m held. listed m held (isOfRun (superblockAt s (blockNamed (s .names) m / 256))) refl;
     }
   where
-    listed : (m : ℕ) → T (isHeld (s .names) m) → T (someEntry (λ e. both (hasName m e) (isAt (heldAddress s m) e)) ledger)
-    listed m held =
+    -- a long block or one of a class
+    listed : (m : ℕ) → T (isHeld (s .names) m) → (x : Bool) → isOfRun (superblockAt s (blockNamed (s .names) m / 256)) ≡ x → T (someEntry (λ e. both (hasName m e) (isAt (heldAddress s m) e)) ledger)
+    listed m held true e =
+        let k : ℕ = blockNamed (s .names) m / 256 in
+        let run = held-block-is-run s order (g .shape) (g .passed) m held e in
+        let start : heldAddress s m ≡ k * 4096 = rw (run .0) (omega arith) in
+        let below : k < 64 = live-block-in-table s (blockNamed (s .names) m) (g .shape .length-is) (names-sound-of-valid s (g .passed .names) .live m (held-facts (s .names) m held .1)) in
+        let one-long : longAt s (heldAddress s m) ≡ 1 = ap (longAt s) start ∙ long-at-start s k below (run .1) in
+        entry-of-count s m held 27 ledger (g .names) (omega (arith, g .listed .runs (heldAddress s m)))
+    listed m held false e =
         let k : ℕ = blockNamed (s .names) m / 256 in
         let j : ℕ = blockNamed (s .names) m % 256 in
-        let live : LiveBlock s order k j = held-block-is-live s order (g .shape) (g .passed) m held in
+        let live : LiveBlock s order k j = held-block-is-live s order (g .shape) (g .passed) m held e in
         let c : ℕ = superblockAt s k .class in
         let known = live-class-lt-27 s order k j live in
         let one-live : liveAt s (heldAddress s m) c ≡ 1 =

@@ -10,7 +10,7 @@ use borrow.Author.Tests.{eqb-false}
 use lib.Dec.{eqb, leb}
 use Rattle.laws.specs.Sums.{pick}
 use Rattle.laws.proofs.TestLaws.{T-of-true, true-of-T}
-use Rattle.classes.specs.Classes.{classOf, isTooLarge}
+use Rattle.classes.specs.Classes.{classOf, isLong, runLength, isTooLarge}
 use Rattle.names.specs.Names.{isHeld}
 use Rattle.order.specs.Order.{cleared}
 use Rattle.heap.specs.declared.Setup.{Setup}
@@ -19,25 +19,30 @@ use Rattle.heap.specs.declared.Found.{Found}
 use Rattle.heap.specs.declared.Found.the-variants.{At, Nothing}
 use Rattle.heap.specs.States.{noState, newState}
 use Rattle.choicerules.specs.Choice.{fullest}
+use Rattle.choicerules.specs.Runs.{lowestRun}
 use Rattle.checkrules.specs.Check.{withinLimits, restValid, passes}
 use Rattle.heaplaws.proofs.StateFacts.{Shape}
-use Rattle.heaplaws.proofs.StateCheckLaws.{passes-of-sound, new-state-sound, new-state-names-valid}
+use Rattle.heaplaws.proofs.StateCheckLaws.{passes-of-sound, new-state-sound, new-state-names-valid, new-state-shape}
+use Rattle.heaplaws.proofs.RunLaws.{runs-valid-of-sound, new-state-runs-sound}
 use Rattle.heaplaws.proofs.RankLaws.{ranks-valid-of-sound, new-state-ranks-sound}
 use Rattle.heaplaws.proofs.TotalsLaws.{new-state-totals-kept}
 use Rattle.calls.specs.declared.Outcome.the-variants.{Address, Moves, Refused}
 use Rattle.calls.specs.Answers.{After, numberOf, PassesIfAccepted, refused, checked, isProcessor}
 use Rattle.calls.specs.Setup.{acceptedSetup, setupOf}
+use Rattle.calls.specs.Runs.{longTakenFrom, longTakenAt}
 use Rattle.calls.specs.Take.{otherPlaces, takenFrom, takenFromOther, takenAt, takeUnchecked}
-use Rattle.calls.specs.Free.{isUnmapped, isMisaligned, isLiveAt, freedAt, freeUnchecked}
+use Rattle.calls.specs.Free.{isUnmapped, isInRun, isMisaligned, isLiveAt, smallFreedAt, longFreedAt, freedAt, freeUnchecked}
 use Rattle.calls.specs.Named.{isUnavailable, withNameBound, namedTakeUnchecked, heldAddress, namedFreeUnchecked}
 use Rattle.calls.specs.Drop.{firstAddressRefusal, droppedAll, dropUnchecked}
 use Rattle.calls.specs.Calls.{Call, Take, Free, NamedTake, NamedFree, Drop, callOf, callUnchecked}
 use Rattle.calls.proofs.CheckFirst.{call-of-checks-first}
 use Rattle.calllaws.proofs.CallEffects.{Passed}
 use Rattle.calllaws.proofs.TakeLaws.{take-refused-or-accepted, take-passed}
-use Rattle.calllaws.proofs.FreeLaws.{free-refused-or-accepted, free-passed}
+use Rattle.calllaws.proofs.RunTakenLaws.{long-take-passed}
+use Rattle.calllaws.proofs.FreeLaws.{free-refused-or-accepted, free-passed, long-free-passed}
 use Rattle.calllaws.proofs.DropLaws.{drop-refused-or-accepted, drop-passed}
-use Rattle.calllaws.proofs.NamedCallLaws.{named-take-refused-or-accepted, named-take-passed, named-free-refused-or-accepted, named-free-passed}
+use Rattle.calllaws.proofs.NamedLongTakeLaws.{named-long-take-passed}
+use Rattle.calllaws.proofs.NamedCallLaws.{named-take-refused-or-accepted, named-take-passed, named-free-refused-or-accepted, named-free-passed, named-long-free-passed}
 
 -- ---- no refusal has the number 0, which is an accepted call's
 abbrev NotRefused0 : After → Type 0
@@ -73,21 +78,27 @@ taken-not-refused-0 i c s order (At k) other = address-not-refused-0 _
 taken-not-refused-0 i c s order Nothing (At k) = address-not-refused-0 _
 taken-not-refused-0 i c s order Nothing Nothing = refused-not-refused-0 4 s order (λ e. omega arith)
 
+long-taken-not-refused-0 : (n : ℕ) (s : State) (order : List ℕ) (run : Found) → NotRefused0 (longTakenAt n s order run)
+unfolding longTakenAt longTakenFrom
+long-taken-not-refused-0 n s order (At k) = address-not-refused-0 _
+long-taken-not-refused-0 n s order Nothing = refused-not-refused-0 17 s order (λ e. omega arith)
+
 take-not-refused-0 : (s : State) (order : List ℕ) (i size : ℕ) → NotRefused0 (takeUnchecked s order i size)
 unfolding takeUnchecked
 take-not-refused-0 s order i size =
     pick-not-refused-0 (not (isProcessor s i)) _ _ (refused-not-refused-0 2 s order (λ e. omega arith))
     (pick-not-refused-0 (isTooLarge size) _ _ (refused-not-refused-0 3 s order (λ e. omega arith))
-    (taken-not-refused-0 i (classOf size) s order (fullest i (classOf size) s) (otherPlaces (classOf size) s)))
+    (pick-not-refused-0 (isLong size) _ _ (long-taken-not-refused-0 (runLength size) s order (lowestRun (runLength size) s))
+    (taken-not-refused-0 i (classOf size) s order (fullest i (classOf size) s) (otherPlaces (classOf size) s))))
 
 free-not-refused-0 : (s : State) (order : List ℕ) (i a : ℕ) → NotRefused0 (freeUnchecked s order i a)
-unfolding freeUnchecked freedAt
+unfolding freeUnchecked freedAt longFreedAt smallFreedAt
 free-not-refused-0 s order i a =
     pick-not-refused-0 (not (isProcessor s i)) _ _ (refused-not-refused-0 2 s order (λ e. omega arith))
     (pick-not-refused-0 (isUnmapped s a) _ _ (refused-not-refused-0 5 s order (λ e. omega arith))
     (pick-not-refused-0 (isMisaligned s a) _ _ (refused-not-refused-0 6 s order (λ e. omega arith))
     (pick-not-refused-0 (not (isLiveAt s a)) _ _ (refused-not-refused-0 7 s order (λ e. omega arith))
-    (moves-not-refused-0 _))))
+    (pick-not-refused-0 (isInRun s a) _ _ (moves-not-refused-0 _) (moves-not-refused-0 _)))))
 
 drop-not-refused-0 : (s : State) (order : List ℕ) (i : ℕ) (addresses : List ℕ) → NotRefused0 (dropUnchecked s order i addresses)
 unfolding dropUnchecked droppedAll
@@ -121,7 +132,7 @@ unfolding numberOf
 refused-passes-if-accepted x r s order e n z = absurd (n (ap (λ (y : After). y .answer .outcome) e ∙ ap Refused (sym (ap (λ (y : After). numberOf (y .answer .outcome)) e) ∙ z)))
 
 passes-true-of-passed : (s : State) (order : List ℕ) → Passed s order → passes s order ≡ true
-passes-true-of-passed s order p = true-of-T (passes s order) (passes-of-sound s order (p .sound) (p .names) (p .totals) (ranks-valid-of-sound s (p .ranks)))
+passes-true-of-passed s order p = true-of-T (passes s order) (passes-of-sound s order (p .sound) (p .names) (p .totals) (ranks-valid-of-sound s (p .ranks)) (p .runs))
 
 -- ---- the calls
 -- a call that is refused, or leaves a state that passes
@@ -130,10 +141,13 @@ RefusedOrPassed s order x = ((r : ℕ) × (x ≡ refused r s order)) ⊎ Passed 
 
 call-refused-or-passed : (s : State) (order : List ℕ) (call : Call) → Shape s → RefusedOrPassed s order (callOf s order call)
 unfolding callOf
-call-refused-or-passed s order (Take i size) shape = ⊎-elim inl (λ h. inr (take-passed s order i size (h .0) shape (h .1))) (take-refused-or-accepted s order i size)
-call-refused-or-passed s order (Free i a) shape = ⊎-elim inl (λ h. inr (free-passed s order i a shape h)) (free-refused-or-accepted s order i a)
-call-refused-or-passed s order (NamedTake i m size) shape = ⊎-elim inl (λ h. inr (named-take-passed s order i m size (h .0) shape (h .1))) (named-take-refused-or-accepted s order i m size)
-call-refused-or-passed s order (NamedFree i m) shape = ⊎-elim inl (λ h. inr (named-free-passed s order i m shape h)) (named-free-refused-or-accepted s order i m)
+call-refused-or-passed s order (Take i size) shape =
+    ⊎-elim inl (λ h. inr (⊎-elim (λ a. take-passed s order i size (a .0) shape (a .1)) (λ a. long-take-passed s order i size (a .0) shape (a .1)) h)) (take-refused-or-accepted s order i size)
+call-refused-or-passed s order (Free i a) shape = ⊎-elim inl (λ h. inr (⊎-elim (free-passed s order i a shape) (long-free-passed s order i a shape) h)) (free-refused-or-accepted s order i a)
+call-refused-or-passed s order (NamedTake i m size) shape =
+    ⊎-elim inl (λ h. inr (⊎-elim (λ a. named-take-passed s order i m size (a .0) shape (a .1)) (λ a. named-long-take-passed s order i m size (a .0) shape (a .1)) h)) (named-take-refused-or-accepted s order i m size)
+call-refused-or-passed s order (NamedFree i m) shape =
+    ⊎-elim inl (λ h. inr (⊎-elim (named-free-passed s order i m shape) (named-long-free-passed s order i m shape) h)) (named-free-refused-or-accepted s order i m)
 call-refused-or-passed s order (Drop i addresses) shape = ⊎-elim inl (λ h. inr (drop-passed s order i addresses shape h)) (drop-refused-or-accepted s order i addresses)
 
 pub call-passes-if-accepted : (s : State) (order : List ℕ) (call : Call) → Shape s → PassesIfAccepted (callOf s order call .answer .outcome) (callOf s order call .answer .state) (callOf s order call .order)
@@ -152,6 +166,6 @@ unfolding setupOf numberOf
 setup-passes-if-accepted u order = go (withinLimits u) (leb (u .superblocks * 256) (length order)) refl
   where
     go : (a b : Bool) → withinLimits u ≡ a → PassesIfAccepted (setupByTests u order a b .answer .outcome) (setupByTests u order a b .answer .state) (setupByTests u order a b .order)
-    go true true e z = true-of-T (passes (newState u) (cleared order (u .superblocks * 256))) (passes-of-sound (newState u) _ (new-state-sound u _ (T-of-true (withinLimits u) e)) (new-state-names-valid u) (new-state-totals-kept u) (ranks-valid-of-sound (newState u) (new-state-ranks-sound u)))
+    go true true e z = true-of-T (passes (newState u) (cleared order (u .superblocks * 256))) (passes-of-sound (newState u) _ (new-state-sound u _ (T-of-true (withinLimits u) e)) (new-state-names-valid u) (new-state-totals-kept u) (ranks-valid-of-sound (newState u) (new-state-ranks-sound u)) (runs-valid-of-sound (newState u) (new-state-shape u .length-is) (new-state-runs-sound u)))
     go true false e z = absurd (omega (arith, z))
     go false b e z = absurd (omega (arith, z))

@@ -6,7 +6,7 @@ use mathlib.Core.List.{List}
 use lib.ListN.{length}
 use lib.Dec.{T, eqb}
 use Rattle.laws.specs.Sums.{pick}
-use Prim.Native.Nat.{ℕ, suc, _+_, _-_, _*_, _≤_, _<_}
+use Prim.Native.Nat.{ℕ, suc, _+_, _*_, _≤_, _<_}
 use Rattle.classes.specs.Classes.{blocksOf, classOf, runLength}
 use Rattle.marks.specs.Marks.{markBit}
 use Rattle.names.specs.Names.{isHeld}

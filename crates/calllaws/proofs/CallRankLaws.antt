@@ -19,9 +19,9 @@ use Rattle.calls.specs.Named.{namedTakeOf, heldAddress, namedFreeOf}
 use Rattle.calls.specs.Calls.{Call, callOf, callUnchecked}
 use Rattle.calls.specs.Setup.{setupOf}
 use Rattle.calls.proofs.CheckFirst.{call-of-checks-first}
-use Rattle.calllaws.proofs.CallEffects.{NamedTakeAccepted, NamedFreeAccepted, RanksKept, RankedLatest, Renews, TakeRanks}
+use Rattle.calllaws.proofs.CallEffects.{NamedTakeAccepted, NamedFreeAccepted, NamedLongFreeAccepted, RanksKept, RankedLatest, Renews, TakeRanks}
 use Rattle.calllaws.proofs.TakeLaws.{take-ranks}
-use Rattle.calllaws.proofs.FreeLaws.{free-ranks}
+use Rattle.calllaws.proofs.FreeLaws.{free-ranks, long-free-ranks}
 use Rattle.calllaws.proofs.NamedCallLaws.{named-take-state}
 use Rattle.calllaws.proofs.AcceptedCallLaws.{call-passes-if-accepted}
 use Rattle.calllaws.proofs.RefusalConditions.{rest-fails, check-fails-refused-13}
@@ -34,6 +34,9 @@ named-take-ranks s order i m size k shape acc =
 
 pub named-free-ranks : (s : State) (order : List ℕ) (i m : ℕ) → Shape s → NamedFreeAccepted s order i m → RankedLatest (superblockIndex (heldAddress s m)) s (namedFreeOf s order i m .answer .state)
 named-free-ranks s order i m shape acc l h = ap (λ (x : After). superblockAt (x .answer .state) l .rank) (acc .result-is) ∙ free-ranks s order i (heldAddress s m) shape (acc .freed) l h
+
+pub named-long-free-ranks : (s : State) (order : List ℕ) (i m : ℕ) → Shape s → NamedLongFreeAccepted s order i m → RanksKept s (namedFreeOf s order i m .answer .state)
+named-long-free-ranks s order i m shape acc l h = ap (λ (x : After). superblockAt (x .answer .state) l .rank) (acc .result-is) ∙ long-free-ranks s order i (heldAddress s m) shape (acc .freed) l h
 
 -- ---- the superblock itself
 -- a superblock that a take renewed has no rank
@@ -51,7 +54,7 @@ module _ (s : State) (order : List ℕ) (call : Call) where
   pub refused-call-keeps-ranks : (r : ℕ) → callOf s order call .answer .outcome ≡ Refused r → RanksKept s (callOf s order call .answer .state)
   refused-call-keeps-ranks r e m l = ap (λ (t : State). superblockAt t m .rank) (refused-call-keeps-state s order call r e)
 
-  -- "each once without a gap, the rest 0, unused ones too", after every accepted call
+  -- "each once without a gap, the rest 0, unused ones too", and "no rank" in a run (item 7), after every accepted call
   pub accepted-call-keeps-ranking : Shape s → numberOf (callOf s order call .answer .outcome) ≡ 0 → RanksSound (callOf s order call .answer .state)
   accepted-call-keeps-ranking shape accepted =
       let after = callOf s order call in

@@ -1,23 +1,24 @@
 -- "Its first n - live places hold the free blocks, last in first out": a superblock's free blocks as a stack. A free pushes its block, a drop each of
--- its blocks in the order written, a take takes the block on top, a renewal rewrites the order places, moves leave every stack. Assumes nothing.
+-- its blocks in the order written, a take takes the block on top, a renewal rewrites the order places, moves leave every stack. A long block has no place in
+-- a stack: its free leaves them all, and its take those outside its run. Assumes nothing.
 use mathlib.Core.Path.{_≡_, refl, sym, ap, ap₂, _∙_, subst}
-use mathlib.Core.Bool.{Bool, true, false}
+use mathlib.Core.Bool.{Bool, true, false, not}
 use mathlib.Core.Logic.{_⊎_, inl, inr, ⊎-elim}
 use mathlib.Core.List.{List, [], _∷_, _++_}
 use Prim.Native.Nat.{ℕ, zero, suc, _+_, _-_, _*_, _/_, _≤_, _<_}
 use native.Mathlib.Decide.{ℕ-discrete, decLt}
 use native.Mathlib.Omega.{arith}
 use borrow.Author.Tests.{eqb-true, eqb-false, eq-eqb, ne-eqb}
-use lib.ListN.{length, getD, List·getD-eq-default}
+use lib.ListN.{length, getD}
 use lib.Seq.{getD-set-same, getD-set-other, set-out}
-use lib.Dec.{eqb}
-use Rattle.laws.specs.Sums.{pick}
-use Rattle.laws.proofs.Inequalities.{le-of-not-below}
-use Rattle.classes.specs.Classes.{sizeOf, blocksOf, classOf}
+use lib.Dec.{T, eqb}
+use Rattle.laws.specs.Sums.{pick, both}
+use Rattle.classes.specs.Classes.{sizeOf, blocksOf, classOf, runLength}
 use Rattle.classes.proofs.ClassTableLaws.{blocks-of-le-256, blocks-of-pos}
 use Rattle.classes.proofs.ClassLaws.{class-of-lt-27}
 use Rattle.marks.specs.Marks.{liveCount, withoutMark}
 use Rattle.marklaws.proofs.MarkLaws.{live-count-without-mark, live-count-of-no-marks}
+use Rattle.names.specs.Names.{isHeld}
 use Rattle.order.specs.Order.{place, lastFilled, withPlace, renewed}
 use Rattle.orderlaws.proofs.OrderLaws.{last-filled-is-place, renewed-place, renewed-other-superblock, with-place-same, with-place-other-place, with-place-other-superblock}
 use Rattle.filledplaces.proofs.PlacesValidLaws.{last-filled-of-renewed-is-0}
@@ -25,34 +26,40 @@ use Rattle.heap.specs.declared.Superblock.{Superblock}
 use Rattle.heap.specs.declared.State.{State}
 use Rattle.heap.specs.declared.Found.{Found}
 use Rattle.heap.specs.declared.Found.the-variants.{At, Nothing}
-use Rattle.heap.specs.Table.{blank, superblockAt, liveIn, withOwner, withoutMarkAt}
+use Rattle.heap.specs.Table.{blank, unused, superblockAt, liveIn, isOfRun, withOwner, withoutMarkAt}
 use Rattle.heap.specs.Ranks.{rankAfterFree, reranked, rankedLatest, unranked}
 use Rattle.laws.proofs.ListedLaws.{length-listed}
 use Rattle.heaplaws.proofs.RerankedLaws.{reranked-class, reranked-live, reranked-keeps}
-use Rattle.heap.specs.States.{withSuperblock}
+use Rattle.heap.specs.States.{withSuperblock, withNames}
 use Rattle.choicerules.specs.Choice.{fullest}
 use Rattle.moverules.specs.Moves.{transferred, foundTransferred, invariantRestored}
 use Rattle.heaplaws.proofs.MovesKeepLaws.{invariant-restored-keeps}
 use Rattle.heaplaws.proofs.StateFacts.{Shape}
-use Rattle.heaplaws.proofs.StateCheckLaws.{live-le-blocks-of-owned}
+use Rattle.heaplaws.proofs.StateCheckLaws.{live-le-blocks-of-owned, unowned-of-owner}
+use Rattle.heaplaws.proofs.RunsKeptLaws.{owner-of-run}
+use Rattle.heaplaws.proofs.RunLaws.{Outside, side-of-range, outside-not-inside}
 use Rattle.heaplaws.proofs.ChoiceLaws.{best-of-fullest, facts-of-has-free}
 use Rattle.heaplaws.proofs.CountLaws.{superblock-at-replaced, superblock-at-others}
 use Rattle.calls.specs.declared.Outcome.the-variants.{Address}
 use Rattle.calls.specs.Answers.{After, refused}
 use Rattle.calls.specs.Take.{otherPlaces, renewedFor, acquired, acquiredOrder, unrankedIfEmpty, addressOf, takenFrom, takenFromOther, takeOf}
-use Rattle.calls.specs.Free.{superblockIndex, offsetOf, superblockHolding, blockOf, addressRefusal, markCleared, orderPushed, blockFreed, freedAt, freeOf}
+use Rattle.calls.specs.Free.{superblockIndex, offsetOf, superblockHolding, blockOf, isInRun, addressRefusal, markCleared, blockPushed, orderPushed, smallBlockFreed, longBlockFreed, blockFreed, smallFreedAt, longFreedAt, freeOf}
 use Rattle.calls.proofs.TouchedPairLaws.{drop-moves-by-heaps}
 use Rattle.calls.specs.Drop.{allFreed, allPushed, firstAddressRefusal, isTouched, thenRestored, dropMoves, droppedAll, dropOf}
-use Rattle.calls.specs.Named.{namedTakeOf, heldAddress, namedFreeOf}
+use Rattle.calls.specs.Named.{isUnavailable, withNameBound, namedTakeOf, heldAddress, namedFreeOf}
 use Rattle.calls.specs.Calls.{Call, Take, Free, NamedTake, NamedFree, Drop, callOf}
-use Rattle.calls.proofs.AddressRefusalLaws.{no-refusal-of-live-block}
 use Rattle.calllaws.proofs.NamedCallLaws.{named-take-refused-or-accepted, named-take-state, named-take-order, named-take-shape, named-free-refused-or-accepted}
-use Rattle.calllaws.proofs.CallEffects.{PassedAfterFrees, TakeAccepted, FreeAccepted, NamedTakeAccepted, NamedFreeAccepted}
+use Rattle.calllaws.proofs.CallEffects.{PassedAfterFrees, InRun, LongFreeEffect, TakeAccepted, LongTakeAccepted, FreeAccepted, LongFreeAccepted, NamedTakeAccepted, NamedLongTakeAccepted, NamedFreeAccepted, NamedLongFreeAccepted}
 use Rattle.calllaws.proofs.TakeSourceLaws.{lastBlockOf, takenWith, taken-from-is-taken-with, taken-from-other-is-taken-with}
 use Rattle.calllaws.proofs.TakeLaws.{take-refused-or-accepted, take-effect, take-shape, take-passed}
-use Rattle.calllaws.proofs.FreeLaws.{free-refused-or-accepted, free-address, free-effect, free-shape}
+use Rattle.calllaws.proofs.RunTakenLaws.{long-take-order, long-take-effect, long-take-shape}
+use Rattle.calllaws.proofs.NamedLongTakeLaws.{named-long-take-state, named-long-take-order, named-long-take-shape}
+use Rattle.calllaws.proofs.FreeLaws.{free-refused-or-accepted, no-refusal-of-accepted-address, free-address, free-effect, free-shape, long-free-effect, long-free-order, long-free-shape}
 use Rattle.calllaws.proofs.TransferredLaws.{passed-after-no-frees}
-use Rattle.calllaws.proofs.BlockFreedLaws.{freed-address, freed-superblock-lt-64, block-freed-effect, block-freed-shape, block-freed-passed}
+use Rattle.calllaws.proofs.BlockFreedLaws.{freed-address, freed-superblock-lt-64, freed-superblock-owner-le, small-block-freed-effect}
+use Rattle.calllaws.proofs.RunFreedLaws.{long-block-freed-class, long-block-freed-effect}
+use Rattle.calllaws.proofs.AddressFreedLaws.{OwnersKeptOrRunFreed, address-freed, owners-kept-or-run-freed-then, block-freed-outside-run, block-freed-in-run, order-pushed-outside-run, order-pushed-in-run}
+use Rattle.calllaws.proofs.AddressLaws.{block-at-address-same}
 use Rattle.calllaws.proofs.AllFreedLaws.{first-refusal-of-cons}
 use Rattle.calllaws.proofs.DropMoveLaws.{heaps-restored-keep}
 use Rattle.calllaws.proofs.DropLaws.{DropAccepted, drop-refused-or-accepted, drop-effect, drop-shape}
@@ -86,14 +93,18 @@ pub record BlockPushed (a : ℕ) (s : State) (order : List ℕ) (t : State) (pla
   pub pushed : stackOf t places (superblockIndex a) ≡ blockOf s a ∷ stackOf s order (superblockIndex a)
   pub others : OtherStacksKept (superblockIndex a) s order t places
 
--- a free pushes its block on its superblock's stack
+-- the free of a block of a class pushes it on its superblock's stack
 abbrev pub FreePushes : State → List ℕ → ℕ → ℕ → Type 0
 FreePushes s order i a = BlockPushed a s order (freeOf s order i a .answer .state) (freeOf s order i a .order)
 
--- a stack of superblock k with the blocks of those addresses that lie in k, pushed in the order written; state s tells the blocks
+-- the block at address a goes on the stack of superblock k, as state s tells: the address lies in k, and the block is no long one
+unfoldable pub isPushedOnto : State → ℕ → ℕ → Bool
+isPushedOnto s k a = both (eqb (superblockIndex a) k) (not (isInRun s a))
+
+-- a stack of superblock k with the blocks of those addresses that go on it, pushed in the order written; state s tells the blocks
 unfoldable pub droppedOnto : State → ℕ → List ℕ → List ℕ → List ℕ
 droppedOnto s k [] stack = stack
-droppedOnto s k (a ∷ addresses) stack = droppedOnto s k addresses (pick (eqb (superblockIndex a) k) (blockOf s a ∷ stack) stack)
+droppedOnto s k (a ∷ addresses) stack = droppedOnto s k addresses (pick (isPushedOnto s k a) (blockOf s a ∷ stack) stack)
 
 -- a take from superblock k answers the block on top of its stack and leaves the rest
 pub record TakePops (s : State) (order : List ℕ) (i size k j : ℕ) : Type 0 where
@@ -175,8 +186,8 @@ invariant-restored-keeps-stacks h c s order m =
     let e = invariant-restored-same-class-and-marks h c s m in
     stack-cong s (invariantRestored h c s .state) order order m (ap₂ (λ (d : ℕ) (l : List ℕ). blocksOf d - liveCount l) (e .class) (e .live)) (λ p l. refl)
 
--- ---- a block freed, in a state that passed before other frees
-module _ (freed : ℕ → ℕ → ℕ) (s : State) (order : List ℕ) (a : ℕ) (shape : Shape s) (passed : PassedAfterFrees freed s order) (accepted : addressRefusal s a ≡ 0) where
+-- ---- a block of a class freed, in a state that passed before other frees
+module _ (freed : ℕ → ℕ → ℕ) (s : State) (order : List ℕ) (a : ℕ) (shape : Shape s) (passed : PassedAfterFrees freed s order) (accepted : addressRefusal s a ≡ 0) (small : isInRun s a ≡ false) where
   abbrev home : ℕ
   home = superblockIndex a
 
@@ -184,11 +195,11 @@ module _ (freed : ℕ → ℕ → ℕ) (s : State) (order : List ℕ) (a : ℕ) 
   filled = filledIn (superblockHolding s a)
 
   home-lt-64 : home < 64
-  home-lt-64 = freed-superblock-lt-64 freed s order a shape passed accepted
+  home-lt-64 = freed-superblock-lt-64 freed s order a shape passed accepted small
 
   -- ranks fill and empty no place
-  filled-whatever-the-ranks : (m : ℕ) → filledIn (superblockAt (blockFreed s a) m) ≡ filledIn (superblockAt (markCleared s a) m)
-  unfolding blockFreed markCleared rankedLatest blockOf
+  filled-whatever-the-ranks : (m : ℕ) → filledIn (superblockAt (smallBlockFreed s a) m) ≡ filledIn (superblockAt (markCleared s a) m)
+  unfolding smallBlockFreed markCleared rankedLatest blockOf
   filled-whatever-the-ranks m = go (ℕ-discrete m home)
     where
       rank : ℕ → ℕ
@@ -220,92 +231,146 @@ module _ (freed : ℕ → ℕ → ℕ) (s : State) (order : List ℕ) (a : ℕ) 
   unfolding markCleared
   mark-cleared-at-home = superblock-at-replaced s home (withoutMarkAt (superblockHolding s a) (blockOf s a)) (shape .length-is) home-lt-64
 
-  one-more-place-filled : filledIn (superblockAt (blockFreed s a) home) ≡ suc filled
+  one-more-place-filled : filledIn (superblockAt (smallBlockFreed s a) home) ≡ suc filled
   one-more-place-filled =
-      let eff = block-freed-effect freed s order a shape passed accepted in
+      let eff = small-block-freed-effect freed s order a shape passed accepted small in
       let fits = live-le-blocks-of-owned s order (passed .sound) home home-lt-64 (eff .owned-before) in
       let fewer = live-count-without-mark (superblockHolding s a .live) (blockOf s a) (shape .marks-length home home-lt-64) (omega (arith, eff .block, blocks-of-le-256 (superblockHolding s a .class))) (eff .was-marked) in
       filled-whatever-the-ranks home ∙ ap filledIn mark-cleared-at-home ∙ omega arith
 
   next-place-in-storage : home * 256 + filled < length order
-  next-place-in-storage = omega (arith, freed-superblock-below-superblocks s a accepted, filled-lt-256 s a accepted, passed .room)
+  next-place-in-storage = omega (arith, freed-superblock-below-superblocks s a accepted, filled-lt-256 s a accepted small, passed .room)
 
-  pushed-on-top : stackOf (blockFreed s a) (orderPushed s order a) home ≡ blockOf s a ∷ stackOf s order home
-  unfolding stackOf orderPushed fromLast
+  pushed-on-top : stackOf (smallBlockFreed s a) (blockPushed s order a) home ≡ blockOf s a ∷ stackOf s order home
+  unfolding stackOf blockPushed fromLast
   pushed-on-top =
       ap (fromLast (place (withPlace order home filled (blockOf s a)) home)) one-more-place-filled
       ∙ ap₂ _∷_ (with-place-same order home filled (blockOf s a) next-place-in-storage)
       (from-last-cong (place (withPlace order home filled (blockOf s a)) home) (place order home) filled (λ p l. with-place-other-place order home filled (blockOf s a) p (λ (q : p ≡ filled). omega arith)))
 
-  other-stacks-kept : (m : ℕ) → (m ≡ home → ⊥) → stackOf (blockFreed s a) (orderPushed s order a) m ≡ stackOf s order m
-  unfolding markCleared orderPushed
+  other-stacks-kept : (m : ℕ) → (m ≡ home → ⊥) → stackOf (smallBlockFreed s a) (blockPushed s order a) m ≡ stackOf s order m
+  unfolding markCleared blockPushed
   other-stacks-kept m f =
-      stack-cong s (blockFreed s a) order (orderPushed s order a) m (filled-whatever-the-ranks m ∙ ap filledIn (superblock-at-others s home (withoutMarkAt (superblockHolding s a) (blockOf s a)) m f))
-      (λ p l. with-place-other-superblock order home filled (blockOf s a) m p f (filled-lt-256 s a accepted) l)
+      stack-cong s (smallBlockFreed s a) order (blockPushed s order a) m (filled-whatever-the-ranks m ∙ ap filledIn (superblock-at-others s home (withoutMarkAt (superblockHolding s a) (blockOf s a)) m f))
+      (λ p l. with-place-other-superblock order home filled (blockOf s a) m p f (filled-lt-256 s a accepted small) l)
 
   -- it is pushed on its superblock's stack
-  pub block-freed-pushes : BlockPushed a s order (blockFreed s a) (orderPushed s order a)
-  block-freed-pushes = record { pushed = pushed-on-top; others = other-stacks-kept }
+  pub small-block-freed-pushes : BlockPushed a s order (smallBlockFreed s a) (blockPushed s order a)
+  small-block-freed-pushes = record { pushed = pushed-on-top; others = other-stacks-kept }
 
-  -- and no class changes
-  block-freed-class : (m : ℕ) → superblockAt (blockFreed s a) m .class ≡ superblockAt s m .class
-  block-freed-class m = go (decLt m 64)
-    where
-      go : Dec (m < 64) → superblockAt (blockFreed s a) m .class ≡ superblockAt s m .class
-      go (yes l) = block-freed-effect freed s order a shape passed accepted .classes m l
-      go (no f) =
-          let g = le-of-not-below f in
-          ap (λ (b : Superblock). b .class)
-          (List·getD-eq-default (blockFreed s a .table) blank (omega (arith, block-freed-shape freed s order a shape passed accepted .length-is)) ∙ sym (List·getD-eq-default (s .table) blank (omega (arith, shape .length-is))))
+-- ---- a long block freed
+-- the superblocks of its run have class field 0 and no marks, before the free and after it, and so even their stacks stay
+long-free-effect-keeps-stacks : (freed : ℕ → ℕ → ℕ) (k n : ℕ) (s t : State) (order : List ℕ) → PassedAfterFrees freed s order → LongFreeEffect k n s t → (m : ℕ) → stackOf t order m ≡ stackOf s order m
+long-free-effect-keeps-stacks freed k n s t order passed eff m = stack-cong s t order order m (go (side-of-range k n m)) (λ p l. refl)
+  where
+    of-no-blocks : (k ≤ m) × (m < k + n) → filledIn unused ≡ filledIn (superblockAt s m)
+    of-no-blocks inside =
+        let part = unowned-of-owner s order (passed .sound) m (omega (arith, inside .1, eff .run-before .in-table)) (omega (arith, owner-of-run (superblockAt s m) (eff .run-before .of-run m (inside .0) (inside .1)))) in
+        ap₂ (λ (c l : ℕ). blocksOf c - l) (sym (part .class)) (live-count-of-no-marks ∙ sym (part .live))
+
+    go : Outside k n m ⊎ ((k ≤ m) × (m < k + n)) → filledIn (superblockAt t m) ≡ filledIn (superblockAt s m)
+    go (inl out) = ap filledIn (eff .others m (λ inside. outside-not-inside k n m out (inside .0) (inside .1)))
+    go (inr inside) = ap filledIn (eff .run m inside) ∙ of-no-blocks inside
 
 -- ---- a free
 module _ (s : State) (order : List ℕ) (i a : ℕ) (shape : Shape s) (acc : FreeAccepted s order i a) where
-  freed-block-pushed : BlockPushed a s order (blockFreed s a) (orderPushed s order a)
-  freed-block-pushed = block-freed-pushes (λ h c. 0) s order a shape (passed-after-no-frees s order (acc .passed)) (no-refusal-of-live-block s a (acc .mapped) (acc .block-aligned) (acc .live))
+  freed-block-pushed : BlockPushed a s order (smallBlockFreed s a) (blockPushed s order a)
+  freed-block-pushed = small-block-freed-pushes (λ h c. 0) s order a shape (passed-after-no-frees s order (acc .address .passed)) (no-refusal-of-accepted-address s order i a (acc .address)) (acc .outside-run)
 
   -- the stacks after the free, by the state before the moves
-  stack-after : (m : ℕ) → stackOf (freeOf s order i a .answer .state) (freeOf s order i a .order) m ≡ stackOf (blockFreed s a) (orderPushed s order a) m
-  unfolding freedAt
+  stack-after : (m : ℕ) → stackOf (freeOf s order i a .answer .state) (freeOf s order i a .order) m ≡ stackOf (smallBlockFreed s a) (blockPushed s order a) m
+  unfolding smallFreedAt
   stack-after m =
       ap (λ (x : After). stackOf (x .answer .state) (x .order) m) (acc .result-is)
-      ∙ invariant-restored-keeps-stacks (superblockHolding s a .owner) (superblockHolding s a .class) (blockFreed s a) (orderPushed s order a) m
+      ∙ invariant-restored-keeps-stacks (superblockHolding s a .owner) (superblockHolding s a .class) (smallBlockFreed s a) (blockPushed s order a) m
 
   pub free-pushes : FreePushes s order i a
   free-pushes = record { pushed = stack-after (superblockIndex a) ∙ freed-block-pushed .pushed; others = λ m f. stack-after m ∙ freed-block-pushed .others m f }
 
--- ---- a drop
--- states with the same classes tell the same blocks
-dropped-onto-cong : (s t : State) → ((m : ℕ) → superblockAt t m .class ≡ superblockAt s m .class) → (k : ℕ) (addresses stack : List ℕ) → droppedOnto t k addresses stack ≡ droppedOnto s k addresses stack
-unfolding droppedOnto blockOf
-dropped-onto-cong s t same k [] stack = refl
-dropped-onto-cong s t same k (a ∷ addresses) stack =
-    ap (λ (c : ℕ). droppedOnto t k addresses (pick (eqb (superblockIndex a) k) (offsetOf a / sizeOf c ∷ stack) stack)) (same (superblockIndex a))
-    ∙ dropped-onto-cong s t same k addresses (pick (eqb (superblockIndex a) k) (blockOf s a ∷ stack) stack)
+-- the free of a long block leaves every stack
+pub long-free-keeps-stacks : (s : State) (order : List ℕ) (i a : ℕ) → Shape s → LongFreeAccepted s order i a → (m : ℕ) → stackOf (freeOf s order i a .answer .state) (freeOf s order i a .order) m ≡ stackOf s order m
+long-free-keeps-stacks s order i a shape acc m =
+    ap (λ (places : List ℕ). stackOf (freeOf s order i a .answer .state) places m) (long-free-order s order i a shape acc)
+    ∙ long-free-effect-keeps-stacks (λ h c. 0) (superblockIndex a) (superblockHolding s a .run) s (freeOf s order i a .answer .state) order (passed-after-no-frees s order (acc .address .passed)) (long-free-effect s order i a shape acc) m
 
+-- ---- a drop
 -- no address in superblock k: its stack stays
 dropped-onto-of-none-in : (s : State) (k : ℕ) (addresses stack : List ℕ) → NoneIn k addresses → droppedOnto s k addresses stack ≡ stack
-unfolding droppedOnto
+unfolding droppedOnto isPushedOnto
 dropped-onto-of-none-in s k [] stack apart = refl
 dropped-onto-of-none-in s k (a ∷ addresses) stack apart =
-    ap (λ (t : Bool). droppedOnto s k addresses (pick t (blockOf s a ∷ stack) stack)) (ne-eqb (superblockIndex a) k (apart .0)) ∙ dropped-onto-of-none-in s k addresses stack (apart .1)
+    ap (λ (t : Bool). droppedOnto s k addresses (pick (both t (not (isInRun s a))) (blockOf s a ∷ stack) stack)) (ne-eqb (superblockIndex a) k (apart .0)) ∙ dropped-onto-of-none-in s k addresses stack (apart .1)
 
 -- one block freed, on the stack of any superblock
-pushed-by-test : (a : ℕ) (s t : State) (order places : List ℕ) → BlockPushed a s order t places → (k : ℕ) → stackOf t places k ≡ pick (eqb (superblockIndex a) k) (blockOf s a ∷ stackOf s order k) (stackOf s order k)
-pushed-by-test a s t order places h k = go (eqb (superblockIndex a) k) refl
-  where
-    go : (b : Bool) → eqb (superblockIndex a) k ≡ b → stackOf t places k ≡ pick b (blockOf s a ∷ stackOf s order k) (stackOf s order k)
-    go true e = subst (λ (m : ℕ). stackOf t places m ≡ blockOf s a ∷ stackOf s order m) (eqb-true (superblockIndex a) k e) (h .pushed)
-    go false e = h .others k (λ q. eqb-false (superblockIndex a) k e (sym q))
+module _ (freed : ℕ → ℕ → ℕ) (s : State) (order : List ℕ) (a : ℕ) (shape : Shape s) (passed : PassedAfterFrees freed s order) (accepted : addressRefusal s a ≡ 0) where
+  block-freed-by-test : (k : ℕ) → stackOf (blockFreed s a) (orderPushed s order a) k ≡ pick (isPushedOnto s k a) (blockOf s a ∷ stackOf s order k) (stackOf s order k)
+  unfolding isPushedOnto
+  block-freed-by-test k = by-run (isInRun s a) refl
+    where
+      pushed : BlockPushed a s order (smallBlockFreed s a) (blockPushed s order a) → (b : Bool) → eqb (superblockIndex a) k ≡ b
+          → stackOf (smallBlockFreed s a) (blockPushed s order a) k ≡ pick (both b true) (blockOf s a ∷ stackOf s order k) (stackOf s order k)
+      pushed h true e = subst (λ (m : ℕ). stackOf (smallBlockFreed s a) (blockPushed s order a) m ≡ blockOf s a ∷ stackOf s order m) (eqb-true (superblockIndex a) k e) (h .pushed)
+      pushed h false e = h .others k (λ q. eqb-false (superblockIndex a) k e (sym q))
 
-all-freed-push : (freed : ℕ → ℕ → ℕ) (s : State) (order addresses : List ℕ) → Shape s → PassedAfterFrees freed s order → firstAddressRefusal s addresses ≡ 0
-    → (k : ℕ) → stackOf (allFreed s addresses) (allPushed s order addresses) k ≡ droppedOnto s k addresses (stackOf s order k)
-unfolding allFreed allPushed droppedOnto
-all-freed-push freed s order [] shape passed ok k = refl
-all-freed-push freed s order (a ∷ addresses) shape passed ok k =
-    let accepted = first-refusal-of-cons s a addresses ok in
-    all-freed-push _ (blockFreed s a) (orderPushed s order a) addresses (block-freed-shape freed s order a shape passed (accepted .0)) (block-freed-passed freed s order a shape passed (accepted .0)) (accepted .1) k
-    ∙ dropped-onto-cong s (blockFreed s a) (block-freed-class freed s order a shape passed (accepted .0)) k addresses (stackOf (blockFreed s a) (orderPushed s order a) k)
-    ∙ ap (droppedOnto s k addresses) (pushed-by-test a s (blockFreed s a) order (orderPushed s order a) (block-freed-pushes freed s order a shape passed (accepted .0)) k)
+      unpushed : (b : Bool) → stackOf s order k ≡ pick (both b false) (blockOf s a ∷ stackOf s order k) (stackOf s order k)
+      unpushed true = refl
+      unpushed false = refl
+
+      by-run : (r : Bool) → isInRun s a ≡ r → stackOf (blockFreed s a) (orderPushed s order a) k ≡ pick (both (eqb (superblockIndex a) k) (not r)) (blockOf s a ∷ stackOf s order k) (stackOf s order k)
+      by-run true e =
+          ap₂ (λ (t : State) (places : List ℕ). stackOf t places k) (block-freed-in-run s a e) (order-pushed-in-run s a order e)
+          ∙ long-free-effect-keeps-stacks freed (superblockIndex a) (superblockHolding s a .run) s (longBlockFreed s a) order passed (long-block-freed-effect freed s order a shape passed accepted e) k
+          ∙ unpushed (eqb (superblockIndex a) k)
+      by-run false e =
+          ap₂ (λ (t : State) (places : List ℕ). stackOf t places k) (block-freed-outside-run s a e) (order-pushed-outside-run s a order e)
+          ∙ pushed (small-block-freed-pushes freed s order a shape passed accepted e) (eqb (superblockIndex a) k) refl
+
+  -- a superblock that holds an address without refusal is not unused
+  not-of-unused : superblockHolding s a .owner ≡ 255 → ⊥
+  not-of-unused q = go (isInRun s a) refl
+    where
+      go : (r : Bool) → isInRun s a ≡ r → ⊥
+      go true e = omega (arith, owner-of-run (superblockHolding s a) e)
+      go false e = omega (arith, freed-superblock-owner-le freed s order a shape passed accepted e, passed .sound .numbers .processors-high)
+
+-- state t, after some frees of a drop on state s, tells of each superblock as s does, but for the runs that were freed
+record FreedSince (s t : State) : Type 0 where
+  owners : OwnersKeptOrRunFreed s t
+  classes : (m : ℕ) → m < 64 → superblockAt t m .class ≡ superblockAt s m .class
+  shape-before : Shape s
+
+none-freed-since : (s : State) → Shape s → FreedSince s s
+none-freed-since s shape = record { owners = λ m l. inl refl; classes = λ m l. refl; shape-before = shape }
+
+-- the next address of the drop lies in no freed run, so that both tell the same of it
+module _ (freed : ℕ → ℕ → ℕ) (s t : State) (order : List ℕ) (a : ℕ) (since : FreedSince s t) (shape : Shape t) (passed : PassedAfterFrees freed t order) (accepted : addressRefusal t a ≡ 0) where
+  in-run-since : isInRun t a ≡ isInRun s a
+  unfolding isOfRun
+  in-run-since = go (since .owners (superblockIndex a) (address-freed freed t order a shape passed accepted .below))
+    where
+      go : (superblockHolding t a .owner ≡ superblockHolding s a .owner) ⊎ ((superblockHolding s a .owner ≡ 254) × (superblockHolding t a .owner ≡ 255)) → isInRun t a ≡ isInRun s a
+      go (inl e) = ap (λ (o : ℕ). eqb o 254) e
+      go (inr (was, now)) = absurd (not-of-unused freed t order a shape passed accepted now)
+
+  block-since : blockOf t a ≡ blockOf s a
+  block-since = block-at-address-same s t (since .shape-before .length-is) (shape .length-is) (since .classes) a
+
+  freed-since-then : FreedSince s (blockFreed t a)
+  freed-since-then =
+      let here = address-freed freed t order a shape passed accepted in
+      record { owners = owners-kept-or-run-freed-then s t (blockFreed t a) (since .owners) (here .owners); classes = λ m l. here .classes m l ∙ since .classes m l; shape-before = since .shape-before }
+
+all-freed-push : (freed : ℕ → ℕ → ℕ) (s t : State) (order addresses : List ℕ) → FreedSince s t → Shape t → PassedAfterFrees freed t order → firstAddressRefusal t addresses ≡ 0
+    → (k : ℕ) → stackOf (allFreed t addresses) (allPushed t order addresses) k ≡ droppedOnto s k addresses (stackOf t order k)
+unfolding allFreed allPushed droppedOnto isPushedOnto
+all-freed-push freed s t order [] since shape passed ok k = refl
+all-freed-push freed s t order (a ∷ addresses) since shape passed ok k =
+    let accepted = first-refusal-of-cons t a addresses ok in
+    let here = address-freed freed t order a shape passed (accepted .0) in
+    all-freed-push _ s (blockFreed t a) (orderPushed t order a) addresses (freed-since-then freed s t order a since shape passed (accepted .0)) (here .shape) (here .passed) (accepted .1) k
+    ∙ ap (droppedOnto s k addresses)
+    (block-freed-by-test freed t order a shape passed (accepted .0) k
+    ∙ ap₂ (λ (r : Bool) (b : ℕ). pick (both (eqb (superblockIndex a) k) (not r)) (b ∷ stackOf t order k) (stackOf t order k)) (in-run-since freed s t order a since shape passed (accepted .0)) (block-since freed s t order a since shape passed (accepted .0)))
 
 -- the moves of all its heaps and classes leave every stack
 drop-moves-keep-stacks : (s : State) (addresses order : List ℕ) (k : ℕ) → stackOf (dropMoves s addresses .state) order k ≡ stackOf (allFreed s addresses) order k
@@ -316,14 +381,14 @@ drop-moves-keep-stacks s addresses order k =
     (λ h c before e. invariant-restored-keeps-stacks h c (before .state) order k ∙ e)
     (isTouched s addresses) (s .setup .processors) (record { moves = 0; state = allFreed s addresses }) refl)
 
--- an accepted drop pushes its blocks in the order written, each on its superblock's stack, so that the last dropped is on top
+-- an accepted drop pushes its blocks in the order written, each that is no long one on its superblock's stack, so that the last dropped is on top
 pub drop-pushes : (s : State) (order : List ℕ) (i : ℕ) (addresses : List ℕ) → Shape s → DropAccepted s order i addresses
     → (k : ℕ) → stackOf (dropOf s order i addresses .answer .state) (dropOf s order i addresses .order) k ≡ droppedOnto s k addresses (stackOf s order k)
 unfolding droppedAll
 drop-pushes s order i addresses shape acc k =
     ap (λ (x : After). stackOf (x .answer .state) (x .order) k) (acc .result-is)
     ∙ drop-moves-keep-stacks s addresses (allPushed s order addresses) k
-    ∙ all-freed-push (λ h c. 0) s order addresses shape (passed-after-no-frees s order (acc .passed)) (acc .no-refusal) k
+    ∙ all-freed-push (λ h c. 0) s s order addresses (none-freed-since s shape) shape (passed-after-no-frees s order (acc .passed)) (acc .no-refusal) k
 
 -- ---- a take
 module _ (s : State) (order : List ℕ) (i size k : ℕ) (shape : Shape s) (acc : TakeAccepted s order i size k) where
@@ -348,7 +413,7 @@ module _ (s : State) (order : List ℕ) (i size k : ℕ) (shape : Shape s) (acc 
   some-free : suc (liveIn (superblockAt s k)) ≤ blocks
   some-free =
       let eff = take-effect s order i size k shape acc in
-      let fits = live-le-blocks-of-owned after places (take-passed s order i size k shape acc .sound) k taken-superblock-lt-64 (λ (q : superblockAt after k .owner ≡ 255). omega (arith, eff .owner, acc .processor .1, acc .passed .sound .numbers .processors-high)) in
+      let fits = live-le-blocks-of-owned after places (take-passed s order i size k shape acc .sound) k taken-superblock-lt-64 (omega (arith, eff .owner, acc .processor .1, acc .passed .sound .numbers .processors-high)) in
       omega (arith, eff .live, ap blocksOf (eff .class))
 
   stacks-keep : ((m p : ℕ) → (m ≡ k → ⊥) → p < 256 → place places m p ≡ place order m p) → OtherStacksKept k s order after places
@@ -370,7 +435,7 @@ module _ (s : State) (order : List ℕ) (i size k : ℕ) (shape : Shape s) (acc 
       by-live none false q e =
           record { class = was-class (take-effect s order i size k shape acc .before); stays = ap (λ (x : After). x .order) e; last = ap (λ (x : After). x .answer .outcome) e }
         where
-          was-class : (liveIn (superblockAt s k) ≡ 0) ⊎ ((superblockAt s k .class ≡ classOf size) × (superblockAt s k .owner ≡ 255 → ⊥)) → superblockAt s k .class ≡ classOf size
+          was-class : (liveIn (superblockAt s k) ≡ 0) ⊎ ((superblockAt s k .class ≡ classOf size) × (superblockAt s k .owner < 254)) → superblockAt s k .class ≡ classOf size
           was-class (inl z) = absurd (eqb-false (liveIn (superblockAt s k)) 0 q z)
           was-class (inr h) = h .0
 
@@ -457,12 +522,19 @@ module _ (s : State) (order : List ℕ) (i size k : ℕ) (shape : Shape s) (acc 
       others = stacks-keep (λ m p f l. ap (λ (x : After). place (x .order) m p) renewed-result ∙ renewed-other-superblock order k blocks m p f l);
     }
 
+-- the take of a long block leaves the stack of every superblock outside its run
+pub long-take-keeps-other-stacks : (s : State) (order : List ℕ) (i size k : ℕ) → Shape s → LongTakeAccepted s order i size k
+    → (m : ℕ) → (InRun k (runLength size) m → ⊥) → stackOf (takeOf s order i size .answer .state) (takeOf s order i size .order) m ≡ stackOf s order m
+long-take-keeps-other-stacks s order i size k shape acc m outside =
+    stack-cong s (takeOf s order i size .answer .state) order (takeOf s order i size .order) m (ap filledIn (long-take-effect s order i size k shape acc .others m outside))
+    (λ p l. ap (λ (places : List ℕ). place places m p) (long-take-order s order i size k shape acc))
+
 -- ---- the block freed last is the next one taken
--- a call that neither is answered from superblock k nor frees into it
+-- a call that neither is answered from superblock k nor takes it into a run, and frees no block of a class in it
 abbrev pub AvoidsSuperblock : ℕ → State → List ℕ → Call → Type 0
-AvoidsSuperblock k s order (Take i size) = TakeAccepted s order i size k → ⊥
+AvoidsSuperblock k s order (Take i size) = (TakeAccepted s order i size k → ⊥) × ((j : ℕ) → LongTakeAccepted s order i size j → InRun j (runLength size) k → ⊥)
 AvoidsSuperblock k s order (Free i a) = FreeAccepted s order i a → superblockIndex a ≡ k → ⊥
-AvoidsSuperblock k s order (NamedTake i m size) = NamedTakeAccepted s order i m size k → ⊥
+AvoidsSuperblock k s order (NamedTake i m size) = (NamedTakeAccepted s order i m size k → ⊥) × ((j : ℕ) → NamedLongTakeAccepted s order i m size j → InRun j (runLength size) k → ⊥)
 AvoidsSuperblock k s order (NamedFree i m) = NamedFreeAccepted s order i m → superblockIndex (heldAddress s m) ≡ k → ⊥
 AvoidsSuperblock k s order (Drop i addresses) = DropAccepted s order i addresses → NoneIn k addresses
 
@@ -481,7 +553,7 @@ pub record StackKept (k : ℕ) (s : State) (order : List ℕ) (t : State) (place
 refused-keeps-stack : (k : ℕ) (s : State) (order : List ℕ) (r : ℕ) (x : After) → Shape s → x ≡ refused r s order → StackKept k s order (x .answer .state) (x .order)
 refused-keeps-stack k s order r x shape e = subst (λ (y : After). StackKept k s order (y .answer .state) (y .order)) (sym e) (record { shape = shape; stack = refl; class = refl })
 
-take-keeps-stack : (k : ℕ) (s : State) (order : List ℕ) (i size : ℕ) → Shape s → (TakeAccepted s order i size k → ⊥) → StackKept k s order (takeOf s order i size .answer .state) (takeOf s order i size .order)
+take-keeps-stack : (k : ℕ) (s : State) (order : List ℕ) (i size : ℕ) → Shape s → AvoidsSuperblock k s order (Take i size) → StackKept k s order (takeOf s order i size .answer .state) (takeOf s order i size .order)
 take-keeps-stack k s order i size shape apart = go (take-refused-or-accepted s order i size)
   where
     other : (m : ℕ) (acc : TakeAccepted s order i size m) → (k ≡ m → ⊥) → Dec (liveIn (superblockAt s m) ≡ 0) → (f : Found) → fullest i (classOf size) s ≡ f → OtherStacksKept m s order (takeOf s order i size .answer .state) (takeOf s order i size .order)
@@ -492,52 +564,81 @@ take-keeps-stack k s order i size shape apart = go (take-refused-or-accepted s o
         found-one n q = let z : _≡_ {A = ℕ} 0 1 = cc in omega arith
     other m acc f (no g) found e = take-pops s order i size m shape acc (λ r. g (r .empty)) .1 .others
 
-    go : ((r : ℕ) × (takeOf s order i size ≡ refused r s order)) ⊎ ((m : ℕ) × TakeAccepted s order i size m) → StackKept k s order (takeOf s order i size .answer .state) (takeOf s order i size .order)
+    go : ((r : ℕ) × (takeOf s order i size ≡ refused r s order)) ⊎ (((m : ℕ) × TakeAccepted s order i size m) ⊎ ((m : ℕ) × LongTakeAccepted s order i size m))
+        → StackKept k s order (takeOf s order i size .answer .state) (takeOf s order i size .order)
     go (inl (r, e)) = refused-keeps-stack k s order r (takeOf s order i size) shape e
-    go (inr (m, acc)) =
-        let f : k ≡ m → ⊥ = λ q. apart (subst (TakeAccepted s order i size) (sym q) acc) in
+    go (inr (inr (m, acc))) =
+        record {
+          shape = long-take-shape s order i size m shape acc;
+          stack = long-take-keeps-other-stacks s order i size m shape acc k (apart .1 m acc);
+          class = ap (λ (b : Superblock). b .class) (long-take-effect s order i size m shape acc .others k (apart .1 m acc));
+        }
+    go (inr (inl (m, acc))) =
+        let f : k ≡ m → ⊥ = λ q. apart .0 (subst (TakeAccepted s order i size) (sym q) acc) in
         record {
           shape = take-shape s order i size m shape acc;
           stack = other m acc f (ℕ-discrete (liveIn (superblockAt s m)) 0) (fullest i (classOf size) s) refl k f;
           class = ap (λ (b : Superblock). b .class) (take-effect s order i size m shape acc .others k f);
         }
 
-free-keeps-stack : (k : ℕ) (s : State) (order : List ℕ) (i a : ℕ) → k < 64 → Shape s → (FreeAccepted s order i a → superblockIndex a ≡ k → ⊥) → StackKept k s order (freeOf s order i a .answer .state) (freeOf s order i a .order)
+free-keeps-stack : (k : ℕ) (s : State) (order : List ℕ) (i a : ℕ) → k < 64 → Shape s → AvoidsSuperblock k s order (Free i a) → StackKept k s order (freeOf s order i a .answer .state) (freeOf s order i a .order)
+unfolding longFreedAt
 free-keeps-stack k s order i a l shape apart = go (free-refused-or-accepted s order i a)
   where
-    go : ((r : ℕ) × (freeOf s order i a ≡ refused r s order)) ⊎ FreeAccepted s order i a → StackKept k s order (freeOf s order i a .answer .state) (freeOf s order i a .order)
+    -- class field 0 of a run's superblock stays, too
+    class-kept : LongFreeAccepted s order i a → superblockAt (freeOf s order i a .answer .state) k .class ≡ superblockAt s k .class
+    class-kept acc =
+        ap (λ (x : After). superblockAt (x .answer .state) k .class) (acc .result-is)
+        ∙ long-block-freed-class (λ h c. 0) s order a shape (passed-after-no-frees s order (acc .address .passed)) (no-refusal-of-accepted-address s order i a (acc .address)) (acc .in-run) k l
+
+    go : ((r : ℕ) × (freeOf s order i a ≡ refused r s order)) ⊎ (FreeAccepted s order i a ⊎ LongFreeAccepted s order i a) → StackKept k s order (freeOf s order i a .answer .state) (freeOf s order i a .order)
     go (inl (r, e)) = refused-keeps-stack k s order r (freeOf s order i a) shape e
-    go (inr acc) = record {
+    go (inr (inr acc)) = record { shape = long-free-shape s order i a shape acc; stack = long-free-keeps-stacks s order i a shape acc k; class = class-kept acc }
+    go (inr (inl acc)) = record {
       shape = free-shape s order i a shape acc;
       stack = free-pushes s order i a shape acc .others k (λ q. apart acc (sym q));
       class = free-effect s order i a shape acc .classes k l;
     }
 
 -- a name bound with a take keeps what the take keeps
-named-take-keeps-stack : (k : ℕ) (s : State) (order : List ℕ) (i m size : ℕ) → Shape s → (NamedTakeAccepted s order i m size k → ⊥) → StackKept k s order (namedTakeOf s order i m size .answer .state) (namedTakeOf s order i m size .order)
+named-take-keeps-stack : (k : ℕ) (s : State) (order : List ℕ) (i m size : ℕ) → Shape s → AvoidsSuperblock k s order (NamedTake i m size) → StackKept k s order (namedTakeOf s order i m size .answer .state) (namedTakeOf s order i m size .order)
 unfolding stackOf
 named-take-keeps-stack k s order i m size shape apart = go (named-take-refused-or-accepted s order i m size)
   where
-    go : ((r : ℕ) × (namedTakeOf s order i m size ≡ refused r s order)) ⊎ ((n : ℕ) × NamedTakeAccepted s order i m size n) → StackKept k s order (namedTakeOf s order i m size .answer .state) (namedTakeOf s order i m size .order)
-    go (inl (r, e)) = refused-keeps-stack k s order r (namedTakeOf s order i m size) shape e
-    go (inr (n, acc)) =
-        let plain = take-keeps-stack k s order i size shape (λ taken. apart (record { taken = taken; available = acc .available; result-is = acc .result-is })) in
-        record {
-          shape = named-take-shape s order i m size n shape acc;
-          stack = ap₂ (λ (t : State) (places : List ℕ). stackOf t places k) (named-take-state s order i m size n shape acc) (named-take-order s order i m size n shape acc) ∙ plain .stack;
-          class = ap (λ (t : State). superblockAt t k .class) (named-take-state s order i m size n shape acc) ∙ plain .class;
-        }
+    plain : isUnavailable s m ≡ false → namedTakeOf s order i m size ≡ withNameBound m (takeOf s order i size) → StackKept k s order (takeOf s order i size .answer .state) (takeOf s order i size .order)
+    plain available result =
+        take-keeps-stack k s order i size shape
+        (λ taken. apart .0 (record { taken = taken; available = available; result-is = result }), λ j taken. apart .1 j (record { taken = taken; available = available; result-is = result }))
 
-named-free-keeps-stack : (k : ℕ) (s : State) (order : List ℕ) (i m : ℕ) → k < 64 → Shape s → (NamedFreeAccepted s order i m → superblockIndex (heldAddress s m) ≡ k → ⊥) → StackKept k s order (namedFreeOf s order i m .answer .state) (namedFreeOf s order i m .order)
+    bound : (names : List ℕ) → Shape (namedTakeOf s order i m size .answer .state) → namedTakeOf s order i m size .answer .state ≡ withNames (takeOf s order i size .answer .state) names
+        → namedTakeOf s order i m size .order ≡ takeOf s order i size .order → StackKept k s order (takeOf s order i size .answer .state) (takeOf s order i size .order)
+        → StackKept k s order (namedTakeOf s order i m size .answer .state) (namedTakeOf s order i m size .order)
+    bound names named-shape state places kept =
+        record { shape = named-shape; stack = ap₂ (λ (t : State) (x : List ℕ). stackOf t x k) state places ∙ kept .stack; class = ap (λ (t : State). superblockAt t k .class) state ∙ kept .class }
+
+    go : ((r : ℕ) × (namedTakeOf s order i m size ≡ refused r s order)) ⊎ (((n : ℕ) × NamedTakeAccepted s order i m size n) ⊎ ((n : ℕ) × NamedLongTakeAccepted s order i m size n))
+        → StackKept k s order (namedTakeOf s order i m size .answer .state) (namedTakeOf s order i m size .order)
+    go (inl (r, e)) = refused-keeps-stack k s order r (namedTakeOf s order i m size) shape e
+    go (inr (inl (n, acc))) =
+        bound _ (named-take-shape s order i m size n shape acc) (named-take-state s order i m size n shape acc) (named-take-order s order i m size n shape acc) (plain (acc .available) (acc .result-is))
+    go (inr (inr (n, acc))) =
+        bound _ (named-long-take-shape s order i m size n shape acc) (named-long-take-state s order i m size n shape acc) (named-long-take-order s order i m size n shape acc) (plain (acc .available) (acc .result-is))
+
+named-free-keeps-stack : (k : ℕ) (s : State) (order : List ℕ) (i m : ℕ) → k < 64 → Shape s → AvoidsSuperblock k s order (NamedFree i m) → StackKept k s order (namedFreeOf s order i m .answer .state) (namedFreeOf s order i m .order)
 named-free-keeps-stack k s order i m l shape apart = go (named-free-refused-or-accepted s order i m)
   where
-    go : ((r : ℕ) × (namedFreeOf s order i m ≡ refused r s order)) ⊎ NamedFreeAccepted s order i m → StackKept k s order (namedFreeOf s order i m .answer .state) (namedFreeOf s order i m .order)
-    go (inl (r, e)) = refused-keeps-stack k s order r (namedFreeOf s order i m) shape e
-    go (inr acc) =
-        subst (λ (x : After). StackKept k s order (x .answer .state) (x .order)) (sym (acc .result-is))
-        (free-keeps-stack k s order i (heldAddress s m) l shape (λ freed. apart acc))
+    -- the free of the held address
+    plain : T (isHeld (s .names) m) → namedFreeOf s order i m ≡ freeOf s order i (heldAddress s m) → StackKept k s order (namedFreeOf s order i m .answer .state) (namedFreeOf s order i m .order)
+    plain held result =
+        subst (λ (x : After). StackKept k s order (x .answer .state) (x .order)) (sym result)
+        (free-keeps-stack k s order i (heldAddress s m) l shape (λ freed. apart (record { held = held; freed = freed; result-is = result })))
 
-drop-keeps-stack : (k : ℕ) (s : State) (order : List ℕ) (i : ℕ) (addresses : List ℕ) → k < 64 → Shape s → (DropAccepted s order i addresses → NoneIn k addresses) → StackKept k s order (dropOf s order i addresses .answer .state) (dropOf s order i addresses .order)
+    go : ((r : ℕ) × (namedFreeOf s order i m ≡ refused r s order)) ⊎ (NamedFreeAccepted s order i m ⊎ NamedLongFreeAccepted s order i m) → StackKept k s order (namedFreeOf s order i m .answer .state) (namedFreeOf s order i m .order)
+    go (inl (r, e)) = refused-keeps-stack k s order r (namedFreeOf s order i m) shape e
+    go (inr (inl acc)) = plain (acc .held) (acc .result-is)
+    go (inr (inr acc)) = plain (acc .held) (acc .result-is)
+
+drop-keeps-stack : (k : ℕ) (s : State) (order : List ℕ) (i : ℕ) (addresses : List ℕ) → k < 64 → Shape s → AvoidsSuperblock k s order (Drop i addresses) → StackKept k s order (dropOf s order i addresses .answer .state) (dropOf s order i addresses .order)
 drop-keeps-stack k s order i addresses l shape apart =
     ⊎-elim (λ h. refused-keeps-stack k s order (h .0) (dropOf s order i addresses) shape (h .1))
     (λ acc. record {
@@ -555,7 +656,7 @@ call-keeps-stack k s order (NamedTake i m size) l shape apart = named-take-keeps
 call-keeps-stack k s order (NamedFree i m) l shape apart = named-free-keeps-stack k s order i m l shape apart
 call-keeps-stack k s order (Drop i addresses) l shape apart = drop-keeps-stack k s order i addresses l shape apart
 
--- calls that neither are answered from superblock k nor free into it leave its stack
+-- calls that neither are answered from superblock k nor take it into a run, and free no block of a class in it, leave its stack
 pub avoiding-run-keeps-stack : (k : ℕ) {s t : State} {order places : List ℕ} → k < 64 → Shape s → AvoidingRun k s order t places → StackKept k s order t places
 avoiding-run-keeps-stack k l shape done = record { shape = shape; stack = refl; class = refl }
 avoiding-run-keeps-stack k l shape (then {s = s} {order = order} call apart rest) =
@@ -566,8 +667,7 @@ avoiding-run-keeps-stack k l shape (then {s = s} {order = order} call apart rest
 same-top : (j b : ℕ) (l x y : List ℕ) → l ≡ j ∷ x → l ≡ b ∷ y → j ≡ b
 same-top j b l x y p q = cc
 
--- After any calls that neither are answered from superblock k nor free into it, a take that is answered from it without renewing it answers the block on top
--- of its stack.
+-- After any calls that avoid superblock k, a take that is answered from it without renewing it answers the block on top of its stack.
 pub top-next-taken : (k j : ℕ) (rest : List ℕ) (s : State) (order : List ℕ) → k < 64 → Shape s → stackOf s order k ≡ j ∷ rest
     → {t : State} {places : List ℕ} → AvoidingRun k s order t places → (h size : ℕ) → TakeAccepted t places h size k → (RenewedByTake t h size k → ⊥)
     → takeOf t places h size .answer .outcome ≡ Address (addressOf k (superblockAt s k .class) j)
@@ -578,8 +678,8 @@ top-next-taken k j rest s order inside shape top {t} {places} run h size acc not
     let class : classOf size ≡ superblockAt s k .class = sym (taken-without-renewal t places h size k (keeps .shape) acc not-renewed .class) ∙ keeps .class in
     pops .1 .answers ∙ ap₂ (λ (d b : ℕ). Address (addressOf k d b)) class block
 
--- After an accepted free of an address, and any calls that neither are answered from its superblock nor free into it, a take that is answered from that
--- superblock without renewing it answers that address.
+-- After an accepted free of a block of a class, and any calls that neither are answered from its superblock nor take it into a run nor free into it, a take that
+-- is answered from that superblock without renewing it answers the block's address.
 pub last-freed-next-taken : (s : State) (order : List ℕ) (i a : ℕ) → Shape s → FreeAccepted s order i a
     → {t : State} {places : List ℕ} → AvoidingRun (superblockIndex a) (freeOf s order i a .answer .state) (freeOf s order i a .order) t places
     → (h size : ℕ) → TakeAccepted t places h size (superblockIndex a) → (RenewedByTake t h size (superblockIndex a) → ⊥)
@@ -587,43 +687,47 @@ pub last-freed-next-taken : (s : State) (order : List ℕ) (i a : ℕ) → Shape
 last-freed-next-taken s order i a shape freed run h size acc not-renewed =
     let k = superblockIndex a in
     let eff = free-effect s order i a shape freed in
-    let inside : k < 64 = omega (arith, eff .below, freed .passed .sound .numbers .superblocks-high) in
+    let inside : k < 64 = omega (arith, eff .below, freed .address .passed .sound .numbers .superblocks-high) in
     top-next-taken k (blockOf s a) _ _ _ inside (free-shape s order i a shape freed) (free-pushes s order i a shape freed .pushed) run h size acc not-renewed
     ∙ ap (λ (d : ℕ). Address (addressOf k d (blockOf s a))) (eff .classes k inside) ∙ ap Address (sym (free-address s order i a shape freed))
 
 -- ---- and after a drop, the last of its blocks in a superblock
--- the block of an address with none of the same superblock after it is on top
-last-dropped-on-top : (s : State) (a : ℕ) (earlier later stack : List ℕ) → NoneIn (superblockIndex a) later → (rest : List ℕ) × (droppedOnto s (superblockIndex a) (earlier ++ (a ∷ later)) stack ≡ blockOf s a ∷ rest)
-unfolding droppedOnto
-last-dropped-on-top s a [] later stack apart = (
+-- the block of an address with none of the same superblock after it is on top, where it is no long one
+last-dropped-on-top : (s : State) (a : ℕ) (earlier later stack : List ℕ) → isInRun s a ≡ false → NoneIn (superblockIndex a) later
+    → (rest : List ℕ) × (droppedOnto s (superblockIndex a) (earlier ++ (a ∷ later)) stack ≡ blockOf s a ∷ rest)
+unfolding droppedOnto isPushedOnto
+last-dropped-on-top s a [] later stack small apart = (
   stack,
-  ap (λ (t : Bool). droppedOnto s (superblockIndex a) later (pick t (blockOf s a ∷ stack) stack)) (eq-eqb (superblockIndex a) (superblockIndex a) refl)
+  ap₂ (λ (t r : Bool). droppedOnto s (superblockIndex a) later (pick (both t (not r)) (blockOf s a ∷ stack) stack)) (eq-eqb (superblockIndex a) (superblockIndex a) refl) small
       ∙ dropped-onto-of-none-in s (superblockIndex a) later (blockOf s a ∷ stack) apart,
 )
-last-dropped-on-top s a (b ∷ earlier) later stack apart = last-dropped-on-top s a earlier later (pick (eqb (superblockIndex b) (superblockIndex a)) (blockOf s b ∷ stack) stack) apart
+last-dropped-on-top s a (b ∷ earlier) later stack small apart = last-dropped-on-top s a earlier later (pick (isPushedOnto s (superblockIndex a) b) (blockOf s b ∷ stack) stack) small apart
 
--- each address of an accepted drop is that of its block, as the state before the drop tells it, in a superblock of the table
-dropped-address : (freed : ℕ → ℕ → ℕ) (s : State) (order : List ℕ) (a : ℕ) (earlier later : List ℕ) → Shape s → PassedAfterFrees freed s order → firstAddressRefusal s (earlier ++ (a ∷ later)) ≡ 0
-    → (superblockIndex a < 64) × (a ≡ addressOf (superblockIndex a) (superblockHolding s a .class) (blockOf s a))
+-- each address of an accepted drop that lies in no run is that of its block, as the state before the drop tells it, in a superblock of the table; t is the state after
+-- some of its frees
+dropped-address : (freed : ℕ → ℕ → ℕ) (s t : State) (order : List ℕ) (a : ℕ) (earlier later : List ℕ) → FreedSince s t → Shape t → PassedAfterFrees freed t order → firstAddressRefusal t (earlier ++ (a ∷ later)) ≡ 0
+    → isInRun s a ≡ false → (superblockIndex a < 64) × (a ≡ addressOf (superblockIndex a) (superblockHolding s a .class) (blockOf s a))
 unfolding blockOf
-dropped-address freed s order a [] later shape passed ok =
-    let accepted = first-refusal-of-cons s a later ok in
-    (freed-superblock-lt-64 freed s order a shape passed (accepted .0), freed-address freed s order a shape passed (accepted .0))
-dropped-address freed s order a (b ∷ earlier) later shape passed ok =
-    let accepted = first-refusal-of-cons s b (earlier ++ (a ∷ later)) ok in
-    let rest = dropped-address _ (blockFreed s b) (orderPushed s order b) a earlier later (block-freed-shape freed s order b shape passed (accepted .0)) (block-freed-passed freed s order b shape passed (accepted .0)) (accepted .1) in
-    (rest .0, subst (λ (c : ℕ). a ≡ addressOf (superblockIndex a) c (offsetOf a / sizeOf c)) (block-freed-class freed s order b shape passed (accepted .0) (superblockIndex a)) (rest .1))
+dropped-address freed s t order a [] later since shape passed ok small =
+    let accepted = first-refusal-of-cons t a later ok .0 in
+    let outside = in-run-since freed s t order a since shape passed accepted ∙ small in
+    let below = freed-superblock-lt-64 freed t order a shape passed accepted outside in
+    (below, subst (λ (c : ℕ). a ≡ addressOf (superblockIndex a) c (offsetOf a / sizeOf c)) (since .classes (superblockIndex a) below) (freed-address freed t order a shape passed accepted outside))
+dropped-address freed s t order a (b ∷ earlier) later since shape passed ok small =
+    let accepted = first-refusal-of-cons t b (earlier ++ (a ∷ later)) ok in
+    let here = address-freed freed t order b shape passed (accepted .0) in
+    dropped-address _ s (blockFreed t b) (orderPushed t order b) a earlier later (freed-since-then freed s t order b since shape passed (accepted .0)) (here .shape) (here .passed) (accepted .1) small
 
--- After an accepted drop, and any calls that neither are answered from a superblock nor free into it, a take that is answered from that superblock without
--- renewing it answers the last of the drop's addresses in it.
-pub last-dropped-next-taken : (s : State) (order : List ℕ) (i a : ℕ) (earlier later : List ℕ) → Shape s → DropAccepted s order i (earlier ++ (a ∷ later)) → NoneIn (superblockIndex a) later
+-- After an accepted drop, and any calls that neither are answered from a superblock nor take it into a run nor free into it, a take that is answered from that
+-- superblock without renewing it answers the last of the drop's addresses in it, where that is no long block's.
+pub last-dropped-next-taken : (s : State) (order : List ℕ) (i a : ℕ) (earlier later : List ℕ) → Shape s → DropAccepted s order i (earlier ++ (a ∷ later)) → isInRun s a ≡ false → NoneIn (superblockIndex a) later
     → {t : State} {places : List ℕ} → AvoidingRun (superblockIndex a) (dropOf s order i (earlier ++ (a ∷ later)) .answer .state) (dropOf s order i (earlier ++ (a ∷ later)) .order) t places
     → (h size : ℕ) → TakeAccepted t places h size (superblockIndex a) → (RenewedByTake t h size (superblockIndex a) → ⊥)
     → takeOf t places h size .answer .outcome ≡ Address a
-last-dropped-next-taken s order i a earlier later shape dropped apart run h size acc not-renewed =
+last-dropped-next-taken s order i a earlier later shape dropped small apart run h size acc not-renewed =
     let k = superblockIndex a in
     let addresses = earlier ++ (a ∷ later) in
-    let at = dropped-address (λ h c. 0) s order a earlier later shape (passed-after-no-frees s order (dropped .passed)) (dropped .no-refusal) in
-    let top = last-dropped-on-top s a earlier later (stackOf s order k) apart in
+    let at = dropped-address (λ h c. 0) s s order a earlier later (none-freed-since s shape) shape (passed-after-no-frees s order (dropped .passed)) (dropped .no-refusal) small in
+    let top = last-dropped-on-top s a earlier later (stackOf s order k) small apart in
     top-next-taken k (blockOf s a) (top .0) _ _ (at .0) (drop-shape s order i addresses shape dropped) (drop-pushes s order i addresses shape dropped k ∙ top .1) run h size acc not-renewed
     ∙ ap (λ (d : ℕ). Address (addressOf k d (blockOf s a))) (drop-effect s order i addresses shape dropped .classes k (at .0)) ∙ ap Address (sym (at .1))

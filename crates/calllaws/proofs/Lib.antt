@@ -24,6 +24,7 @@ pub mod FreeLaws
 pub mod RefusalOrder
 pub mod AddressLaws
 pub mod NamedCallLaws
+pub mod NamedLongTakeLaws
 pub mod OutcomeValues
 pub mod AcceptedCallLaws
 pub mod NothingOfferedLaws

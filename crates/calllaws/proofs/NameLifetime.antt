@@ -20,9 +20,11 @@ use Rattle.calls.specs.Free.{superblockIndex, superblockHolding, blockOf, addre
 use Rattle.calls.specs.Named.{isUnavailable}
 use Rattle.calls.specs.Drop.{allFreed, firstAddressRefusal, dropOf}
 use Rattle.calls.specs.Calls.{Call, Take, Free, NamedTake, NamedFree, Drop, callOf}
-use Rattle.calllaws.proofs.CallEffects.{PassedAfterFrees, FreeAccepted, NamedTakeAccepted, NamedFreeAccepted}
+use Rattle.calllaws.proofs.CallEffects.{PassedAfterFrees, FreeAccepted, LongFreeAccepted, NamedFreeAccepted, NamedLongFreeAccepted}
 use Rattle.calllaws.proofs.TakeLaws.{take-refused-or-accepted, take-names}
+use Rattle.calllaws.proofs.RunTakenLaws.{long-take-names}
 use Rattle.calllaws.proofs.FreeLaws.{free-refused-or-accepted}
+use Rattle.calllaws.proofs.NamedLongTakeLaws.{named-long-take-keeps-other-names}
 use Rattle.calllaws.proofs.NamedCallLaws.{facts-of-available, named-take-refused-or-accepted, named-take-keeps-other-names, named-free-refused-or-accepted, free-lets-name-go, free-keeps-other-names, named-free-lets-name-go, named-free-keeps-other-names}
 use Rattle.calllaws.proofs.TransferredLaws.{oneMoreFreed, passed-after-no-frees}
 use Rattle.calllaws.proofs.AddressFreedLaws.{address-freed, address-freed-block}
@@ -33,9 +35,9 @@ use Rattle.calllaws.proofs.TotalsKeptLaws.{refused-call-keeps-state}
 -- the call frees the block that name m points at: by its address, alone or in a drop, or by the name
 abbrev pub FreesBlockOf : State → List ℕ → ℕ → Call → Type 0
 FreesBlockOf s order m (Take i size) = ⊥
-FreesBlockOf s order m (Free i a) = FreeAccepted s order i a × (blockNamed (s .names) m ≡ blockNumber (superblockIndex a) (blockOf s a))
+FreesBlockOf s order m (Free i a) = (FreeAccepted s order i a ⊎ LongFreeAccepted s order i a) × (blockNamed (s .names) m ≡ blockNumber (superblockIndex a) (blockOf s a))
 FreesBlockOf s order m (NamedTake i n size) = ⊥
-FreesBlockOf s order m (NamedFree i n) = NamedFreeAccepted s order i n × (n ≡ m)
+FreesBlockOf s order m (NamedFree i n) = (NamedFreeAccepted s order i n ⊎ NamedLongFreeAccepted s order i n) × (n ≡ m)
 FreesBlockOf s order m (Drop i addresses) = DropAccepted s order i addresses × ListsBlock s addresses (blockNamed (s .names) m)
 
 -- ---- the names that the frees of a drop let go
@@ -146,14 +148,17 @@ module _ (s : State) (order : List ℕ) (shape : Shape s) (m : ℕ) where
   pub held-name-kept-until-freed : (call : Call) → T (isHeld (s .names) m) → (FreesBlockOf s order m call → ⊥) → blockNamed (callOf s order call .answer .state .names) m ≡ blockNamed (s .names) m
   unfolding callOf
   held-name-kept-until-freed (Take i size) held other =
-      ⊎-elim (block-of-refused _) (λ h. ap (λ (l : List ℕ). blockNamed l m) (take-names s order i size (h .0) shape (h .1))) (take-refused-or-accepted s order i size)
+      ⊎-elim (block-of-refused _)
+      (⊎-elim (λ h. ap (λ (l : List ℕ). blockNamed l m) (take-names s order i size (h .0) shape (h .1))) (λ h. ap (λ (l : List ℕ). blockNamed l m) (long-take-names s order i size (h .0) shape (h .1)))) (take-refused-or-accepted s order i size)
   held-name-kept-until-freed (Free i a) held other =
       ⊎-elim (block-of-refused _) (λ h. free-keeps-other-names s order i a shape h m (λ e. other (h, e))) (free-refused-or-accepted s order i a)
   held-name-kept-until-freed (NamedTake i n size) held other =
-      ⊎-elim (block-of-refused _) (λ h. named-take-keeps-other-names s order i n size (h .0) shape (h .1) m (apart (h .1))) (named-take-refused-or-accepted s order i n size)
+      ⊎-elim (block-of-refused _)
+      (⊎-elim (λ h. named-take-keeps-other-names s order i n size (h .0) shape (h .1) m (apart (h .1 .available))) (λ h. named-long-take-keeps-other-names s order i n size (h .0) shape (h .1) m (apart (h .1 .available))))
+      (named-take-refused-or-accepted s order i n size)
     where
-      apart : {k : ℕ} → NamedTakeAccepted s order i n size k → m ≡ n → ⊥
-      apart acc e = not-T-of-false (isHeld (s .names) n) (facts-of-available s n (acc .available) .1) (subst (λ (x : ℕ). T (isHeld (s .names) x)) e held)
+      apart : isUnavailable s n ≡ false → m ≡ n → ⊥
+      apart available e = not-T-of-false (isHeld (s .names) n) (facts-of-available s n available .1) (subst (λ (x : ℕ). T (isHeld (s .names) x)) e held)
   held-name-kept-until-freed (NamedFree i n) held other =
       ⊎-elim (block-of-refused _) (λ h. named-free-keeps-other-names s order i n shape h m held (λ e. other (h, sym e))) (named-free-refused-or-accepted s order i n)
   held-name-kept-until-freed (Drop i addresses) held other =

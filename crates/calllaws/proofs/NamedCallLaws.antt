@@ -1,46 +1,55 @@
 -- Document 02, item 2: "A named call does what the plain one does, a free with the held address". Assumes nothing.
 use mathlib.Core.Path.{_≡_, refl, sym, ap, ap₂, _∙_, subst}
 use mathlib.Core.Bool.{Bool, true, false, not}
-use mathlib.Core.Logic.{_⊎_, inl, inr}
+use mathlib.Core.Logic.{_⊎_, inl, inr, ⊎-elim}
 use mathlib.Core.List.{List}
 use Prim.Native.Nat.{ℕ, _*_, _/_, _%_, _<_}
-use native.Mathlib.Decide.{decLt}
+use native.Mathlib.Decide.{ℕ-discrete, decLt}
 use native.Mathlib.Omega.{arith}
 use borrow.Author.Tests.{eq-eqb, ltb-true, lt-leb, not-false}
 use lib.Dec.{T, leb, ltb}
-use Rattle.laws.specs.Sums.{pick, either}
-use Rattle.laws.proofs.TestLaws.{T-of-true, neither-left, neither-right}
-use Rattle.classes.specs.Classes.{sizeOf, blocksOf, classOf}
+use Rattle.laws.specs.Sums.{pick, both, either}
+use Rattle.laws.proofs.TestLaws.{T-of-true, true-of-T, both-left, pick-true, pick-false, neither-left, neither-right}
+use Rattle.classes.specs.Classes.{sizes, sizeOf, blocksOf, classOf}
 use Rattle.classes.proofs.ClassTableLaws.{blocks-of-le-256}
 use Rattle.classes.proofs.OffsetLaws.{offset-lt-4096, offset-mod-size}
-use Rattle.marks.specs.Marks.{markBit}
-use Rattle.marklaws.proofs.MarkLaws.{mark-of-mark-bit-one, marks-clear-of-live-count-zero}
+use Rattle.marks.specs.Marks.{markBit, noMarks, withMark}
+use Rattle.marklaws.proofs.MarkLaws.{mark-of-mark-bit-one, mark-bit-of-no-marks, marks-clear-of-live-count-zero, with-mark-same, with-mark-other}
 use Rattle.marklaws.proofs.NoMarkFromLaws.{mark-clear-of-no-mark-from}
-use Rattle.names.specs.Names.{blockNumber, isName, blockNamed, isHeld, withName}
+use Rattle.names.specs.Names.{blockNumber, isName, blockNamed, isHeld, withName, withoutBlock}
 use Rattle.namelaws.proofs.NameLaws.{held-facts, block-named-with-name, block-named-with-other-name, length-with-name, not-held-without-block, block-named-without-other-block}
 use Rattle.filledplaces.proofs.PlacesValidLaws.{no-mark-from-of-places-valid}
 use Rattle.heap.specs.declared.State.{State}
-use Rattle.heap.specs.Table.{superblockAt, isUnused}
+use Rattle.heap.specs.Table.{superblockAt, isUnused, isOfRun, startsRun, liveBlocks}
 use Rattle.heap.specs.States.{withNames}
 use Rattle.heap.specs.Counts.{superblocksOf, superblocksOfClass, liveOfClass, ownersChanged}
-use Rattle.heaplaws.proofs.StateFacts.{Shape, Unused, Owned}
-use Rattle.heaplaws.proofs.StateCheckLaws.{shape-with-names, sound-with-names, names-sound-of-valid, owned-below-superblocks, owned-of-owner, not-unused-of-owner}
+use Rattle.heaplaws.proofs.StateFacts.{Shape, Unowned, Owned}
+use Rattle.heaplaws.proofs.RunsKeptLaws.{runs-valid-with-names, live-blocks-outside-run, live-blocks-of-first, live-blocks-not-first, outside-run-of-owner, owner-of-run}
+use Rattle.heaplaws.proofs.StateCheckLaws.{shape-with-names, sound-with-names, names-sound-of-valid, owned-below-superblocks, owned-of-owner, unowned-of-owner, not-unused-of-owner}
 use Rattle.calls.specs.declared.Outcome.{Outcome}
 use Rattle.calls.specs.declared.Outcome.the-variants.{Address}
 use Rattle.calls.specs.Answers.{After, refused, isProcessor}
 use Rattle.calls.specs.Take.{addressOf, takeUnchecked, takeOf}
-use Rattle.calls.specs.Free.{superblockIndex, superblockHolding, blockOf, isUnmapped, isMisaligned, isLiveAt, freeUnchecked, freeOf}
+use Rattle.calls.specs.Free.{superblockIndex, offsetOf, superblockHolding, blockOf, isUnmapped, isInRun, isRunStart, isOffBlock, isMisaligned, isLiveAt, smallFreedAt, longFreedAt, freedAt, freeUnchecked, freeOf}
 use Rattle.calls.specs.Named.{isUnavailable, nameBound, boundBy, withNameBound, namedTakeUnchecked, namedTakeOf, heldAddress, namedFreeUnchecked, namedFreeOf}
 use Rattle.heaplaws.proofs.RankLaws.{ranks-sound-of-same-ranks}
-use Rattle.calllaws.proofs.CallEffects.{Passed, TakeAccepted, FreeAccepted, NamedTakeAccepted, NamedFreeAccepted, TakeEffect}
+use Rattle.calllaws.proofs.CallEffects.{Passed, TakeAccepted, LongTakeAccepted, FreeAccepted, LongFreeAccepted, NamedTakeAccepted, NamedLongTakeAccepted, NamedFreeAccepted, NamedLongFreeAccepted, TakeEffect}
 use Rattle.calllaws.proofs.CheckedLaws.{checked-refused-or-passed, checked-is-next-of-passed, bounds-of-is-processor}
 use Rattle.calllaws.proofs.TransferredLaws.{passed-after-no-frees}
 use Rattle.calllaws.proofs.NamesKeptLaws.{mark-of-live-block, live-block-in-table, names-valid-after-named-take}
 use Rattle.calllaws.proofs.AddressLaws.{address-superblock, address-offset, address-block, address-block-number}
 use Rattle.calllaws.proofs.TakeLaws.{take-refused-or-accepted, taken-block, take-address, take-effect, take-names, take-shape, take-passed}
 use Rattle.calllaws.proofs.MarkClearedLaws.{LiveBlock}
-use Rattle.calllaws.proofs.FreeLaws.{free-refused-or-accepted, free-names, free-shape, free-passed}
+use Rattle.calllaws.proofs.FreeLaws.{free-refused-or-accepted, free-names, free-shape, free-passed, long-free-block, long-free-names, long-free-shape, long-free-passed}
 use Rattle.calllaws.proofs.RefusalOrder.{take-is-unchecked, free-is-unchecked, free-of-live-block}
+
+-- ---- the start of a run: block 0 of its first superblock, whose class field is 0
+pub start-block-is-0 : (s : State) (k : ℕ) → superblockAt s k .class ≡ 0 → blockOf s (k * 4096) ≡ 0
+unfolding blockOf sizeOf sizes
+start-block-is-0 s k e =
+    let x : k * 4096 / 4096 ≡ k = omega arith in
+    let y : k * 4096 % 4096 ≡ 0 = omega arith in
+    rw (x, y, e)
 
 -- ---- a named take
 -- a name that is free is one of 0 to 1023 and not held
@@ -69,24 +78,28 @@ module _ (s : State) (order : List ℕ) (i m : ℕ) where
   unfolding namedTakeUnchecked
   named-take-is-plain-take size passed p u = named-take-is-unchecked size passed ∙ rw (p, u) (ap (withNameBound m) (sym (take-is-unchecked s order i passed size)))
 
-  -- a named take is refused and changes nothing, or is accepted
-  pub named-take-refused-or-accepted : (size : ℕ) → ((r : ℕ) × (namedTakeOf s order i m size ≡ refused r s order)) ⊎ ((k : ℕ) × NamedTakeAccepted s order i m size k)
+  -- a named take is refused and changes nothing, or is accepted, for a block of a class or a long block
+  abbrev NamedTakeCases : ℕ → Type 0
+  NamedTakeCases size = ((r : ℕ) × (namedTakeOf s order i m size ≡ refused r s order)) ⊎ (((k : ℕ) × NamedTakeAccepted s order i m size k) ⊎ ((k : ℕ) × NamedLongTakeAccepted s order i m size k))
+
+  pub named-take-refused-or-accepted : (size : ℕ) → NamedTakeCases size
   unfolding namedTakeOf namedTakeUnchecked
   named-take-refused-or-accepted size = by-check (checked-refused-or-passed s order (namedTakeUnchecked s order i m size))
     where
-      by-plain : isUnavailable s m ≡ false → namedTakeOf s order i m size ≡ withNameBound m (takeOf s order i size) → ((r : ℕ) × (takeOf s order i size ≡ refused r s order)) ⊎ ((k : ℕ) × TakeAccepted s order i size k)
-          → ((r : ℕ) × (namedTakeOf s order i m size ≡ refused r s order)) ⊎ ((k : ℕ) × NamedTakeAccepted s order i m size k)
+      by-plain : isUnavailable s m ≡ false → namedTakeOf s order i m size ≡ withNameBound m (takeOf s order i size) → ((r : ℕ) × (takeOf s order i size ≡ refused r s order)) ⊎ (((k : ℕ) × TakeAccepted s order i size k) ⊎ ((k : ℕ) × LongTakeAccepted s order i size k))
+          → NamedTakeCases size
       by-plain u e (inl (r, f)) = inl (r, e ∙ ap (withNameBound m) f ∙ name-bound-of-refused r m s order)
-      by-plain u e (inr (k, acc)) = inr (k, record { taken = acc; available = u; result-is = e })
+      by-plain u e (inr (inl (k, acc))) = inr (inl (k, record { taken = acc; available = u; result-is = e }))
+      by-plain u e (inr (inr (k, acc))) = inr (inr (k, record { taken = acc; available = u; result-is = e }))
 
       by-tests : (p u : Bool) → isProcessor s i ≡ p → isUnavailable s m ≡ u → Passed s order → namedTakeOf s order i m size ≡ namedTakeByTests p u (takeUnchecked s order i size)
-          → ((r : ℕ) × (namedTakeOf s order i m size ≡ refused r s order)) ⊎ ((k : ℕ) × NamedTakeAccepted s order i m size k)
+          → NamedTakeCases size
       by-tests false u ep eu passed e = inl (2, e)
       by-tests true true ep eu passed e = inl (14, e)
       by-tests true false ep eu passed e = by-plain eu (named-take-is-plain-take size passed ep eu) (take-refused-or-accepted s order i size)
 
       by-check : ((r : ℕ) × (namedTakeOf s order i m size ≡ refused r s order)) ⊎ (Passed s order × (namedTakeOf s order i m size ≡ namedTakeUnchecked s order i m size))
-          → ((r : ℕ) × (namedTakeOf s order i m size ≡ refused r s order)) ⊎ ((k : ℕ) × NamedTakeAccepted s order i m size k)
+          → NamedTakeCases size
       by-check (inl r) = inl r
       by-check (inr (passed, e)) = by-tests (isProcessor s i) (isUnavailable s m) refl refl passed e
 
@@ -103,6 +116,8 @@ take-effect-with-names i c k j s t names e =
       owner = e .owner;
       class = e .class;
       before = e .before;
+      outside-run = e .outside-run;
+      runs = e .runs;
       not-marked = e .not-marked;
       is-marked = e .is-marked;
       marks = e .marks;
@@ -174,9 +189,10 @@ module _ (s : State) (order : List ℕ) (i m size k : ℕ) (shape : Shape s) (ac
       (let passed = take-passed s order i size k shape (acc .taken) in
       record {
         sound = sound-with-names (plain .answer .state) (withName (s .names) m (blockNumber k named-taken-block)) (plain .order) (passed .sound);
-        names = names-valid-after-named-take i (classOf size) k named-taken-block s (plain .answer .state) block effect m below (take-names s order i size k shape (acc .taken)) (acc .taken .passed .names);
+        names = names-valid-after-named-take i (classOf size) k named-taken-block s (plain .answer .state) block (shape .length-is) effect m below (take-names s order i size k shape (acc .taken)) (acc .taken .passed .names);
         totals = passed .totals;
         ranks = ranks-sound-of-same-ranks (plain .answer .state) (withNames (plain .answer .state) (withName (s .names) m (blockNumber k named-taken-block))) (λ j l. refl) (λ j l u. u) (passed .ranks);
+        runs = runs-valid-with-names (plain .answer .state) (withName (s .names) m (blockNumber k named-taken-block)) (passed .runs);
         room = passed .room;
       }))
 
@@ -203,24 +219,28 @@ module _ (s : State) (order : List ℕ) (i m : ℕ) where
   unfolding namedFreeUnchecked
   named-free-is-free-of-held-address passed p h = named-free-is-unchecked passed ∙ rw (p, h) (sym (free-is-unchecked s order i passed (heldAddress s m)))
 
-  -- a named free is refused and changes nothing, or is accepted
-  pub named-free-refused-or-accepted : ((r : ℕ) × (namedFreeOf s order i m ≡ refused r s order)) ⊎ NamedFreeAccepted s order i m
+  -- a named free is refused and changes nothing, or is accepted, of a block of a class or a long block
+  abbrev NamedFreeCases : Type 0
+  NamedFreeCases = ((r : ℕ) × (namedFreeOf s order i m ≡ refused r s order)) ⊎ (NamedFreeAccepted s order i m ⊎ NamedLongFreeAccepted s order i m)
+
+  pub named-free-refused-or-accepted : NamedFreeCases
   unfolding namedFreeOf namedFreeUnchecked
   named-free-refused-or-accepted = by-check (checked-refused-or-passed s order (namedFreeUnchecked s order i m))
     where
-      by-plain : isHeld (s .names) m ≡ true → namedFreeOf s order i m ≡ freeOf s order i (heldAddress s m) → ((r : ℕ) × (freeOf s order i (heldAddress s m) ≡ refused r s order)) ⊎ FreeAccepted s order i (heldAddress s m)
-          → ((r : ℕ) × (namedFreeOf s order i m ≡ refused r s order)) ⊎ NamedFreeAccepted s order i m
+      by-plain : isHeld (s .names) m ≡ true → namedFreeOf s order i m ≡ freeOf s order i (heldAddress s m) → ((r : ℕ) × (freeOf s order i (heldAddress s m) ≡ refused r s order)) ⊎ (FreeAccepted s order i (heldAddress s m) ⊎ LongFreeAccepted s order i (heldAddress s m))
+          → NamedFreeCases
       by-plain h e (inl (r, f)) = inl (r, e ∙ f)
-      by-plain h e (inr acc) = inr (record { held = T-of-true _ h; freed = acc; result-is = e })
+      by-plain h e (inr (inl acc)) = inr (inl (record { held = T-of-true _ h; freed = acc; result-is = e }))
+      by-plain h e (inr (inr acc)) = inr (inr (record { held = T-of-true _ h; freed = acc; result-is = e }))
 
       by-tests : (p h : Bool) → isProcessor s i ≡ p → isHeld (s .names) m ≡ h → Passed s order → namedFreeOf s order i m ≡ namedFreeByTests p h (freeUnchecked s order i (heldAddress s m))
-          → ((r : ℕ) × (namedFreeOf s order i m ≡ refused r s order)) ⊎ NamedFreeAccepted s order i m
+          → NamedFreeCases
       by-tests false h ep eh passed e = inl (2, e)
       by-tests true false ep eh passed e = inl (15, e)
       by-tests true true ep eh passed e = by-plain eh (named-free-is-free-of-held-address passed ep eh) (free-refused-or-accepted s order i (heldAddress s m))
 
       by-check : ((r : ℕ) × (namedFreeOf s order i m ≡ refused r s order)) ⊎ (Passed s order × (namedFreeOf s order i m ≡ namedFreeUnchecked s order i m))
-          → ((r : ℕ) × (namedFreeOf s order i m ≡ refused r s order)) ⊎ NamedFreeAccepted s order i m
+          → NamedFreeCases
       by-check (inl r) = inl r
       by-check (inr (passed, e)) = by-tests (isProcessor s i) (isHeld (s .names) m) refl refl passed e
 
@@ -231,6 +251,13 @@ module _ (s : State) (order : List ℕ) (i m : ℕ) (shape : Shape s) (acc : Nam
 
   pub named-free-passed : Passed (namedFreeOf s order i m .answer .state) (namedFreeOf s order i m .order)
   named-free-passed = rw (acc .result-is) (free-passed s order i (heldAddress s m) shape (acc .freed))
+
+module _ (s : State) (order : List ℕ) (i m : ℕ) (shape : Shape s) (acc : NamedLongFreeAccepted s order i m) where
+  pub named-long-free-shape : Shape (namedFreeOf s order i m .answer .state)
+  named-long-free-shape = rw (acc .result-is) (long-free-shape s order i (heldAddress s m) shape (acc .freed))
+
+  pub named-long-free-passed : Passed (namedFreeOf s order i m .answer .state) (namedFreeOf s order i m .order)
+  named-long-free-passed = rw (acc .result-is) (long-free-passed s order i (heldAddress s m) shape (acc .freed))
 
 -- ---- a held name in a state that passes: its block is live
 module _ (s : State) (order : List ℕ) (shape : Shape s) (passed : Passed s order) (m : ℕ) (held : T (isHeld (s .names) m)) where
@@ -243,31 +270,68 @@ module _ (s : State) (order : List ℕ) (shape : Shape s) (passed : Passed s ord
   abbrev j : ℕ
   j = number % 256
 
-  marked : markBit (superblockAt s k .live) j ≡ 1
-  marked = mark-of-live-block s number (names-sound-of-valid s (passed .names) .live m (held-facts (s .names) m held .1))
+  live-mark : markBit (liveBlocks (superblockAt s k)) j ≡ 1
+  live-mark = mark-of-live-block s number (names-sound-of-valid s (passed .names) .live m (held-facts (s .names) m held .1))
 
   in-table : k < 64
   in-table = live-block-in-table s number (shape .length-is) (names-sound-of-valid s (passed .names) .live m (held-facts (s .names) m held .1))
 
-  owned : superblockAt s k .owner ≡ 255 → ⊥
-  owned e = go (passed .sound .each k in-table)
-    where
-      go : Unused (superblockAt s k) ⊎ Owned (s .setup) order k (superblockAt s k) → ⊥
-      go (inl u) = omega (arith, marked, marks-clear-of-live-count-zero (superblockAt s k .live) (u .live) j (omega arith))
-      go (inr o) = omega (arith, o .owner, passed .sound .numbers .processors-high)
+  -- a superblock that no heap owns has no mark, at any block
+  unmarked-of-unowned : Unowned (superblockAt s k) → markBit (superblockAt s k .live) j ≡ 0
+  unmarked-of-unowned u = marks-clear-of-live-count-zero (superblockAt s k .live) (u .live) j (omega arith)
 
-  in-class : j < blocksOf (superblockAt s k .class)
-  in-class = go (decLt j (blocksOf (superblockAt s k .class)))
-    where
-      go : Dec (j < blocksOf (superblockAt s k .class)) → j < blocksOf (superblockAt s k .class)
-      go (yes l) = l
-      go (no f) =
-          let places = owned-of-owner s order (passed .sound) k in-table owned .places in
-          let clear = mark-clear-of-no-mark-from (superblockAt s k .live) (blocksOf (superblockAt s k .class)) (no-mark-from-of-places-valid order (superblockAt s k .live) k (blocksOf (superblockAt s k .class)) places) j (omega arith) (omega arith) in
-          absurd (let z : ⊥ = omega (arith, marked) in z)
+  -- outside runs: a marked block of a heap's superblock
+  module _ (outside : isOfRun (superblockAt s (blockNamed (s .names) m / 256)) ≡ false) where
+    marked : markBit (superblockAt s k .live) j ≡ 1
+    marked = ap (λ (x : List ℕ). markBit x j) (sym (live-blocks-outside-run (superblockAt s k) outside)) ∙ live-mark
 
-  pub held-block-is-live : LiveBlock s order (blockNamed (s .names) m / 256) (blockNamed (s .names) m % 256)
-  held-block-is-live = record { shape = shape; freed = λ h c. 0; passed = passed-after-no-frees s order passed; below = owned-below-superblocks s order (passed .sound) k in-table owned; owned = owned; block = in-class; marked = marked }
+    owned : superblockAt s k .owner < 254
+    owned = go (passed .sound .each k in-table)
+      where
+        go : Unowned (superblockAt s k) ⊎ Owned (s .setup) order k (superblockAt s k) → superblockAt s k .owner < 254
+        go (inl u) = absurd (let z : ⊥ = omega (arith, marked, unmarked-of-unowned u) in z)
+        go (inr o) = omega (arith, o .owner, passed .sound .numbers .processors-high)
+
+    in-class : j < blocksOf (superblockAt s k .class)
+    in-class = go (decLt j (blocksOf (superblockAt s k .class)))
+      where
+        go : Dec (j < blocksOf (superblockAt s k .class)) → j < blocksOf (superblockAt s k .class)
+        go (yes l) = l
+        go (no f) =
+            let places = owned-of-owner s order (passed .sound) k in-table owned .places in
+            let clear = mark-clear-of-no-mark-from (superblockAt s k .live) (blocksOf (superblockAt s k .class)) (no-mark-from-of-places-valid order (superblockAt s k .live) k (blocksOf (superblockAt s k .class)) places) j (omega arith) (omega arith) in
+            absurd (let z : ⊥ = omega (arith, marked) in z)
+
+    pub held-block-is-live : LiveBlock s order (blockNamed (s .names) m / 256) (blockNamed (s .names) m % 256)
+    held-block-is-live =
+        record {
+          shape = shape;
+          freed = λ h c. 0;
+          passed = passed-after-no-frees s order passed;
+          below = owned-below-superblocks s order (passed .sound) k in-table (λ (e : superblockAt s k .owner ≡ 255). omega (arith, owned));
+          owned = owned;
+          block = in-class;
+          marked = marked;
+        }
+
+  -- in a run: block 0 of its first superblock
+  pub held-block-is-run : isOfRun (superblockAt s (blockNamed (s .names) m / 256)) ≡ true → (blockNamed (s .names) m % 256 ≡ 0) × (startsRun (superblockAt s (blockNamed (s .names) m / 256)) ≡ true)
+  held-block-is-run inside = go (startsRun (superblockAt s k)) refl
+    where
+      no-heap : Unowned (superblockAt s k)
+      no-heap = unowned-of-owner s order (passed .sound) k in-table (let e = owner-of-run (superblockAt s k) inside in omega arith)
+
+      go : (t : Bool) → startsRun (superblockAt s k) ≡ t → (j ≡ 0) × (startsRun (superblockAt s k) ≡ true)
+      go true e = (first (ℕ-discrete j 0), e)
+        where
+          first : Dec (j ≡ 0) → j ≡ 0
+          first (yes z) = z
+          first (no f) =
+              let mark : markBit (withMark noMarks 0) j ≡ 1 = ap (λ (x : List ℕ). markBit x j) (sym (live-blocks-of-first (superblockAt s k) e)) ∙ live-mark in
+              absurd (let z : ⊥ = omega (arith, with-mark-other noMarks 0 j f, mark-bit-of-no-marks j) in z)
+      go false e =
+          let mark : markBit (superblockAt s k .live) j ≡ 1 = ap (λ (x : List ℕ). markBit x j) (sym (live-blocks-not-first (superblockAt s k) e)) ∙ live-mark in
+          absurd (let z : ⊥ = omega (arith, unmarked-of-unowned no-heap) in z)
 
 -- ---- every live block can be freed by its address
 module _ (s : State) (order : List ℕ) (k j : ℕ) (live : LiveBlock s order k j) where
@@ -291,65 +355,162 @@ module _ (s : State) (order : List ℕ) (k j : ℕ) (live : LiveBlock s order k 
   live-block-mapped =
       ap₂ either
       (lt-leb (s .setup .superblocks * 4096) a (let o = offset-lt-4096 class live-class-lt-27 j (live .block) in let l = live .below in omega arith))
-      (ap (λ (n : ℕ). isUnused (superblockAt s n)) holding ∙ not-unused-of-owner (superblockAt s k) (live .owned))
+      (ap (λ (n : ℕ). isUnused (superblockAt s n)) holding ∙ not-unused-of-owner (superblockAt s k) (λ (e : superblockAt s k .owner ≡ 255). omega (arith, live .owned)))
+
+  live-block-outside-run : isInRun s a ≡ false
+  live-block-outside-run = ap (λ (n : ℕ). isOfRun (superblockAt s n)) holding ∙ outside-run-of-owner (superblockAt s k) (λ (e : superblockAt s k .owner ≡ 254). omega (arith, live .owned))
 
   live-block-aligned : isMisaligned s a ≡ false
-  unfolding isMisaligned
+  unfolding isMisaligned isOffBlock
   live-block-aligned =
-      ap₂ either
+      rw live-block-outside-run
+      (ap₂ either
       (ap not (eq-eqb (a % 4096 % sizeOf (superblockHolding s a .class)) 0 (rw (holding, address-offset class k j live-class-lt-27 (live .block)) (offset-mod-size class live-class-lt-27 j))))
-      (ap₂ leb (ap (λ (n : ℕ). blocksOf (superblockAt s n .class)) holding) (address-block class k j live-class-lt-27 (live .block) s refl) ∙ lt-leb (blocksOf class) j (live .block))
+      (ap₂ leb (ap (λ (n : ℕ). blocksOf (superblockAt s n .class)) holding) (address-block class k j live-class-lt-27 (live .block) s refl) ∙ lt-leb (blocksOf class) j (live .block)))
 
   live-block-live : isLiveAt s a ≡ true
   unfolding isLiveAt
-  live-block-live = rw (address-block class k j live-class-lt-27 (live .block) s refl, holding) (mark-of-mark-bit-one (superblockAt s k .live) j (live .marked))
+  live-block-live = rw (live-blocks-outside-run (superblockHolding s a) live-block-outside-run, address-block class k j live-class-lt-27 (live .block) s refl, holding) (mark-of-mark-bit-one (superblockAt s k .live) j (live .marked))
 
   pub free-accepted-of-live-block : (i : ℕ) → Passed s order → isProcessor s i ≡ true → FreeAccepted s order i (addressOf k (superblockAt s k .class) j)
+  unfolding freedAt
   free-accepted-of-live-block i passed p =
       record {
-        passed = passed;
-        processor = bounds-of-is-processor s i (T-of-true _ p);
-        mapped = live-block-mapped;
-        block-aligned = live-block-aligned;
-        live = live-block-live;
-        result-is = free-of-live-block s order i passed a p live-block-mapped live-block-aligned live-block-live;
+        address = record { passed = passed; processor = bounds-of-is-processor s i (T-of-true _ p); mapped = live-block-mapped; block-aligned = live-block-aligned; live = live-block-live };
+        outside-run = live-block-outside-run;
+        result-is = free-of-live-block s order i passed a p live-block-mapped live-block-aligned live-block-live ∙ pick-false (isInRun s a) (longFreedAt s order a) (smallFreedAt s order a) live-block-outside-run;
+      }
+
+-- ---- and every long block by its start
+module _ (s : State) (order : List ℕ) (k : ℕ) (passed : Passed s order) (below : k < 64) (starts : startsRun (superblockAt s k) ≡ true) where
+  start-of-run : isOfRun (superblockAt s k) ≡ true
+  unfolding startsRun
+  start-of-run = true-of-T _ (both-left (isOfRun (superblockAt s k)) _ (T-of-true _ starts))
+
+  start-owner : superblockAt s k .owner ≡ 254
+  start-owner = owner-of-run (superblockAt s k) start-of-run
+
+  start-class : superblockAt s k .class ≡ 0
+  start-class = unowned-of-owner s order (passed .sound) k below (let e = start-owner in omega arith) .class
+
+  start-below : k < s .setup .superblocks
+  start-below = owned-below-superblocks s order (passed .sound) k below (λ (e : superblockAt s k .owner ≡ 255). omega (arith, start-owner))
+
+  at-start : superblockIndex (k * 4096) ≡ k
+  at-start = omega arith
+
+  start-in-run : isInRun s (k * 4096) ≡ true
+  start-in-run = ap (λ (n : ℕ). isOfRun (superblockAt s n)) at-start ∙ start-of-run
+
+  start-mapped : isUnmapped s (k * 4096) ≡ false
+  unfolding isUnmapped
+  start-mapped =
+      ap₂ either (lt-leb (s .setup .superblocks * 4096) (k * 4096) (let l = start-below in omega arith))
+      (ap (λ (n : ℕ). isUnused (superblockAt s n)) at-start ∙ not-unused-of-owner (superblockAt s k) (λ (e : superblockAt s k .owner ≡ 255). omega (arith, start-owner)))
+
+  start-aligned : isMisaligned s (k * 4096) ≡ false
+  unfolding isMisaligned isRunStart
+  start-aligned =
+      rw start-in-run
+      (ap not (ap₂ both (ap (λ (n : ℕ). startsRun (superblockAt s n)) at-start ∙ starts) (eq-eqb (offsetOf (k * 4096)) 0 (omega arith))))
+
+  pub start-block : blockOf s (k * 4096) ≡ 0
+  start-block = start-block-is-0 s k start-class
+
+  start-live : isLiveAt s (k * 4096) ≡ true
+  unfolding isLiveAt
+  start-live =
+      rw (start-block, at-start, live-blocks-of-first (superblockAt s k) starts) (mark-of-mark-bit-one (withMark noMarks 0) 0 (with-mark-same noMarks 0 refl (omega arith)))
+
+  pub long-free-accepted-of-start : (i : ℕ) → isProcessor s i ≡ true → LongFreeAccepted s order i (k * 4096)
+  unfolding freedAt
+  long-free-accepted-of-start i p =
+      record {
+        address = record { passed = passed; processor = bounds-of-is-processor s i (T-of-true _ p); mapped = start-mapped; block-aligned = start-aligned; live = start-live };
+        in-run = start-in-run;
+        result-is = free-of-live-block s order i passed (k * 4096) p start-mapped start-aligned start-live ∙ pick-true (isInRun s (k * 4096)) (longFreedAt s order (k * 4096)) (smallFreedAt s order (k * 4096)) start-in-run;
       }
 
 -- A held name's free meets none of 5, 6 and 7: for a processor in range it is accepted, on every state that passes.
-pub held-name-free-accepted : (s : State) (order : List ℕ) (i m : ℕ) → Shape s → Passed s order → isProcessor s i ≡ true → T (isHeld (s .names) m) → FreeAccepted s order i (heldAddress s m)
-unfolding heldAddress
-held-name-free-accepted s order i m shape passed p held = free-accepted-of-live-block s order (blockNamed (s .names) m / 256) (blockNamed (s .names) m % 256) (held-block-is-live s order shape passed m held) i passed p
+module _ (s : State) (order : List ℕ) (m : ℕ) (shape : Shape s) (passed : Passed s order) (held : T (isHeld (s .names) m)) where
+  abbrev home : ℕ
+  home = blockNamed (s .names) m / 256
+
+  home-below : home < 64
+  home-below = live-block-in-table s (blockNamed (s .names) m) (shape .length-is) (names-sound-of-valid s (passed .names) .live m (held-facts (s .names) m held .1))
+
+  -- a named run's held address is its start
+  pub held-address-of-run : isOfRun (superblockAt s (blockNamed (s .names) m / 256)) ≡ true → heldAddress s m ≡ blockNamed (s .names) m / 256 * 4096
+  unfolding heldAddress addressOf
+  held-address-of-run inside = let z = held-block-is-run s order shape passed m held inside .0 in rw z (omega arith)
+
+  pub held-name-free-accepted : (i : ℕ) → isProcessor s i ≡ true → FreeAccepted s order i (heldAddress s m) ⊎ LongFreeAccepted s order i (heldAddress s m)
+  unfolding heldAddress
+  held-name-free-accepted i p = go (isOfRun (superblockAt s home)) refl
+    where
+      go : (t : Bool) → isOfRun (superblockAt s home) ≡ t → FreeAccepted s order i (heldAddress s m) ⊎ LongFreeAccepted s order i (heldAddress s m)
+      go false e = inl (free-accepted-of-live-block s order home (blockNamed (s .names) m % 256) (held-block-is-live s order shape passed m held e) i passed p)
+      go true e =
+          inr (subst (LongFreeAccepted s order i) (sym (held-address-of-run e)) (long-free-accepted-of-start s order home passed home-below (held-block-is-run s order shape passed m held e .1) i p))
 
 -- ---- "A name holds .. until its block is freed by either command"
 -- the block at the held address is the name's
 held-address-block : (s : State) (order : List ℕ) (m : ℕ) → Shape s → Passed s order → T (isHeld (s .names) m)
     → (superblockIndex (heldAddress s m) ≡ blockNamed (s .names) m / 256) × (blockOf s (heldAddress s m) ≡ blockNamed (s .names) m % 256)
 unfolding heldAddress
-held-address-block s order m shape passed held =
-    let live = held-block-is-live s order shape passed m held in
-    let known = live-class-lt-27 s order (blockNamed (s .names) m / 256) (blockNamed (s .names) m % 256) live in (
-      address-superblock (superblockAt s (blockNamed (s .names) m / 256) .class) (blockNamed (s .names) m / 256) (blockNamed (s .names) m % 256) known (live .block),
-      address-block (superblockAt s (blockNamed (s .names) m / 256) .class) (blockNamed (s .names) m / 256) (blockNamed (s .names) m % 256) known (live .block) s refl,
-    )
+held-address-block s order m shape passed held = go (isOfRun (superblockAt s (blockNamed (s .names) m / 256))) refl
+  where
+    go : (t : Bool) → isOfRun (superblockAt s (blockNamed (s .names) m / 256)) ≡ t
+        → (superblockIndex (heldAddress s m) ≡ blockNamed (s .names) m / 256) × (blockOf s (heldAddress s m) ≡ blockNamed (s .names) m % 256)
+    go false e =
+        let live = held-block-is-live s order shape passed m held e in
+        let known = live-class-lt-27 s order (blockNamed (s .names) m / 256) (blockNamed (s .names) m % 256) live in (
+          address-superblock (superblockAt s (blockNamed (s .names) m / 256) .class) (blockNamed (s .names) m / 256) (blockNamed (s .names) m % 256) known (live .block),
+          address-block (superblockAt s (blockNamed (s .names) m / 256) .class) (blockNamed (s .names) m / 256) (blockNamed (s .names) m % 256) known (live .block) s refl,
+        )
+    go true e =
+        let run = held-block-is-run s order shape passed m held e in
+        let at = held-address-of-run s order m shape passed held e in
+        let low = home-below s order m shape passed held in (
+          ap superblockIndex at ∙ (let z : blockNamed (s .names) m / 256 * 4096 / 4096 ≡ blockNamed (s .names) m / 256 = omega arith in z),
+          ap (blockOf s) at ∙ start-block s order (blockNamed (s .names) m / 256) passed low (run .1) ∙ sym (run .0),
+        )
 
--- by a plain free of the held address or of any other: the name that points at the freed block is let go, and any other keeps its block
-module _ (s : State) (order : List ℕ) (i a : ℕ) (shape : Shape s) (acc : FreeAccepted s order i a) (m : ℕ) where
+-- by a plain free, of a block of a class or a long block: the name that points at the freed block is let go, and any other keeps its block
+pub freed-names : (s : State) (order : List ℕ) (i a : ℕ) → Shape s → FreeAccepted s order i a ⊎ LongFreeAccepted s order i a
+    → freeOf s order i a .answer .state .names ≡ withoutBlock (s .names) (blockNumber (superblockIndex a) (blockOf s a))
+freed-names s order i a shape (inl acc) = free-names s order i a shape acc
+freed-names s order i a shape (inr acc) = long-free-names s order i a shape acc ∙ ap (λ (j : ℕ). withoutBlock (s .names) (blockNumber (superblockIndex a) j)) (sym (long-free-block s order i a shape acc))
+
+module _ (s : State) (order : List ℕ) (i a : ℕ) (shape : Shape s) (acc : FreeAccepted s order i a ⊎ LongFreeAccepted s order i a) (m : ℕ) where
   pub free-lets-name-go : blockNamed (s .names) m ≡ blockNumber (superblockIndex a) (blockOf s a) → isHeld (freeOf s order i a .answer .state .names) m ≡ false
-  free-lets-name-go e = rw (free-names s order i a shape acc) (not-held-without-block (s .names) (blockNumber (superblockIndex a) (blockOf s a)) m e)
+  free-lets-name-go e = rw (freed-names s order i a shape acc) (not-held-without-block (s .names) (blockNumber (superblockIndex a) (blockOf s a)) m e)
 
   pub free-keeps-other-names : (blockNamed (s .names) m ≡ blockNumber (superblockIndex a) (blockOf s a) → ⊥) → blockNamed (freeOf s order i a .answer .state .names) m ≡ blockNamed (s .names) m
-  free-keeps-other-names f = rw (free-names s order i a shape acc) (block-named-without-other-block (s .names) (blockNumber (superblockIndex a) (blockOf s a)) m f)
+  free-keeps-other-names f = rw (freed-names s order i a shape acc) (block-named-without-other-block (s .names) (blockNumber (superblockIndex a) (blockOf s a)) m f)
 
 -- and by a named free: its name is let go, and no other
-module _ (s : State) (order : List ℕ) (i m : ℕ) (shape : Shape s) (acc : NamedFreeAccepted s order i m) where
+module _ (s : State) (order : List ℕ) (i m : ℕ) (shape : Shape s) (acc : NamedFreeAccepted s order i m ⊎ NamedLongFreeAccepted s order i m) where
+  abbrev plain-accepted : FreeAccepted s order i (heldAddress s m) ⊎ LongFreeAccepted s order i (heldAddress s m)
+  plain-accepted = ⊎-elim (λ h. inl (h .freed)) (λ h. inr (h .freed)) acc
+
+  result : namedFreeOf s order i m ≡ freeOf s order i (heldAddress s m)
+  result = ⊎-elim (λ h. h .result-is) (λ h. h .result-is) acc
+
+  was-held : T (isHeld (s .names) m)
+  was-held = ⊎-elim (λ h. h .held) (λ h. h .held) acc
+
+  passed-before : Passed s order
+  passed-before = ⊎-elim (λ h. h .freed .address .passed) (λ h. h .freed .address .passed) acc
+
   freed-number : blockNumber (superblockIndex (heldAddress s m)) (blockOf s (heldAddress s m)) ≡ blockNamed (s .names) m
-  freed-number = let h = held-address-block s order m shape (acc .freed .passed) (acc .held) in let a = h .0 in let b = h .1 in omega arith
+  freed-number = let h = held-address-block s order m shape passed-before was-held in let a = h .0 in let b = h .1 in omega arith
 
   pub named-free-lets-name-go : isHeld (namedFreeOf s order i m .answer .state .names) m ≡ false
-  named-free-lets-name-go = rw (acc .result-is) (free-lets-name-go s order i (heldAddress s m) shape (acc .freed) m (sym freed-number))
+  named-free-lets-name-go = rw result (free-lets-name-go s order i (heldAddress s m) shape plain-accepted m (sym freed-number))
 
   pub named-free-keeps-other-names : (l : ℕ) → T (isHeld (s .names) l) → (l ≡ m → ⊥) → blockNamed (namedFreeOf s order i m .answer .state .names) l ≡ blockNamed (s .names) l
   named-free-keeps-other-names l held f =
-      rw (acc .result-is)
-      (free-keeps-other-names s order i (heldAddress s m) shape (acc .freed) l
-      (λ e. f (names-sound-of-valid s (acc .freed .passed .names) .distinct l m (held-facts (s .names) l held .1) (e ∙ freed-number))))
+      rw result
+      (free-keeps-other-names s order i (heldAddress s m) shape plain-accepted l
+      (λ e. f (names-sound-of-valid s (passed-before .names) .distinct l m (held-facts (s .names) l held .1) (e ∙ freed-number))))

@@ -2,7 +2,7 @@
 -- 1023, on a named take after 2 and before 3; 15, name not held, on a named free after 2" (document 02, item 2). Assumes nothing.
 use mathlib.Core.Path.{_≡_, refl, sym, ap, _∙_}
 use mathlib.Core.Bool.{Bool, true, false, not}
-use mathlib.Core.Logic.{_↔_, _⊎_}
+use mathlib.Core.Logic.{_↔_, _⊎_, ⊎-elim}
 use mathlib.Core.List.{List, [], _∷_}
 use Prim.Native.Nat.{ℕ, _≤_, _<_}
 use native.Mathlib.Omega.{arith}
@@ -21,7 +21,7 @@ use Rattle.calls.specs.Take.{takeUnchecked, takeOf}
 use Rattle.calls.specs.Free.{freeUnchecked}
 use Rattle.calls.specs.Named.{isUnavailable, withNameBound, namedTakeUnchecked, namedTakeOf, heldAddress, namedFreeUnchecked, namedFreeOf}
 use Rattle.calllaws.proofs.CallEffects.{Passed}
-use Rattle.calllaws.proofs.FreeLaws.{free-outcome}
+use Rattle.calllaws.proofs.FreeLaws.{free-outcome, long-free-outcome}
 use Rattle.calllaws.proofs.RefusalOrder.{take-is-unchecked, take-refused-3-of-too-large, free-is-unchecked}
 use Rattle.calllaws.proofs.NamedCallLaws.{namedTakeByTests, namedFreeByTests, named-take-is-unchecked, named-take-is-plain-take, named-free-is-unchecked, held-name-free-accepted, name-bound-of-refused}
 use Rattle.calllaws.proofs.RefusalConditions.{CheckFails, StorageShort, IsProcessor, NotProcessor, TooLarge, NothingOffered, NoRun, takeRefusals, ConditionOf, condition-by-number, refused-iff-condition, condition-at-number, moves-not-refused, decides-processor, checked-refused, check-fails-refused-13, storage-short-refused-12, nothing-offered-refused-4, no-run-refused-17, take-refused-iff-condition}
@@ -148,8 +148,9 @@ module _ (s : State) (order : List ℕ) (i m : ℕ) where
         go false h p t ep eh passed e = condition-at-number (namedFreeRefusals s order i m) 2 r e (record { passed = passed; out = p .says })
         go true false p t ep eh passed e = condition-at-number (namedFreeRefusals s order i m) 15 r e (record { passed = passed; processor = p .says; not-held = t .says })
         go true true p t ep eh passed e =
-            let acc = held-name-free-accepted s order i m shape passed ep (T-of-true _ eh) in
-            absurd (moves-not-refused _ r (sym (free-outcome s order i (heldAddress s m) shape acc) ∙ ap (λ (x : After). x .answer .outcome) (free-is-unchecked s order i passed (heldAddress s m)) ∙ e))
+            let unchecked = ap (λ (x : After). x .answer .outcome) (free-is-unchecked s order i passed (heldAddress s m)) ∙ e in
+            absurd (⊎-elim (λ acc. moves-not-refused _ r (sym (free-outcome s order i (heldAddress s m) shape acc) ∙ unchecked)) (λ acc. moves-not-refused _ r (sym (long-free-outcome s order i (heldAddress s m) shape acc) ∙ unchecked))
+            (held-name-free-accepted s order m shape passed (T-of-true _ eh) i ep))
 
     -- a named free is refused with number r exactly if r's condition holds: so never with 5, 6 or 7
     pub named-free-refused-iff-condition : (r : ℕ) → (namedFreeOf s order i m .answer .outcome ≡ Refused r) ↔ ConditionOf (namedFreeRefusals s order i m) r

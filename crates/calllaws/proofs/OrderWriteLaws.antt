@@ -1,4 +1,4 @@
--- The order places that a call writes: a take those of a renewal, a free one, a drop one for each address, a setup the first N × 256. Assumes nothing.
+-- The order places that a call writes: a take those of a renewal, a free one, a drop one for each address, a setup the first N × 256, and none for a long block. Assumes nothing.
 use mathlib.Core.Path.{_≡_, refl, sym, ap, _∙_, subst}
 use mathlib.Core.Bool.{Bool, true, false, not}
 use mathlib.Core.Logic.{_⊎_, inl, inr, ⊎-elim}
@@ -9,9 +9,10 @@ use borrow.Author.Tests.{eqb-true, eq-eqb, leb-false}
 use lib.ListN.{length, getD, drop}
 use lib.Dec.{eqb, leb}
 use Rattle.laws.specs.Sums.{pick}
-use Rattle.laws.proofs.TestLaws.{neither-left, neither-right}
+use Rattle.laws.proofs.TestLaws.{pick-false, pick-elim, neither-left, neither-right}
 use Rattle.classes.specs.Classes.{sizeOf, blocksOf, classOf}
 use Rattle.classes.proofs.ClassTableLaws.{blocks-of-le-256}
+use Rattle.marks.specs.Marks.{markBit}
 use Rattle.marklaws.proofs.MarkLaws.{mark-bit-one-of-mark, marks-clear-of-live-count-zero}
 use Rattle.order.specs.Order.{place, renewed, cleared}
 use Rattle.orderlaws.proofs.OrderLaws.{length-renewed, renewed-index-below, renewed-index-above, length-with-place, with-place-other-index, with-place-same, length-cleared, cleared-index-below, cleared-index-above}
@@ -20,25 +21,29 @@ use Rattle.heap.specs.declared.Setup.{Setup}
 use Rattle.heap.specs.declared.State.{State}
 use Rattle.heap.specs.declared.Found.{Found}
 use Rattle.heap.specs.declared.Found.the-variants.{At, Nothing}
-use Rattle.heap.specs.Table.{superblockAt, liveIn, isUnused}
+use Rattle.heap.specs.Table.{superblockAt, liveIn, isUnused, liveBlocks}
 use Rattle.heap.specs.States.{noState}
 use Rattle.heap.specs.Ranks.{rankedLatest}
 use Rattle.choicerules.specs.Choice.{fullest, lowestEmpty, lowestUnused, orElse}
 use Rattle.checkrules.specs.Check.{withinLimits}
 use Rattle.heaplaws.proofs.StateCheckLaws.{owned-below-superblocks}
+use Rattle.heaplaws.proofs.RunsKeptLaws.{live-blocks-outside-run}
 use Rattle.heaplaws.proofs.ChoiceLaws.{best-of-fullest, facts-of-has-free, facts-of-empty-in-global, best-of-lowest-empty, best-of-lowest-unused}
 use Rattle.calls.specs.Answers.{After, refused}
 use Rattle.calls.specs.Setup.{acceptedSetup, setupOf}
+use Rattle.calls.specs.Runs.{longTakenFrom}
 use Rattle.calls.specs.Take.{otherPlaces, acquiredOrder, takenFrom, takenFromOther, takeOf}
-use Rattle.calls.specs.Free.{superblockIndex, offsetOf, superblockHolding, blockOf, isUnmapped, isMisaligned, isLiveAt, addressRefusal, markCleared, orderPushed, blockFreed, freedAt, freeOf}
+use Rattle.calls.specs.Free.{superblockIndex, offsetOf, superblockHolding, blockOf, isUnmapped, isInRun, isRunStart, isOffBlock, isMisaligned, isLiveAt, addressRefusal, markCleared, blockPushed, orderPushed, smallBlockFreed, longBlockFreed, blockFreed, smallFreedAt, longFreedAt, freeOf}
 use Rattle.calls.specs.Drop.{allPushed, firstAddressRefusal, droppedAll, dropOf}
 use Rattle.calls.specs.Named.{withNameBound, heldAddress}
 use Rattle.calls.specs.Calls.{Call, Take, Free, NamedTake, NamedFree, Drop, callOf}
 use Rattle.calls.proofs.AddressRefusalLaws.{mapped-of-no-refusal, aligned-of-no-refusal, live-of-no-refusal, no-refusal-of-live-block}
 use Rattle.calllaws.proofs.NamedCallLaws.{named-take-refused-or-accepted, named-free-refused-or-accepted}
-use Rattle.calllaws.proofs.CallEffects.{Passed, TakeAccepted, FreeAccepted}
+use Rattle.calllaws.proofs.CallEffects.{Passed, TakeAccepted, LongTakeAccepted, FreeAccepted, LongFreeAccepted}
 use Rattle.calllaws.proofs.TakeLaws.{take-refused-or-accepted}
 use Rattle.calllaws.proofs.FreeLaws.{free-refused-or-accepted}
+use Rattle.calllaws.proofs.RunEffectLaws.{run-freed-keeps-rest}
+use Rattle.calllaws.proofs.AddressFreedLaws.{order-pushed-outside-run, order-pushed-in-run}
 use Rattle.calllaws.proofs.AllFreedLaws.{first-refusal-of-cons}
 use Rattle.calllaws.proofs.DropLaws.{DropAccepted, drop-refused-or-accepted}
 
@@ -68,11 +73,13 @@ pub record WritesOne (x v : ℕ) (before after : List ℕ) : Type 0 where
 abbrev pub nextPlace : State → ℕ → ℕ
 nextPlace s a = superblockIndex a * 256 + (blocksOf (superblockHolding s a .class) - liveIn (superblockHolding s a))
 
--- the blocks at the addresses are freed in the order written, from state s on: each has its number written in the next place of its superblock's order then
+-- the blocks at the addresses are freed in the order written, from state s on: each has its number written in the next place of its superblock's order then, and for a
+-- long block nothing is written ("order places keep what they had")
 pub data WritesEach : State → List ℕ → List ℕ → List ℕ → Type 0 where
   done : {s : State} {order : List ℕ} → WritesEach s order [] order
-  next : {s : State} {a : ℕ} {before between addresses after : List ℕ} → WritesOne (nextPlace s a) (blockOf s a) before between
+  next : {s : State} {a : ℕ} {before between addresses after : List ℕ} → isInRun s a ≡ false → WritesOne (nextPlace s a) (blockOf s a) before between
       → WritesEach (blockFreed s a) between addresses after → WritesEach s before (a ∷ addresses) after
+  unwritten : {s : State} {a : ℕ} {before addresses after : List ℕ} → isInRun s a ≡ true → WritesEach (blockFreed s a) before addresses after → WritesEach s before (a ∷ addresses) after
 
 -- no address lies in superblock k
 abbrev pub NoneIn : ℕ → List ℕ → Type 0
@@ -125,9 +132,9 @@ module _ (s : State) (order : List ℕ) (i size : ℕ) where
       kept x (inl l) = renewed-index-below order k n x l
       kept x (inr l) = renewed-index-above order k n x l
 
-  -- a take leaves the order as it was, or renews a superblock and writes the first n places of that one and no other
+  -- a take leaves the order as it was, as each of a long block does, or renews a superblock and writes the first n places of that one and no other
   pub take-writes : (takeOf s order i size .order ≡ order) ⊎ ((k : ℕ) × Renewal s order i size k)
-  unfolding takenFromOther takenFrom acquiredOrder
+  unfolding takenFromOther takenFrom acquiredOrder longTakenFrom
   take-writes = go (take-refused-or-accepted s order i size)
     where
       renewal : (k : ℕ) → TakeAccepted s order i size k → fullest i (classOf size) s ≡ Nothing → otherPlaces (classOf size) s ≡ At k
@@ -154,9 +161,11 @@ module _ (s : State) (order : List ℕ) (i size : ℕ) where
       by-place k acc (inl (f, e)) = inl (ap (λ (x : After). x .order) e)
       by-place k acc (inr (f, g, e)) = renewal k acc f g (eqb (liveIn (superblockAt s k)) 0) refl (ap (λ (x : After). x .order) e)
 
-      go : ((r : ℕ) × (takeOf s order i size ≡ refused r s order)) ⊎ ((k : ℕ) × TakeAccepted s order i size k) → (takeOf s order i size .order ≡ order) ⊎ ((k : ℕ) × Renewal s order i size k)
+      go : ((r : ℕ) × (takeOf s order i size ≡ refused r s order)) ⊎ (((k : ℕ) × TakeAccepted s order i size k) ⊎ ((k : ℕ) × LongTakeAccepted s order i size k))
+          → (takeOf s order i size .order ≡ order) ⊎ ((k : ℕ) × Renewal s order i size k)
       go (inl (r, e)) = inl (ap (λ (x : After). x .order) e)
-      go (inr (k, acc)) = by-place k acc (acc .place)
+      go (inr (inl (k, acc))) = by-place k acc (acc .place)
+      go (inr (inr (k, acc))) = inl (ap (λ (x : After). x .order) (acc .result-is))
 
   -- and it does renew what comes from place 2, 3 or 4 with nothing live
   pub take-renews : (k : ℕ) → TakeAccepted s order i size k → fullest i (classOf size) s ≡ Nothing → liveIn (superblockAt s k) ≡ 0 → Renewal s order i size k
@@ -183,34 +192,45 @@ module _ (s : State) (order : List ℕ) (i size : ℕ) where
       }
 
 -- ---- a block freed, at an address that meets no refusal
-module _ (s : State) (a : ℕ) (accepted : addressRefusal s a ≡ 0) where
-  pub freed-superblock-below-superblocks : superblockIndex a < s .setup .superblocks
-  unfolding isUnmapped
-  freed-superblock-below-superblocks =
-      let l = leb-false (s .setup .superblocks * 4096) a (neither-left (leb (s .setup .superblocks * 4096) a) (isUnused (superblockHolding s a)) (mapped-of-no-refusal s a accepted)) in
-      omega arith
+pub freed-superblock-below-superblocks : (s : State) (a : ℕ) → addressRefusal s a ≡ 0 → superblockIndex a < s .setup .superblocks
+unfolding isUnmapped
+freed-superblock-below-superblocks s a accepted =
+    let l = leb-false (s .setup .superblocks * 4096) a (neither-left (leb (s .setup .superblocks * 4096) a) (isUnused (superblockHolding s a)) (mapped-of-no-refusal s a accepted)) in
+    omega arith
+
+-- of a block of a class
+module _ (s : State) (a : ℕ) (accepted : addressRefusal s a ≡ 0) (outside : isInRun s a ≡ false) where
+  aligned-outside-run : isOffBlock s a ≡ false
+  unfolding isMisaligned
+  aligned-outside-run = sym (pick-false (isInRun s a) (not (isRunStart s a)) (isOffBlock s a) outside) ∙ aligned-of-no-refusal s a accepted
 
   freed-block-lt-256 : blockOf s a < 256
-  unfolding isMisaligned
+  unfolding isOffBlock
   freed-block-lt-256 =
-      let l = leb-false (blocksOf (superblockHolding s a .class)) (blockOf s a) (neither-right (not (eqb (offsetOf a % sizeOf (superblockHolding s a .class)) 0)) (leb (blocksOf (superblockHolding s a .class)) (blockOf s a)) (aligned-of-no-refusal s a accepted)) in
+      let l = leb-false (blocksOf (superblockHolding s a .class)) (blockOf s a) (neither-right (not (eqb (offsetOf a % sizeOf (superblockHolding s a .class)) 0)) (leb (blocksOf (superblockHolding s a .class)) (blockOf s a)) aligned-outside-run) in
       omega (arith, blocks-of-le-256 (superblockHolding s a .class))
 
   some-live : liveIn (superblockHolding s a) ≡ 0 → ⊥
   unfolding isLiveAt
-  some-live e = omega (arith, marks-clear-of-live-count-zero (superblockHolding s a .live) e (blockOf s a) freed-block-lt-256, mark-bit-one-of-mark (superblockHolding s a .live) (blockOf s a) (live-of-no-refusal s a accepted))
+  some-live e =
+      omega (
+        arith,
+        marks-clear-of-live-count-zero (superblockHolding s a .live) e (blockOf s a) freed-block-lt-256,
+        mark-bit-one-of-mark (liveBlocks (superblockHolding s a)) (blockOf s a) (live-of-no-refusal s a accepted),
+        ap (λ (x : List ℕ). markBit x (blockOf s a)) (live-blocks-outside-run (superblockHolding s a) outside),
+      )
 
   -- a superblock with a live block has fewer than 256 places filled
   pub filled-lt-256 : blocksOf (superblockHolding s a .class) - liveIn (superblockHolding s a) < 256
   filled-lt-256 = let f = some-live in omega (arith, blocks-of-le-256 (superblockHolding s a .class))
 
   -- its number goes in the next place, and no other place is written
-  pub push-writes-next : (order : List ℕ) → s .setup .superblocks * 256 ≤ length order → WritesOne (nextPlace s a) (blockOf s a) order (orderPushed s order a)
-  unfolding orderPushed place
+  pub push-writes-next : (order : List ℕ) → s .setup .superblocks * 256 ≤ length order → WritesOne (nextPlace s a) (blockOf s a) order (blockPushed s order a)
+  unfolding blockPushed place
   push-writes-next order room =
       let p = blocksOf (superblockHolding s a .class) - liveIn (superblockHolding s a) in
       record {
-        written = with-place-same order (superblockIndex a) p (blockOf s a) (omega (arith, freed-superblock-below-superblocks, filled-lt-256));
+        written = with-place-same order (superblockIndex a) p (blockOf s a) (omega (arith, freed-superblock-below-superblocks s a accepted, filled-lt-256));
         kept = λ y f. with-place-other-index order (superblockIndex a) p (blockOf s a) y f;
         length-is = length-with-place order (superblockIndex a) p (blockOf s a);
       }
@@ -219,54 +239,84 @@ module _ (s : State) (a : ℕ) (accepted : addressRefusal s a ≡ 0) where
 module _ (s : State) (order : List ℕ) (i a : ℕ) where
   module _ (acc : FreeAccepted s order i a) where
     no-refusal : addressRefusal s a ≡ 0
-    no-refusal = no-refusal-of-live-block s a (acc .mapped) (acc .block-aligned) (acc .live)
+    no-refusal = no-refusal-of-live-block s a (acc .address .mapped) (acc .address .block-aligned) (acc .address .live)
 
     pub next-place-below-superblocks : nextPlace s a < s .setup .superblocks * 256
-    next-place-below-superblocks = omega (arith, freed-superblock-below-superblocks s a no-refusal, filled-lt-256 s a no-refusal)
+    next-place-below-superblocks = omega (arith, freed-superblock-below-superblocks s a no-refusal, filled-lt-256 s a no-refusal (acc .outside-run))
 
     next-written : WritesOne (nextPlace s a) (blockOf s a) order (freeOf s order i a .order)
-    unfolding freedAt
-    next-written = subst (WritesOne (nextPlace s a) (blockOf s a) order) (sym (ap (λ (x : After). x .order) (acc .result-is))) (push-writes-next s a no-refusal order (acc .passed .room))
+    unfolding smallFreedAt
+    next-written = subst (WritesOne (nextPlace s a) (blockOf s a) order) (sym (ap (λ (x : After). x .order) (acc .result-is))) (push-writes-next s a no-refusal (acc .outside-run) order (acc .address .passed .room))
 
-  -- a refused free leaves all as it was; an accepted one writes the block's number in the next place of its superblock's order, and no other place
-  pub free-writes : ((r : ℕ) × (freeOf s order i a ≡ refused r s order)) ⊎ (FreeAccepted s order i a × WritesOne (nextPlace s a) (blockOf s a) order (freeOf s order i a .order))
-  free-writes = go (free-refused-or-accepted s order i a)
-    where
-      go : ((r : ℕ) × (freeOf s order i a ≡ refused r s order)) ⊎ FreeAccepted s order i a
-          → ((r : ℕ) × (freeOf s order i a ≡ refused r s order)) ⊎ (FreeAccepted s order i a × WritesOne (nextPlace s a) (blockOf s a) order (freeOf s order i a .order))
-      go (inl r) = inl r
-      go (inr acc) = inr (acc, next-written acc)
+  -- a refused free leaves all as it was; an accepted one writes the block's number in the next place of its superblock's order, and no other place; that of a long
+  -- block writes none
+  abbrev pub FreeWrites : Type 0
+  FreeWrites =
+      ((r : ℕ) × (freeOf s order i a ≡ refused r s order))
+      ⊎ ((FreeAccepted s order i a × WritesOne (nextPlace s a) (blockOf s a) order (freeOf s order i a .order)) ⊎ (LongFreeAccepted s order i a × (freeOf s order i a .order ≡ order)))
+
+  pub free-writes : FreeWrites
+  unfolding longFreedAt
+  free-writes = ⊎-elim inl (λ h. inr (⊎-elim (λ acc. inl (acc, next-written acc)) (λ acc. inr (acc, ap (λ (x : After). x .order) (acc .result-is))) h)) (free-refused-or-accepted s order i a)
 
 -- ---- a drop
+-- a block freed keeps the setup
+block-freed-setup : (s : State) (a : ℕ) → blockFreed s a .setup ≡ s .setup
+unfolding blockFreed longBlockFreed smallBlockFreed markCleared rankedLatest
+block-freed-setup s a = pick-elim (λ (t : State). t .setup ≡ s .setup) (isInRun s a) _ _ (λ e. run-freed-keeps-rest (superblockIndex a) (superblockHolding s a .run) s .setup) (λ e. refl)
+
 all-pushed-writes-each : (s : State) (order addresses : List ℕ) → s .setup .superblocks * 256 ≤ length order → firstAddressRefusal s addresses ≡ 0 → WritesEach s order addresses (allPushed s order addresses)
-unfolding allPushed blockFreed markCleared rankedLatest
+unfolding allPushed
 all-pushed-writes-each s order [] room ok = done
 all-pushed-writes-each s order (a ∷ addresses) room ok =
-    let accepted = first-refusal-of-cons s a addresses ok in
-    let one = push-writes-next s a (accepted .0) order room in
-    next one (all-pushed-writes-each (blockFreed s a) (orderPushed s order a) addresses (subst (λ (n : ℕ). s .setup .superblocks * 256 ≤ n) (sym (one .length-is)) room) (accepted .1))
+    go (isInRun s a) refl (λ places fits. all-pushed-writes-each (blockFreed s a) places addresses fits (first-refusal-of-cons s a addresses ok .1))
+  where
+    Rest : List ℕ → Type 0
+    Rest places = WritesEach (blockFreed s a) places addresses (allPushed (blockFreed s a) (orderPushed s order a) addresses)
+
+    rest : ((places : List ℕ) → blockFreed s a .setup .superblocks * 256 ≤ length places → WritesEach (blockFreed s a) places addresses (allPushed (blockFreed s a) places addresses))
+        → (places : List ℕ) → length places ≡ length order → orderPushed s order a ≡ places → Rest places
+    rest all places long e =
+        subst (λ (l : List ℕ). WritesEach (blockFreed s a) places addresses (allPushed (blockFreed s a) l addresses)) (sym e)
+        (all places (subst (λ (u : Setup). u .superblocks * 256 ≤ length places) (sym (block-freed-setup s a)) (subst (λ (n : ℕ). s .setup .superblocks * 256 ≤ n) (sym long) room)))
+
+    go : (t : Bool) → isInRun s a ≡ t
+        → ((places : List ℕ) → blockFreed s a .setup .superblocks * 256 ≤ length places → WritesEach (blockFreed s a) places addresses (allPushed (blockFreed s a) places addresses))
+        → WritesEach s order (a ∷ addresses) (allPushed (blockFreed s a) (orderPushed s order a) addresses)
+    go true e all = unwritten e (rest all order refl (order-pushed-in-run s a order e))
+    go false e all =
+        let one = push-writes-next s a (first-refusal-of-cons s a addresses ok .0) e order room in
+        next e one (rest all (blockPushed s order a) (one .length-is) (order-pushed-outside-run s a order e))
 
 writes-each-keeps-length : {s : State} {before addresses after : List ℕ} → WritesEach s before addresses after → length after ≡ length before
 writes-each-keeps-length done = refl
-writes-each-keeps-length (next one rest) = writes-each-keeps-length rest ∙ one .length-is
+writes-each-keeps-length (next outside one rest) = writes-each-keeps-length rest ∙ one .length-is
+writes-each-keeps-length (unwritten inside rest) = writes-each-keeps-length rest
 
 -- a place of a superblock in which no address lies is not written
 all-pushed-keeps : (s : State) (order addresses : List ℕ) → firstAddressRefusal s addresses ≡ 0 → (x : ℕ) → NoneIn (x / 256) addresses → getD (allPushed s order addresses) x 0 ≡ getD order x 0
-unfolding allPushed orderPushed
+unfolding allPushed blockPushed
 all-pushed-keeps s order [] ok x apart = refl
-all-pushed-keeps s order (a ∷ addresses) ok x apart =
-    let accepted = first-refusal-of-cons s a addresses ok in
-    let p = blocksOf (superblockHolding s a .class) - liveIn (superblockHolding s a) in
-    all-pushed-keeps (blockFreed s a) (orderPushed s order a) addresses (accepted .1) x (apart .1)
-    ∙ with-place-other-index order (superblockIndex a) p (blockOf s a) x (λ (q : x ≡ superblockIndex a * 256 + p). apart .0 (omega (arith, filled-lt-256 s a (accepted .0))))
+all-pushed-keeps s order (a ∷ addresses) ok x apart = all-pushed-keeps (blockFreed s a) (orderPushed s order a) addresses (accepted .1) x (apart .1) ∙ go (isInRun s a) refl
+  where
+    accepted : (addressRefusal s a ≡ 0) × (firstAddressRefusal (blockFreed s a) addresses ≡ 0)
+    accepted = first-refusal-of-cons s a addresses ok
+
+    go : (t : Bool) → isInRun s a ≡ t → getD (orderPushed s order a) x 0 ≡ getD order x 0
+    go true e = ap (λ (l : List ℕ). getD l x 0) (order-pushed-in-run s a order e)
+    go false e =
+        let p = blocksOf (superblockHolding s a .class) - liveIn (superblockHolding s a) in
+        ap (λ (l : List ℕ). getD l x 0) (order-pushed-outside-run s a order e)
+        ∙ with-place-other-index order (superblockIndex a) p (blockOf s a) x (λ (q : x ≡ superblockIndex a * 256 + p). apart .0 (omega (arith, filled-lt-256 s a (accepted .0) e)))
 
 -- no address of an accepted drop lies past the first N superblocks
 none-past-superblocks : (s : State) (addresses : List ℕ) → firstAddressRefusal s addresses ≡ 0 → (k : ℕ) → s .setup .superblocks ≤ k → NoneIn k addresses
-unfolding blockFreed markCleared rankedLatest
 none-past-superblocks s [] ok k l = tt
 none-past-superblocks s (a ∷ addresses) ok k l =
-    let accepted = first-refusal-of-cons s a addresses ok in
-    (λ (q : superblockIndex a ≡ k). omega (arith, freed-superblock-below-superblocks s a (accepted .0)), none-past-superblocks (blockFreed s a) addresses (accepted .1) k l)
+    let accepted = first-refusal-of-cons s a addresses ok in (
+      λ (q : superblockIndex a ≡ k). omega (arith, freed-superblock-below-superblocks s a (accepted .0)),
+      none-past-superblocks (blockFreed s a) addresses (accepted .1) k (subst (λ (u : Setup). u .superblocks ≤ k) (sym (block-freed-setup s a)) l),
+    )
 
 module _ (s : State) (order : List ℕ) (i : ℕ) (addresses : List ℕ) where
   dropped-order : DropAccepted s order i addresses → dropOf s order i addresses .order ≡ allPushed s order addresses
@@ -321,10 +371,10 @@ take-writes-no-place-past-N s order i size = go (take-writes s order i size)
 free-writes-no-place-past-N : (s : State) (order : List ℕ) (i a : ℕ) → drop (s .setup .superblocks * 256) (freeOf s order i a .order) ≡ drop (s .setup .superblocks * 256) order
 free-writes-no-place-past-N s order i a = go (free-writes s order i a)
   where
-    go : ((r : ℕ) × (freeOf s order i a ≡ refused r s order)) ⊎ (FreeAccepted s order i a × WritesOne (nextPlace s a) (blockOf s a) order (freeOf s order i a .order))
-        → drop (s .setup .superblocks * 256) (freeOf s order i a .order) ≡ drop (s .setup .superblocks * 256) order
+    go : FreeWrites s order i a → drop (s .setup .superblocks * 256) (freeOf s order i a .order) ≡ drop (s .setup .superblocks * 256) order
     go (inl (r, e)) = ap (λ (x : After). drop (s .setup .superblocks * 256) (x .order)) e
-    go (inr (acc, w)) =
+    go (inr (inr (acc, e))) = ap (drop (s .setup .superblocks * 256)) e
+    go (inr (inl (acc, w))) =
         drop-equal-of-same-rest (s .setup .superblocks * 256) (freeOf s order i a .order) order (w .length-is)
         (λ x l. w .kept x (λ (q : x ≡ nextPlace s a). omega (arith, next-place-below-superblocks s order i a acc)))
 
@@ -343,12 +393,12 @@ call-writes-only-first-places s order (Free i a) = free-writes-no-place-past-N s
 call-writes-only-first-places s order (NamedTake i m size) =
     ⊎-elim
     (λ h. ap (λ (x : After). drop (s .setup .superblocks * 256) (x .order)) (h .1))
-    (λ h. ap (λ (x : After). drop (s .setup .superblocks * 256) (x .order)) (h .1 .result-is) ∙ take-writes-no-place-past-N s order i size)
+    (λ h. ap (λ (x : After). drop (s .setup .superblocks * 256) (x .order)) (⊎-elim (λ a. a .1 .result-is) (λ a. a .1 .result-is) h) ∙ take-writes-no-place-past-N s order i size)
     (named-take-refused-or-accepted s order i m size)
 call-writes-only-first-places s order (NamedFree i m) =
     ⊎-elim
     (λ h. ap (λ (x : After). drop (s .setup .superblocks * 256) (x .order)) (h .1))
-    (λ h. ap (λ (x : After). drop (s .setup .superblocks * 256) (x .order)) (h .result-is) ∙ free-writes-no-place-past-N s order i (heldAddress s m))
+    (λ h. ap (λ (x : After). drop (s .setup .superblocks * 256) (x .order)) (⊎-elim (λ a. a .result-is) (λ a. a .result-is) h) ∙ free-writes-no-place-past-N s order i (heldAddress s m))
     (named-free-refused-or-accepted s order i m)
 call-writes-only-first-places s order (Drop i addresses) = drop-writes-no-place-past-N s order i addresses
 

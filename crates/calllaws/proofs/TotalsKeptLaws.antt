@@ -12,8 +12,8 @@ use lib.ListN.{length, getD-replicate}
 use lib.Dec.{eqb, leb}
 use Rattle.laws.specs.Sums.{pick, sumBelow}
 use Rattle.laws.proofs.SumLaws.{sum-cong}
-use Rattle.laws.proofs.TestLaws.{T-of-true}
-use Rattle.classes.specs.Classes.{classOf, isTooLarge}
+use Rattle.laws.proofs.TestLaws.{T-of-true, pick-elim}
+use Rattle.classes.specs.Classes.{classOf, isLong, runLength, isTooLarge}
 use Rattle.names.specs.Names.{isHeld}
 use Rattle.heap.specs.declared.Setup.{Setup}
 use Rattle.heap.specs.declared.State.{State}
@@ -24,22 +24,25 @@ use Rattle.heap.specs.Counts.{superblocksOf, liveOf, superblocksOfClass, liveOf
 use Rattle.heap.specs.Totals.{heapCount, totalCount, totalIndex, superblocksKept, liveKept, TotalsKept}
 use Rattle.heap.specs.States.{noState, newState}
 use Rattle.choicerules.specs.Choice.{fullest}
+use Rattle.choicerules.specs.Runs.{lowestRun}
 use Rattle.checkrules.specs.Check.{withinLimits, restValid}
 use Rattle.heaplaws.proofs.StateFacts.{Shape, WithinLimits}
-use Rattle.heaplaws.proofs.StateCheckLaws.{sound-of-passes, owned-of-owner}
+use Rattle.heaplaws.proofs.StateCheckLaws.{sound-of-passes, totals-kept-of-rest, owned-of-owner}
 use Rattle.heaplaws.proofs.CountLaws.{owned-is-sum-over-heaps, live-is-sum-over-heaps}
 use Rattle.heaplaws.proofs.TotalsLaws.{new-state-totals-kept, recounted-superblocks, recounted-live, superblocks-kept-are-counted, live-kept-is-counted, totals-equal-of-each, length-recounted-superblocks, length-recounted-live, superblocks-kept-above-processors, live-kept-above-processors}
 use Rattle.calls.specs.declared.Outcome.{Outcome}
 use Rattle.calls.specs.declared.Outcome.the-variants.{Ready, Address, Moves, Refused}
 use Rattle.calls.specs.Answers.{After, numberOf, refused, checked, isProcessor}
 use Rattle.calls.specs.Setup.{acceptedSetup, setupOf}
+use Rattle.calls.specs.Runs.{joinedToRun, runTaken, longTakenFrom, longTakenAt, madeUnused, runFreed}
 use Rattle.calls.specs.Take.{otherPlaces, takenFrom, takenFromOther, takenAt, takeUnchecked}
-use Rattle.calls.specs.Free.{superblockHolding, isUnmapped, isMisaligned, isLiveAt, markCleared, blockFreed, freedAt, freeUnchecked}
+use Rattle.calls.specs.Free.{superblockIndex, superblockHolding, isUnmapped, isInRun, isMisaligned, isLiveAt, markCleared, smallBlockFreed, longBlockFreed, blockFreed, smallFreedAt, longFreedAt, freedAt, freeUnchecked}
 use Rattle.calls.specs.Named.{isUnavailable, nameBound, boundBy, withNameBound, namedTakeUnchecked, heldAddress, namedFreeUnchecked}
 use Rattle.calls.specs.Drop.{allFreed, firstAddressRefusal, isTouched, dropMoves, droppedAll, dropUnchecked}
 use Rattle.calls.specs.Calls.{Call, Take, Free, NamedTake, NamedFree, Drop, callOf, callUnchecked}
 use Rattle.calls.proofs.CheckFirst.{call-of-checks-first}
 use Rattle.calllaws.proofs.CallEffects.{Passed}
+use Rattle.calllaws.proofs.EachOfRunLaws.{each-of-run-keeps}
 use Rattle.calllaws.proofs.NamedCallLaws.{name-bound-of-refused}
 use Rattle.calls.proofs.TouchedPairLaws.{drop-moves-by-heaps}
 use Rattle.heaplaws.proofs.MovesKeepLaws.{totals-kept-of-invariant-restored}
@@ -66,11 +69,24 @@ totals-kept-iff-counted s shape = (totals-counted-of-kept s, kept)
         (totals-equal-of-each (s .totals .live) _ (shape .live-totals-length) (length-recounted-live (s .table)) (λ h c lh lc. each h c lh lc .1 ∙ sym (recounted-live s h c lh lc)))
 
 -- ---- calls, by their definitions alone
--- a block freed replaces a superblock, and the moves of a drop keep them as those of a free do
+-- a run taken or freed replaces its superblocks one after another
+pub run-taken-recounted : (k n : ℕ) (s : State) → TotalsKept s → TotalsKept (runTaken k n s)
+unfolding runTaken joinedToRun
+run-taken-recounted k n s kept = each-of-run-keeps (joinedToRun k n) k s n TotalsKept (λ m t low high h. refl) kept
+
+run-freed-recounted : (k n : ℕ) (s : State) → TotalsKept s → TotalsKept (runFreed k n s)
+unfolding runFreed madeUnused
+run-freed-recounted k n s kept = each-of-run-keeps madeUnused k s n TotalsKept (λ m t low high h. refl) kept
+
+-- a block freed replaces a superblock, a long one those of its run, and the moves of a drop keep them as those of a free do
+block-freed-recounted : (s : State) (a : ℕ) → TotalsKept s → TotalsKept (blockFreed s a)
+unfolding blockFreed longBlockFreed smallBlockFreed markCleared
+block-freed-recounted s a kept = pick-elim TotalsKept (isInRun s a) _ _ (λ e. run-freed-recounted (superblockIndex a) (superblockHolding s a .run) s kept) (λ e. refl)
+
 all-freed-recounted : (s : State) (addresses : List ℕ) → TotalsKept s → TotalsKept (allFreed s addresses)
-unfolding allFreed blockFreed markCleared
+unfolding allFreed
 all-freed-recounted s [] kept = kept
-all-freed-recounted s (a ∷ addresses) kept = all-freed-recounted (blockFreed s a) addresses refl
+all-freed-recounted s (a ∷ addresses) kept = all-freed-recounted (blockFreed s a) addresses (block-freed-recounted s a kept)
 
 drop-moves-recounted : (s : State) (addresses : List ℕ) → TotalsKept (allFreed s addresses) → TotalsKept (dropMoves s addresses .state)
 drop-moves-recounted s addresses kept =
@@ -97,12 +113,13 @@ module _ (s : State) (order : List ℕ) where
   with-refusal : (r : ℕ) → 0 < r → RefusedOrRecounted s order (refused r s order)
   with-refusal r pos = inl (r, pos, refl)
 
-  check-refuses-or : (next : After) → RefusedOrRecounted s order next → RefusedOrRecounted s order (checked s order next)
+  -- behind the check they are the recount before the call too
+  check-refuses-or : (next : After) → (TotalsKept s → RefusedOrRecounted s order next) → RefusedOrRecounted s order (checked s order next)
   unfolding checked
   check-refuses-or next f =
       by-test (withinLimits (s .setup)) _ _
       (by-test (leb (s .setup .superblocks * 256) (length order)) _ _
-      (by-test (restValid s order) next _ f (with-refusal 13 (omega arith)))
+      (pick-elim (RefusedOrRecounted s order) (restValid s order) next _ (λ e. f (totals-kept-of-rest s order (T-of-true _ e))) (λ e. with-refusal 13 (omega arith)))
       (with-refusal 12 (omega arith)))
       (with-refusal 13 (omega arith))
 
@@ -113,54 +130,61 @@ module _ (s : State) (order : List ℕ) where
   take-recounts-at i c Nothing (At k) = inr (address-not-refused _, refl)
   take-recounts-at i c Nothing Nothing = with-refusal 4 (omega arith)
 
-  take-recounts : (i size : ℕ) → RefusedOrRecounted s order (takeUnchecked s order i size)
-  unfolding takeUnchecked
-  take-recounts i size =
-      by-test (not (isProcessor s i)) _ _ (with-refusal 2 (omega arith))
-      (by-test (isTooLarge size) _ _ (with-refusal 3 (omega arith)) (take-recounts-at i (classOf size) (fullest i (classOf size) s) (otherPlaces (classOf size) s)))
+  -- and a long one those of its run
+  long-take-recounts-at : TotalsKept s → (n : ℕ) (run : Found) → RefusedOrRecounted s order (longTakenAt n s order run)
+  unfolding longTakenAt longTakenFrom
+  long-take-recounts-at kept n (At k) = inr (address-not-refused _, run-taken-recounted k n s kept)
+  long-take-recounts-at kept n Nothing = with-refusal 17 (omega arith)
 
-  -- a free clears a mark, and then moves
-  free-recounts : (i a : ℕ) → RefusedOrRecounted s order (freeUnchecked s order i a)
-  unfolding freeUnchecked freedAt blockFreed markCleared
-  free-recounts i a =
+  take-recounts : TotalsKept s → (i size : ℕ) → RefusedOrRecounted s order (takeUnchecked s order i size)
+  unfolding takeUnchecked
+  take-recounts kept i size =
+      by-test (not (isProcessor s i)) _ _ (with-refusal 2 (omega arith))
+      (by-test (isTooLarge size) _ _ (with-refusal 3 (omega arith))
+      (by-test (isLong size) _ _ (long-take-recounts-at kept (runLength size) (lowestRun (runLength size) s))
+      (take-recounts-at i (classOf size) (fullest i (classOf size) s) (otherPlaces (classOf size) s))))
+
+  -- a free clears a mark, and then moves; or it frees a run
+  free-recounts : TotalsKept s → (i a : ℕ) → RefusedOrRecounted s order (freeUnchecked s order i a)
+  unfolding freeUnchecked freedAt smallFreedAt longFreedAt smallBlockFreed longBlockFreed markCleared
+  free-recounts kept i a =
       by-test (not (isProcessor s i)) _ _ (with-refusal 2 (omega arith))
       (by-test (isUnmapped s a) _ _ (with-refusal 5 (omega arith))
       (by-test (isMisaligned s a) _ _ (with-refusal 6 (omega arith))
       (by-test (not (isLiveAt s a)) _ _ (with-refusal 7 (omega arith))
-      (inr (moves-not-refused _, totals-kept-of-invariant-restored (superblockHolding s a .owner) (superblockHolding s a .class) (blockFreed s a) refl)))))
+      (by-test (isInRun s a) _ _ (inr (moves-not-refused _, run-freed-recounted (superblockIndex a) (superblockHolding s a .run) s kept))
+      (inr (moves-not-refused _, totals-kept-of-invariant-restored (superblockHolding s a .owner) (superblockHolding s a .class) (smallBlockFreed s a) refl))))))
 
-  -- a drop frees a block at least
-  drop-recounts : (i : ℕ) (addresses : List ℕ) → RefusedOrRecounted s order (dropUnchecked s order i addresses)
-  unfolding dropUnchecked droppedAll allFreed blockFreed markCleared
-  drop-recounts i [] = by-test (not (isProcessor s i)) _ _ (with-refusal 2 (omega arith)) (with-refusal 16 (omega arith))
-  drop-recounts i (a ∷ addresses) =
+  drop-recounts : TotalsKept s → (i : ℕ) (addresses : List ℕ) → RefusedOrRecounted s order (dropUnchecked s order i addresses)
+  unfolding dropUnchecked droppedAll
+  drop-recounts kept i addresses =
       by-test (not (isProcessor s i)) _ _ (with-refusal 2 (omega arith))
-      (by-test (eqb (length (a ∷ addresses)) 0) _ _ (with-refusal 16 (omega arith)) (go (eqb (firstAddressRefusal s (a ∷ addresses)) 0) refl))
+      (by-test (eqb (length addresses) 0) _ _ (with-refusal 16 (omega arith)) (go (eqb (firstAddressRefusal s addresses) 0) refl))
     where
-      go : (t : Bool) → eqb (firstAddressRefusal s (a ∷ addresses)) 0 ≡ t → RefusedOrRecounted s order (pick t (droppedAll s order (a ∷ addresses)) (refused (firstAddressRefusal s (a ∷ addresses)) s order))
-      go true e = inr (moves-not-refused _, drop-moves-recounted s (a ∷ addresses) (all-freed-recounted (blockFreed s a) addresses refl))
-      go false e = with-refusal (firstAddressRefusal s (a ∷ addresses)) (pos-of-ne-zero (eqb-false (firstAddressRefusal s (a ∷ addresses)) 0 e))
+      go : (t : Bool) → eqb (firstAddressRefusal s addresses) 0 ≡ t → RefusedOrRecounted s order (pick t (droppedAll s order addresses) (refused (firstAddressRefusal s addresses) s order))
+      go true e = inr (moves-not-refused _, drop-moves-recounted s addresses (all-freed-recounted s addresses kept))
+      go false e = with-refusal (firstAddressRefusal s addresses) (pos-of-ne-zero (eqb-false (firstAddressRefusal s addresses) 0 e))
 
   name-bound-recounts : (m : ℕ) (x : After) → RefusedOrRecounted s order x → RefusedOrRecounted s order (withNameBound m x)
   unfolding withNameBound
   name-bound-recounts m x (inl (r, pos, e)) = inl (r, pos, ap (withNameBound m) e ∙ name-bound-of-refused r m s order)
   name-bound-recounts m x (inr (accepted, kept)) = inr (accepted, bound-recounted (x .answer .outcome) m (x .answer .state) kept)
 
-  unchecked-call-recounts : (call : Call) → RefusedOrRecounted s order (callUnchecked s order call)
+  unchecked-call-recounts : TotalsKept s → (call : Call) → RefusedOrRecounted s order (callUnchecked s order call)
   unfolding callUnchecked namedTakeUnchecked namedFreeUnchecked
-  unchecked-call-recounts (Take i size) = take-recounts i size
-  unchecked-call-recounts (Free i a) = free-recounts i a
-  unchecked-call-recounts (NamedTake i m size) =
+  unchecked-call-recounts kept (Take i size) = take-recounts kept i size
+  unchecked-call-recounts kept (Free i a) = free-recounts kept i a
+  unchecked-call-recounts kept (NamedTake i m size) =
       by-test (not (isProcessor s i)) _ _ (with-refusal 2 (omega arith))
-      (by-test (isUnavailable s m) _ _ (with-refusal 14 (omega arith)) (name-bound-recounts m _ (take-recounts i size)))
-  unchecked-call-recounts (NamedFree i m) =
+      (by-test (isUnavailable s m) _ _ (with-refusal 14 (omega arith)) (name-bound-recounts m _ (take-recounts kept i size)))
+  unchecked-call-recounts kept (NamedFree i m) =
       by-test (not (isProcessor s i)) _ _ (with-refusal 2 (omega arith))
-      (by-test (not (isHeld (s .names) m)) _ _ (with-refusal 15 (omega arith)) (free-recounts i (heldAddress s m)))
-  unchecked-call-recounts (Drop i addresses) = drop-recounts i addresses
+      (by-test (not (isHeld (s .names) m)) _ _ (with-refusal 15 (omega arith)) (free-recounts kept i (heldAddress s m)))
+  unchecked-call-recounts kept (Drop i addresses) = drop-recounts kept i addresses
 
   module _ (call : Call) where
     refused-or-recounted : RefusedOrRecounted s order (callOf s order call)
-    refused-or-recounted = rw (call-of-checks-first s order call) (check-refuses-or (callUnchecked s order call) (unchecked-call-recounts call))
+    refused-or-recounted = rw (call-of-checks-first s order call) (check-refuses-or (callUnchecked s order call) (λ kept. unchecked-call-recounts kept call))
 
     accepted-call-recounts : numberOf (callOf s order call .answer .outcome) ≡ 0 → TotalsKept (callOf s order call .answer .state)
     unfolding numberOf
@@ -236,10 +260,10 @@ module _ (s : State) (order : List ℕ) (passed : Passed s order) (c : ℕ) (lc 
       let high = passed .sound .numbers .processors-high in
       ap₂ _+_ (each 0 (omega arith)) (sum-cong (λ i. f (suc i)) (λ i. g (suc i)) (s .setup .processors) (λ i l. each (suc i) (omega arith)))
 
-  few-processors : s .setup .processors < 255
+  few-processors : s .setup .processors < 254
   few-processors = omega (arith, passed .sound .numbers .processors-high)
 
-  owner-le-processors : (k : ℕ) → k < 64 → (superblockAt s k .owner ≡ 255 → ⊥) → superblockAt s k .owner ≤ s .setup .processors
+  owner-le-processors : (k : ℕ) → k < 64 → superblockAt s k .owner < 254 → superblockAt s k .owner ≤ s .setup .processors
   owner-le-processors k l f = owned-of-owner s order (passed .sound) k l f .owner
 
   -- the superblock totals are the A of the bound ..

@@ -14,6 +14,7 @@ use Rattle.marks.specs.Marks.{noMarks, withMark}
 use Rattle.heap.specs.declared.Superblock.{Superblock}
 use Rattle.heap.specs.declared.State.{State}
 use Rattle.heap.specs.Table.{blank, superblockAt, isOfRun, startsRun, liveBlocks, withRank}
+use Rattle.heap.specs.States.{withNames}
 use Rattle.heap.specs.Ranks.{reranked}
 use Rattle.checkrules.specs.Check.{within, runsWhole, runsValid}
 use Rattle.heaplaws.proofs.StateFacts.{RunsKept}
@@ -51,6 +52,11 @@ reranked-runs-kept rank s long m l = (reranked-of-run rank s long m, reranked-ru
 
 pub reranked-runs-valid : (rank : ℕ → ℕ) (s : State) → length (s .table) ≡ 64 → T (runsValid s) → T (runsValid (reranked rank s))
 reranked-runs-valid rank s long valid = runs-valid-of-kept s (reranked rank s) long (length-listed (λ m. withRank (rank m) (superblockAt s m)) 64) (reranked-runs-kept rank s long) valid
+
+-- nor have names
+pub runs-valid-with-names : (s : State) (names : List ℕ) → T (runsValid s) → T (runsValid (withNames s names))
+unfolding runsValid
+runs-valid-with-names s names valid = valid
 
 -- ---- live blocks
 -- outside runs they are the marks

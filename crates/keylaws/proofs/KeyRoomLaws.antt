@@ -1,18 +1,17 @@
 -- The key of any record of bytes fits its room: a command prints at most 10 bytes for each of its own, and the final lines are those of
--- at most 9 heaps and 27 classes. Assumes nothing.
+-- at most 9 heaps and 27 classes and of at most 64 runs. Assumes nothing.
 use mathlib.Core.Path.{_≡_, refl, sym, subst}
-use mathlib.Core.Bool.{not}
+use mathlib.Core.Bool.{Bool, true, false, not}
 use mathlib.Core.List.{List, [], _∷_}
-use Prim.Native.Nat.{ℕ, zero, suc, _+_, _*_, _≤_, _<_}
+use Prim.Native.Nat.{ℕ, zero, suc, _+_, _*_, _≤_, _<_, zero-le}
 use native.Mathlib.Nat.{lt-of-not-le}
 use native.Mathlib.Decide.{decLe}
 use native.Mathlib.Omega.{arith}
-use borrow.Author.Tests.{eqb-false}
 use lib.ListN.{length, length-append}
 use lib.Dec.{eqb, leb}
-use Rattle.laws.specs.Sums.{either}
+use Rattle.laws.specs.Sums.{pick, either}
 use Rattle.laws.proofs.TestLaws.{pick-elim}
-use Rattle.classes.specs.Classes.{classOf, isTooLarge}
+use Rattle.classes.specs.Classes.{classOf, isLong, runLength, isTooLarge}
 use Rattle.names.specs.Names.{isHeld}
 use Rattle.heap.specs.declared.Setup.{Setup}
 use Rattle.heap.specs.declared.State.{State}
@@ -20,17 +19,18 @@ use Rattle.heap.specs.declared.Found.{Found}
 use Rattle.heap.specs.declared.Found.the-variants.{At, Nothing}
 use Rattle.heap.specs.declared.Moved.{Moved}
 use Rattle.choicerules.specs.Choice.{fullest, emptiest}
+use Rattle.choicerules.specs.Runs.{lowestRun}
 use Rattle.moverules.specs.Moves.{mustMove, foundTransferred, transfersUpTo, excessTransferred, invariantRestored}
 use Rattle.checkrules.specs.Check.{withinLimits, restValid}
 use Rattle.calls.specs.declared.Outcome.{Outcome}
 use Rattle.calls.specs.declared.Outcome.the-variants.{Ready, Address, Moves, Refused}
 use Rattle.calls.specs.Answers.{After, numberOf, refused, checked, isProcessor}
 use Rattle.calls.specs.Setup.{setupOf}
+use Rattle.calls.specs.Runs.{longTakenFrom, longTakenAt}
 use Rattle.calls.specs.Take.{otherPlaces, takenFrom, takenFromOther, takenAt, takeUnchecked, takeOf}
-use Rattle.calls.specs.Free.{superblockHolding, isUnmapped, isMisaligned, isLiveAt, addressRefusal, blockFreed, freedAt, freeUnchecked, freeOf}
+use Rattle.calls.specs.Free.{superblockHolding, isUnmapped, isInRun, isMisaligned, isLiveAt, addressRefusal, smallBlockFreed, blockFreed, smallFreedAt, longFreedAt, freedAt, freeUnchecked, freeOf}
 use Rattle.calls.specs.Named.{namedTakeOf, heldAddress, namedFreeUnchecked, namedFreeOf}
-use Rattle.calls.specs.Drop.{allFreed, firstAddressRefusal, dropMoves, droppedAll, dropUnchecked, dropOf}
-use Rattle.calllaws.proofs.DropMoveLaws.{drop-moves-le-64, length-of-block-freed, length-of-all-freed}
+use Rattle.calls.specs.Drop.{allFreed, firstAddressRefusal, isTouched, thenRestored, Pair, touchedClasses, touchedPairs, eachRestored, dropMoves, droppedAll, dropUnchecked, dropOf}
 use Rattle.commands.specs.declared.Command.{Command}
 use Rattle.commands.specs.declared.Command.the-variants as command
 use Rattle.littleendian.specs.Bytes.{byteAt}
@@ -65,6 +65,11 @@ short-result-of-taken-at i c s order (At k) other = short-result-of-taken-from k
 short-result-of-taken-at i c s order Nothing (At k) = short-result-of-taken-from k _ _
 short-result-of-taken-at i c s order Nothing Nothing = short-result-of-refused 14 4 s order (omega arith) (omega arith)
 
+short-result-of-long-taken-at : (n : ℕ) (s : State) (order : List ℕ) (found : Found) → ShortResult 14 (longTakenAt n s order found)
+unfolding ShortResult longTakenAt longTakenFrom
+short-result-of-long-taken-at n s order (At k) = length-of-address-result-le-14 _
+short-result-of-long-taken-at n s order Nothing = short-result-of-refused 14 17 s order (omega arith) (omega arith)
+
 short-result-of-checked : (n : ℕ) (s : State) (order : List ℕ) (next : After) → 12 ≤ n → ShortResult n next → ShortResult n (checked s order next)
 unfolding checked
 short-result-of-checked n s order next l h =
@@ -80,7 +85,8 @@ short-result-of-take s order i size =
     short-result-of-checked 14 s order _ (omega arith)
     (pick-elim (ShortResult 14) (not (isProcessor s i)) _ _ (λ e. short-result-of-refused 14 2 s order (omega arith) (omega arith))
     (λ e. pick-elim (ShortResult 14) (isTooLarge size) _ _ (λ f. short-result-of-refused 14 3 s order (omega arith) (omega arith))
-    (λ f. short-result-of-taken-at i (classOf size) s order (fullest i (classOf size) s) (otherPlaces (classOf size) s))))
+    (λ f. pick-elim (ShortResult 14) (isLong size) _ _ (λ g. short-result-of-long-taken-at (runLength size) s order (lowestRun (runLength size) s))
+    (λ g. short-result-of-taken-at i (classOf size) s order (fullest i (classOf size) s) (otherPlaces (classOf size) s)))))
 
 -- ---- the result of a named free: at most 64 moves, or such a refusal
 moves-of-transfers-up-to-le : (k h c m : ℕ) (s : State) → transfersUpTo k h c m s .moves ≤ m + k
@@ -96,11 +102,13 @@ unfolding invariantRestored excessTransferred
 moves-of-invariant-restored-le-64 h c s = pick-elim (λ (r : Moved). r .moves ≤ 64) (eqb h 0) _ _ (λ e. omega arith) (λ e. moves-of-transfers-up-to-le 64 h c 0 s)
 
 short-result-of-freed-at : (s : State) (order : List ℕ) (a : ℕ) → ShortResult 12 (freedAt s order a)
-unfolding ShortResult freedAt result
+unfolding ShortResult freedAt longFreedAt smallFreedAt result
 short-result-of-freed-at s order a =
-    let moves = invariantRestored (superblockHolding s a .owner) (superblockHolding s a .class) (blockFreed s a) .moves in
-    let few : moves ≤ 64 = moves-of-invariant-restored-le-64 (superblockHolding s a .owner) (superblockHolding s a .class) (blockFreed s a) in
-    omega (arith, length-of-byte-decimal-le-3 moves (omega arith))
+    let moves = invariantRestored (superblockHolding s a .owner) (superblockHolding s a .class) (smallBlockFreed s a) .moves in
+    let few : moves ≤ 64 = moves-of-invariant-restored-le-64 (superblockHolding s a .owner) (superblockHolding s a .class) (smallBlockFreed s a) in
+    pick-elim (ShortResult 12) (isInRun s a) _ _
+    (λ e. omega (arith, length-of-byte-decimal-le-3 0 (omega arith)))
+    (λ e. omega (arith, length-of-byte-decimal-le-3 moves (omega arith)))
 
 short-result-of-free-unchecked : (s : State) (order : List ℕ) (i a : ℕ) → ShortResult 12 (freeUnchecked s order i a)
 unfolding freeUnchecked
@@ -119,17 +127,37 @@ short-result-of-named-free s order i m =
     (λ e. pick-elim (ShortResult 12) (not (isHeld (s .names) m)) _ _ (λ f. short-result-of-refused 12 15 s order (omega arith) (omega arith))
     (λ f. short-result-of-free-unchecked s order i (heldAddress s m))))
 
--- ---- the result of a drop: at most 64 moves too, or such a refusal
-moves-of-drop-le-64 : (s : State) (addresses : List ℕ) → (length addresses ≡ 0 → ⊥) → dropMoves s addresses .moves ≤ 64
-unfolding allFreed
-moves-of-drop-le-64 s [] some = absurd (some refl)
-moves-of-drop-le-64 s (a ∷ addresses) some = drop-moves-le-64 s (a ∷ addresses) (length-of-all-freed (blockFreed s a) addresses (length-of-block-freed s a))
+-- ---- the result of a drop: at most 64 moves for each heap and class touched, of at most 8 heaps, which is a number of five digits; or such a refusal
+length-of-touched-classes-le : (touched : ℕ → ℕ → Bool) (h c : ℕ) → length (touchedClasses touched h c) ≤ c
+unfolding touchedClasses
+length-of-touched-classes-le touched h zero = zero-le
+length-of-touched-classes-le touched h (suc c) = simp length-append (omega (arith, length-of-touched-classes-le touched h c, one-at-most (touched h c)))
+  where
+    one-at-most : (t : Bool) → length {A = Pair} (pick t (record { heap = h; class = c } ∷ []) []) ≤ 1
+    one-at-most true = omega arith
+    one-at-most false = zero-le
 
-short-result-of-dropped-all : (s : State) (order addresses : List ℕ) → (length addresses ≡ 0 → ⊥) → ShortResult 12 (droppedAll s order addresses)
+length-of-touched-pairs-le : (touched : ℕ → ℕ → Bool) (h : ℕ) → length (touchedPairs touched h) ≤ h * 27
+unfolding touchedPairs
+length-of-touched-pairs-le touched zero = zero-le
+length-of-touched-pairs-le touched (suc h) = simp length-append (omega (arith, length-of-touched-pairs-le touched h, length-of-touched-classes-le touched (suc h) 27))
+
+moves-of-each-restored-le : (pairs : List Pair) (before : Moved) → eachRestored pairs before .moves ≤ before .moves + length pairs * 64
+unfolding eachRestored thenRestored
+moves-of-each-restored-le [] before = omega arith
+moves-of-each-restored-le (pair ∷ pairs) before =
+    omega (arith, moves-of-each-restored-le pairs (thenRestored (pair .heap) (pair .class) before), moves-of-invariant-restored-le-64 (pair .heap) (pair .class) (before .state))
+
+moves-of-drop-le : (s : State) (addresses : List ℕ) → s .setup .processors ≤ 8 → dropMoves s addresses .moves ≤ 8 * 27 * 64
+unfolding dropMoves
+moves-of-drop-le s addresses h =
+    omega (arith, moves-of-each-restored-le (touchedPairs (isTouched s addresses) (s .setup .processors)) (record { moves = 0; state = allFreed s addresses }), length-of-touched-pairs-le (isTouched s addresses) (s .setup .processors))
+
+short-result-of-dropped-all : (s : State) (order addresses : List ℕ) → s .setup .processors ≤ 8 → ShortResult 12 (droppedAll s order addresses)
 unfolding ShortResult droppedAll result
-short-result-of-dropped-all s order addresses some =
-    let few = moves-of-drop-le-64 s addresses some in
-    omega (arith, length-of-byte-decimal-le-3 (dropMoves s addresses .moves) (omega arith))
+short-result-of-dropped-all s order addresses h =
+    let few = moves-of-drop-le s addresses h in
+    omega (arith, length-of-u16-decimal-le-5 (dropMoves s addresses .moves) (omega arith))
 
 address-refusal-le-7 : (s : State) (a : ℕ) → addressRefusal s a ≤ 7
 unfolding addressRefusal
@@ -144,13 +172,13 @@ first-refusal-le-7 s [] = omega arith
 first-refusal-le-7 s (a ∷ addresses) =
     pick-elim (λ (r : ℕ). r ≤ 7) (eqb (addressRefusal s a) 0) _ _ (λ e. first-refusal-le-7 (blockFreed s a) addresses) (λ e. address-refusal-le-7 s a)
 
-short-result-of-drop : (s : State) (order : List ℕ) (i : ℕ) (addresses : List ℕ) → ShortResult 12 (dropOf s order i addresses)
+short-result-of-drop : (s : State) (order : List ℕ) (i : ℕ) (addresses : List ℕ) → s .setup .processors ≤ 8 → ShortResult 12 (dropOf s order i addresses)
 unfolding dropOf dropUnchecked
-short-result-of-drop s order i addresses =
+short-result-of-drop s order i addresses at-most-8 =
     short-result-of-checked 12 s order _ (omega arith)
     (pick-elim (ShortResult 12) (not (isProcessor s i)) _ _ (λ e. short-result-of-refused 12 2 s order (omega arith) (omega arith))
     (λ e. pick-elim (ShortResult 12) (eqb (length addresses) 0) _ _ (λ f. short-result-of-refused 12 16 s order (omega arith) (omega arith))
-    (λ f. pick-elim (ShortResult 12) (eqb (firstAddressRefusal s addresses) 0) _ _ (λ g. short-result-of-dropped-all s order addresses (eqb-false (length addresses) 0 f))
+    (λ f. pick-elim (ShortResult 12) (eqb (firstAddressRefusal s addresses) 0) _ _ (λ g. short-result-of-dropped-all s order addresses at-most-8)
     (λ g. short-result-of-refused 12 (firstAddressRefusal s addresses) s order (omega arith) (omega (arith, first-refusal-le-7 s addresses))))))
 
 -- ---- the lines: 10 bytes for each byte of the command
@@ -177,13 +205,13 @@ unfolding ShortResult
 length-of-named-free-line-le-32 s order i m a b = omega (arith, length-of-named-free-line-le i m (namedFreeOf s order i m .answer .outcome) a b, short-result-of-named-free s order i m)
 
 -- a drop of no address has 3 bytes, and its count one digit
-length-of-drop-line-le-10-times : (s : State) (order : List ℕ) (i count : ℕ) (addresses : List ℕ) → i < 256 → count < 256
+length-of-drop-line-le-10-times : (s : State) (order : List ℕ) (i count : ℕ) (addresses : List ℕ) → s .setup .processors ≤ 8 → i < 256 → count < 256
     → length (dropLine i count (dropOf s order i addresses .answer .outcome)) ≤ 10 * (3 + 4 * count)
 unfolding ShortResult
-length-of-drop-line-le-10-times s order i count addresses a b = go (decLe 10 count)
+length-of-drop-line-le-10-times s order i count addresses at-most-8 a b = go (decLe 10 count)
   where
     short : length (result (dropOf s order i addresses .answer .outcome)) ≤ 12
-    short = short-result-of-drop s order i addresses
+    short = short-result-of-drop s order i addresses at-most-8
 
     go : Dec (10 ≤ count) → length (dropLine i count (dropOf s order i addresses .answer .outcome)) ≤ 10 * (3 + 4 * count)
     go (yes many) = omega (arith, length-of-drop-line-le-31 i count (dropOf s order i addresses .answer .outcome) a short b)
@@ -229,11 +257,11 @@ module _ (r : List ℕ) (bytes : (i : ℕ) → byteAt r i < 256) where
 
 -- ---- the text of commands, from a state of at most 8 processors
 length-of-text-of-le : (r : List ℕ) (before : After) (commands : List Command) → before .answer .state .setup .processors ≤ 8 → CommandsFit commands
-    → length (textOf r before commands) ≤ 10 * bytesIn commands + 15556
+    → length (textOf r before commands) ≤ 10 * bytesIn commands + 17540
 unfolding textOf setupText bytesIn sizeOfCommand CommandsFit CommandFits
 length-of-text-of-le r before [] h fit = let z = length-of-final-lines-le (before .answer .state) (omega arith) in omega arith
 length-of-text-of-le r before (command.Setup processors superblocks spare p q ∷ commands) h fit =
-    pick-elim (λ (l : List ℕ). length l ≤ 10 * (6 + bytesIn commands) + 15556) (eqb (numberOf (after .answer .outcome)) 0) _ _
+    pick-elim (λ (l : List ℕ). length l ≤ 10 * (6 + bytesIn commands) + 17540) (eqb (numberOf (after .answer .outcome)) 0) _ _
     (λ e. simp length-append (omega (arith, length-of-setup-line-le-26 u (fit .0 .0) (fit .0 .1) (fit .0 .2) (fit .0 .3) (fit .0 .4), length-of-text-of-le r after commands (processors-after-setup-le-8 u (before .order)) (fit .1))))
     (λ e. let z = length-of-stop-line-le-33 (numberOf (after .answer .outcome)) 0 in omega arith)
   where
@@ -266,7 +294,7 @@ length-of-text-of-le r before (command.Drop processor count first ∷ commands) 
     let after = dropOf (before .answer .state) (before .order) processor (addressesIn r first count) in
     let kept = setup-kept-by-drop (before .answer .state) (before .order) processor (addressesIn r first count) in
     let heaps : after .answer .state .setup .processors ≤ 8 = subst (λ (u : Setup). u .processors ≤ 8) (sym kept) h in
-    simp length-append (omega (arith, length-of-drop-line-le-10-times (before .answer .state) (before .order) processor count (addressesIn r first count) (fit .0 .0) (fit .0 .1), length-of-text-of-le r after commands heaps (fit .1)))
+    simp length-append (omega (arith, length-of-drop-line-le-10-times (before .answer .state) (before .order) processor count (addressesIn r first count) h (fit .0 .0) (fit .0 .1), length-of-text-of-le r after commands heaps (fit .1)))
 length-of-text-of-le r before (command.Refused number offset ∷ commands) h fit = let z = length-of-stop-line-le-33 number offset in omega arith
 
 -- the key of every record of bytes, with any order storage, fits the room

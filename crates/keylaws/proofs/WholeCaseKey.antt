@@ -45,7 +45,7 @@ whole-text =
     ++ letters "free 1 0 refused 7\n"
     ++ letters "free 1 2048 moved 1\n"
     ++ letters "take 1 16 at 0\n"
-    ++ letters "take 1 2049 refused 3\n"
+    ++ letters "take 1 2049 refused 17\n"
     ++ letters "heap 1 class 0 superblocks 1 live 1\n"
     ++ letters "heap 1 class 26 superblocks 1 live 1\n"
     ++ letters "end\n"

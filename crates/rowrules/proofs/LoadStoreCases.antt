@@ -9,10 +9,10 @@ use Rattle.rowrules.specs.LoadStore.{loadOf, storeOf}
 
 -- a record that was lent, one of an accepted call's table, and an unused one
 abbrev pub row-record : Superblock
-row-record = record { owner = 1; class = 2; live = 3 ∷ 4 ∷ 5 ∷ 6 ∷ []; rank = 13; run = 0 }
+row-record = record { owner = 1; class = 2; live = 3 ∷ 4 ∷ 5 ∷ 6 ∷ []; rank = 13; run = 15 }
 
 abbrev pub table-record : Superblock
-table-record = record { owner = 7; class = 8; live = 9 ∷ 10 ∷ 11 ∷ 12 ∷ []; rank = 14; run = 0 }
+table-record = record { owner = 7; class = 8; live = 9 ∷ 10 ∷ 11 ∷ 12 ∷ []; rank = 14; run = 16 }
 
 abbrev pub unused-record : Superblock
 unused-record = record { owner = 255; class = 0; live = 0 ∷ 0 ∷ 0 ∷ 0 ∷ []; rank = 0; run = 0 }

@@ -9,7 +9,7 @@ use Rattle.rowrules.specs.Row.{RowAfter}
 use Rattle.rowrules.specs.Borrowed.{recordsAfter}
 
 abbrev pub numbered : ℕ → Superblock
-numbered k = record { owner = k; class = 9; live = []; rank = k + 20; run = 0 }
+numbered k = record { owner = k; class = 9; live = []; rank = k + 20; run = k + 40 }
 
 abbrev pub example-control : Control
 example-control = record { setup = record { processors = 2; superblocks = 1; spare = 3; p = 4; q = 5 }; names = 10 ∷ 11 ∷ []; totals = record { superblocks = 14 ∷ []; live = 15 ∷ 16 ∷ [] } }

@@ -10,7 +10,7 @@ use Rattle.heap.specs.declared.Superblock.{Superblock}
 use Rattle.heap.specs.declared.Setup.{Setup}
 use Rattle.heap.specs.declared.Totals.{Totals}
 use Rattle.heap.specs.Table.{isUnused, isOfRun}
-use Rattle.checkrules.specs.Check.{withinLimits, isPartOfRun, isOwned, superblockValid, restValid}
+use Rattle.checkrules.specs.Check.{withinLimits, isPartOfRun, isUnowned, isOwned, superblockValid, restValid}
 use Rattle.calls.specs.declared.Outcome.{Outcome}
 use Rattle.calls.specs.declared.Outcome.the-variants.{Ready, Refused}
 use Rattle.calls.specs.Answers.{checked}
@@ -62,7 +62,7 @@ abbrev pub ranked-superblock : Superblock
 ranked-superblock = record { owner = 255; class = 0; live = 0 ∷ 0 ∷ 0 ∷ 0 ∷ []; rank = 16; run = 0 }
 
 abbrev pub invalid-superblock : Superblock
-invalid-superblock = record { owner = 99; class = 33; live = 11 ∷ 12 ∷ 13 ∷ 14 ∷ []; rank = 15; run = 0 }
+invalid-superblock = record { owner = 99; class = 33; live = 11 ∷ 12 ∷ 13 ∷ 14 ∷ []; rank = 15; run = 17 }
 
 -- storage in which something stands: two places more than are needed, and one too few
 abbrev pub storage-of-258 : List ℕ
@@ -118,7 +118,7 @@ row-call-cases =
     ∷ call-refused-case 12 example-control (replicate 65 ranked-superblock) storage-of-255 (Drop 0 []) ∷ call-refused-case 13 example-control (replicate 65 ranked-superblock) storage-of-258 (Drop 0 []) ∷ call-refused-case 13 example-control (replicate 64 invalid-superblock) storage-of-258 (Drop 0 []) ∷ []
 
 pub row-call-cases-are-computed : map (λ (k : CallCase). rowCall (k .control) (k .row) (k .order) (k .call)) row-call-cases ≡ map (λ (k : CallCase). k .after) row-call-cases
-unfolding callOn callOf takeOf dropOf checked withinLimits restValid superblockValid isOwned isUnused isPartOfRun isOfRun allBelow
+unfolding callOn callOf takeOf dropOf checked withinLimits restValid superblockValid isOwned isUnowned isUnused isPartOfRun isOfRun allBelow
 row-call-cases-are-computed = refl
 
 -- a call on 64 records leaves what the call on their state leaves: outcome, setup numbers, names, totals, row and storage, whatever the names, the totals, the

@@ -4,7 +4,7 @@ ghost use Rattle.checkrules.specs.Check.{runsWhole};
 use heap::Superblock;
 
 // The runs of a table are whole: one pass that counts the superblocks of a run still to come.
-pub fn runs_whole(table: [Superblock; 64]) -> bool
+pub fn runs_valid(table: [Superblock; 64]) -> bool
     ensures { λ r. ⌜ r ≡ runsWhole 0 table ⌝ }
 {
     let mut left: u8 = 0;

@@ -31,7 +31,7 @@ pub fn first_refusal(s: State, order: &[u16]) -> u8
     if !rankcheck::ranks_valid(s) {
         return 13;
     }
-    if !runcheck::runs_whole(table) {
+    if !runcheck::runs_valid(table) {
         return 13;
     }
     0

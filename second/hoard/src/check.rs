@@ -4,8 +4,9 @@ use crate::engine::over_emptiness_threshold;
 use crate::names::{any_held, NAMES_AT_ONCE, NOT_HELD};
 use crate::outcome::Refusal;
 use crate::ranking::ranks_are_sound;
+use crate::runs::runs_are_sound;
 use crate::size_class::SIZE_CLASSES;
-use crate::state::{Setup, State, Superblock, GLOBAL_HEAP, ORDER_PLACES};
+use crate::state::{Setup, State, Superblock, GLOBAL_HEAP, ORDER_PLACES, RUN_OWNER};
 use crate::totals::Totals;
 
 /// Whether the five setup numbers are within their limits.
@@ -44,8 +45,10 @@ fn check_storage(setup: &Setup, order: &[u16]) -> Result<(), Refusal> {
 /// Checks the state and storage given to a take, free or drop, in the order of the
 /// refusals: setup numbers, length of the storage, then the rest of the state.
 pub fn check_handed_in(state: &State, order: &[u16]) -> Result<(), Refusal> {
-    check_numbers_and_storage(&state.control.setup, order)?;
+    let setup = &state.control.setup;
+    check_numbers_and_storage(setup, order)?;
     let is_sound = superblocks_are_sound(state, order)
+        && runs_are_sound(&state.superblocks, setup.superblocks.into())
         && ranks_are_sound(&state.superblocks)
         && names_are_sound(state);
     if !is_sound {
@@ -54,15 +57,16 @@ pub fn check_handed_in(state: &State, order: &[u16]) -> Result<(), Refusal> {
     Ok(())
 }
 
-/// The check of the superblocks, all but the ranking, and of the totals, which are
-/// counted anew on the way. Those handed in may be any numbers: they are read once
+/// The check of the superblocks, all but runs and the ranking, and of the totals, which
+/// are counted anew on the way. Those handed in may be any numbers: they are read once
 /// they are right.
 fn superblocks_are_sound(state: &State, order: &[u16]) -> bool {
     let setup = &state.control.setup;
     let mut recount = Totals::NONE;
     for (number, superblock) in state.superblocks.iter().enumerate() {
-        // One that has a mark, a class or a rank all the same fails by its owner.
-        if *superblock == Superblock::UNUSED {
+        // An unused one that has a mark, a class, a rank or a length all the same fails
+        // by its owner.
+        if *superblock == Superblock::UNUSED || superblock.owner == RUN_OWNER {
             continue;
         }
         let known = number < usize::from(setup.superblocks)
@@ -87,11 +91,12 @@ fn superblocks_are_sound(state: &State, order: &[u16]) -> bool {
 }
 
 /// Whether each held name points at a live block and no two at one, in superblocks
-/// that passed their check: these mark no block but those they have.
+/// that passed their check: these mark no block but those they have. A long block is
+/// block 0 of its run's first superblock.
 fn names_are_sound(state: &State) -> bool {
     // Marks of the live blocks that no name has pointed at yet. Block j of
     // superblock s is bit s x 256 + j of them all, which is its number in names.
-    let mut unnamed = state.superblocks.map(|superblock| superblock.live);
+    let mut unnamed = state.superblocks.map(|it| it.blocks_to_name());
     let words = unnamed.as_flattened_mut();
     let groups = state.control.names.0.chunks_exact(NAMES_AT_ONCE);
     let numbers = groups.filter(|group| any_held(group)).flatten();

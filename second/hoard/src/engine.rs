@@ -1,15 +1,14 @@
 //! The calls: setup, take and free, the last two also by name, and the drop of many
-//! blocks.
+//! blocks. Those of long blocks are in `runs`.
 
 use crate::check::{check_handed_in, check_setup};
 use crate::names::BlockId;
 use crate::outcome::{Answer, Outcome, Refusal};
 use crate::ranking::{rank_latest, take_out};
 use crate::record::Command;
+use crate::runs::{release_run, take_run};
 use crate::size_class::{class_of_size, SizeClass, SIZE_CLASSES, SUPERBLOCK_BYTES};
-use crate::state::{
-    Setup, State, Superblock, GLOBAL_HEAP, ORDER_PLACES, SUPERBLOCKS, UNUSED_OWNER,
-};
+use crate::state::{Setup, State, Superblock, GLOBAL_HEAP, ORDER_PLACES, RUN_OWNER, UNUSED_OWNER};
 use crate::totals::{Usage, CLASSES, HEAPS};
 
 /// Where a take finds its superblock.
@@ -75,7 +74,7 @@ pub fn take_named(state: &State, processor: u8, name: u16, size: u16, order: &mu
 /// Frees the block at `address`, whichever heap owns its superblock.
 pub fn free(state: &State, processor: u8, address: u32, order: &mut [u16]) -> Answer {
     answer(state, processor, order, |next, order| {
-        let block = find_block(next, address)?;
+        let block = find_block(next.of_setup(), address)?;
         Ok(Outcome::Moved(free_block(next, block, order)))
     })
 }
@@ -119,14 +118,26 @@ fn answer(
     }
 }
 
-/// The take itself, in a state that has passed.
+/// The take itself, in a state that has passed. A size of no class is a long block's.
 fn take_block(
     state: &mut State,
     processor: u8,
     size: u16,
     order: &mut [u16],
 ) -> Result<BlockId, Refusal> {
-    let class = class_of_size(size).ok_or(Refusal::Size)?;
+    match class_of_size(size) {
+        Some(class) => take_of_class(state, processor, class, order),
+        None => take_run(state, size),
+    }
+}
+
+/// The take of a block of a class.
+fn take_of_class(
+    state: &mut State,
+    processor: u8,
+    class: u8,
+    order: &mut [u16],
+) -> Result<BlockId, Refusal> {
     let offer = find_superblock(state, processor, class).ok_or(Refusal::NoSuperblock)?;
 
     let places = places_of(order, offer.number);
@@ -164,12 +175,12 @@ fn acquire(state: &mut State, number: usize, processor: u8, class: u8, places: &
 /// The free itself, of a live block in a state that has passed. Returns the number
 /// of superblocks moved.
 fn free_block(state: &mut State, freed: BlockId, order: &mut [u16]) -> u32 {
-    let (owner, class) = give_back(state, freed, order);
+    let touched = give_back(state, freed, order);
     state.control.names.release(freed);
-    if owner == GLOBAL_HEAP {
-        return 0;
+    match touched {
+        Some((heap, class)) => transfer_excess(state, heap, class),
+        None => 0,
     }
-    transfer_excess(state, owner, class)
 }
 
 /// The drop itself, of live blocks in a state that has passed, each listed once. All
@@ -178,8 +189,9 @@ fn free_block(state: &mut State, freed: BlockId, order: &mut [u16]) -> u32 {
 fn free_blocks(state: &mut State, freed: &[BlockId], order: &mut [u16]) -> u32 {
     let mut touched = [[false; CLASSES]; HEAPS];
     for &block in freed {
-        let (owner, class) = give_back(state, block, order);
-        touched[usize::from(owner)][usize::from(class)] = true;
+        if let Some((heap, class)) = give_back(state, block, order) {
+            touched[usize::from(heap)][usize::from(class)] = true;
+        }
     }
     state.control.names.release_freed(&state.superblocks);
     let mut moves = 0;
@@ -194,16 +206,21 @@ fn free_blocks(state: &mut State, freed: &[BlockId], order: &mut [u16]) -> u32 {
 }
 
 /// Puts a live block back in its superblock's order, which is then the latest freed
-/// into. Returns the heap and class that the block was of.
-fn give_back(state: &mut State, freed: BlockId, order: &mut [u16]) -> (u8, u8) {
+/// into; the superblocks of a long block become unused. Returns the processor's heap
+/// and class that the block was of, if it was of one.
+fn give_back(state: &mut State, freed: BlockId, order: &mut [u16]) -> Option<(u8, u8)> {
     let superblock = &mut state.superblocks[freed.superblock];
+    if superblock.begins_run() {
+        release_run(&mut state.superblocks, freed.superblock);
+        return None;
+    }
     let next_place = superblock.free_count();
     superblock.unmark(freed.block);
     places_of(order, freed.superblock)[next_place as usize] = freed.block as u16;
     let (owner, class) = (superblock.owner, superblock.class);
     rank_latest(&mut state.superblocks, freed.superblock);
     state.control.totals.remove_live(owner, class);
-    (owner, class)
+    (owner != GLOBAL_HEAP).then_some((owner, class))
 }
 
 fn check_processor(setup: &Setup, processor: u8) -> Result<(), Refusal> {
@@ -259,9 +276,8 @@ fn first_empty_of_global(state: &State) -> Option<usize> {
 
 /// Place 4: the first unused superblock of the setup.
 fn first_unused(state: &State) -> Option<usize> {
-    state.superblocks[..usize::from(state.control.setup.superblocks)]
-        .iter()
-        .position(|superblock| superblock.owner == UNUSED_OWNER)
+    let mut superblocks = state.of_setup().iter();
+    superblocks.position(|superblock| superblock.owner == UNUSED_OWNER)
 }
 
 /// Renews an empty superblock for a class: block 0 is taken first.
@@ -274,18 +290,28 @@ pub fn renew(superblock: &mut Superblock, class: u8, places: &mut [u16]) {
     }
 }
 
-/// The live block at an address.
-fn find_block(state: &State, address: u32) -> Result<BlockId, Refusal> {
+/// The live block at an address in the superblocks of a setup.
+fn find_block(superblocks: &[Superblock], address: u32) -> Result<BlockId, Refusal> {
     let number = (address / SUPERBLOCK_BYTES) as usize;
-    if number >= usize::from(state.control.setup.superblocks) {
-        return Err(Refusal::UnmappedAddress);
-    }
-    let superblock = &state.superblocks[number];
-    if superblock.owner == UNUSED_OWNER {
-        return Err(Refusal::UnmappedAddress);
-    }
-    let class = superblock.size_class();
+    let superblock = superblocks.get(number).ok_or(Refusal::UnmappedAddress)?;
     let offset = address % SUPERBLOCK_BYTES;
+    let block = match superblock.owner {
+        UNUSED_OWNER => return Err(Refusal::UnmappedAddress),
+        // "The block's address is the start of the run, any other address in it is
+        // off-block."
+        RUN_OWNER if offset == 0 && superblock.begins_run() => 0,
+        RUN_OWNER => return Err(Refusal::MisalignedAddress),
+        _ => find_in_class(superblock, offset)?,
+    };
+    Ok(BlockId {
+        superblock: number,
+        block,
+    })
+}
+
+/// The live block at an offset in the superblock of a heap.
+fn find_in_class(superblock: &Superblock, offset: u32) -> Result<u32, Refusal> {
+    let class = superblock.size_class();
     let block = offset / class.block_size;
     if !offset.is_multiple_of(class.block_size) || block >= class.blocks {
         return Err(Refusal::MisalignedAddress);
@@ -293,27 +319,24 @@ fn find_block(state: &State, address: u32) -> Result<BlockId, Refusal> {
     if !superblock.is_live(block) {
         return Err(Refusal::NotLive);
     }
-    Ok(BlockId {
-        superblock: number,
-        block,
-    })
+    Ok(block)
 }
 
 /// The live blocks at the addresses, or the refusal of the first that a free would
 /// refuse after those before it. Moves make no difference to that: a superblock that
 /// passes to the global heap keeps its class and marks.
 fn find_blocks(state: &State, addresses: &[u32]) -> Result<Vec<BlockId>, Refusal> {
-    // Marks of the blocks listed so far, which are live no more for the next address.
-    let mut listed = [[0u64; 4]; SUPERBLOCKS];
+    // What the next address meets: blocks listed so far are live no more, and their runs
+    // are unused.
+    let mut left = state.superblocks;
+    let end = state.of_setup().len();
     let mut find = |&address| {
-        let found = find_block(state, address)?;
+        let found = find_block(&left[..end], address)?;
         let BlockId { superblock, block } = found;
-        let marks = &mut listed[superblock][block as usize / 64];
-        let bit = 1 << (block % 64);
-        if *marks & bit != 0 {
-            return Err(Refusal::NotLive);
+        match left[superblock].begins_run() {
+            true => release_run(&mut left, superblock),
+            false => left[superblock].unmark(block),
         }
-        *marks |= bit;
         Ok(found)
     };
     addresses.iter().map(&mut find).collect()

@@ -5,6 +5,7 @@ use std::fmt::{self, Display, Write};
 use crate::engine::run;
 use crate::outcome::{Outcome, Refusal};
 use crate::record::{decode, Command, Stop, LONGEST_RECORD};
+use crate::runs::runs;
 use crate::state::{Setup, State, ORDER_PLACES, SUPERBLOCKS};
 use crate::totals::{Usage, CLASSES};
 
@@ -14,6 +15,7 @@ pub fn key(record: &[u8]) -> Vec<u8> {
     match print_commands(record, &mut text) {
         Ok(state) => {
             print_heaps(&state, &mut text);
+            print_runs(&state, &mut text);
             text.push_str("end\n");
         }
         Err(stop) => print_line(
@@ -65,6 +67,13 @@ fn print_heaps(state: &State, text: &mut String) {
                 );
             }
         }
+    }
+}
+
+/// Prints a line for each run, by its first superblock.
+fn print_runs(state: &State, text: &mut String) {
+    for (first, length) in runs(&state.superblocks) {
+        print_line(text, format_args!("run {first} superblocks {length}"));
     }
 }
 

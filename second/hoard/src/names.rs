@@ -73,11 +73,12 @@ impl Names {
 
     /// Lets the names go of blocks that are live no more, in one pass for all of them.
     pub(crate) fn release_freed(&mut self, superblocks: &[Superblock; SUPERBLOCKS]) {
+        let live = superblocks.map(|superblock| superblock.blocks_to_name());
+        let words = live.as_flattened();
         let groups = self.0.chunks_exact_mut(NAMES_AT_ONCE);
         let numbers = groups.filter(|group| any_held(group)).flatten();
         for number in numbers.filter(|number| **number != NOT_HELD) {
-            let BlockId { superblock, block } = BlockId::from_number(*number);
-            if !superblocks[superblock].is_live(block) {
+            if words[usize::from(*number / 64)] >> (*number % 64) & 1 == 0 {
                 *number = NOT_HELD;
             }
         }

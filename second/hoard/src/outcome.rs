@@ -9,7 +9,7 @@ pub enum Refusal {
     Setup = 1,
     /// Processor 0 or above P.
     Processor = 2,
-    /// Size above 2048.
+    /// A size that no block has; none of 16 bits is such a size any more.
     Size = 3,
     /// No place offers a superblock.
     NoSuperblock = 4,
@@ -37,6 +37,8 @@ pub enum Refusal {
     NameNotHeld = 15,
     /// A drop of no block.
     EmptyDrop = 16,
+    /// No run of superblocks for a long block.
+    NoRun = 17,
 }
 
 impl Refusal {

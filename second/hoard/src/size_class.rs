@@ -50,8 +50,8 @@ pub const SIZE_CLASSES: [SizeClass; 27] = [
     class(2048),
 ];
 
-/// The smallest class that holds `size`, for size 0 class 0; none above the
-/// largest block.
+/// The smallest class that holds `size`, for size 0 class 0; none for a long block,
+/// above the largest of a class.
 pub fn class_of_size(size: u16) -> Option<u8> {
     (0u8..)
         .zip(SIZE_CLASSES.iter())

@@ -11,6 +11,8 @@ pub const SUPERBLOCKS: usize = 64;
 pub const ORDER_PLACES: usize = 256;
 /// Owner of an unused superblock.
 pub const UNUSED_OWNER: u8 = 255;
+/// Owner of the superblocks of a run, which hold a long block.
+pub const RUN_OWNER: u8 = 254;
 /// Owner number of the global heap.
 pub const GLOBAL_HEAP: u8 = 0;
 
@@ -59,7 +61,8 @@ impl Setup {
     }
 }
 
-/// One superblock: its owner, size class, live marks, one bit a block, and rank.
+/// One superblock: its owner, size class, live marks, one bit a block, rank and, if a
+/// run begins with it, how long that is.
 #[derive(Clone, Copy, Debug, PartialEq, Eq)]
 pub struct Superblock {
     pub owner: u8,
@@ -68,18 +71,49 @@ pub struct Superblock {
     /// Place among the superblocks freed into since they were last renewed, 1 for
     /// the latest; 0 for the others.
     pub rank: u8,
+    /// Superblocks of the run that begins here; 0 for every other superblock.
+    pub run_length: u8,
 }
 
 impl Superblock {
-    /// A superblock that no heap owns.
+    /// A superblock of no heap and no run.
     pub const UNUSED: Superblock = Superblock {
         owner: UNUSED_OWNER,
         class: 0,
         live: [0; 4],
         rank: 0,
+        run_length: 0,
     };
 
-    /// Number of live blocks.
+    /// A superblock of a run, but not its first: "class field 0, no marks and no rank".
+    pub const IN_RUN: Superblock = Superblock {
+        owner: RUN_OWNER,
+        ..Superblock::UNUSED
+    };
+
+    /// The first superblock of a run.
+    pub fn first_of_run(length: u8) -> Superblock {
+        Superblock {
+            run_length: length,
+            ..Superblock::IN_RUN
+        }
+    }
+
+    /// Whether a run begins here; the superblock must have passed its check.
+    pub fn begins_run(&self) -> bool {
+        self.run_length > 0
+    }
+
+    /// Marks of the blocks that a name may hold: the live ones and, where a run begins,
+    /// block 0, which stands for the long block.
+    pub(crate) fn blocks_to_name(&self) -> [u64; 4] {
+        match self.begins_run() {
+            true => [1, 0, 0, 0],
+            false => self.live,
+        }
+    }
+
+    /// Number of live blocks, by the marks: 0 for a superblock of a run.
     pub fn live_count(&self) -> u32 {
         self.live.iter().map(|marks| marks.count_ones()).sum()
     }
@@ -148,6 +182,11 @@ impl State {
             control: Control::new(setup),
             superblocks: [Superblock::UNUSED; SUPERBLOCKS],
         }
+    }
+
+    /// The superblocks of the setup, 0 to N - 1; N must be within its limit.
+    pub(crate) fn of_setup(&self) -> &[Superblock] {
+        &self.superblocks[..usize::from(self.control.setup.superblocks)]
     }
 
     /// The address of a block; its superblock must be one of the 64, of a known class.

@@ -217,11 +217,11 @@ fn size_0_with_no_superblock_left() {
         let mut order = vec![9; ORDER_PLACES];
         own(&mut state, &mut order, 0, owner, class, live);
         take_is_refused(&state, &order, 1, 0, 4);
-        // The processor and a size above 2048 come first.
+        // The processor comes first; a long block has a refusal of its own.
         take_is_refused(&state, &order, 0, 0, 2);
         take_is_refused(&state, &order, 3, 0, 2);
-        take_is_refused(&state, &order, 1, 2049, 3);
-        take_is_refused(&state, &order, 1, 65535, 3);
+        take_is_refused(&state, &order, 1, 2049, 17);
+        take_is_refused(&state, &order, 1, 65535, 17);
         take_is_refused(&state, &order, 3, 2049, 2);
     }
 }
@@ -229,7 +229,7 @@ fn size_0_with_no_superblock_left() {
 #[test]
 fn setup_numbers_before_storage_before_the_rest() {
     // Each of these takes but the first would have a refusal of its own.
-    for (processor, size) in [(1, 0), (0, 0), (1, 2049), (0, 2049)] {
+    for (processor, size) in [(1, 0), (0, 0), (1, 65535), (0, 65535)] {
         let (mut state, mut order) = on_the_threshold();
         state.superblocks[0].owner = 2;
         recount(&mut state);
@@ -249,6 +249,7 @@ fn refused_calls_hand_back_the_state_they_were_given() {
         class: 3,
         live: [u64::MAX; 4],
         rank: 9,
+        run_length: 9,
     };
     let before = order.clone();
     for answer in [
@@ -286,7 +287,12 @@ fn fails_after(change: impl Fn(&mut State, &mut Vec<u16>)) {
 fn each_clause_of_the_state_check() {
     fails_after(|state, _| state.control.setup.q = 9);
     fails_after(|state, _| state.superblocks[5].owner = 2);
+    fails_after(|state, _| state.superblocks[0].owner = 253);
     fails_after(|state, _| state.superblocks[0].owner = 254);
+    fails_after(|state, _| state.superblocks[5].owner = 254);
+    fails_after(|state, _| state.superblocks[0].run_length = 1);
+    fails_after(|state, _| state.superblocks[5].run_length = 1);
+    fails_after(|state, _| state.superblocks[63].run_length = 255);
     fails_after(|state, _| state.superblocks[0].class = 27);
     fails_after(|state, _| state.superblocks[5].class = 1);
     fails_after(|state, _| state.superblocks[5].mark(200));

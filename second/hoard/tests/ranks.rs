@@ -1,8 +1,10 @@
 //! The ranking of superblocks by their last free: kept by every call, decisive among
 //! equally full ones, and checked when handed in.
 
+mod agreement;
 mod made_calls;
 
+use agreement::check_agrees;
 use hoard::{check_handed_in, free, free_named, renew, run, setup, take, take_named};
 use hoard::{Answer, BlockId, Command, Outcome, Refusal, Setup, State, Superblock, Totals};
 use hoard::{GLOBAL_HEAP, ORDER_PLACES, SUPERBLOCKS, UNUSED_OWNER};
@@ -273,14 +275,6 @@ fn are_sound(state: &State) -> bool {
         && ranked.into_iter().all(|it| it.owner != UNUSED_OWNER)
 }
 
-fn check_agrees(state: &State, order: &[u16]) {
-    let expected = match are_sound(state) {
-        true => Ok(()),
-        false => Err(Refusal::State),
-    };
-    assert_eq!(check_handed_in(state, order), expected);
-}
-
 #[test]
 fn every_rank_of_every_superblock_is_checked() {
     let few = [(1, 22, 3, 2), (0, 22, 1, 0), (2, 26, 1, 1), (1, 0, 200, 0)];
@@ -289,10 +283,10 @@ fn every_rank_of_every_superblock_is_checked() {
             for rank in 0..=255 {
                 let mut state = sound.clone();
                 state.superblocks[number].rank = rank;
-                check_agrees(&state, &order);
+                check_agrees(&state, &order, are_sound(&state));
                 // Two changes: a swap, and one that moves a rank to another superblock.
                 state.superblocks[(number + 1) % 4].rank = sound.superblocks[number].rank;
-                check_agrees(&state, &order);
+                check_agrees(&state, &order, are_sound(&state));
             }
         }
     }

@@ -12,6 +12,7 @@ const ODD: Superblock = Superblock {
     class: 9,
     live: [9; 4],
     rank: 9,
+    run_length: 9,
 };
 
 const FIRST_BLOCK: BlockId = BlockId {
@@ -184,8 +185,9 @@ fn own_refusals_on_a_row_of_64() {
         (2, 0, 2),
         (2, 16, 2),
         (0, 2049, 2),
-        (1, 2049, 3),
-        (1, 65535, 3),
+        (2, 65535, 2),
+        (1, 4097, 17),
+        (1, 65535, 17),
     ] {
         let answer = take_row(control(), &mut row, processor, size, &mut lent);
         check(answer, refusal);
@@ -207,8 +209,8 @@ fn own_refusals_on_a_row_of_64() {
         (0, 7, 2049, 2),
         (2, 1024, 16, 2),
         (1, 7, 16, 14),
-        (1, 7, 2049, 14),
-        (1, 1024, 2049, 14),
+        (1, 7, 4097, 14),
+        (1, 1024, 65535, 14),
         (1, 65535, 0, 14),
     ] {
         let answer = take_named_row(control(), &mut row, processor, name, size, &mut lent);

@@ -155,10 +155,12 @@ fn recount_leaves_out_what_no_heap_or_class_has() {
         class,
         live: [u64::MAX; 4],
         rank: 0,
+        run_length: 0,
     };
     let mut superblocks = [odd(9, 0); SUPERBLOCKS];
     superblocks[0] = odd(8, 27);
     superblocks[1] = odd(255, 0);
+    superblocks[2] = odd(254, 0);
     assert_eq!(Totals::recount(&superblocks), Totals::NONE);
     let full = Totals::recount(&[odd(8, 0); SUPERBLOCKS]);
     assert_eq!(shown(&full), [(8, 0, 64, 16384)]);
@@ -270,7 +272,7 @@ fn totals_above_p_fail_where_nothing_is_owned() {
 /// Takes of a few classes and frees, some of them refused.
 fn made_calls(seed: u64) -> Calls {
     let choices = Choices {
-        sizes: &[0, 16, 200, 1024, 1024, 2048, 2048, 2049],
+        sizes: &[0, 16, 200, 1024, 1024, 2048, 2048, 65535],
         names: 40,
         any_processor: true,
         offsets: [0, 0, 0, 0, 0, 0, 8, 16],

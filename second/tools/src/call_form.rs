@@ -53,8 +53,8 @@ pub fn run_call(input: &CallInput, order: &mut [u16]) -> Answer {
     hoard::run(&input.call, &input.state, order)
 }
 
-/// The lines of an answer: outcome, setup, superblocks in use or ranked, held names,
-/// totals, changed places.
+/// The lines of an answer: outcome, setup, superblocks that are not as a new setup has
+/// them, held names, totals, changed places.
 pub(crate) fn print_answer(
     outcome: &Outcome,
     control: &Control,
@@ -72,10 +72,12 @@ pub(crate) fn print_answer(
             class,
             live: [w0, w1, w2, w3],
             rank,
+            run_length,
         } = superblock;
         writeln!(
             text,
-            "superblock {number} owner {owner} class {class} live {w0} {w1} {w2} {w3} rank {rank}"
+            "superblock {number} owner {owner} class {class} live {w0} {w1} {w2} {w3} \
+                rank {rank} run {run_length}"
         )
         .expect("writing to a string does not fail");
     }
@@ -179,12 +181,13 @@ fn read_superblock(bytes: &mut Bytes) -> Option<Superblock> {
     for marks in &mut live {
         *marks = u64::from_le_bytes(bytes.read()?);
     }
-    let [rank] = bytes.read()?;
+    let [rank, run_length] = bytes.read()?;
     Some(Superblock {
         owner,
         class,
         live,
         rank,
+        run_length,
     })
 }
 
@@ -238,7 +241,7 @@ fn write_superblocks(bytes: &mut Vec<u8>, superblocks: &[Superblock]) {
     for superblock in superblocks {
         bytes.extend([superblock.owner, superblock.class]);
         bytes.extend(superblock.live.iter().flat_map(|marks| marks.to_le_bytes()));
-        bytes.push(superblock.rank);
+        bytes.extend([superblock.rank, superblock.run_length]);
     }
 }
 

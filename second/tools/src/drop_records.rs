@@ -1,7 +1,7 @@
 //! Records with drops.
 
 use hoard::{
-    read_command, Command, Setup, State, DROP_BYTE, LONGEST_RECORD, MOST_DROPPED, SUPERBLOCK_BYTES,
+    read_command, Command, State, DROP_BYTE, LONGEST_RECORD, MOST_DROPPED, SUPERBLOCK_BYTES,
 };
 
 use crate::dropping::{
@@ -9,8 +9,8 @@ use crate::dropping::{
 };
 use crate::make_record::{
     any_processor, command_starts, commands_made_by, edge_setup, edge_size, fill, mixed_call,
-    odd_address, odd_call, random_command, setup_in_limits, setup_with_early_moves, size_of_class,
-    size_or_zero,
+    odd_address, odd_call, random_command, setup_in_limits, setup_of_many, setup_with_early_moves,
+    size_of_class, size_or_zero,
 };
 use crate::run::Run;
 use crate::xorshift::Xorshift;
@@ -305,12 +305,7 @@ pub fn longest_drops(random: &mut Xorshift) -> Vec<u8> {
 /// stretches that grow and stretches that shrink, the frees that are due are gathered
 /// until they fill a drop.
 pub fn many_drops(random: &mut Xorshift, length: usize) -> Run {
-    let setup = Setup {
-        processors: 8,
-        superblocks: random.byte_between(40, 64),
-        ..setup_in_limits(random, 8, 64)
-    };
-    let mut run = Run::new(setup);
+    let mut run = Run::new(setup_of_many(random));
     run.keeps_ranks = true;
     let mut due = 0;
     let mut next_drop = random.between(2, 40);

@@ -11,6 +11,7 @@ use crate::make_state::{
     Kind, KINDS, SOUND_KINDS, WRONG_LENGTHS,
 };
 use crate::row_form::{write_row_input, RowInput};
+use crate::run_faults::loosen_runs;
 use crate::table::{live_addresses, Table};
 use crate::xorshift::Xorshift;
 
@@ -85,16 +86,24 @@ pub fn damaged(random: &mut Xorshift) -> CallInput {
     let mut input = make_input(kind, random);
     input.order.truncate(MOST_PLACES);
     input.call = drop_for(random, &input.state);
+    if random.chance(1, 8) {
+        loosen_runs(random, &mut input.state);
+    }
     input
 }
 
-/// A drop on a lent row, three in five of 64 records, mostly with a sound state. Storage
-/// is at times short, and a setup number at times broken.
+/// A drop on a lent row, mostly with a sound state.
 pub fn row(random: &mut Xorshift) -> Vec<u8> {
-    let mut input = match random.below(3) {
+    let input = match random.below(3) {
         0 => damaged(random),
         _ => sound(random),
     };
+    on_any_row(random, input)
+}
+
+/// A call on a lent row, three in five of 64 records. Storage is at times short, and a
+/// setup number at times broken.
+pub(crate) fn on_any_row(random: &mut Xorshift, mut input: CallInput) -> Vec<u8> {
     input.order.truncate(MOST_PLACES);
     let needed = input.state.control.setup.order_places();
     match random.below(8) {

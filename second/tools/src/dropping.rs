@@ -1,8 +1,9 @@
 //! Addresses for generated drops: of many heaps and classes or of one, of a whole
 //! superblock, of named blocks, and lists that are refused.
 
-use hoard::{BlockId, State, GLOBAL_HEAP, SUPERBLOCK_BYTES, UNUSED_OWNER};
+use hoard::{runs, BlockId, State, GLOBAL_HEAP, SUPERBLOCK_BYTES, UNUSED_OWNER};
 
+use crate::long_blocks::inner_address;
 use crate::make_record::any_processor;
 use crate::rank_faults::owned_numbers;
 use crate::table::owned_blocks;
@@ -161,8 +162,13 @@ fn bad_address(random: &mut Xorshift, state: &State) -> u32 {
     }
 }
 
-/// An address inside a block, or past the last block of a superblock.
+/// An address inside a block, or past the last block of a superblock. Where there are
+/// runs, one in two is inside a run.
 fn misaligned_address(random: &mut Xorshift, state: &State) -> Option<u32> {
+    let has_run = runs(&state.superblocks).next().is_some();
+    if has_run && random.chance(1, 2) {
+        return inner_address(random, state);
+    }
     let owned = owned_numbers(state).into_iter();
     let known = owned.filter(|&number| state.superblocks[number].class < 27);
     let known: Vec<usize> = known.collect();

@@ -8,6 +8,7 @@ use hoard::{
 use crate::drop_records::{
     drop_edges, drops, garbage_drops, longest_drops, many_drops, truncated_drops,
 };
+use crate::long_records::{long, long_edges, many_long};
 use crate::naming::{
     available_name, edge_name, free_of_live, held_name, name_to_bind, name_to_free,
 };
@@ -61,10 +62,17 @@ pub enum Kind {
     DropLongest,
     /// Eight processors and all classes, most frees in drops.
     ManyDrops,
+    /// Long blocks in gaps of every length, over superblocks of the global heap, freed
+    /// in every way.
+    Long,
+    /// As edges, with long blocks at and past each limit.
+    LongEdges,
+    /// Eight processors and all classes, with long blocks.
+    ManyLong,
 }
 
 /// Every kind with its name.
-pub const KINDS: [(&str, Kind); 18] = [
+pub const KINDS: [(&str, Kind); 21] = [
     ("uniform", Kind::Uniform),
     ("threshold", Kind::Threshold),
     ("small", Kind::Small),
@@ -83,6 +91,9 @@ pub const KINDS: [(&str, Kind); 18] = [
     ("drop-garbage", Kind::DropGarbage),
     ("drop-longest", Kind::DropLongest),
     ("many-drops", Kind::ManyDrops),
+    ("long", Kind::Long),
+    ("long-edges", Kind::LongEdges),
+    ("many-long", Kind::ManyLong),
 ];
 
 /// The kind of a name.
@@ -112,6 +123,9 @@ pub fn make_record(kind: Kind, seed: u64, length: usize) -> Vec<u8> {
         Kind::DropGarbage => garbage_drops(random, length),
         Kind::DropLongest => longest_drops(random),
         Kind::ManyDrops => many_drops(random, length).record,
+        Kind::Long => long(random, length).record,
+        Kind::LongEdges => long_edges(random, length).record,
+        Kind::ManyLong => many_long(random, length).record,
     }
 }
 
@@ -152,6 +166,15 @@ pub(crate) fn setup_with_early_moves(
         p: random.byte_between(1, q / 2),
         q,
         ..setup_in_limits(random, most_processors, most_superblocks)
+    }
+}
+
+/// A setup of eight processors and many superblocks.
+pub(crate) fn setup_of_many(random: &mut Xorshift) -> Setup {
+    Setup {
+        processors: 8,
+        superblocks: random.byte_between(40, 64),
+        ..setup_in_limits(random, 8, 64)
     }
 }
 
@@ -314,12 +337,7 @@ const MOSTLY_NAMED: Style = Style {
 };
 
 fn many(random: &mut Xorshift, length: usize, style: &Style) -> Run {
-    let setup = Setup {
-        processors: 8,
-        superblocks: random.byte_between(40, 64),
-        ..setup_in_limits(random, 8, 64)
-    };
-    let mut run = Run::new(setup);
+    let mut run = Run::new(setup_of_many(random));
     run.refuses_zero = style.refuses_zero;
     run.named = style.named;
     if style.fewest_names > 0 {
@@ -392,7 +410,7 @@ pub(crate) fn fill(
 /// Frees blocks of a heap and class until so many of all blocks are left live.
 /// Freeing from the fullest keeps the superblocks level, so that one free may move
 /// several of them.
-fn free_down_to(
+pub(crate) fn free_down_to(
     random: &mut Xorshift,
     run: &mut Run,
     heap: u8,
@@ -807,7 +825,7 @@ fn pass_unranked(random: &mut Xorshift, run: &mut Run, heaps: &[u8], class: u8, 
 }
 
 /// Takes until a superblock begins to fill.
-fn begin_superblock(
+pub(crate) fn begin_superblock(
     random: &mut Xorshift,
     run: &mut Run,
     heap: u8,

@@ -10,6 +10,7 @@ use hoard::{
 
 use crate::call_form::{run_call, write_input, CallInput, MOST_PLACES};
 use crate::drop_states;
+use crate::long_states;
 use crate::make_record::{
     any_processor, any_run, edge_setup, equals as equals_run, setup_in_limits, size_of_class,
     zero_or_beside,
@@ -17,6 +18,7 @@ use crate::make_record::{
 use crate::naming::{available_name, free_of_live, held_name};
 use crate::rank_faults::{break_ranks, loosen_ranks, owned_numbers, rank_any, RANK_FAULTS};
 use crate::row_form::{write_row_input, RowInput, MOST_RECORDS};
+use crate::run_faults::{break_runs, loosen_runs, wrong_runs, RUN_FAULTS};
 use crate::table::{live_addresses, most_live_of_global, named_call, owned_blocks, Table};
 use crate::total_faults::{
     break_totals, forget_change, has_step, loosen_totals, Step, STEPS, TOTAL_FAULTS,
@@ -137,10 +139,44 @@ pub enum Kind {
     DropsRow,
     /// The bytes of a drop, made no call.
     DropsBytes,
+    /// A call on a sound state with runs, mostly of a long block.
+    Long,
+    /// The same on a lent row of any length.
+    LongRow,
+    /// The same on a state with runs that has wrong fields at times.
+    LongDamaged,
+    /// The first superblock of a run carries no length.
+    RunLength0,
+    /// A run of 17 superblocks or more.
+    RunLength17,
+    /// A run that reaches past N or past the last superblock.
+    RunPastN,
+    /// Two runs that share superblocks.
+    RunOverlapping,
+    /// A superblock inside a run carries a length.
+    RunInnerLength,
+    /// A length that leaves superblocks of a run out.
+    RunShort,
+    /// A length that takes a superblock of another owner in.
+    RunLong,
+    /// A mark in a run.
+    RunMark,
+    /// A rank in a run.
+    RunRank,
+    /// A class other than 0 in a run.
+    RunClass,
+    /// A superblock of a heap carries a length.
+    RunLengthInHeap,
+    /// An unused superblock carries a length.
+    RunLengthUnused,
+    /// A name inside a run, or at another block of its first superblock.
+    RunNameInner,
+    /// Totals that count a run, or the superblocks that it was made of.
+    RunTotal,
 }
 
 /// Every kind with its name.
-pub const KINDS: [(&str, Kind); 54] = [
+pub const KINDS: [(&str, Kind); 71] = [
     ("replayed", Kind::Replayed),
     ("built", Kind::Built),
     ("loose", Kind::Loose),
@@ -195,10 +231,27 @@ pub const KINDS: [(&str, Kind); 54] = [
     ("drops-damaged", Kind::DropsDamaged),
     ("drops-row", Kind::DropsRow),
     ("drops-bytes", Kind::DropsBytes),
+    ("long", Kind::Long),
+    ("long-row", Kind::LongRow),
+    ("long-damaged", Kind::LongDamaged),
+    ("run-length-0", Kind::RunLength0),
+    ("run-length-17", Kind::RunLength17),
+    ("run-past-n", Kind::RunPastN),
+    ("run-overlapping", Kind::RunOverlapping),
+    ("run-inner-length", Kind::RunInnerLength),
+    ("run-short", Kind::RunShort),
+    ("run-long", Kind::RunLong),
+    ("run-mark", Kind::RunMark),
+    ("run-rank", Kind::RunRank),
+    ("run-class", Kind::RunClass),
+    ("run-length-in-heap", Kind::RunLengthInHeap),
+    ("run-length-unused", Kind::RunLengthUnused),
+    ("run-name-inner", Kind::RunNameInner),
+    ("run-total", Kind::RunTotal),
 ];
 
 /// Kinds whose states pass the check and whose storage is enough. States are drawn from
-/// these, so they stay as they are; sound drops are a kind beside them.
+/// these, so they stay as they are; sound drops and long blocks are kinds beside them.
 pub const SOUND_KINDS: [Kind; 10] = [
     Kind::Replayed,
     Kind::Built,
@@ -240,6 +293,7 @@ pub fn make_state(kind: Kind, seed: u64) -> Vec<u8> {
         Kind::RowDamaged => row_damaged(random),
         Kind::DropsRow => drop_states::row(random),
         Kind::DropsBytes => drop_states::bytes(random),
+        Kind::LongRow => long_states::row(random),
         Kind::Bytes => {
             let mut bytes = write_input(&make_input(kind, random));
             spoil_length(random, &mut bytes);
@@ -295,6 +349,9 @@ fn row_damaged(random: &mut Xorshift) -> Vec<u8> {
         0 => SUPERBLOCKS as u8,
         _ => random.pick(&WRONG_LENGTHS),
     };
+    if !matches!(input.call, Command::Setup(_)) && random.chance(1, 8) {
+        loosen_runs(random, &mut input.state);
+    }
     let mut bytes = write_row_input(&RowInput { length, input });
     if random.chance(1, 16) {
         spoil_row(random, &mut bytes);
@@ -344,6 +401,9 @@ pub(crate) fn make_input(kind: Kind, random: &mut Xorshift) -> CallInput {
         Kind::Equals => equals(random),
         Kind::Drops => drop_states::sound(random),
         Kind::DropsDamaged => drop_states::damaged(random),
+        Kind::Long => long_states::sound(random),
+        Kind::LongDamaged => long_states::damaged(random),
+        kind if RUN_FAULTS.contains(&kind) => wrong_runs(kind, random),
         kind if RANK_FAULTS.contains(&kind) => wrong_ranks(kind, random),
         _ => damaged(kind, random),
     }
@@ -401,6 +461,9 @@ fn loose(random: &mut Xorshift) -> CallInput {
     let mut input = table.with_call(random);
     loosen_totals(random, &mut input.state.control.totals);
     loosen_ranks(random, &mut input.state);
+    if random.chance(1, 4) {
+        loosen_runs(random, &mut input.state);
+    }
     input
 }
 
@@ -800,9 +863,9 @@ fn two_faults(random: &mut Xorshift) -> CallInput {
     }
 }
 
-/// Breaks the owner of a superblock or, more often, a name, a total or a rank.
+/// Breaks the owner of a superblock or a run or, more often, a name, a total or a rank.
 fn break_part(random: &mut Xorshift, table: &mut Table) {
-    match random.below(8) {
+    match random.below(10) {
         0 => {
             break_unused(Kind::Owner, random, table);
             table.recount_totals();
@@ -814,6 +877,10 @@ fn break_part(random: &mut Xorshift, table: &mut Table) {
         3 | 4 => {
             let kind = random.pick(&[Kind::RankGap, Kind::RankUnused, Kind::RankRange]);
             break_ranks(kind, random, &mut table.state);
+        }
+        5 | 6 => {
+            let kind = random.pick(&[Kind::RunLengthInHeap, Kind::RunLengthUnused]);
+            break_runs(kind, random, &mut table.state, (0, 0));
         }
         _ => {
             let kind = random.pick(&NAME_FAULTS);
@@ -946,6 +1013,9 @@ fn zero_damaged(random: &mut Xorshift) -> CallInput {
     let mut input = make_input(kind, random);
     input.order.truncate(MOST_PLACES);
     input.call = take_of_zero(random, &input.state.control.setup);
+    if random.chance(1, 8) {
+        loosen_runs(random, &mut input.state);
+    }
     input
 }
 

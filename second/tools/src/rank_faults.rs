@@ -1,7 +1,7 @@
 //! Rankings of superblocks for states handed in: right ones, and ones that are wrong
 //! for the superblocks they are handed in with.
 
-use hoard::{State, Superblock, SUPERBLOCKS, UNUSED_OWNER};
+use hoard::{State, Superblock, RUN_OWNER, SUPERBLOCKS, UNUSED_OWNER};
 
 use crate::make_state::Kind;
 use crate::xorshift::Xorshift;
@@ -18,14 +18,14 @@ pub const RANK_FAULTS: [Kind; 5] = [
 
 /// The numbers of the superblocks that some heap owns.
 pub fn owned_numbers(state: &State) -> Vec<usize> {
-    numbers_where(state, |superblock| superblock.owner != UNUSED_OWNER)
+    numbers_where(state, |it| ![UNUSED_OWNER, RUN_OWNER].contains(&it.owner))
 }
 
 fn ranked_numbers(state: &State) -> Vec<usize> {
     numbers_where(state, |superblock| superblock.rank != 0)
 }
 
-fn numbers_where(state: &State, holds: impl Fn(&Superblock) -> bool) -> Vec<usize> {
+pub(crate) fn numbers_where(state: &State, holds: impl Fn(&Superblock) -> bool) -> Vec<usize> {
     let superblocks = state.superblocks.iter().enumerate();
     let found = superblocks.filter(|(_, superblock)| holds(superblock));
     found.map(|(number, _)| number).collect()

@@ -17,6 +17,7 @@ pub const FILLER: Superblock = Superblock {
     class: 9,
     live: [9; 4],
     rank: 9,
+    run_length: 9,
 };
 
 /// A call and the length of the row that it is lent.

@@ -2,8 +2,8 @@
 //! that the next one can be chosen by what is live.
 
 use hoard::{
-    write_command, Command, Outcome, Refusal, Setup, State, LONGEST_RECORD, MOST_DROPPED,
-    ORDER_PLACES, SUPERBLOCKS, SUPERBLOCK_BYTES,
+    class_of_size, write_command, Command, Outcome, Refusal, Setup, State, LONGEST_RECORD,
+    MOST_DROPPED, ORDER_PLACES, SUPERBLOCKS, SUPERBLOCK_BYTES,
 };
 
 use crate::naming::{free_of_live, name_to_bind};
@@ -23,6 +23,9 @@ pub struct Run {
     /// and the lower number comes first, as it once did: so the records made then
     /// keep their bytes.
     pub keeps_ranks: bool,
+    /// Whether long blocks are taken here. If not, their sizes are refused as they once
+    /// were: such takes are written and the record goes on as if they had not been made.
+    pub takes_long: bool,
     /// Of 100 calls that may be by name, how many are.
     pub named: u32,
 }
@@ -50,6 +53,7 @@ impl Run {
             calls: 0,
             refuses_zero: false,
             keeps_ranks: false,
+            takes_long: false,
             named: 0,
         }
     }
@@ -63,7 +67,7 @@ impl Run {
     pub fn call(&mut self, command: Command) -> Outcome {
         write_command(&mut self.record, &command);
         self.calls += 1;
-        if self.refuses_zero && matches!(command, Command::Take { size: 0, .. }) {
+        if self.refuses_size(&command) {
             return Outcome::Refused(Refusal::Size);
         }
         let freed = self.addresses_freed(&command);
@@ -79,6 +83,17 @@ impl Run {
             superblocks.for_each(|superblock| superblock.rank = 0);
         }
         answer.outcome
+    }
+
+    /// Whether this is a take of a size that is refused here, as it once was.
+    fn refuses_size(&self, command: &Command) -> bool {
+        match *command {
+            Command::Take { size: 0, .. } => self.refuses_zero,
+            Command::Take { size, .. } | Command::NamedTake { size, .. } => {
+                !self.takes_long && class_of_size(size).is_none()
+            }
+            _ => false,
+        }
     }
 
     /// The addresses that a free or drop, if it is accepted, frees.

@@ -2,7 +2,8 @@
 
 use hoard::{
     decode, over_emptiness_threshold, run, BlockId, Command, Setup, State, Superblock, Totals,
-    GLOBAL_HEAP, NAMES, ORDER_PLACES, SIZE_CLASSES, SUPERBLOCKS, SUPERBLOCK_BYTES, UNUSED_OWNER,
+    GLOBAL_HEAP, NAMES, ORDER_PLACES, RUN_OWNER, SIZE_CLASSES, SUPERBLOCKS, SUPERBLOCK_BYTES,
+    UNUSED_OWNER,
 };
 
 use crate::call_form::CallInput;
@@ -50,8 +51,7 @@ impl Table {
         let mut superblock = Superblock {
             owner,
             class,
-            live: [0; 4],
-            rank: 0,
+            ..Superblock::UNUSED
         };
         marked
             .iter()
@@ -59,6 +59,12 @@ impl Table {
         self.state.superblocks[number] = superblock;
         let first = number * ORDER_PLACES;
         self.order[first..first + free.len()].copy_from_slice(free);
+    }
+
+    /// Makes superblocks a run, whatever they were.
+    pub fn lay_run(&mut self, first: usize, length: u8) {
+        self.state.superblocks[first..][..length.into()].fill(Superblock::IN_RUN);
+        self.state.superblocks[first] = Superblock::first_of_run(length);
     }
 
     /// Brings the owners within the state check: too full superblocks of the
@@ -221,17 +227,21 @@ fn any_address(random: &mut Xorshift, state: &State) -> u32 {
     }
 }
 
-/// The live blocks, or the free ones, of owned superblocks with a known class.
+/// The live blocks, or the free ones, of owned superblocks with a known class. A long
+/// block is a live one, block 0 of its run's first superblock.
 pub fn owned_blocks(state: &State, live: bool) -> Vec<BlockId> {
     let mut found = Vec::new();
     for (number, superblock) in state.superblocks.iter().enumerate() {
         let Some(class) = SIZE_CLASSES.get(usize::from(superblock.class)) else {
             continue;
         };
-        if superblock.owner == UNUSED_OWNER {
-            continue;
-        }
-        let blocks = (0..class.blocks).filter(|&block| superblock.is_live(block) == live);
+        let count = match superblock.owner {
+            UNUSED_OWNER => 0,
+            RUN_OWNER => u32::from(live && superblock.begins_run()),
+            _ => class.blocks,
+        };
+        let is_live = |block| superblock.owner == RUN_OWNER || superblock.is_live(block);
+        let blocks = (0..count).filter(|&block| is_live(block) == live);
         found.extend(blocks.map(|block| BlockId {
             superblock: number,
             block,

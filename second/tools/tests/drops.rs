@@ -1,24 +1,37 @@
 //! Drops in records and on states handed in: the corners they meet, and that a drop does
 //! what the frees one by one do, but for the moves, which come after all of them.
 
+mod met;
 mod replay;
 
-use std::collections::{BTreeMap, BTreeSet};
+use std::collections::BTreeSet;
 
 use hoard::{decode, free, key, over_emptiness_threshold, read_command, run, write_command};
-use hoard::{Answer, Command, Outcome, Refusal, State, Totals, DROP_BYTE, GLOBAL_HEAP};
-use hoard::{SIZE_CLASSES, SUPERBLOCK_BYTES};
+use hoard::{Answer, Command, Outcome, Refusal, State, Superblock, Totals};
+use hoard::{DROP_BYTE, GLOBAL_HEAP, RUN_OWNER, SIZE_CLASSES, SUPERBLOCK_BYTES};
 use tools::call_form::{answer_bytes, read_input, run_call, BAD_INPUT};
 use tools::make_record::{make_record, Kind};
 use tools::make_state::{make_state, Kind as StateKind};
 use tools::row_form::read_row_input;
 
+use met::Met;
 use replay::{replay, Step};
 
-/// The heap and class of the superblock at an address.
-fn heap_and_class(state: &State, address: u32) -> (u8, u8) {
-    let superblock = &state.superblocks[(address / SUPERBLOCK_BYTES) as usize];
-    (superblock.owner, superblock.class)
+/// The heaps and classes of the superblocks at addresses; a run is of none.
+fn touched_by(state: &State, addresses: &[u32]) -> BTreeSet<(u8, u8)> {
+    let numbers = addresses.iter().map(|it| (it / SUPERBLOCK_BYTES) as usize);
+    let superblocks = numbers.map(|number| &state.superblocks[number]);
+    let of_heaps = superblocks.filter(|it| it.owner != RUN_OWNER);
+    of_heaps.map(|it| (it.owner, it.class)).collect()
+}
+
+/// The superblocks that passed from heap to heap, before and after; not those of runs.
+fn passed<'a>(
+    before: &'a State,
+    after: &'a State,
+) -> impl Iterator<Item = (&'a Superblock, &'a Superblock)> {
+    let pairs = before.superblocks.iter().zip(&after.superblocks);
+    pairs.filter(|(old, new)| old.owner != new.owner && old.owner != RUN_OWNER)
 }
 
 /// Frees a drop's blocks one by one, up to the first refusal. Returns it, or the state
@@ -77,18 +90,18 @@ fn check_drop(
         }
         Ok(after) => after,
     };
-    for (superblock, old) in expected.superblocks.iter_mut().zip(&before.superblocks) {
+    // A run stays as its free leaves it.
+    let pairs = expected.superblocks.iter_mut().zip(&before.superblocks);
+    for (superblock, old) in pairs.filter(|(_, old)| old.owner != RUN_OWNER) {
         superblock.owner = old.owner;
     }
-    let touched = addresses.iter().map(|&it| heap_and_class(before, it));
-    for (heap, class) in touched.collect::<BTreeSet<_>>() {
+    for (heap, class) in touched_by(before, addresses) {
         if heap != GLOBAL_HEAP {
             follow_move_rule(&mut expected, heap, class);
         }
     }
     expected.control.totals = Totals::recount(&expected.superblocks);
-    let owners = before.superblocks.iter().zip(&expected.superblocks);
-    let moves = owners.filter(|(old, new)| old.owner != new.owner).count();
+    let moves = passed(before, &expected).count();
     assert_eq!(
         answer.outcome,
         Outcome::Moved(moves as u32),
@@ -101,7 +114,13 @@ fn check_drop(
 #[test]
 fn drops_of_records_do_what_frees_do() {
     let mut checked = 0;
-    for kind in [Kind::Drops, Kind::DropEdges, Kind::ManyDrops] {
+    for kind in [
+        Kind::Drops,
+        Kind::DropEdges,
+        Kind::ManyDrops,
+        Kind::Long,
+        Kind::LongEdges,
+    ] {
         for seed in 1..=20 {
             let mut order_before = vec![0; 16384];
             replay(&make_record(kind, seed, 500), |step| {
@@ -200,6 +219,7 @@ fn a_drop_of_one_address_prints_what_the_free_does() {
         Kind::Names,
         Kind::Equals,
         Kind::Drops,
+        Kind::Long,
     ] {
         for seed in 0..10 {
             let record = make_record(kind, seed, 400);
@@ -215,16 +235,12 @@ fn a_drop_of_one_address_prints_what_the_free_does() {
 /// What drops met along records.
 #[derive(Default)]
 struct Corners {
-    met: BTreeMap<String, u32>,
+    met: Met,
     /// Names that drops let go and that no take has used since.
     let_go: BTreeSet<u16>,
 }
 
 impl Corners {
-    fn count(&mut self, what: impl Into<String>) {
-        *self.met.entry(what.into()).or_default() += 1;
-    }
-
     fn note(&mut self, step: &Step) {
         let outcome = step.answer.outcome;
         match (&step.command, outcome) {
@@ -239,12 +255,12 @@ impl Corners {
                 self.note_accepted(step, addresses, moves)
             }
             (Command::NamedTake { name, .. }, Outcome::At(_)) if self.let_go.remove(name) => {
-                self.count("name used again");
+                self.met.count("name used again");
             }
             (Command::NamedFree { name, .. }, Outcome::Refused(Refusal::NameNotHeld))
                 if self.let_go.contains(name) =>
             {
-                self.count("15 after a drop");
+                self.met.count("15 after a drop");
             }
             _ => {}
         }
@@ -267,13 +283,12 @@ impl Corners {
                 }
             }
         };
-        self.count(place);
+        self.met.count(place);
     }
 
     fn note_accepted(&mut self, step: &Step, addresses: &[u32], moves: u32) {
         let (before, after) = (step.before, &step.answer.state);
-        let touched = addresses.iter().map(|&it| heap_and_class(before, it));
-        let touched: BTreeSet<(u8, u8)> = touched.collect();
+        let touched = touched_by(before, addresses);
         let heaps: BTreeSet<u8> = touched.iter().map(|it| it.0).collect();
         let classes: BTreeSet<u8> = touched.iter().map(|it| it.1).collect();
         for (what, holds) in [
@@ -302,14 +317,14 @@ impl Corners {
             ),
         ] {
             if holds {
-                self.count(what);
+                self.met.count(what);
             }
         }
         let held = before.control.names.held();
         let gone = held.filter(|(name, _)| after.control.names.block_of(*name).is_none());
         let gone: Vec<u16> = gone.map(|(name, _)| name).collect();
         if !gone.is_empty() {
-            self.count("names let go");
+            self.met.count("names let go");
         }
         self.let_go.extend(gone);
     }
@@ -317,14 +332,13 @@ impl Corners {
 
 /// The heaps and classes that gave up a superblock.
 fn moved_from(before: &State, after: &State) -> BTreeSet<(u8, u8)> {
-    let pairs = before.superblocks.iter().zip(&after.superblocks);
-    let moved = pairs.filter(|(old, new)| old.owner != new.owner);
-    moved.map(|(old, _)| (old.owner, old.class)).collect()
+    passed(before, after)
+        .map(|(old, _)| (old.owner, old.class))
+        .collect()
 }
 
 fn emptied_and_moved(before: &State, after: &State) -> bool {
-    let mut pairs = before.superblocks.iter().zip(&after.superblocks);
-    pairs.any(|(old, new)| old.owner != new.owner && old.live_count() > 0 && new.live_count() == 0)
+    passed(before, after).any(|(old, new)| old.live_count() > 0 && new.live_count() == 0)
 }
 
 /// Each corner with the fewest times that records must meet it.
@@ -360,20 +374,15 @@ const EXPECTED: [(&str, u32); 26] = [
 /// The seeds that `compare` takes lead drops to each corner.
 #[test]
 fn drops_meet_every_corner() {
-    let mut met: BTreeMap<String, u32> = BTreeMap::new();
+    let mut met = Met::default();
     for seed in 1..=80 {
         let mut corners = Corners::default();
         replay(&make_record(Kind::Drops, seed, 500), |step| {
             corners.note(step)
         });
-        for (what, count) in corners.met {
-            *met.entry(what).or_default() += count;
-        }
+        met.add(corners.met);
     }
-    for (what, fewest) in EXPECTED {
-        let count = met.get(what).copied().unwrap_or(0);
-        assert!(count >= fewest, "{what}: {count}; {met:#?}");
-    }
+    met.expect(&EXPECTED);
 }
 
 /// The seeds that `compare` takes cut a drop after each of its parts.

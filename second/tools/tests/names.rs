@@ -53,9 +53,9 @@ impl Corners {
             Outcome::Refused(Refusal::TakenName) => {
                 self.count(if name > 1023 { "14, high" } else { "14, held" });
             }
-            Outcome::Refused(Refusal::Size) => {
-                self.last_use.insert(name, "take refused 3");
-                self.count("take refused 3");
+            Outcome::Refused(Refusal::NoRun) => {
+                self.last_use.insert(name, "take refused 17");
+                self.count("take refused 17");
             }
             Outcome::Refused(Refusal::NoSuperblock) => {
                 self.last_use.insert(name, "take refused 4");
@@ -129,18 +129,18 @@ const EXPECTED: [(&str, u32); 28] = [
     ("take, unused", 2000),
     ("take, freed by name", 1000),
     ("take, freed by address", 300),
-    ("take, take refused 3", 50),
+    ("take, take refused 17", 30),
     ("take, take refused 4", 150),
     ("take of 0", 500),
     ("take of 1022", 50),
     ("take of 1023", 50),
     ("take refused 2", 200),
-    ("take refused 3", 100),
+    ("take refused 17", 100),
     ("take refused 4", 1000),
     ("14, held", 1000),
     ("14, high", 300),
     ("2 before 14", 60),
-    ("14 before 3", 40),
+    ("14 before 17", 20),
     ("14 before 4", 150),
     ("free moved 0", 2000),
     ("free with a move", 100),
@@ -150,7 +150,7 @@ const EXPECTED: [(&str, u32); 28] = [
     ("15, unused", 600),
     ("15, freed by name", 500),
     ("15, freed by address", 120),
-    ("15, take refused 3", 40),
+    ("15, take refused 17", 40),
     ("15, take refused 4", 300),
     ("15, high", 120),
     ("2 before 15", 150),
@@ -237,13 +237,18 @@ fn calls_by_name_do_what_plain_ones_do() {
         Kind::Threshold,
         Kind::Names,
         Kind::ManyNamed,
+        Kind::Long,
     ] {
         for seed in 0..10 {
             let record = make_record(kind, seed, 500);
             let key = String::from_utf8(hoard::key(&record)).unwrap();
             let (plain, mut expected) = made_plain(&record);
-            let last_lines = |line: &&str| line.starts_with("heap ") || *line == "end";
-            for line in key.lines().filter(last_lines) {
+            let is_last = |line: &&str| {
+                ["heap ", "run ", "end"]
+                    .iter()
+                    .any(|word| line.starts_with(word))
+            };
+            for line in key.lines().filter(is_last) {
                 expected += &format!("{line}\n");
             }
             assert_eq!(String::from_utf8(hoard::key(&plain)).unwrap(), expected);

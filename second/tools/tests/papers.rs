@@ -167,6 +167,9 @@ fn sound_records_come_back_as_they_were() {
         Kind::Drops,
         Kind::DropEdges,
         Kind::ManyDrops,
+        Kind::Long,
+        Kind::LongEdges,
+        Kind::ManyLong,
     ] {
         for seed in 0..5 {
             let record = make_record(kind, seed, 200);

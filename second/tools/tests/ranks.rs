@@ -40,10 +40,12 @@ fn offered(state: &State, heap: u8, class: u8) -> Vec<usize> {
 }
 
 /// What an accepted take met: its place, and whether the ranking or the number decided
-/// among equals there.
+/// among equals there; nothing for a long block.
 fn met_by_take(before: &State, command: &Command, address: u32) -> Vec<String> {
     let (processor, size, named) = take_of(command).expect("a take");
-    let class = class_of_size(size).expect("an accepted size");
+    let Some(class) = class_of_size(size) else {
+        return Vec::new();
+    };
     let number = (address / SUPERBLOCK_BYTES) as usize;
     let taken = &before.superblocks[number];
     let place = match taken.owner {
@@ -75,10 +77,11 @@ fn met_by_take(before: &State, command: &Command, address: u32) -> Vec<String> {
 fn met_by_free(step: &Step) -> Vec<String> {
     let after = &step.answer.state.superblocks;
     let pairs: Vec<_> = step.before.superblocks.iter().zip(after).collect();
-    let (old, new) = *pairs
-        .iter()
-        .find(|(old, new)| new.live_count() < old.live_count())
-        .expect("a free");
+    let freed_into = |(old, new): &&(&Superblock, &Superblock)| new.live_count() < old.live_count();
+    let Some((old, new)) = pairs.iter().find(freed_into) else {
+        // A run.
+        return Vec::new();
+    };
     let mut met = vec![match (old.owner, old.rank) {
         (GLOBAL_HEAP, 0) => "free into heap 0, unranked".to_string(),
         (GLOBAL_HEAP, _) => "free into heap 0, ranked".to_string(),
@@ -207,6 +210,7 @@ fn other_states_have_right_ranks() {
         Kind::TwoFaults,
         Kind::ZeroDamaged,
         Kind::DropsDamaged,
+        Kind::LongDamaged,
     ];
     for (_, kind) in KINDS {
         if RANK_FAULTS.contains(&kind) || any_ranks.contains(&kind) {
@@ -223,7 +227,7 @@ fn other_states_have_right_ranks() {
         let has_state = !matches!(kind, Kind::SetupCall | Kind::StorageEmpty | Kind::Bytes);
         if has_state && !counts.is_empty() {
             assert!(counts.iter().any(|&it| it > 3), "{kind:?}: {counts:?}");
-            let none_allowed = kind != Kind::RankAll;
+            let none_allowed = ![Kind::RankAll, Kind::RunRank].contains(&kind);
             assert_eq!(counts.contains(&0), none_allowed, "{kind:?}: {counts:?}");
         }
     }
@@ -358,7 +362,7 @@ fn printed_ranks() {
     let text = answer_bytes(&tools::call_form::write_input(&input));
     let lines = text.lines().filter(|line| line.starts_with("superblock "));
     let printed: Vec<u8> = lines
-        .map(|line| line.rsplit_once(" rank ").unwrap().1.parse().unwrap())
+        .map(|line| line.split(' ').nth_back(2).unwrap().parse().unwrap())
         .collect();
     let given: Vec<u8> = input.state.superblocks.iter().map(|it| it.rank).collect();
     assert_eq!(printed, given);
@@ -367,5 +371,5 @@ fn printed_ranks() {
     let mut input = input_of(Kind::RankUnused, 1);
     input.state.superblocks[63].rank = 255;
     let text = answer_bytes(&tools::call_form::write_input(&input));
-    assert!(text.contains("\nsuperblock 63 owner 255 class 0 live 0 0 0 0 rank 255\n"));
+    assert!(text.contains("\nsuperblock 63 owner 255 class 0 live 0 0 0 0 rank 255 run 0\n"));
 }

@@ -5,7 +5,8 @@ mod replay;
 use std::collections::{BTreeMap, HashMap};
 
 use hoard::{check_handed_in, class_of_size, decode, write_command, Answer, Command, Outcome};
-use hoard::{Refusal, State, Totals, GLOBAL_HEAP, SIZE_CLASSES, SUPERBLOCK_BYTES, UNUSED_OWNER};
+use hoard::{run_length_of_size, runs, Refusal, State, Totals};
+use hoard::{GLOBAL_HEAP, RUN_OWNER, SIZE_CLASSES, SUPERBLOCK_BYTES, UNUSED_OWNER};
 use tools::make_record::{make_record, Kind, KINDS};
 
 use replay::replay;
@@ -53,6 +54,9 @@ fn other_records_stay_within_60000_bytes() {
         Kind::Drops,
         Kind::DropEdges,
         Kind::ManyDrops,
+        Kind::Long,
+        Kind::LongEdges,
+        Kind::ManyLong,
     ] {
         let length = make_record(kind, 1, 20_000).len();
         assert!((59_990..=60_000).contains(&length), "{length}");
@@ -81,7 +85,7 @@ fn kinds_do_what_they_are_for() {
     let many = key_of(Kind::Many, 800);
     (0..27).for_each(|class| assert!(many.contains(&format!("heap 8 class {class} "))));
     let edges = key_of(Kind::Edges, 200);
-    for refusal in [2, 3, 4, 5, 6, 7] {
+    for refusal in [2, 4, 5, 6, 7, 17] {
         assert!(
             edges.contains(&format!(" refused {refusal}\n")),
             "refusal {refusal}"
@@ -105,15 +109,16 @@ fn zero_has_the_sizes_beside_it_and_at_the_other_limit() {
         assert!(taken > 100, "size {size}: {taken}");
     }
     for size in [2049, 65535] {
-        let refused = key.matches(&format!(" {size} refused 3\n")).count();
-        assert!(refused > 50, "size {size}: {refused}");
+        let taken = key.matches(&format!(" {size} at ")).count();
+        let refused = key.matches(&format!(" {size} refused 17\n")).count();
+        assert!(taken > 10 && refused > 30, "size {size}: {taken} {refused}");
     }
 }
 
 /// Live blocks and held names by address, counted from the calls and their answers
 /// alone.
 struct Ledger {
-    classes: HashMap<u32, usize>,
+    sizes: HashMap<u32, u16>,
     names: HashMap<u16, u32>,
     live: [u64; 27],
     most: [u64; 27],
@@ -144,15 +149,18 @@ impl Ledger {
     }
 
     fn take(&mut self, size: u16, address: u32) {
-        let class = usize::from(class_of_size(size).unwrap());
-        assert!(self.classes.insert(address, class).is_none(), "taken twice");
-        self.live[class] += 1;
-        self.most[class] = self.most[class].max(self.live[class]);
+        assert!(self.sizes.insert(address, size).is_none(), "taken twice");
+        if let Some(class) = class_of_size(size).map(usize::from) {
+            self.live[class] += 1;
+            self.most[class] = self.most[class].max(self.live[class]);
+        }
     }
 
     fn free(&mut self, address: u32) {
-        let class = self.classes.remove(&address).expect("freed while live");
-        self.live[class] -= 1;
+        let size = self.sizes.remove(&address).expect("freed while live");
+        if let Some(class) = class_of_size(size).map(usize::from) {
+            self.live[class] -= 1;
+        }
         self.names.retain(|_, held| *held != address);
     }
 
@@ -174,12 +182,28 @@ impl Ledger {
         }
     }
 
-    /// (q - p) n A is at most q M + (q - p) P K n, for each class.
+    /// The runs are those of the long blocks that the calls left live.
+    fn check_runs(&self, state: &State) {
+        let long = self.sizes.iter().filter(|(_, &size)| size > 2048);
+        let expected = long.map(|(&address, &size)| (address, run_length_of_size(size)));
+        let found = runs(&state.superblocks);
+        let found = found.map(|(first, length)| (first as u32 * SUPERBLOCK_BYTES, length));
+        let found: HashMap<_, _> = found.collect();
+        assert_eq!(found, expected.collect());
+        let of_runs = state.superblocks.iter().filter(|it| it.owner == RUN_OWNER);
+        let lengths = found.values().map(|&length| usize::from(length));
+        assert_eq!(of_runs.count(), lengths.sum());
+    }
+
+    /// (q - p) n A is at most q M + (q - p) P K n, for each class. A counts only
+    /// superblocks with a class, those of heaps.
     fn check_bound(&self, state: &State) {
         let [processors, _, spare, p, q] = state.control.setup.numbers().map(u64::from);
         for (class, size_class) in SIZE_CLASSES.iter().enumerate() {
             let n = u64::from(size_class.blocks);
-            let owned = |it: &&hoard::Superblock| it.owner != 255 && usize::from(it.class) == class;
+            let owned = |it: &&hoard::Superblock| {
+                ![UNUSED_OWNER, RUN_OWNER].contains(&it.owner) && usize::from(it.class) == class
+            };
             let superblocks = state.superblocks.iter().filter(owned).count() as u64;
             let bound = q * self.most[class] + (q - p) * processors * spare * n;
             assert!((q - p) * n * superblocks <= bound);
@@ -192,20 +216,30 @@ fn owners_changed(before: &State, after: &State) -> u32 {
     pairs.filter(|(old, new)| old.owner != new.owner).count() as u32
 }
 
+/// The superblocks that joined a run or left one.
+fn runs_changed(before: &State, after: &State) -> u32 {
+    let pairs = before.superblocks.iter().zip(&after.superblocks);
+    let changed = pairs.filter(|(old, new)| old.owner != new.owner);
+    let of_runs = changed.filter(|(old, new)| [old.owner, new.owner].contains(&RUN_OWNER));
+    of_runs.count() as u32
+}
+
 /// Runs a record and checks the bound, the moves, the names, the totals and the state
 /// after each call.
 fn check_run(record: &[u8]) {
     let mut ledger = Ledger {
-        classes: HashMap::new(),
+        sizes: HashMap::new(),
         names: HashMap::new(),
         live: [0; 27],
         most: [0; 27],
     };
     replay(record, |step| {
         let Answer { outcome, state } = step.answer;
-        let changed = owners_changed(step.before, state);
+        let of_runs = runs_changed(step.before, state);
+        let changed = owners_changed(step.before, state) - of_runs;
         match *outcome {
             Outcome::Moved(moves) => {
+                // Only those that pass between heaps.
                 assert_eq!(moves, changed);
                 let addresses = match &step.command {
                     Command::Drop { addresses, .. } => addresses.len() as u32,
@@ -213,13 +247,19 @@ fn check_run(record: &[u8]) {
                 };
                 assert!(moves <= addresses * u32::from(state.control.setup.q));
             }
-            Outcome::At(_) => assert!(changed <= 1),
-            _ => assert_eq!(changed, 0),
+            Outcome::At(_) => match step.command {
+                Command::Take { size, .. } | Command::NamedTake { size, .. } if size > 2048 => {
+                    assert_eq!((changed, of_runs), (0, run_length_of_size(size).into()));
+                }
+                _ => assert!(changed <= 1 && of_runs == 0),
+            },
+            _ => assert_eq!((changed, of_runs), (0, 0)),
         }
         ledger.note(&step.command, outcome);
         ledger.check_bound(state);
         ledger.check_names(state);
         ledger.check_totals(state);
+        ledger.check_runs(state);
         check_handed_in(state, step.order).expect("an accepted call yields a sound state");
     });
 }
@@ -237,6 +277,8 @@ fn bound_moves_and_state_hold_after_every_call() {
         Kind::Equals,
         Kind::Drops,
         Kind::ManyDrops,
+        Kind::Long,
+        Kind::ManyLong,
     ] {
         for seed in 100..110 {
             check_run(&make_record(kind, seed, 500));
@@ -281,7 +323,7 @@ fn count_met(record: &[u8], met: &mut BTreeMap<String, u32>) {
 #[test]
 fn zero_meets_every_place() {
     let mut met = BTreeMap::new();
-    for seed in 1..=60 {
+    for seed in 1..=120 {
         count_met(&make_record(Kind::Zero, seed, 1000), &mut met);
     }
     let expected = [

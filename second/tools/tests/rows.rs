@@ -31,7 +31,7 @@ fn take_bytes(length: u8) -> Vec<u8> {
 }
 
 fn filler_lines(numbers: std::ops::Range<u8>) -> String {
-    let line = |number| format!("superblock {number} owner 9 class 9 live 9 9 9 9 rank 9\n");
+    let line = |number| format!("superblock {number} owner 9 class 9 live 9 9 9 9 rank 9 run 9\n");
     numbers.map(line).collect()
 }
 
@@ -61,7 +61,7 @@ fn printed_form_of_a_setup() {
 fn printed_form_of_a_take() {
     assert_eq!(
         answer_bytes(&take_bytes(64)),
-        "at 0\nsetup 1 1 1 1 2\nsuperblock 0 owner 1 class 26 live 1 0 0 0 rank 0\n\
+        "at 0\nsetup 1 1 1 1 2\nsuperblock 0 owner 1 class 26 live 1 0 0 0 rank 0 run 0\n\
             total heap 1 class 26 superblocks 1 live 1\nplace 0 1\nend\n"
     );
     for length in [0, 1, 63] {
@@ -224,7 +224,7 @@ fn size_0_meets_every_answer() {
 #[test]
 fn takes_by_name_meet_every_answer() {
     let met = answers_to(|call| matches!(call, Command::NamedTake { .. }));
-    let refused = [2, 3, 4, 12, 13, 14].map(|number| format!("refused {number}"));
+    let refused = [2, 4, 12, 13, 14, 17].map(|number| format!("refused {number}"));
     let all = ["at".to_string()].into_iter().chain(refused);
     assert_eq!(met, all.collect());
 }

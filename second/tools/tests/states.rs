@@ -9,6 +9,7 @@ use std::path::Path;
 use hoard::{Command, State, FREE_BYTE, NAMED_FREE_BYTE, NAMES};
 use tools::call_form::{answer_bytes, read_input, run_call, write_input, BAD_INPUT};
 use tools::make_state::{make_state, Kind, KINDS, SOUND_KINDS};
+use tools::run_faults::RUN_FAULTS;
 
 use call_bytes::on_unused;
 
@@ -55,7 +56,7 @@ fn broken_states_are_refused_with_13() {
         Kind::RankRange,
         Kind::RankOneMore,
     ];
-    for kind in broken {
+    for kind in broken.into_iter().chain(RUN_FAULTS) {
         for seed in SEEDS {
             assert_eq!(first_line(kind, seed), "refused 13", "{kind:?} {seed}");
         }
@@ -64,7 +65,7 @@ fn broken_states_are_refused_with_13() {
 
 #[test]
 fn sound_states_are_not() {
-    for kind in SOUND_KINDS.into_iter().chain([Kind::Drops]) {
+    for kind in SOUND_KINDS.into_iter().chain([Kind::Drops, Kind::Long]) {
         for seed in SEEDS {
             let line = first_line(kind, seed);
             assert!(
@@ -265,7 +266,7 @@ fn printed_form() {
     assert_eq!(answer_bytes(&bytes), "refused 1\nsetup 0 0 0 0 0\nend\n");
 
     let bytes = on_unused(&[1, 1, 1, 1, 1, 2, 1, 0, 8]);
-    let taken = "at 0\nsetup 1 1 1 1 2\nsuperblock 0 owner 1 class 26 live 1 0 0 0 rank 0\n\
+    let taken = "at 0\nsetup 1 1 1 1 2\nsuperblock 0 owner 1 class 26 live 1 0 0 0 rank 0 run 0\n\
         total heap 1 class 26 superblocks 1 live 1\nplace 0 1\nend\n";
     assert_eq!(answer_bytes(&bytes), taken);
 }
@@ -275,8 +276,8 @@ fn printed_form_of_names() {
     let mut bytes = on_unused(&[4, 1, 1, 1, 1, 2, 1, 0, 4]);
     assert_eq!(answer_bytes(&bytes), "refused 15\nsetup 1 1 1 1 2\nend\n");
     // Held, but at no block: the first name and the last.
-    bytes[2249..2251].copy_from_slice(&[0, 0]);
-    bytes[4295..4297].copy_from_slice(&[254, 255]);
+    bytes[2313..2315].copy_from_slice(&[0, 0]);
+    bytes[4359..4361].copy_from_slice(&[254, 255]);
     let refused = "refused 13\nsetup 1 1 1 1 2\nname 0 superblock 0 block 0\n\
         name 1023 superblock 255 block 254\nend\n";
     assert_eq!(answer_bytes(&bytes), refused);
@@ -288,7 +289,7 @@ fn printed_form_of_totals() {
     assert_eq!(answer_bytes(&bytes), "refused 2\nsetup 7 1 1 1 2\nend\n");
     // Superblocks of heap 0 and class 0 and of heap 8 and class 26, live blocks of
     // heap 0 and class 1 and of heap 8 and class 26.
-    let superblocks = 11 + 64 * 35 + 2048;
+    let superblocks = 11 + 64 * 36 + 2048;
     let live = superblocks + 243;
     bytes[superblocks] = 255;
     bytes[superblocks + 242] = 1;

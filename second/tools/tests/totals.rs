@@ -84,6 +84,8 @@ fn other_states_have_right_totals() {
         Kind::TwoFaults,
         Kind::ZeroDamaged,
         Kind::DropsDamaged,
+        Kind::LongDamaged,
+        Kind::RunTotal,
     ];
     for (_, kind) in KINDS {
         if WRONG.contains(&kind) || any_totals.contains(&kind) {

@@ -1,9 +1,5 @@
 -- `finallines::final_lines` meets its contract: the heaps, then the runs, then the last line. Assumes nothing.
-use mathlib.Core.Path.{refl}
-use native.Mathlib.Omega.{arith}
 use borrow.Author.Needs.{needs}
-use Rattle.textrules.specs.Text.{letters}
-use Rattle.fields.proofs.FieldLaws.{word-put}
 use Rattle.finallines.proofs.FinalLinesLaws.{final-lines-of-heaps-runs-and-end}
 use Rattle.finallines.proofs.final_lines.Statement.{statement}
 use Rattle.finallines.proofs.final_lines.Tie as tie

@@ -47,8 +47,8 @@ ranks-valid-requires c κs = search needs
 returns-7 : tie.Need-returns-7
 returns-7 c = search (first-refusal-rules, rest-valid-rules)
 
-runs-whole-requires : tie.Need-runs-whole-requires
-runs-whole-requires c κs = search needs
+runs-valid-requires : tie.Need-runs-valid-requires
+runs-valid-requires c κs = search needs
 
 returns-8 : tie.Need-returns-8
 returns-8 c = search (first-refusal-rules, rest-valid-rules)
@@ -70,6 +70,6 @@ first-refusal-spec =
     returns-5
     ranks-valid-requires
     returns-6
-    runs-whole-requires
+    runs-valid-requires
     returns-7
     returns-8)

@@ -6,7 +6,7 @@ pub fn on_unused(call: &[u8]) -> Vec<u8> {
     let mut bytes = call.to_vec();
     for _ in 0..64 {
         bytes.push(255);
-        bytes.extend([0; 34]);
+        bytes.extend([0; 35]);
     }
     bytes.extend([255; 2048]);
     bytes.extend([0; 243 + 2 * 243]);

@@ -1,4 +1,4 @@
--- `runcheck::runs_whole` meets its contract. The loop's invariant: what the superblocks left say, with those of a run still to come, is what the
+-- `runcheck::runs_valid` meets its contract. The loop's invariant: what the superblocks left say, with those of a run still to come, is what the
 -- whole table says. The measure is what is left of the table. Assumes nothing.
 use mathlib.Core.Path.{_≡_}
 use mathlib.Core.Logic.{⊎-elim}
@@ -7,8 +7,8 @@ use native.Mathlib.Omega.{arith}
 use lib.ListN.{length}
 use borrow.Author.Needs.{needs}
 use Rattle.runcheck.proofs.RunScanLaws.{Scanned, scan-start, false-of-broken-run, false-of-length-in-run, step-in-run, false-of-no-length, false-of-above-16, step-first-of-run, false-of-length-outside, step-outside, scan-end}
-use Rattle.runcheck.proofs.runs_whole.Statement.{statement}
-use Rattle.runcheck.proofs.runs_whole.Tie as tie
+use Rattle.runcheck.proofs.runs_valid.Statement.{statement}
+use Rattle.runcheck.proofs.runs_valid.Tie as tie
 
 abbrev Inv-loop : tie.InvT-loop
 Inv-loop table left₀ k₀ left k = (k ≤ 64) × Scanned table left k
@@ -80,8 +80,8 @@ loop-again c =
 returns-6 : tie.Need-returns-6 Inv-loop μ-loop
 returns-6 c = let l = c .before in scan-end _ _ (l .loop .k) (table-length (l .before)) (omega arith) (l .loop .inv .1)
 
-pub runs-whole-spec : {M : Type 1} → statement M
-runs-whole-spec =
+pub runs-valid-spec : {M : Type 1} → statement M
+runs-valid-spec =
     tie.close
     (tie.spec
     Inv-loop

@@ -1,0 +1,84 @@
+-- Document 02, item 7, over lists of calls: the long blocks of the ledger, from the calls and their answers alone, are the runs of the state. Assumes nothing.
+use mathlib.Core.Path.{_≡_, _∙_, subst}
+use mathlib.Core.Bool.{true}
+use mathlib.Core.List.{List, [], _∷_}
+use Prim.Native.Nat.{ℕ, _*_, _/_, _%_, _<_}
+use native.Mathlib.Omega.{arith}
+use borrow.Author.Tests.{ltb-true}
+use lib.Dec.{ltb}
+use Rattle.laws.proofs.TestLaws.{T-of-true, true-of-T, both-left, both-right}
+use Rattle.classes.specs.Classes.{runLength}
+use Rattle.heap.specs.declared.Setup.{Setup}
+use Rattle.heap.specs.declared.State.{State}
+use Rattle.heap.specs.Table.{superblockAt, isOfRun, startsRun}
+use Rattle.heaplaws.proofs.StateFacts.{RunAt, RunsSound}
+use Rattle.heaplaws.proofs.RunLaws.{runs-sound-of-valid, run-of-superblock}
+use Rattle.calls.specs.declared.Outcome.the-variants.{Ready}
+use Rattle.calls.specs.Answers.{After}
+use Rattle.calls.specs.Setup.{setupOf}
+use Rattle.calllaws.proofs.CallEffects.{InRun}
+use Rattle.bound.specs.Ledger.{Entry, ledgerAfter}
+use Rattle.bound.specs.Claim.{Step, Linked, peakWith}
+use Rattle.boundlaws.proofs.LedgerLaws.{entriesAt}
+use Rattle.boundlaws.proofs.LongAtLaws.{long-at-start}
+use Rattle.boundlaws.proofs.OneMoreLongLaws.{starts-run-of-length}
+use Rattle.boundlaws.proofs.LedgerRuns.{LongAgrees}
+use Rattle.boundlaws.proofs.LedgerNames.{EachEntry, each-entry-map, EntryAgrees}
+use Rattle.boundlaws.proofs.CallInvariantLaws.{ListInvariant, after-step}
+use Rattle.boundlaws.proofs.Demand3.{list-invariant-after-setup}
+
+-- "The block's address is the start of the run", and it has "as many [superblocks] as size / 4096 rounded up"
+abbrev pub IsRun : State → Entry → Type 0
+IsRun s e = (e .address % 4096 ≡ 0) × RunAt s (e .address / 4096) (runLength (e .size))
+
+-- the long blocks of the ledger and the runs of the state
+pub record LongBlocksAgree (s : State) (ledger : List Entry) : Type 0 where
+  -- each block of a size above 2048 is a run of the state
+  pub entries : EachEntry (λ e. 2048 < e .size → IsRun s e) ledger
+  -- each run of the state is in the ledger, and once: of no class, which is 27
+  pub runs : (k n : ℕ) → RunAt s k n → entriesAt ledger (k * 4096) 27 ≡ 1
+  -- and each superblock with owner 254 is part of one
+  pub parts : (m : ℕ) → m < 64 → isOfRun (superblockAt s m) ≡ true → (k : ℕ) × RunAt s k (superblockAt s k .run) × InRun k (superblockAt s k .run) m
+
+module _ (u : Setup) (s : State) (order : List ℕ) (ledger : List Entry) (peak : ℕ → ℕ) (g : ListInvariant u s order ledger peak) where
+  sound : RunsSound s
+  sound = runs-sound-of-valid s (g .shape .length-is) (g .passed .runs)
+
+  run-of-agreement : (e : Entry) → LongAgrees s e → IsRun s e
+  unfolding startsRun
+  run-of-agreement e h =
+      let b = superblockAt s (e .address / 4096) in
+      let first = sound .first-of-run (e .address / 4096) (h .below) (true-of-T _ (both-left (isOfRun b) (ltb 0 (b .run)) (T-of-true _ (h .starts))))
+      (ltb-true 0 (b .run) (true-of-T _ (both-right (isOfRun b) (ltb 0 (b .run)) (T-of-true _ (h .starts))))) in
+      (h .aligned, subst (RunAt s (e .address / 4096)) (h .length-is) first)
+
+  long-blocks-agree-of-list-invariant : LongBlocksAgree s ledger
+  long-blocks-agree-of-list-invariant =
+      record {
+        entries = each-entry-map (EntryAgrees s) (EntryAgrees s) (λ e. 2048 < e .size → IsRun s e) ledger (λ e h _ large. run-of-agreement e (h .long large)) (g .names) (g .names);
+        runs = λ k n run.
+            g .listed .runs (k * 4096)
+            ∙ long-at-start s k (omega (arith, run .some, run .in-table))
+            (starts-run-of-length (superblockAt s k) (run .of-run k (omega arith) (omega (arith, run .some))) (omega (arith, run .some, run .length-is)));
+        parts = λ m l e. let (k, run, low, high) = run-of-superblock s sound m l e in (k, run, (low, high));
+      }
+
+-- before the list and after each of its calls, with the ledger kept from the calls and their answers
+unfoldable pub LongBlocksAgreeOver : After → List Entry → List Step → Type 0
+LongBlocksAgreeOver before ledger [] = LongBlocksAgree (before .answer .state) ledger
+LongBlocksAgreeOver before ledger (step ∷ steps) =
+    LongBlocksAgree (before .answer .state) ledger × LongBlocksAgreeOver (step .after) (ledgerAfter ledger (step .call) (step .after .answer .outcome)) steps
+
+long-blocks-agree-from : (u : Setup) (before : After) (ledger : List Entry) (peak : ℕ → ℕ) (steps : List Step) → ListInvariant u (before .answer .state) (before .order) ledger peak → Linked before steps
+    → LongBlocksAgreeOver before ledger steps
+unfolding Linked LongBlocksAgreeOver
+long-blocks-agree-from u before ledger peak [] g linked = long-blocks-agree-of-list-invariant u (before .answer .state) (before .order) ledger peak g
+long-blocks-agree-from u before ledger peak (step ∷ steps) g linked =
+    let new : List Entry = ledgerAfter ledger (step .call) (step .after .answer .outcome) in
+    let n = after-step u (before .answer .state) (before .order) ledger peak g step (linked .0) in
+    (long-blocks-agree-of-list-invariant u (before .answer .state) (before .order) ledger peak g, long-blocks-agree-from u (step .after) new (peakWith peak new) steps (n .invariant) (linked .1))
+
+-- For every accepted setup, whatever stood in the storage before, and every list of takes and frees after it, plain and named, and of drops.
+pub long-blocks-agree-with-ledger : (u : Setup) (order : List ℕ) (start : After) → start ≡ setupOf u order → start .answer .outcome ≡ Ready → (steps : List Step) → Linked start steps
+    → LongBlocksAgreeOver start [] steps
+long-blocks-agree-with-ledger u order start e ready steps linked = long-blocks-agree-from u start [] (λ c. 0) steps (list-invariant-after-setup u order start e ready) linked
