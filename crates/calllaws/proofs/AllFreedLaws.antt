@@ -165,7 +165,7 @@ all-freed freed s order (a ∷ addresses) shape passed ok =
 
 -- ---- for code
 -- the run that a superblock carries the length of ends in the table
-run-fits : (s : State) (k : ℕ) → RunsSound s → k < 64 → k + superblockAt s k .run ≤ 64
+pub run-fits : (s : State) (k : ℕ) → RunsSound s → k < 64 → k + superblockAt s k .run ≤ 64
 run-fits s k sound l = go (isOfRun (superblockAt s k)) refl (ℕ-discrete (superblockAt s k .run) 0)
   where
     go : (t : Bool) → isOfRun (superblockAt s k) ≡ t → Dec (superblockAt s k .run ≡ 0) → k + superblockAt s k .run ≤ 64
