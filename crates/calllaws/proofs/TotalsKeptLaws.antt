@@ -83,7 +83,7 @@ pub block-freed-recounted : (s : State) (a : ℕ) → TotalsKept s → TotalsKep
 unfolding blockFreed longBlockFreed smallBlockFreed markCleared
 block-freed-recounted s a kept = pick-elim TotalsKept (isInRun s a) _ _ (λ e. run-freed-recounted (superblockIndex a) (superblockHolding s a .run) s kept) (λ e. refl)
 
-all-freed-recounted : (s : State) (addresses : List ℕ) → TotalsKept s → TotalsKept (allFreed s addresses)
+pub all-freed-recounted : (s : State) (addresses : List ℕ) → TotalsKept s → TotalsKept (allFreed s addresses)
 unfolding allFreed
 all-freed-recounted s [] kept = kept
 all-freed-recounted s (a ∷ addresses) kept = all-freed-recounted (blockFreed s a) addresses (block-freed-recounted s a kept)

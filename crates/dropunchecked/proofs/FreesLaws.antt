@@ -8,8 +8,10 @@ use lib.ListN.{length, getD, take}
 use lib.Seq.{take-all}
 use Rattle.heap.specs.declared.State.{State}
 use Rattle.heap.specs.Totals.{TotalsKept}
-use Rattle.heap.specs.Ranks.{RanksFit, rankedLatest}
-use Rattle.calls.specs.Free.{superblockIndex, markCleared, orderPushed, blockFreed}
+use Rattle.heap.specs.Ranks.{RanksFit}
+use Rattle.calls.specs.Free.{superblockIndex, superblockHolding, orderPushed, blockFreed}
+use Rattle.calllaws.proofs.TotalsKeptLaws.{all-freed-recounted}
+use Rattle.calllaws.proofs.OrderWriteLaws.{block-freed-setup}
 use Rattle.calls.specs.Drop.{allFreed, allPushed}
 use Rattle.dropunchecked.specs.DropSteps.{FreesSafe}
 
@@ -29,14 +31,12 @@ all-pushed-at-next s order (a ∷ addresses) (suc i) l = all-pushed-at-next (blo
 
 -- ---- what they keep
 pub all-freed-keeps-setup : (s : State) (addresses : List ℕ) → allFreed s addresses .setup ≡ s .setup
-unfolding allFreed blockFreed markCleared rankedLatest
+unfolding allFreed
 all-freed-keeps-setup s [] = refl
-all-freed-keeps-setup s (a ∷ addresses) = all-freed-keeps-setup (blockFreed s a) addresses
+all-freed-keeps-setup s (a ∷ addresses) = all-freed-keeps-setup (blockFreed s a) addresses ∙ block-freed-setup s a
 
 pub all-freed-keeps-totals : (s : State) (addresses : List ℕ) → TotalsKept s → TotalsKept (allFreed s addresses)
-unfolding allFreed blockFreed markCleared
-all-freed-keeps-totals s [] kept = kept
-all-freed-keeps-totals s (a ∷ addresses) kept = all-freed-keeps-totals (blockFreed s a) addresses refl
+all-freed-keeps-totals = all-freed-recounted
 
 -- ---- the loop: the frees below i are made
 pub record FreesMade (s : State) (order addresses : List ℕ) (i : ℕ) (t : State) (pushed : List ℕ) : Type 0 where
@@ -48,8 +48,14 @@ unfolding allFreed allPushed
 no-frees-made s order addresses = record { freed-are = refl; pushed-are = refl }
 
 module _ (s t : State) (order addresses pushed : List ℕ) (i : ℕ) (made : FreesMade s order addresses i t pushed) where
-  pub free-can-be-made : FreesSafe s addresses → i < length addresses → (superblockIndex (getD addresses i 0) < 64) × TotalsKept t × RanksFit t
-  free-can-be-made safe l = let at = safe i l in (at .in-table, subst TotalsKept (sym (made .freed-are)) (at .totals), subst RanksFit (sym (made .freed-are)) (at .ranks))
+  pub free-can-be-made : FreesSafe s addresses → i < length addresses → (superblockIndex (getD addresses i 0) < 64) × (superblockIndex (getD addresses i 0) + superblockHolding t (getD addresses i 0) .run ≤ 64) × TotalsKept t × RanksFit t
+  free-can-be-made safe l =
+      let at = safe i l in (
+        at .in-table,
+        subst (λ (x : State). superblockIndex (getD addresses i 0) + superblockHolding x (getD addresses i 0) .run ≤ 64) (sym (made .freed-are)) (at .run-in-table),
+        subst TotalsKept (sym (made .freed-are)) (at .totals),
+        subst RanksFit (sym (made .freed-are)) (at .ranks),
+      )
 
   pub free-made : (next : State) (new : List ℕ) → i < length addresses → new ≡ orderPushed t pushed (getD addresses i 0) → next ≡ blockFreed t (getD addresses i 0) → FreesMade s order addresses (i + 1) next new
   free-made next new l en et = record {

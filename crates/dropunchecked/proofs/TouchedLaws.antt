@@ -15,6 +15,7 @@ use Rattle.heap.specs.declared.State.{State}
 use Rattle.heap.specs.Table.{superblockAt}
 use Rattle.heap.specs.Counts.{belongs}
 use Rattle.heaplaws.proofs.CountLaws.{belongs-true, not-belongs-of-other-owner, not-belongs-of-other-class}
+use Rattle.heaplaws.proofs.RunsKeptLaws.{outside-run-of-owner}
 use Rattle.calls.specs.Free.{superblockHolding}
 use Rattle.calls.specs.Drop.{isTouched}
 use Rattle.dropunchecked.specs.DropSteps.{FreesSafe, touchedIn, TellsTouched}
@@ -62,11 +63,24 @@ not-belongs-elsewhere h c b n = go (ℕ-discrete (b .owner) h)
 
 module _ (s : State) (addresses : List ℕ) (i : ℕ) (safe : FreesSafe s addresses) (l : i < length addresses) where
   module _ (owner class : ℕ) (eo : owner ≡ superblockAt s (getD addresses i 0 / 4096) .owner) (ec : class ≡ superblockAt s (getD addresses i 0 / 4096) .class) where
-    pair-in-array : owner * 27 + class < 243
-    pair-in-array = let at = safe i l in omega (arith, at .owner, at .class)
+    module _ (of-heap : owner < 9) where
+      -- it is of a heap, and so of no run
+      pub class-in-array : class < 27
+      class-in-array = rw ec (safe i l .of-heap-and-class (outside-run-of-owner (superblockHolding s (getD addresses i 0)) (λ (q : superblockHolding s (getD addresses i 0) .owner ≡ 254). omega (arith, eo))) .1)
 
-    pub told-at-next : (touched : List Bool) → ToldBelow touched s addresses i → ToldBelow (set touched (owner * 27 + class) true) s addresses (i + 1)
-    told-at-next touched told = record {
+      pub pair-in-array : owner * 27 + class < 243
+      pair-in-array = let c = class-in-array in omega arith
+
+    -- a superblock of a run is of no heap: the array stays
+    pub told-past-run : 9 ≤ owner → (touched : List Bool) → ToldBelow touched s addresses i → ToldBelow touched s addresses (i + 1)
+    told-past-run high touched told = record {
+      length-is = told .length-is;
+      tells = λ h c lh lc. rw (add-one, is-touched-at-next s addresses i h c l, not-belongs-of-other-owner h c (superblockHolding s (getD addresses i 0)) (λ (q : superblockHolding s (getD addresses i 0) .owner ≡ h). omega (arith, eo)))
+          (told .tells h c lh lc ∙ sym (either-false-right (isTouched s (take i addresses) h c)));
+    }
+
+    pub told-at-next : owner < 9 → (touched : List Bool) → ToldBelow touched s addresses i → ToldBelow (set touched (owner * 27 + class) true) s addresses (i + 1)
+    told-at-next of-heap touched told = record {
       length-is = length-set touched (owner * 27 + class) true ∙ told .length-is;
       tells = λ h c lh lc. rw (add-one, is-touched-at-next s addresses i h c l) (go h c lh lc (ℕ-discrete (h * 27 + c) (owner * 27 + class)));
     }
@@ -76,8 +90,8 @@ module _ (s : State) (addresses : List ℕ) (i : ℕ) (safe : FreesSafe s addres
 
         go : (h c : ℕ) → h < 9 → c < 27 → Dec (h * 27 + c ≡ owner * 27 + class) → touchedIn (set touched (owner * 27 + class) true) h c ≡ either (isTouched s (take i addresses) h c) (belongs h c b)
         go h c lh lc (yes e) =
-            let at = same-pair h c owner class lc (rw ec (safe i l .class)) e in
-            rw (e, getD-set-same touched (owner * 27 + class) true false (omega (arith, pair-in-array, told .length-is)), belongs-true h c b (sym (at .0 ∙ eo)) (sym (at .1 ∙ ec))) (sym (either-true-right (isTouched s (take i addresses) h c)))
+            let at = same-pair h c owner class lc (class-in-array of-heap) e in
+            rw (e, getD-set-same touched (owner * 27 + class) true false (omega (arith, pair-in-array of-heap, told .length-is)), belongs-true h c b (sym (at .0 ∙ eo)) (sym (at .1 ∙ ec))) (sym (either-true-right (isTouched s (take i addresses) h c)))
         go h c lh lc (no f) =
             rw (getD-set-other touched (owner * 27 + class) (h * 27 + c) true false f, not-belongs-elsewhere h c b (λ e. f (e ∙ ap₂ (λ (x y : ℕ). x * 27 + y) (sym eo) (sym ec))))
             (told .tells h c lh lc ∙ sym (either-false-right (isTouched s (take i addresses) h c)))

@@ -3,7 +3,6 @@ use mathlib.Core.Path.{_≡_, refl, sym, _∙_}
 use mathlib.Core.Bool.{Bool, true, false}
 use mathlib.Core.List.{List}
 use Prim.Native.Nat.{ℕ, _+_, _/_, _≤_, _<_}
-use native.Mathlib.Decide.{decLt}
 use native.Mathlib.Omega.{arith}
 use borrow.Author.Tests.{ne-eqb, not-true, not-false}
 use Rattle.laws.proofs.TestLaws.{T-of-true}
@@ -25,6 +24,7 @@ use Rattle.calls.specs.declared.Outcome.the-variants.{Moves, Refused}
 use Rattle.calls.specs.Answers.{After, HasNumberAndValuesOf, isProcessor}
 use Rattle.calls.specs.Free.{superblockIndex, superblockHolding, isUnmapped, isInRun, addressRefusal, orderPushed, blockFreed, smallFreedAt, longFreedAt, freedAt, freeUnchecked}
 use Rattle.calllaws.proofs.AddressLaws.{mapped-below-64, mapped-is-owned}
+use Rattle.calllaws.proofs.AllFreedLaws.{run-fits}
 use Rattle.calllaws.proofs.AddressFreedLaws.{block-freed-outside-run, block-freed-in-run, order-pushed-outside-run, order-pushed-in-run}
 use Rattle.calllaws.proofs.TotalsKeptLaws.{block-freed-recounted}
 use Rattle.calls.proofs.AddressRefusalLaws.{mapped-of-no-refusal, free-unchecked-by-address-refusal}
@@ -67,21 +67,6 @@ module _ (s : State) (order : List ℕ) (a : ℕ) (p : passes s order ≡ true) 
     runs : RunsSound s
     runs = runs-sound-of-valid s (shape .length-is) (runs-valid-of-rest s order (rest-of-passes s order (T-of-true _ p)))
 
-    -- a run lies in the table, and any other superblock carries 0
-    run-in-table : superblockIndex a + superblockHolding s a .run ≤ 64
-    run-in-table = go (isInRun s a) refl
-      where
-        below : superblockIndex a < 64
-        below = mapped-below-64 s order a sound mapped
-
-        first : isInRun s a ≡ true → Dec (0 < superblockHolding s a .run) → superblockIndex a + superblockHolding s a .run ≤ 64
-        first e (yes l) = runs .first-of-run (superblockIndex a) below e l .in-table
-        first e (no f) = let l = below in omega arith
-
-        go : (t : Bool) → isInRun s a ≡ t → superblockIndex a + superblockHolding s a .run ≤ 64
-        go true e = first e (decLt 0 (superblockHolding s a .run))
-        go false e = let l = below in omega (arith, runs .outside-carries-0 (superblockIndex a) below e)
-
     pub freed-superblock : (superblockIndex a < 64)
         × (superblockIndex a + superblockHolding s a .run ≤ 64)
         × (isInRun s a ≡ false → (superblockHolding s a .owner < 9) × (superblockHolding s a .class < 27))
@@ -89,7 +74,7 @@ module _ (s : State) (order : List ℕ) (a : ℕ) (p : passes s order ≡ true) 
         × RanksFit s
     freed-superblock = (
       mapped-below-64 s order a sound mapped,
-      run-in-table,
+      run-fits s (superblockIndex a) runs (mapped-below-64 s order a sound mapped),
       λ outside. let o = mapped-is-owned s order a sound mapped outside in (omega (arith, o .owner, sound .numbers .processors-high), o .class),
       totals-kept-of-passes s order (T-of-true _ p),
       ranks-fit-of-passes s order (T-of-true _ p),

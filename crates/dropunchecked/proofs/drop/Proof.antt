@@ -21,7 +21,7 @@ returns-2 : tie.Need-returns-2
 returns-2 c = drop-unchecked-clauses _ _ _ _ (search drop-outcomes)
 
 first-address-refusal-requires : tie.Need-first-address-refusal-requires
-first-address-refusal-requires c κs = search addresses-can-be-tested
+first-address-refusal-requires c κs = addresses-can-be-tested _ _ (c .before .before .before .before .before .pre) (search shape-of-state)
 
 refuse-requires-3 : tie.Need-refuse-requires-3
 refuse-requires-3 c κs = search needs

@@ -1,9 +1,12 @@
 -- `dropunchecked::touched_pairs` meets its contract. The loop's invariant: the array tells the heaps and classes of the addresses passed. The measure is what is left of them. Assumes nothing.
-use mathlib.Core.Path.{refl}
-use Prim.Native.Nat.{_-_, _≤_}
+use mathlib.Core.Path.{refl, sym, subst}
+use mathlib.Core.Bool.{Bool}
+use mathlib.Core.List.{List}
+use mathlib.Core.Logic.{⊎-elim}
+use Prim.Native.Nat.{_+_, _-_, _≤_}
 use native.Mathlib.Omega.{arith}
 use lib.ListN.{length}
-use Rattle.dropunchecked.proofs.TouchedLaws.{ToldBelow, none-told, told-at-next, told-at-end}
+use Rattle.dropunchecked.proofs.TouchedLaws.{ToldBelow, none-told, pair-in-array, told-past-run, told-at-next, told-at-end}
 use borrow.Author.Needs.{needs}
 use Rattle.dropunchecked.proofs.touched_pairs.Statement.{statement}
 use Rattle.dropunchecked.proofs.touched_pairs.Tie as tie
@@ -26,32 +29,26 @@ shared-slice-read-k c = search needs
 cast-k : tie.Need-cast-k Inv-loop μ-loop
 cast-k c = let at = c .before .before .before .pre _ (c .before .loop-test .taken) in omega arith
 
-mul-owner : tie.Need-mul-owner Inv-loop μ-loop
-mul-owner c = let at = c .before .before .before .pre _ (c .before .loop-test .taken) in omega arith
+mul-b : tie.Need-mul-b Inv-loop μ-loop
+mul-b c = let at = c .before .before .before .pre _ (c .before .loop-test .taken) in omega arith
 
-element-copy-out-owner : tie.Need-element-copy-out-owner Inv-loop μ-loop
-element-copy-out-owner c = let at = c .before .before .before .pre _ (c .before .loop-test .taken) in omega arith
+element-copy-out-b : tie.Need-element-copy-out-b Inv-loop μ-loop
+element-copy-out-b c = let at = c .before .before .before .pre _ (c .before .loop-test .taken) in omega arith
 
-cast-owner : tie.Need-cast-owner Inv-loop μ-loop
-cast-owner c = let at = c .before .before .before .pre _ (c .before .loop-test .taken) in omega arith
+cast-at : tie.Need-cast-at Inv-loop μ-loop
+cast-at c = omega arith
 
-mul-class : tie.Need-mul-class Inv-loop μ-loop
-mul-class c = let at = c .before .before .before .pre _ (c .before .loop-test .taken) in omega arith
+mul-at : tie.Need-mul-at Inv-loop μ-loop
+mul-at c = let low = c .before .if1 .taken in omega arith
 
-element-copy-out-class : tie.Need-element-copy-out-class Inv-loop μ-loop
-element-copy-out-class c = let at = c .before .before .before .pre _ (c .before .loop-test .taken) in omega arith
+cast-at-2 : tie.Need-cast-at-2 Inv-loop μ-loop
+cast-at-2 c = omega arith
 
-cast-class : tie.Need-cast-class Inv-loop μ-loop
-cast-class c = let at = c .before .before .before .pre _ (c .before .loop-test .taken) in omega arith
-
-mul-touched : tie.Need-mul-touched Inv-loop μ-loop
-mul-touched c = let at = c .before .before .before .pre _ (c .before .loop-test .taken) in omega arith
-
-add-touched : tie.Need-add-touched Inv-loop μ-loop
-add-touched c = let at = c .before .before .before .pre _ (c .before .loop-test .taken) in omega arith
+add-at : tie.Need-add-at Inv-loop μ-loop
+add-at c = let low = pair-in-array _ _ _ (c .before .before .before .before .before .before .before .before .pre) (c .before .before .before .before .before .before .loop-test .taken) _ _ refl refl (c .before .before .if1 .taken) in omega arith
 
 array-write-touched : tie.Need-array-write-touched Inv-loop μ-loop
-array-write-touched c = let at = c .before .before .before .pre _ (c .before .loop-test .taken) in omega arith
+array-write-touched c = pair-in-array _ _ _ (c .before .before .before .before .before .before .before .before .pre) (c .before .before .before .before .before .before .loop-test .taken) _ _ refl refl (c .before .before .if1 .taken)
 
 add-i : tie.Need-add-i Inv-loop μ-loop
 add-i c = search needs
@@ -60,7 +57,11 @@ loop-less : tie.Need-loop-less Inv-loop μ-loop
 loop-less c = search needs
 
 loop-again : tie.Need-loop-again Inv-loop μ-loop
-loop-again c = (omega arith, told-at-next _ _ _ (c .before .before .before .pre) (c .before .loop-test .taken) _ _ refl refl _ (c .before .before .loop .inv .1))
+loop-again c = (
+  omega arith,
+  ⊎-elim (λ w. subst (λ (l : List Bool). ToldBelow l (c .before .before .before .before .before .before .args .t1) (c .before .before .before .before .before .before .args .addresses .now) (c .before .before .before .before .before .loop .i + 1)) (sym (w .3)) (told-at-next _ _ _ (c .before .before .before .before .before .before .pre) (c .before .before .before .before .loop-test .taken) _ _ refl refl (w .0 .taken) _ (c .before .before .before .before .before .loop .inv .1)))
+      (λ w. subst (λ (l : List Bool). ToldBelow l (c .before .before .before .before .before .before .args .t1) (c .before .before .before .before .before .before .args .addresses .now) (c .before .before .before .before .before .loop .i + 1)) (sym (w .1)) (told-past-run _ _ _ (c .before .before .before .before .before .before .pre) (c .before .before .before .before .loop-test .taken) _ _ refl refl (w .0 .left) _ (c .before .before .before .before .before .loop .inv .1))) (c .if1 .came),
+)
 
 returns : tie.Need-returns Inv-loop μ-loop
 returns c = told-at-end _ _ _ _ (c .before .loop .inv .1) (c .loop-test .left)
@@ -75,14 +76,12 @@ touched-pairs-spec =
     mul-k
     shared-slice-read-k
     cast-k
-    mul-owner
-    element-copy-out-owner
-    cast-owner
-    mul-class
-    element-copy-out-class
-    cast-class
-    mul-touched
-    add-touched
+    mul-b
+    element-copy-out-b
+    cast-at
+    mul-at
+    cast-at-2
+    add-at
     array-write-touched
     add-i
     loop-less
