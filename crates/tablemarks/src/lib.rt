@@ -10,10 +10,8 @@ use heap::Superblock;
 fn live_blocks(b: Superblock) -> [u64; 4]
     ensures { λ r. ⌜ r ≡ liveBlocks b ⌝ }
 {
-    if b.owner == 254 {
-        if 0 < b.run {
-            return [1u64, 0, 0, 0];
-        }
+    if predicates::starts_run(b) {
+        return [1u64, 0, 0, 0];
     }
     b.live
 }
