@@ -8,22 +8,25 @@ use native.Mathlib.Decide.{decLt}
 use native.Mathlib.Omega.{arith}
 use lib.ListN.{length, List·getD-eq-default}
 use lib.Dec.{eqb}
+use Rattle.laws.specs.Sums.{pick}
 use Rattle.laws.proofs.Inequalities.{le-of-not-below}
 use Rattle.laws.proofs.TestLaws.{pick-true, pick-false}
 use Rattle.classes.proofs.ClassTableLaws.{blocks-of-le-256}
-use Rattle.marks.specs.Marks.{markBit}
+use Rattle.marks.specs.Marks.{markBit, noMarks, withMark}
 use Rattle.names.specs.Names.{blockNumber, withoutBlock}
+use Rattle.heap.specs.declared.Superblock.{Superblock}
 use Rattle.heap.specs.declared.State.{State}
-use Rattle.heap.specs.Table.{blank, superblockAt, isOfRun}
+use Rattle.heap.specs.Table.{blank, superblockAt, isOfRun, startsRun, liveBlocks}
 use Rattle.heap.specs.Counts.{belongs, superblocksOfClass}
 use Rattle.heaplaws.proofs.StateFacts.{Shape}
 use Rattle.heaplaws.proofs.CountLaws.{not-belongs-of-other-owner}
+use Rattle.heaplaws.proofs.RunsKeptLaws.{starts-run-same, live-blocks-outside-run}
 use Rattle.calls.specs.Free.{superblockIndex, superblockHolding, blockOf, isInRun, addressRefusal, blockPushed, orderPushed, smallBlockFreed, longBlockFreed, blockFreed}
 use Rattle.calllaws.proofs.CallEffects.{PassedAfterFrees}
 use Rattle.calllaws.proofs.AddressLaws.{block-at-address-same}
 use Rattle.calllaws.proofs.TransferredLaws.{oneMoreFreed, one-more-freed-of-others, passed-after-frees-cong}
 use Rattle.calllaws.proofs.BlockFreedLaws.{freed-superblock-lt-64, small-block-freed-effect, small-block-freed-owner, small-block-freed-names, small-block-freed-shape, small-block-freed-passed}
-use Rattle.calllaws.proofs.RunFreedLaws.{freed-run-lt-64, freed-run-owner, freed-run-block, freed-run-no-marks, long-block-freed-class, long-block-freed-owner, long-block-freed-marks, long-block-freed-effect, long-block-freed-names, long-block-freed-shape, long-block-freed-passed}
+use Rattle.calllaws.proofs.RunFreedLaws.{freed-run-lt-64, freed-run-owner, freed-run-block, freed-run-no-marks, long-block-freed-class, long-block-freed-owner, long-block-freed-marks, long-block-freed-effect, long-block-freed-live-blocks, long-block-freed-not-live, long-block-freed-names, long-block-freed-shape, long-block-freed-passed}
 
 -- ---- which of the two it is
 module _ (s : State) (a : ℕ) where
@@ -62,11 +65,23 @@ pub record AddressFreed (freed : ℕ → ℕ → ℕ) (s : State) (order : List 
   -- the mark of the freed block is clear then, that of a long block before, too, and every other is as it was
   pub not-marked : markBit (superblockHolding (blockFreed s a) a .live) (blockOf s a) ≡ 0
   pub marks : (m b : ℕ) → m < 64 → ((m ≡ superblockIndex a) × (b ≡ blockOf s a) → ⊥) → b < 256 → markBit (superblockAt (blockFreed s a) m .live) b ≡ markBit (superblockAt s m .live) b
+  -- it is not live then, and every other block is live or not as it was
+  pub not-live : markBit (liveBlocks (superblockHolding (blockFreed s a) a)) (blockOf s a) ≡ 0
+  pub live-blocks : (m b : ℕ) → m < 64 → ((m ≡ superblockIndex a) × (b ≡ blockOf s a) → ⊥) → b < 256 → markBit (liveBlocks (superblockAt (blockFreed s a) m)) b ≡ markBit (liveBlocks (superblockAt s m)) b
   pub owned : (d : ℕ) → superblocksOfClass d (blockFreed s a) ≡ superblocksOfClass d s
   pub names : blockFreed s a .names ≡ withoutBlock (s .names) (blockNumber (superblockIndex a) (blockOf s a))
   pub shape : Shape (blockFreed s a)
   -- one block more of its heap and class was freed since the move rule was last followed; a run is of none
   pub passed : PassedAfterFrees (oneMoreFreed (superblockHolding s a .owner) (superblockHolding s a .class) freed) (blockFreed s a) (orderPushed s order a)
+
+-- a superblock of which the mark of block j is kept, and what it is of a run
+live-bit-same : (b d : Superblock) (j : ℕ) → isOfRun d ≡ isOfRun b → d .run ≡ b .run → markBit (d .live) j ≡ markBit (b .live) j → markBit (liveBlocks d) j ≡ markBit (liveBlocks b) j
+unfolding liveBlocks
+live-bit-same b d j e g same = rw (starts-run-same d b e g) (go (startsRun b))
+  where
+    go : (t : Bool) → markBit (pick t (withMark noMarks 0) (d .live)) j ≡ markBit (pick t (withMark noMarks 0) (b .live)) j
+    go true = refl
+    go false = same
 
 -- what is said of a state and of order places, for the two that a free leaves
 abbrev FreedTo : (ℕ → ℕ → ℕ) → State → ℕ → State → List ℕ → Type 0
@@ -85,6 +100,10 @@ module _ (freed : ℕ → ℕ → ℕ) (s : State) (order : List ℕ) (a : ℕ) 
         owners = subst (OwnersKeptOrRunFreed s) is (λ m l. inl (small-block-freed-owner freed s order a shape passed accepted small m l));
         not-marked = subst (λ (t : State). markBit (superblockHolding t a .live) (blockOf s a) ≡ 0) is (effect .not-marked);
         marks = subst (λ (t : State). (m b : ℕ) → m < 64 → ((m ≡ superblockIndex a) × (b ≡ blockOf s a) → ⊥) → b < 256 → markBit (superblockAt t m .live) b ≡ markBit (superblockAt s m .live) b) is (effect .marks);
+        not-live = subst (λ (t : State). markBit (liveBlocks (superblockHolding t a)) (blockOf s a) ≡ 0) is
+            (ap (λ (l : List ℕ). markBit l (blockOf s a)) (live-blocks-outside-run (superblockHolding (smallBlockFreed s a) a) (effect .runs (superblockIndex a) (freed-superblock-lt-64 freed s order a shape passed accepted small) .0 ∙ small)) ∙ effect .not-marked);
+        live-blocks = subst (λ (t : State). (m b : ℕ) → m < 64 → ((m ≡ superblockIndex a) × (b ≡ blockOf s a) → ⊥) → b < 256 → markBit (liveBlocks (superblockAt t m)) b ≡ markBit (liveBlocks (superblockAt s m)) b) is
+            (λ m b l apart in-block. live-bit-same (superblockAt s m) (superblockAt (smallBlockFreed s a) m) b (effect .runs m l .0) (effect .runs m l .1) (effect .marks m b l apart in-block));
         owned = subst (λ (t : State). (d : ℕ) → superblocksOfClass d t ≡ superblocksOfClass d s) is (effect .owned);
         names = subst (λ (t : State). t .names ≡ withoutBlock (s .names) (blockNumber (superblockIndex a) (blockOf s a))) is (small-block-freed-names freed s order a shape passed accepted small);
         shape = subst Shape is (small-block-freed-shape freed s order a shape passed accepted small);
@@ -116,6 +135,10 @@ module _ (freed : ℕ → ℕ → ℕ) (s : State) (order : List ℕ) (a : ℕ) 
           not-marked = subst (λ (t : State). markBit (superblockHolding t a .live) (blockOf s a) ≡ 0) is
               (marks-same (superblockIndex a) (blockOf s a) lt-64 (omega arith) ∙ freed-run-no-marks freed s order a shape passed accepted long (blockOf s a) (omega arith));
           marks = subst (λ (t : State). (m b : ℕ) → m < 64 → ((m ≡ superblockIndex a) × (b ≡ blockOf s a) → ⊥) → b < 256 → markBit (superblockAt t m .live) b ≡ markBit (superblockAt s m .live) b) is (λ m b l apart small. marks-same m b l small);
+          not-live = subst (λ (t : State). markBit (liveBlocks (superblockHolding t a)) (blockOf s a) ≡ 0) is
+              (ap (markBit (liveBlocks (superblockHolding (longBlockFreed s a) a))) block-is ∙ long-block-freed-not-live freed s order a shape passed accepted long);
+          live-blocks = subst (λ (t : State). (m b : ℕ) → m < 64 → ((m ≡ superblockIndex a) × (b ≡ blockOf s a) → ⊥) → b < 256 → markBit (liveBlocks (superblockAt t m)) b ≡ markBit (liveBlocks (superblockAt s m)) b) is
+              (λ m b l apart small. long-block-freed-live-blocks freed s order a shape passed accepted long m b l small (λ q. apart (q .0, q .1 ∙ sym block-is)));
           owned = subst (λ (t : State). (d : ℕ) → superblocksOfClass d t ≡ superblocksOfClass d s) is (effect .owned);
           names = subst (λ (t : State). t .names ≡ withoutBlock (s .names) (blockNumber (superblockIndex a) (blockOf s a))) is
               (long-block-freed-names freed s order a shape passed accepted long ∙ ap (λ (j : ℕ). withoutBlock (s .names) (blockNumber (superblockIndex a) j)) (sym block-is));
@@ -137,14 +160,6 @@ module _ (freed : ℕ → ℕ → ℕ) (s : State) (order : List ℕ) (a : ℕ) 
 
 -- ---- states whose owners are kept, but for runs freed, and whose classes are kept
 module _ (s t : State) (owners : OwnersKeptOrRunFreed s t) where
-  -- a heap's superblocks stay its own, and no heap gets more
-  pub heap-kept : (h m : ℕ) → h < 254 → m < 64 → superblockAt s m .owner ≡ h → superblockAt t m .owner ≡ h
-  heap-kept h m l lm e = go (owners m lm)
-    where
-      go : (superblockAt t m .owner ≡ superblockAt s m .owner) ⊎ ((superblockAt s m .owner ≡ 254) × (superblockAt t m .owner ≡ 255)) → superblockAt t m .owner ≡ h
-      go (inl q) = q ∙ e
-      go (inr (was, now)) = absurd (let z : ⊥ = omega arith in z)
-
   -- an address in no run is in none then
   pub outside-run-kept : length (t .table) ≡ 64 → (a : ℕ) → isInRun s a ≡ false → isInRun t a ≡ false
   unfolding isOfRun

@@ -165,7 +165,7 @@ all-freed freed s order (a ∷ addresses) shape passed ok =
 
 -- ---- for code
 -- the run that a superblock carries the length of ends in the table
-run-fits : (s : State) (k : ℕ) → RunsSound s → k < 64 → k + superblockAt s k .run ≤ 64
+pub run-fits : (s : State) (k : ℕ) → RunsSound s → k < 64 → k + superblockAt s k .run ≤ 64
 run-fits s k sound l = go (isOfRun (superblockAt s k)) refl (ℕ-discrete (superblockAt s k .run) 0)
   where
     go : (t : Bool) → isOfRun (superblockAt s k) ≡ t → Dec (superblockAt s k .run ≡ 0) → k + superblockAt s k .run ≤ 64
@@ -173,11 +173,11 @@ run-fits s k sound l = go (isOfRun (superblockAt s k)) refl (ℕ-discrete (super
     go true e (no f) = sound .first-of-run k l e (pos-of-ne-zero f) .in-table
     go false e (no f) = absurd (f (sound .outside-carries-0 k l e))
 
--- the superblock at an address is in the table; where it is of no run, a heap and a class have it
+-- the superblock at an address is of a heap and a class
 abbrev pub OfHeapAndClass : State → ℕ → Type 0
 OfHeapAndClass s a = (superblockHolding s a .owner < 9) × (superblockHolding s a .class < 27)
 
--- .. in a state from which only runs were freed since, if it is there
+-- outside runs it was before the frees where it is after them
 of-heap-and-class-before : (s t : State) (a : ℕ) → superblockIndex a < 64 → OwnersKeptOrRunFreed s t → ((m : ℕ) → m < 64 → superblockAt t m .class ≡ superblockAt s m .class)
     → (isInRun t a ≡ false → OfHeapAndClass t a) → isInRun s a ≡ false → OfHeapAndClass s a
 unfolding isOfRun

@@ -1,7 +1,7 @@
 -- A long block freed, before any move: "a free makes the whole run unused" (document 02, item 7). What becomes of a state that passed its check before
 -- these frees. Assumes nothing.
 use mathlib.Core.Path.{_≡_, refl, sym, ap, _∙_, subst}
-use mathlib.Core.Bool.{true, false}
+use mathlib.Core.Bool.{Bool, true, false}
 use mathlib.Core.Logic.{_⊎_, inl, inr}
 use mathlib.Core.List.{List}
 use Prim.Native.Nat.{ℕ, _+_, _*_, _/_, _%_, _≤_, _<_}
@@ -14,8 +14,8 @@ use Rattle.laws.specs.Sums.{pick, one}
 use Rattle.laws.proofs.Inequalities.{le-of-not-below}
 use Rattle.laws.proofs.TestLaws.{T-of-true, true-of-T, both-left, both-right, pick-true}
 use Rattle.laws.proofs.SumLaws.{sum-cong}
-use Rattle.marks.specs.Marks.{markBit, noMarks, withMark}
-use Rattle.marklaws.proofs.MarkLaws.{with-mark-other, mark-bit-of-no-marks, live-count-of-no-marks, marks-clear-of-live-count-zero}
+use Rattle.marks.specs.Marks.{isMarked, markBit, noMarks, withMark}
+use Rattle.marklaws.proofs.MarkLaws.{mark-bit-one-of-mark, mark-bit-zero-of-no-mark, with-mark-other, mark-bit-of-no-marks, live-count-of-no-marks, marks-clear-of-live-count-zero}
 use Rattle.names.specs.Names.{blockNumber, withoutBlock}
 use Rattle.namelaws.proofs.NameLaws.{length-without-block}
 use Rattle.heap.specs.declared.Superblock.{Superblock}
@@ -32,7 +32,7 @@ use Rattle.heaplaws.proofs.CountLaws.{not-belongs-of-other-owner}
 use Rattle.heaplaws.proofs.TotalsLaws.{length-recounted-superblocks, length-recounted-live}
 use Rattle.heaplaws.proofs.RankLaws.{ranks-sound-of-same-ranks}
 use Rattle.heaplaws.proofs.RunLaws.{Outside, side-of-range, outside-not-inside, runs-sound-of-valid, runs-valid-of-sound, run-below-superblocks}
-use Rattle.heaplaws.proofs.RunsKeptLaws.{owner-of-run, live-blocks-of-first, live-blocks-not-first}
+use Rattle.heaplaws.proofs.RunsKeptLaws.{owner-of-run, live-blocks-outside-run, live-blocks-of-first, live-blocks-not-first}
 use Rattle.heaplaws.proofs.PassedBetweenHeapsLaws.{none-passed-between-heaps}
 use Rattle.calls.specs.Runs.{runFreed}
 use Rattle.calls.specs.Free.{superblockIndex, offsetOf, superblockHolding, blockOf, isInRun, isRunStart, isMisaligned, addressRefusal, blockNumberAt, longBlockFreed}
@@ -44,6 +44,11 @@ use Rattle.calllaws.proofs.AddressLaws.{mapped-below-64, block-of-offse
 use Rattle.calllaws.proofs.NamesKeptLaws.{mark-of-live-block, live-block-of-mark, names-valid-of-others-kept}
 use Rattle.calllaws.proofs.SuperblockLaws.{unowned-of-no-class}
 use Rattle.calllaws.proofs.TransferredLaws.{invariant-before-frees-cong}
+
+-- nothing is live in an unused superblock
+none-live-in-unused : (j : ℕ) → markBit (liveBlocks unused) j ≡ 0
+unfolding isOfRun
+none-live-in-unused j = ap (λ (l : List ℕ). markBit l j) (live-blocks-outside-run unused refl) ∙ mark-bit-of-no-marks j
 
 -- the address meets no refusal, in a state that passed before these frees, and lies in a run
 module _ (freed : ℕ → ℕ → ℕ) (s : State) (order : List ℕ) (a : ℕ) (shape : Shape s) (passed : PassedAfterFrees freed s order) (accepted : addressRefusal s a ≡ 0) (long : isInRun s a ≡ true) where
@@ -102,9 +107,6 @@ module _ (freed : ℕ → ℕ → ℕ) (s : State) (order : List ℕ) (a : ℕ) 
 
   pub freed-run-owner : superblockHolding s a .owner ≡ 254
   freed-run-owner = part-owner k first-inside
-
-  pub freed-run-class : superblockHolding s a .class ≡ 0
-  freed-run-class = part-unowned k first-inside .class
 
   pub freed-run-no-marks : (b : ℕ) → b < 256 → markBit (superblockHolding s a .live) b ≡ 0
   freed-run-no-marks = marks-clear-of-live-count-zero (superblockHolding s a .live) (part-unowned k first-inside .live)
@@ -274,6 +276,18 @@ module _ (freed : ℕ → ℕ → ℕ) (s : State) (order : List ℕ) (a : ℕ) 
           let not-first : startsRun (superblockAt s m) ≡ false = rw (of-run, carries) in
           let clear : markBit (liveBlocks (superblockAt s m)) j ≡ 0 = ap (λ (x : List ℕ). markBit x j) (live-blocks-not-first (superblockAt s m) not-first) ∙ marks-clear-of-live-count-zero (superblockAt s m .live) (part-unowned m inside .live) j small in
           absurd (let z : ⊥ = omega arith in z)
+
+  -- it is no longer live, and every other block is live or not as it was
+  pub long-block-freed-live-blocks : (m j : ℕ) → m < 64 → j < 256 → ((m ≡ superblockIndex a) × (j ≡ 0) → ⊥) → markBit (liveBlocks (superblockAt (longBlockFreed s a) m)) j ≡ markBit (liveBlocks (superblockAt s m)) j
+  long-block-freed-live-blocks m j l small =
+      each-after (λ i b. ((i ≡ k) × (j ≡ 0) → ⊥) → markBit (liveBlocks b) j ≡ markBit (liveBlocks (superblockAt s i)) j) (λ i inside apart. none-live-in-unused j ∙ sym (clear i inside apart (isMarked (liveBlocks (superblockAt s i)) j) refl)) (λ i li apart. refl) m l
+    where
+      clear : (i : ℕ) → InRun k n i → ((i ≡ k) × (j ≡ 0) → ⊥) → (t : Bool) → isMarked (liveBlocks (superblockAt s i)) j ≡ t → markBit (liveBlocks (superblockAt s i)) j ≡ 0
+      clear i inside apart true e = absurd (apart (only-block-of-run i j inside small (mark-bit-one-of-mark (liveBlocks (superblockAt s i)) j e)))
+      clear i inside apart false e = mark-bit-zero-of-no-mark (liveBlocks (superblockAt s i)) j e
+
+  pub long-block-freed-not-live : markBit (liveBlocks (superblockHolding (longBlockFreed s a) a)) 0 ≡ 0
+  long-block-freed-not-live = ap (λ (b : Superblock). markBit (liveBlocks b) 0) (made-unused k first-inside) ∙ none-live-in-unused 0
 
   -- so that every other live block stays live
   still-live : (b : ℕ) → (b ≡ blockNumber k 0 → ⊥) → T (isLiveBlock s b) → T (isLiveBlock after b)

@@ -79,7 +79,7 @@ unfolding runFreed madeUnused
 run-freed-recounted k n s kept = each-of-run-keeps madeUnused k s n TotalsKept (λ m t low high h. refl) kept
 
 -- a block freed replaces a superblock, a long one those of its run, and the moves of a drop keep them as those of a free do
-block-freed-recounted : (s : State) (a : ℕ) → TotalsKept s → TotalsKept (blockFreed s a)
+pub block-freed-recounted : (s : State) (a : ℕ) → TotalsKept s → TotalsKept (blockFreed s a)
 unfolding blockFreed longBlockFreed smallBlockFreed markCleared
 block-freed-recounted s a kept = pick-elim TotalsKept (isInRun s a) _ _ (λ e. run-freed-recounted (superblockIndex a) (superblockHolding s a .run) s kept) (λ e. refl)
 

@@ -12,7 +12,8 @@ use Rattle.laws.proofs.TestLaws.{T-of-true, either-left, either-right, either-r
 use Rattle.heap.specs.declared.State.{State}
 use Rattle.heap.specs.Counts.{belongs}
 use Rattle.heaplaws.proofs.CountLaws.{owner-and-class-of-belongs, belongs-of-owner-and-class}
-use Rattle.calls.specs.Free.{superblockHolding}
+use Rattle.heaplaws.proofs.RunsKeptLaws.{outside-run-of-owner}
+use Rattle.calls.specs.Free.{superblockHolding, isInRun}
 use Rattle.calls.specs.Drop.{Pair, isTouched, touchedClasses, touchedPairs}
 
 -- ---- which are touched
@@ -49,6 +50,10 @@ is-touched-iff s addresses h c = (
   touches-of-is-touched s addresses h c,
   λ t. is-touched-of-listed s addresses h c (t .address) (belongs-of-owner-and-class h c (superblockHolding s (t .address)) (t .owner-is) (t .class-is)) (t .listed),
 )
+
+-- a long block is of no heap (item 7), so that its address touches none
+pub touching-address-outside-run : (s : State) (addresses : List ℕ) (h c : ℕ) → h < 254 → (t : Touches s addresses h c) → isInRun s (t .address) ≡ false
+touching-address-outside-run s addresses h c l t = outside-run-of-owner (superblockHolding s (t .address)) (λ (q : superblockHolding s (t .address) .owner ≡ 254). omega (arith, t .owner-is))
 
 -- ---- "each processor heap and class touched"
 -- heap h and class c are one of the pairs

@@ -2,7 +2,8 @@
 use mathlib.Core.Path.{_≡_, refl, sym, _∙_}
 use mathlib.Core.Bool.{Bool, true, false}
 use mathlib.Core.List.{List}
-use Prim.Native.Nat.{ℕ, _/_, _≤_, _<_}
+use Prim.Native.Nat.{ℕ, _+_, _/_, _≤_, _<_}
+use native.Mathlib.Decide.{decLt}
 use native.Mathlib.Omega.{arith}
 use borrow.Author.Tests.{ne-eqb, not-true, not-false}
 use Rattle.laws.proofs.TestLaws.{T-of-true}
@@ -13,14 +14,19 @@ use Rattle.heap.specs.Totals.{TotalsKept}
 use Rattle.heap.specs.Ranks.{RanksFit}
 use Rattle.moverules.specs.Moves.{invariantRestored}
 use Rattle.checkrules.specs.Check.{passes}
-use Rattle.heaplaws.proofs.StateFacts.{Sound}
-use Rattle.heaplaws.proofs.StateCheckLaws.{sound-of-passes, totals-kept-of-passes}
+use Rattle.checkrules.proofs.ClauseLaws.{rest-of-passes}
+use Rattle.heaplaws.proofs.StateFacts.{Shape, Sound, RunsSound}
+use Rattle.heaplaws.proofs.StateCheckLaws.{sound-of-passes, totals-kept-of-passes, runs-valid-of-rest}
+use Rattle.heaplaws.proofs.RunLaws.{runs-sound-of-valid}
+use Rattle.heaplaws.proofs.RunsKeptLaws.{outside-run-of-owner, of-run-of-owner}
 use Rattle.heaplaws.proofs.RankLaws.{ranks-fit-of-passes}
 use Rattle.calls.specs.declared.Answer.{Answer}
 use Rattle.calls.specs.declared.Outcome.the-variants.{Moves, Refused}
 use Rattle.calls.specs.Answers.{After, HasNumberAndValuesOf, isProcessor}
-use Rattle.calls.specs.Free.{superblockIndex, superblockHolding, isUnmapped, addressRefusal, markCleared, orderPushed, blockFreed, freedAt, freeUnchecked}
+use Rattle.calls.specs.Free.{superblockIndex, superblockHolding, isUnmapped, isInRun, addressRefusal, orderPushed, blockFreed, smallFreedAt, longFreedAt, freedAt, freeUnchecked}
 use Rattle.calllaws.proofs.AddressLaws.{mapped-below-64, mapped-is-owned}
+use Rattle.calllaws.proofs.AddressFreedLaws.{block-freed-outside-run, block-freed-in-run, order-pushed-outside-run, order-pushed-in-run}
+use Rattle.calllaws.proofs.TotalsKeptLaws.{block-freed-recounted}
 use Rattle.calls.proofs.AddressRefusalLaws.{mapped-of-no-refusal, free-unchecked-by-address-refusal}
 use Rattle.calls.proofs.AnswerLaws.{number-and-values-by-rules, refused-of-answer}
 
@@ -57,28 +63,68 @@ module _ (s : State) (order : List ℕ) (a : ℕ) (p : passes s order ≡ true) 
   mapped : isUnmapped s a ≡ false
   mapped = mapped-of-no-refusal s a (sym g ∙ z)
 
-  pub freed-superblock : (superblockIndex a < 64) × (superblockHolding s a .owner < 9) × (superblockHolding s a .class < 27) × TotalsKept s × RanksFit s
-  freed-superblock =
-      let o = mapped-is-owned s order a sound mapped in
-      (mapped-below-64 s order a sound mapped, omega (arith, o .owner, sound .numbers .processors-high), o .class, totals-kept-of-passes s order (T-of-true _ p), ranks-fit-of-passes s order (T-of-true _ p))
+  module _ (shape : Shape s) where
+    runs : RunsSound s
+    runs = runs-sound-of-valid s (shape .length-is) (runs-valid-of-rest s order (rest-of-passes s order (T-of-true _ p)))
 
--- so, of its owner and class as the code reads them
-pub freed-owner : (s : State) (a owner : ℕ) → owner ≡ superblockAt s (a / 4096) .owner → superblockHolding s a .owner < 9 → owner < 9
-freed-owner s a owner e l = rw e l
+    -- a run lies in the table, and any other superblock carries 0
+    run-in-table : superblockIndex a + superblockHolding s a .run ≤ 64
+    run-in-table = go (isInRun s a) refl
+      where
+        below : superblockIndex a < 64
+        below = mapped-below-64 s order a sound mapped
 
-pub freed-class : (s : State) (a class : ℕ) → class ≡ superblockAt s (a / 4096) .class → superblockHolding s a .class < 27 → class < 27
-freed-class s a class e l = rw e l
+        first : isInRun s a ≡ true → Dec (0 < superblockHolding s a .run) → superblockIndex a + superblockHolding s a .run ≤ 64
+        first e (yes l) = runs .first-of-run (superblockIndex a) below e l .in-table
+        first e (no f) = let l = below in omega arith
+
+        go : (t : Bool) → isInRun s a ≡ t → superblockIndex a + superblockHolding s a .run ≤ 64
+        go true e = first e (decLt 0 (superblockHolding s a .run))
+        go false e = let l = below in omega (arith, runs .outside-carries-0 (superblockIndex a) below e)
+
+    pub freed-superblock : (superblockIndex a < 64)
+        × (superblockIndex a + superblockHolding s a .run ≤ 64)
+        × (isInRun s a ≡ false → (superblockHolding s a .owner < 9) × (superblockHolding s a .class < 27))
+        × TotalsKept s
+        × RanksFit s
+    freed-superblock = (
+      mapped-below-64 s order a sound mapped,
+      run-in-table,
+      λ outside. let o = mapped-is-owned s order a sound mapped outside in (omega (arith, o .owner, sound .numbers .processors-high), o .class),
+      totals-kept-of-passes s order (T-of-true _ p),
+      ranks-fit-of-passes s order (T-of-true _ p),
+    )
+
+-- so, of its owner and class as the code reads them, where the owner is not that of a run
+module _ (s : State) (a owner : ℕ) (e : owner ≡ superblockAt s (a / 4096) .owner) (other : owner ≡ 254 → ⊥) (of-heap : isInRun s a ≡ false → (superblockHolding s a .owner < 9) × (superblockHolding s a .class < 27)) where
+  outside-run : isInRun s a ≡ false
+  outside-run = outside-run-of-owner (superblockHolding s a) (λ q. other (e ∙ q))
+
+  pub freed-owner : owner < 9
+  freed-owner = rw e (of-heap outside-run .0)
+
+  pub freed-class : (class : ℕ) → class ≡ superblockAt s (a / 4096) .class → class < 27
+  freed-class class f = rw f (of-heap outside-run .1)
 
 -- the totals of the state in which the block is free are the recount too
-pub block-freed-totals-kept : (s t : State) (a : ℕ) → t ≡ blockFreed s a → TotalsKept t
-unfolding blockFreed markCleared
-block-freed-totals-kept s t a e = rw e refl
+pub block-freed-totals-kept : (s t : State) (a : ℕ) → TotalsKept s → t ≡ blockFreed s a → TotalsKept t
+block-freed-totals-kept s t a kept e = rw e (block-freed-recounted s a kept)
 
-pub freed-at-by-steps : (s : State) (order new : List ℕ) (a owner class : ℕ) (t : State) (m : Moved) (count : ℕ) (next : State) → owner ≡ superblockAt s (a / 4096) .owner → class ≡ superblockAt s (a / 4096) .class
-    → new ≡ orderPushed s order a → t ≡ blockFreed s a → m ≡ invariantRestored owner class t → count ≡ m .moves → next ≡ m .state
-    → record { answer = record { outcome = Moves count; state = next }; order = new } ≡ freedAt s order a
-unfolding freedAt
-freed-at-by-steps s order new a owner class t m count next e f g h i j k = rw (j, k, i, h, g, e, f)
+module _ (s : State) (order new : List ℕ) (a owner class : ℕ) (t : State) (e : owner ≡ superblockAt s (a / 4096) .owner) (g : new ≡ orderPushed s order a) (h : t ≡ blockFreed s a) where
+  -- of a run
+  pub freed-at-of-run : owner ≡ 254 → record { answer = record { outcome = Moves 0; state = t }; order = new } ≡ freedAt s order a
+  unfolding freedAt longFreedAt
+  freed-at-of-run q =
+      let inside = of-run-of-owner (superblockHolding s a) (sym e ∙ q) in
+      rw (h, g, block-freed-in-run s a inside, order-pushed-in-run s a order inside, inside)
+
+  -- of a block of a class, with the moves
+  pub freed-at-by-steps : (m : Moved) (count : ℕ) (next : State) → (owner ≡ 254 → ⊥) → class ≡ superblockAt s (a / 4096) .class → m ≡ invariantRestored owner class t → count ≡ m .moves → next ≡ m .state
+      → record { answer = record { outcome = Moves count; state = next }; order = new } ≡ freedAt s order a
+  unfolding freedAt smallFreedAt
+  freed-at-by-steps m count next other f i j k =
+      let outside = outside-run-of-owner (superblockHolding s a) (λ q. other (e ∙ q)) in
+      rw (j, k, i, h, g, block-freed-outside-run s a outside, order-pushed-outside-run s a order outside, outside, e, f)
 
 -- ---- how a proof finds which way out it is at
 pub ruleset free-outcomes = (free-unchecked-refused-2, free-unchecked-refused-by-address, free-unchecked-is-freed-at, not-true, not-false)

@@ -1,16 +1,24 @@
 // Take behind the check, on a state by value and lent order storage that pass it: the check is the caller's to make.
 ghost use mathlib.Core.Path.{_≡_};
 ghost use mathlib.Core.Bool.{true};
+ghost use mathlib.Core.List.{List};
+ghost use Prim.Native.Nat.{ℕ, _+_, _*_, _≤_};
+ghost use Rattle.classes.specs.Classes.{isLong, runLength};
 ghost use Rattle.heap.specs.declared.Found.the-variants.{Nothing};
 ghost use Rattle.checkrules.specs.Check.{passes};
 ghost use Rattle.heap.specs.Totals.{TotalsKept};
+ghost use Rattle.choicerules.specs.Runs.{lowestRun};
+ghost use Rattle.calls.specs.declared.Outcome.the-variants.{Address};
 ghost use Rattle.calls.specs.Answers.{HasNumberAndValuesOf};
+ghost use Rattle.calls.specs.Runs.{runTaken, longTakenAt};
 ghost use Rattle.calls.specs.Take.{otherPlaces, takenAt, takeUnchecked};
 use calls::Answer;
+use calls::Outcome;
 use heap::Found;
 use heap::State;
 
-// The address of a block for the size, from place 1 or else from the other places; or refusal 2, 3 or 4.
+// The address of a block for the size, from place 1 or else from the other places, or of a run for a long size; or refusal 2, 4 or 17. A size of 16
+// bits is never too large, so refusal 3 is not given.
 pub fn take(s: State, order: &mut [u16], processor: u8, size: u16) -> Answer
     requires { ⌜ passes s (now order) ≡ true ⌝ }
     ensures { λ r. ⌜ record { answer = r; order = now (order .exit) } ≡ takeUnchecked s (now (order .entry)) processor size ⌝ }
@@ -19,14 +27,41 @@ pub fn take(s: State, order: &mut [u16], processor: u8, size: u16) -> Answer
     if !states::is_processor(s, processor) {
         return states::refuse(s, 2);
     }
-    if sizeclass::is_too_large(size) {
-        return states::refuse(s, 3);
+    if sizeclass::is_long(size) {
+        return take_long(s, size);
     }
     let class = sizeclass::class_of(size);
     let own = choice::fullest(s, processor, class);
     match own {
         Found::At(k) => allocation::take_from(s, order, k as u8),
         Found::Nothing => take_elsewhere(s, order, processor, class),
+    }
+}
+
+// The lowest-numbered run for a long size, or refusal 17; whatever the order places are, they stay so.
+fn take_long(s: State, size: u16) -> Answer
+    requires { ⌜ (isLong size ≡ true) × (s .setup .superblocks ≤ 64) × TotalsKept s ⌝ }
+    ensures { λ r. ⌜ ((order : List ℕ) → record { answer = r; order = order } ≡ longTakenAt (runLength size) s order (lowestRun (runLength size) s)) ⌝ }
+{
+    let n = sizeclass::run_length(size);
+    let length = n as usize;
+    let found = runsearch::lowest_run(s, length);
+    match found {
+        Found::At(k) => take_run(s, k, n),
+        Found::Nothing => states::refuse(s, 17),
+    }
+}
+
+// The run of n superblocks from k on is taken: its address is the start of superblock k.
+fn take_run(s: State, k: usize, n: u8) -> Answer
+    requires { ⌜ (k + n ≤ 64) × TotalsKept s ⌝ }
+    ensures { λ r. ⌜ r ≡ record { outcome = Address (k * 4096); state = runTaken k n s } ⌝ }
+{
+    let address = k as u32 * 4096;
+    let t = runs::take_run(s, k, n);
+    Answer {
+        outcome: Outcome::Address(address),
+        state: t,
     }
 }
 

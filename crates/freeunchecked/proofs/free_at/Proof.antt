@@ -1,5 +1,5 @@
 -- `freeunchecked::free_at` meets its contract. Assumes nothing.
-use Rattle.freeunchecked.proofs.FreeUncheckedLaws.{freed-owner, freed-class, block-freed-totals-kept, freed-at-by-steps}
+use Rattle.freeunchecked.proofs.FreeUncheckedLaws.{freed-owner, freed-class, block-freed-totals-kept, freed-at-of-run, freed-at-by-steps}
 use borrow.Author.Needs.{needs}
 use Rattle.freeunchecked.proofs.free_at.Statement.{statement}
 use Rattle.freeunchecked.proofs.free_at.Tie as tie
@@ -23,7 +23,13 @@ same-length : tie.Need-same-length
 same-length c = search needs
 
 returns : tie.Need-returns
-returns c = search freed-at-by-steps
+returns c = search freed-at-of-run
+
+same-length-2 : tie.Need-same-length-2
+same-length-2 c = search needs
+
+returns-2 : tie.Need-returns-2
+returns-2 c = search freed-at-by-steps
 
 pub free-at-spec : {M : Type 1} → statement M
 free-at-spec =
@@ -33,6 +39,8 @@ free-at-spec =
     owner-at-requires
     class-at-requires
     release-block-requires
-    restore-invariant-requires
     same-length
-    returns)
+    returns
+    restore-invariant-requires
+    same-length-2
+    returns-2)

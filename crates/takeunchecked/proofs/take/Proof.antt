@@ -1,7 +1,9 @@
 -- `takeunchecked::take` meets its contract. Assumes nothing.
-use Rattle.laws.proofs.TestLaws.{T-of-true}
+use native.Mathlib.Omega.{arith}
+use borrow.Author.Tests.{not-false}
+use Rattle.laws.proofs.TestLaws.{T-of-true, true-of-equal}
 use Rattle.heaplaws.proofs.StateCheckLaws.{totals-kept-of-passes}
-use Rattle.takeunchecked.proofs.TakeUncheckedLaws.{take-unchecked-clauses, take-outcomes}
+use Rattle.takeunchecked.proofs.TakeUncheckedLaws.{take-unchecked-clauses, take-outcomes, take-unchecked-is-long-taken, superblocks-in-table}
 use Rattle.takeunchecked.proofs.OtherPlacesLaws.{fullest-lt-64, fullest-lt-256, taken-at-own-rules}
 use borrow.Author.Needs.{needs}
 use Rattle.takeunchecked.proofs.take.Statement.{statement}
@@ -16,14 +18,17 @@ refuse-requires c κs = search needs
 returns : tie.Need-returns
 returns c = take-unchecked-clauses _ _ _ _ (search take-outcomes)
 
-is-too-large-requires : tie.Need-is-too-large-requires
-is-too-large-requires c κs = search needs
+is-long-requires : tie.Need-is-long-requires
+is-long-requires c κs = search needs
 
-refuse-requires-2 : tie.Need-refuse-requires-2
-refuse-requires-2 c κs = search needs
+take-long-requires : tie.Need-take-long-requires
+take-long-requires c κs = (true-of-equal _ _ (c .before .is-long .ensures) (c .if2 .taken), search superblocks-in-table, search (T-of-true, totals-kept-of-passes))
 
 returns-2 : tie.Need-returns-2
-returns-2 c = take-unchecked-clauses _ _ _ _ (search take-outcomes)
+returns-2 c =
+    let accepted = not-false _ (c .before .before .before .if1 .left) in
+    take-unchecked-clauses _ _ _ _
+    (take-unchecked-is-long-taken _ _ _ _ _ (c .before .before .before .before .is-processor .ensures) (omega arith) accepted _ (c .before .before .is-long .ensures) _ (c .before .if2 .taken) (c .take-long .ensures _))
 
 class-of-requires : tie.Need-class-of-requires
 class-of-requires c κs = search needs
@@ -65,8 +70,8 @@ take-spec =
     is-processor-requires
     refuse-requires
     returns
-    is-too-large-requires
-    refuse-requires-2
+    is-long-requires
+    take-long-requires
     returns-2
     class-of-requires
     fullest-requires

@@ -1,12 +1,13 @@
--- `dropunchecked::first_address_refusal` meets its contract. The loop's invariant: the addresses passed meet no refusal. The measure is what is left of them. Assumes nothing.
+-- `dropaddresses::first_address_refusal` meets its contract. The loop's invariant: the addresses passed meet no refusal. The measure is what is left of them. Assumes nothing.
+use mathlib.Core.Logic.{⊎-elim}
 use borrow.Author.Needs.{needs}
 use Prim.Native.Nat.{_-_, _≤_}
 use native.Mathlib.Omega.{arith}
 use lib.ListN.{length}
 use Rattle.laws.proofs.ReplacedElement.{length-of-length-map}
-use Rattle.dropunchecked.proofs.FirstRefusalLaws.{NoneRefused, none-refused-yet, past-table-refused, first-bad-refused, none-refused-at-next, none-refused-at-end}
-use Rattle.dropunchecked.proofs.first_address_refusal.Statement.{statement}
-use Rattle.dropunchecked.proofs.first_address_refusal.Tie as tie
+use Rattle.dropaddresses.proofs.FirstRefusalLaws.{NoneRefused, none-refused-yet, past-table-refused, first-bad-refused, run-of-address-fits, none-refused-past-run, none-refused-past-block, none-refused-at-end}
+use Rattle.dropaddresses.proofs.first_address_refusal.Statement.{statement}
+use Rattle.dropaddresses.proofs.first_address_refusal.Tie as tie
 
 abbrev Inv-loop : tie.InvT-loop
 Inv-loop s addresses t₀ i₀ t i = (i ≤ length addresses) × NoneRefused s addresses i t
@@ -41,14 +42,14 @@ refusal-in-requires c κs = search needs
 returns-2 : tie.Need-returns-2 Inv-loop μ-loop
 returns-2 c = search first-bad-refused
 
-block-in-requires : tie.Need-block-in-requires Inv-loop μ-loop
-block-in-requires c κs = search needs
+without-run-requires : tie.Need-without-run-requires Inv-loop μ-loop
+without-run-requires c κs =
+    let tested = c .before .before .before in
+    let read = tested .before .before .before in
+    run-of-address-fits _ _ _ _ (read .before .before .loop .inv .1) (read .before .loop-test .taken) _ (tested .refusal-in .ensures) (c .before .before .if2 .left) (omega arith)
 
-cast-block : tie.Need-cast-block Inv-loop μ-loop
-cast-block c = search needs
-
-clear-live-requires : tie.Need-clear-live-requires Inv-loop μ-loop
-clear-live-requires c κs = search needs
+without-mark-requires : tie.Need-without-mark-requires Inv-loop μ-loop
+without-mark-requires c κs = search needs
 
 mul-t : tie.Need-mul-t Inv-loop μ-loop
 mul-t c = search needs
@@ -64,9 +65,14 @@ loop-less c = search needs
 
 loop-again : tie.Need-loop-again Inv-loop μ-loop
 loop-again c =
-    let tested = c .before .before .before .before in
-    let read = tested .before .before .before in
-    (omega arith, none-refused-at-next _ _ _ _ (read .before .before .loop .inv .1) (read .before .loop-test .taken) _ (tested .refusal-in .ensures) (c .before .before .before .if2 .left) (omega arith) _ _ (c .before .before .block-in .ensures) (c .clear-live .ensures))
+    let tested = c .before .before .before in
+    let read = tested .before .before .before in (
+      omega arith,
+      ⊎-elim
+          (λ w. none-refused-past-run _ _ _ _ (read .before .before .loop .inv .1) (read .before .loop-test .taken) _ (tested .refusal-in .ensures) (c .before .before .if2 .left) (omega arith) (w .0 .taken) _ _ (w .1 .ensures) (w .2))
+          (λ w. none-refused-past-block _ _ _ _ (read .before .before .loop .inv .1) (read .before .loop-test .taken) _ (tested .refusal-in .ensures) (c .before .before .if2 .left) (omega arith) (w .0 .left) _ _ (w .1 .ensures) (w .2))
+          (c .if3 .came),
+    )
 
 returns-3 : tie.Need-returns-3 Inv-loop μ-loop
 returns-3 c = search none-refused-at-end
@@ -86,9 +92,8 @@ first-address-refusal-spec =
     array-copy-out-b
     refusal-in-requires
     returns-2
-    block-in-requires
-    cast-block
-    clear-live-requires
+    without-run-requires
+    without-mark-requires
     mul-t
     array-set-from-t
     add-i
