@@ -1,17 +1,14 @@
--- `tablemarks::live_blocks` meets its contract: the marks but for the first of a run. Assumes nothing.
-use borrow.Author.Needs.{needs}
-use Rattle.tablemarks.proofs.LiveBlocksLaws.{live-blocks-of-first-of-run, live-blocks-are-marks}
+-- `tablemarks::live_blocks` meets its contract: the two tests are those of the first superblock of a run. Assumes nothing.
+use mathlib.Core.Logic.{⊎-elim}
+use Rattle.tablemarks.proofs.LiveBlocksLaws.{live-blocks-of-first-of-run, live-blocks-of-no-length, live-blocks-of-owner}
 use Rattle.tablemarks.proofs.live_blocks.Statement.{statement}
 use Rattle.tablemarks.proofs.live_blocks.Tie as tie
-
-starts-run-requires : tie.Need-starts-run-requires
-starts-run-requires c κs = search needs
 
 returns : tie.Need-returns
 returns c = search live-blocks-of-first-of-run
 
 returns-2 : tie.Need-returns-2
-returns-2 c = search live-blocks-are-marks
+returns-2 c = ⊎-elim (λ w. search live-blocks-of-no-length) (λ w. search live-blocks-of-owner) (c .before .if1 .came)
 
 pub live-blocks-spec : {M : Type 1} → statement M
-live-blocks-spec = tie.close (tie.spec starts-run-requires returns returns-2)
+live-blocks-spec = tie.close (tie.spec returns returns-2)
