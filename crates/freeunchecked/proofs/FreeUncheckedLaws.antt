@@ -4,25 +4,29 @@ use mathlib.Core.Bool.{Bool, true, false}
 use mathlib.Core.List.{List}
 use Prim.Native.Nat.{ℕ, _/_, _≤_, _<_}
 use native.Mathlib.Omega.{arith}
-use borrow.Author.Tests.{ne-eqb, not-true, not-false}
+use borrow.Author.Tests.{eq-eqb, ne-eqb, not-true, not-false}
+use lib.ListN.{length}
 use Rattle.laws.proofs.TestLaws.{T-of-true}
 use Rattle.heap.specs.declared.State.{State}
 use Rattle.heap.specs.declared.Moved.{Moved}
-use Rattle.heap.specs.Table.{superblockAt}
+use Rattle.heap.specs.Table.{superblockAt, isOfRun}
 use Rattle.heap.specs.Totals.{TotalsKept}
-use Rattle.heap.specs.Ranks.{RanksFit}
 use Rattle.moverules.specs.Moves.{invariantRestored}
 use Rattle.checkrules.specs.Check.{passes}
+use Rattle.checkrules.proofs.ClauseLaws.{rest-of-passes}
 use Rattle.heaplaws.proofs.StateFacts.{Sound}
-use Rattle.heaplaws.proofs.StateCheckLaws.{sound-of-passes, totals-kept-of-passes}
+use Rattle.heaplaws.proofs.StateCheckLaws.{runs-valid-of-rest, sound-of-passes, totals-kept-of-passes}
+use Rattle.heaplaws.proofs.RunLaws.{runs-sound-of-valid}
 use Rattle.heaplaws.proofs.RankLaws.{ranks-fit-of-passes}
 use Rattle.calls.specs.declared.Answer.{Answer}
 use Rattle.calls.specs.declared.Outcome.the-variants.{Moves, Refused}
 use Rattle.calls.specs.Answers.{After, HasNumberAndValuesOf, isProcessor}
-use Rattle.calls.specs.Free.{superblockIndex, superblockHolding, isUnmapped, addressRefusal, markCleared, orderPushed, blockFreed, freedAt, freeUnchecked}
+use Rattle.calls.specs.Free.{superblockIndex, isUnmapped, isInRun, addressRefusal, markCleared, orderPushed, smallBlockFreed, blockFreed, smallFreedAt, longFreedAt, freedAt, freeUnchecked}
 use Rattle.calllaws.proofs.AddressLaws.{mapped-below-64, mapped-is-owned}
+use Rattle.calllaws.proofs.AllFreedLaws.{run-fits}
 use Rattle.calls.proofs.AddressRefusalLaws.{mapped-of-no-refusal, free-unchecked-by-address-refusal}
 use Rattle.calls.proofs.AnswerLaws.{number-and-values-by-rules, refused-of-answer}
+use Rattle.freeunchecked.specs.FreeSteps.{CanBeFreed}
 
 abbrev answerAndOrder : Answer → List ℕ → After
 answerAndOrder r order = record { answer = r; order = order }
@@ -50,35 +54,53 @@ pub superblocks-in-table : (s : State) (order : List ℕ) → passes s order ≡
 superblocks-in-table s order p = sound-of-passes s order (T-of-true _ p) .numbers .superblocks-high
 
 -- ---- what the check and the tests of the address tell of the superblock
-module _ (s : State) (order : List ℕ) (a : ℕ) (p : passes s order ≡ true) (bad : ℕ) (g : bad ≡ addressRefusal s a) (z : bad ≡ 0) where
+module _ (s : State) (order : List ℕ) (a : ℕ) (long : length (s .table) ≡ 64) (p : passes s order ≡ true) (bad : ℕ) (g : bad ≡ addressRefusal s a) (z : bad ≡ 0) where
   sound : Sound s order
   sound = sound-of-passes s order (T-of-true _ p)
 
   mapped : isUnmapped s a ≡ false
   mapped = mapped-of-no-refusal s a (sym g ∙ z)
 
-  pub freed-superblock : (superblockIndex a < 64) × (superblockHolding s a .owner < 9) × (superblockHolding s a .class < 27) × TotalsKept s × RanksFit s
+  pub freed-superblock : CanBeFreed s a
   freed-superblock =
-      let o = mapped-is-owned s order a sound mapped in
-      (mapped-below-64 s order a sound mapped, omega (arith, o .owner, sound .numbers .processors-high), o .class, totals-kept-of-passes s order (T-of-true _ p), ranks-fit-of-passes s order (T-of-true _ p))
+      let below = mapped-below-64 s order a sound mapped in
+      record {
+        in-table = below;
+        run-fits = run-fits s (superblockIndex a) (runs-sound-of-valid s long (runs-valid-of-rest s order (rest-of-passes s order (T-of-true _ p)))) below;
+        owner = λ outside. omega (arith, mapped-is-owned s order a sound mapped outside .owner, sound .numbers .processors-high);
+        class = λ outside. mapped-is-owned s order a sound mapped outside .class;
+        totals = totals-kept-of-passes s order (T-of-true _ p);
+        ranks = ranks-fit-of-passes s order (T-of-true _ p);
+      }
 
--- so, of its owner and class as the code reads them
-pub freed-owner : (s : State) (a owner : ℕ) → owner ≡ superblockAt s (a / 4096) .owner → superblockHolding s a .owner < 9 → owner < 9
-freed-owner s a owner e l = rw e l
+-- ---- the free of a run
+module _ (s : State) (order new : List ℕ) (a owner : ℕ) (t : State) (eo : owner ≡ superblockAt s (a / 4096) .owner) (en : new ≡ orderPushed s order a) (et : t ≡ blockFreed s a) where
+  pub freed-at-of-run : owner ≡ 254 → record { answer = record { outcome = Moves 0; state = t }; order = new } ≡ freedAt s order a
+  unfolding freedAt longFreedAt blockFreed orderPushed isOfRun
+  freed-at-of-run o = rw (en, et, eq-eqb (superblockAt s (a / 4096) .owner) 254 (sym eo ∙ o))
 
-pub freed-class : (s : State) (a class : ℕ) → class ≡ superblockAt s (a / 4096) .class → superblockHolding s a .class < 27 → class < 27
-freed-class s a class e l = rw e l
+  -- ---- the free of a block
+  module _ (f : owner ≡ 254 → ⊥) where
+    outside-run : isInRun s a ≡ false
+    unfolding isOfRun
+    outside-run = ne-eqb (superblockAt s (a / 4096) .owner) 254 (λ o. f (eo ∙ o))
 
--- the totals of the state in which the block is free are the recount too
-pub block-freed-totals-kept : (s t : State) (a : ℕ) → t ≡ blockFreed s a → TotalsKept t
-unfolding blockFreed markCleared
-block-freed-totals-kept s t a e = rw e refl
+    -- its owner and class, as the code reads them
+    pub freed-owner : CanBeFreed s a → owner < 9
+    freed-owner can = rw eo (can .owner outside-run)
 
-pub freed-at-by-steps : (s : State) (order new : List ℕ) (a owner class : ℕ) (t : State) (m : Moved) (count : ℕ) (next : State) → owner ≡ superblockAt s (a / 4096) .owner → class ≡ superblockAt s (a / 4096) .class
-    → new ≡ orderPushed s order a → t ≡ blockFreed s a → m ≡ invariantRestored owner class t → count ≡ m .moves → next ≡ m .state
-    → record { answer = record { outcome = Moves count; state = next }; order = new } ≡ freedAt s order a
-unfolding freedAt
-freed-at-by-steps s order new a owner class t m count next e f g h i j k = rw (j, k, i, h, g, e, f)
+    pub freed-class : CanBeFreed s a → (class : ℕ) → class ≡ superblockAt s (a / 4096) .class → class < 27
+    freed-class can class ec = rw ec (can .class outside-run)
+
+    -- the totals of the state in which the block is free are the recount too
+    pub block-freed-totals-kept : TotalsKept t
+    unfolding blockFreed smallBlockFreed markCleared
+    block-freed-totals-kept = rw (et, outside-run) refl
+
+    pub freed-at-of-block : (class : ℕ) (m : Moved) (count : ℕ) (next : State) → class ≡ superblockAt s (a / 4096) .class → m ≡ invariantRestored owner class t → count ≡ m .moves → next ≡ m .state
+        → record { answer = record { outcome = Moves count; state = next }; order = new } ≡ freedAt s order a
+    unfolding freedAt smallFreedAt blockFreed orderPushed
+    freed-at-of-block class m count next ec em ei es = rw (ei, es, em, et, en, eo, ec, outside-run)
 
 -- ---- how a proof finds which way out it is at
 pub ruleset free-outcomes = (free-unchecked-refused-2, free-unchecked-refused-by-address, free-unchecked-is-freed-at, not-true, not-false)

@@ -1,12 +1,10 @@
 // Free behind the check, on a state by value and lent order storage that pass it: the check is the caller's to make.
 ghost use mathlib.Core.Path.{_≡_};
 ghost use mathlib.Core.Bool.{true};
-ghost use Prim.Native.Nat.{_<_};
 ghost use Rattle.checkrules.specs.Check.{passes};
-ghost use Rattle.heap.specs.Totals.{TotalsKept};
-ghost use Rattle.heap.specs.Ranks.{RanksFit};
 ghost use Rattle.calls.specs.Answers.{After, HasNumberAndValuesOf};
-ghost use Rattle.calls.specs.Free.{superblockIndex, superblockHolding, freedAt, freeUnchecked};
+ghost use Rattle.calls.specs.Free.{freedAt, freeUnchecked};
+ghost use Rattle.freeunchecked.specs.FreeSteps.{CanBeFreed};
 use calls::Answer;
 use calls::Outcome;
 use heap::State;
@@ -27,16 +25,22 @@ pub fn free(s: State, order: &mut [u16], processor: u8, address: u32) -> Answer
     free_at(s, order, address)
 }
 
-// The superblock is the last freed into, the mark is cleared and the name let go, the number goes in the next place, and the emptiness
-// invariant of the owner's heap and class is restored.
+// The block, or the run, at the address is free again. The emptiness invariant of the heap and class of the block's superblock is restored; a run is of none, so
+// that its free moves nothing.
 fn free_at(s: State, order: &mut [u16], address: u32) -> Answer
-    requires { ⌜ (superblockIndex address < 64) × (superblockHolding s address .owner < 9) × (superblockHolding s address .class < 27) × TotalsKept s × RanksFit s ⌝ }
+    requires { ⌜ CanBeFreed s address ⌝ }
     ensures { λ r. ⌜ record { answer = r; order = now (order .exit) } ≡ freedAt s (now (order .entry)) address ⌝ }
 {
     let k = (address / 4096) as usize;
     let owner = table::owner_at(s, k);
     let class = table::class_at(s, k);
     let t = release::release_block(s, order, address);
+    if owner == 254 {
+        return Answer {
+            outcome: Outcome::Moves(0),
+            state: t,
+        };
+    }
     let m = moves::restore_invariant(t, owner, class);
     let next = m.state;
     Answer {
