@@ -13,7 +13,11 @@ use Rattle.heap.specs.declared.Moved.{Moved}
 use Rattle.heap.specs.Totals.{TotalsKept}
 use Rattle.checkrules.specs.Check.{passes}
 use Rattle.heaplaws.proofs.StateFacts.{Shape, Sound}
-use Rattle.heaplaws.proofs.StateCheckLaws.{sound-of-passes, totals-kept-of-passes}
+use Rattle.checkrules.proofs.ClauseLaws.{rest-of-passes}
+use Rattle.heaplaws.proofs.StateCheckLaws.{runs-valid-of-rest, sound-of-passes, totals-kept-of-passes}
+use Rattle.heaplaws.proofs.RunLaws.{runs-sound-of-valid}
+use Rattle.calllaws.proofs.AllFreedLaws.{run-fits}
+use Rattle.dropaddresses.specs.TestedTable.{RunsFit}
 use Rattle.calls.specs.declared.Answer.{Answer}
 use Rattle.calls.specs.declared.Outcome.the-variants.{Moves, Refused}
 use Rattle.calls.specs.Answers.{After, HasNumberAndValuesOf, isProcessor}
@@ -59,8 +63,8 @@ module _ (s : State) (order : List ℕ) (p : passes s order ≡ true) where
   sound : Sound s order
   sound = sound-of-passes s order (T-of-true _ p)
 
-  pub addresses-can-be-tested : s .setup .superblocks ≤ 64
-  addresses-can-be-tested = sound .numbers .superblocks-high
+  pub addresses-can-be-tested : Shape s → (s .setup .superblocks ≤ 64) × RunsFit (s .table)
+  addresses-can-be-tested shape = (sound .numbers .superblocks-high, λ m l. run-fits s m (runs-sound-of-valid s (shape .length-is) (runs-valid-of-rest s order (rest-of-passes s order (T-of-true _ p)))) l)
 
   pub blocks-can-be-dropped : (addresses : List ℕ) (bad : ℕ) → Shape s → bad ≡ firstAddressRefusal s addresses → bad ≡ 0 → FreesSafe s addresses × TotalsKept s × (s .setup .processors ≤ 8)
   blocks-can-be-dropped addresses bad shape g z = (frees-safe-of-passes s order addresses shape p (sym g ∙ z), totals-kept-of-passes s order (T-of-true _ p), sound .numbers .processors-high)

@@ -21,8 +21,8 @@ use Rattle.heap.specs.declared.State.{State}
 use Rattle.heap.specs.Table.{superblockAt}
 use Rattle.checkrules.specs.Check.{superblockValid, passes}
 use Rattle.checkrules.proofs.ClauseLaws.{clauses-of-rest, rest-of-clauses, limits-of-passes, rest-of-passes, passes-of-limits-and-rest}
-use Rattle.heaplaws.proofs.StateFacts.{Unused, Owned, Shape}
-use Rattle.heaplaws.proofs.StateCheckLaws.{unused-or-owned-of-superblock-valid, superblock-valid-of-unused, superblock-valid-of-owned}
+use Rattle.heaplaws.proofs.StateFacts.{Unowned, Owned, Shape}
+use Rattle.heaplaws.proofs.StateCheckLaws.{unowned-or-owned-of-superblock-valid, superblock-valid-of-unowned, superblock-valid-of-owned}
 use Rattle.calls.specs.Drop.{firstAddressRefusal}
 use Rattle.calllaws.proofs.DropLaws.{frees-safe}
 use Rattle.dropunchecked.specs.DropSteps.{FreesSafe}
@@ -41,10 +41,10 @@ module _ (order more : List ℕ) where
       (both-right (leb (k * 256 + filledPlaces live n) (length order)) _ rest)))
 
   superblock-valid-of-longer : (u : Setup) (k : ℕ) (b : Superblock) → T (superblockValid u order k b) → T (superblockValid u (order ++ more) k b)
-  superblock-valid-of-longer u k b t = go (unused-or-owned-of-superblock-valid u order k b t)
+  superblock-valid-of-longer u k b t = go (unowned-or-owned-of-superblock-valid u order k b t)
     where
-      go : Unused b ⊎ Owned u order k b → T (superblockValid u (order ++ more) k b)
-      go (inl h) = superblock-valid-of-unused u (order ++ more) k b h
+      go : Unowned b ⊎ Owned u order k b → T (superblockValid u (order ++ more) k b)
+      go (inl h) = superblock-valid-of-unowned u (order ++ more) k b h
       go (inr h) = superblock-valid-of-owned u (order ++ more) k b (record { owner = h .owner; class = h .class; places = places-valid-of-longer (b .live) k (blocksOf (b .class)) (h .places) })
 
   pub passes-with-longer-order : (s : State) → passes s order ≡ true → passes s (order ++ more) ≡ true
@@ -62,6 +62,7 @@ module _ (order more : List ℕ) where
         names = clauses .names;
         totals = clauses .totals;
         ranks = clauses .ranks;
+        runs = clauses .runs;
       })))
 
 -- ---- so each free can be made
@@ -69,4 +70,4 @@ pub frees-safe-of-passes : (s : State) (order addresses : List ℕ) → Shape s 
 frees-safe-of-passes s order addresses shape passed none i l =
     let more : List ℕ = replicate (s .setup .superblocks * 256) 0 in
     let at = frees-safe s (order ++ more) addresses shape (passes-with-longer-order order more s passed) (omega (arith, length-append order more, length-replicate {A = ℕ} (s .setup .superblocks * 256) 0)) none i l in
-    record { in-table = at .0; owner = at .1; class = at .2; totals = at .3; ranks = at .4 }
+    record { in-table = at .0; owner = λ outside. at .1 outside .0; class = λ outside. at .1 outside .1; run-fits = at .2; totals = at .3; ranks = at .4 }

@@ -1,5 +1,4 @@
 pub mod FreesLaws
-pub mod FirstRefusalLaws
 pub mod TouchedLaws
 pub mod RestoreLaws
 pub mod FreesSafeLaws

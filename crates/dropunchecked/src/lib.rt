@@ -5,7 +5,7 @@ ghost use Prim.Native.Nat.{_≤_, _<_};
 ghost use Rattle.checkrules.specs.Check.{passes};
 ghost use Rattle.heap.specs.Totals.{TotalsKept};
 ghost use Rattle.calls.specs.Answers.{After, HasNumberAndValuesOf};
-ghost use Rattle.calls.specs.Drop.{allFreed, allPushed, firstAddressRefusal, thenRestored, droppedAll, dropUnchecked};
+ghost use Rattle.calls.specs.Drop.{allFreed, allPushed, thenRestored, droppedAll, dropUnchecked};
 ghost use Rattle.calls.specs.DropLoops.{classesRestored, heapsRestored};
 ghost use Rattle.dropunchecked.specs.DropSteps.{FreesSafe, touchedIn, TellsTouched, CanMove};
 use calls::Answer;
@@ -26,40 +26,11 @@ pub fn drop(s: State, order: &mut [u16], processor: u8, addresses: &[u32]) -> An
     if addresses.len() == 0 {
         return states::refuse(s, 16);
     }
-    let bad = first_address_refusal(s, addresses);
+    let bad = dropaddresses::first_address_refusal(s, addresses);
     if bad != 0 {
         return states::refuse(s, bad);
     }
     drop_all(s, order, addresses)
-}
-
-// The refusal of the first bad address, or 0. A free clears the mark of its block, and no later address tells the rest of it: a mark cleared
-// in a copy of the table is enough to refuse a block that comes twice. What lies past the table lies past N superblocks too.
-fn first_address_refusal(s: State, addresses: &[u32]) -> u8
-    requires { ⌜ s .setup .superblocks ≤ 64 ⌝ }
-    ensures { λ r. ⌜ r ≡ firstAddressRefusal s (now (addresses .entry)) ⌝ }
-{
-    let mut t = s.table;
-    let mut i: usize = 0;
-    while i < addresses.len() {
-        let address = addresses[i];
-        let k = (address / 4096) as usize;
-        if k >= 64 {
-            return 5;
-        }
-        let mut b = t[k];
-        let bad = addresses::refusal_in(s.setup.superblocks, b, address);
-        if bad != 0 {
-            return bad;
-        }
-        let block = addresses::block_in(b.class, address) as usize;
-        let old = b.live;
-        let freed = bitmap::clear_live(old, block);
-        b.live = freed;
-        t[k] = b;
-        i += 1;
-    }
-    0
 }
 
 // The frees, and then the moves.
@@ -77,7 +48,7 @@ fn drop_all(s: State, order: &mut [u16], addresses: &[u32]) -> Answer
     }
 }
 
-// The heaps and classes of the superblocks that the addresses lie in, that of heap h and class c at h × 27 + c.
+// The heaps and classes of the superblocks that the addresses lie in, that of heap h and class c at h × 27 + c. A run is of none.
 fn touched_pairs(s: State, addresses: &[u32]) -> [bool; 243]
     requires { ⌜ FreesSafe s (now addresses) ⌝ }
     ensures { λ r. ⌜ TellsTouched r s (now (addresses .entry)) ⌝ }
@@ -86,9 +57,10 @@ fn touched_pairs(s: State, addresses: &[u32]) -> [bool; 243]
     let mut i: usize = 0;
     while i < addresses.len() {
         let k = (addresses[i] / 4096) as usize;
-        let owner = s.table[k].owner as usize;
-        let class = s.table[k].class as usize;
-        touched[owner * 27 + class] = true;
+        let b = s.table[k];
+        if b.owner != 254 {
+            touched[b.owner as usize * 27 + b.class as usize] = true;
+        }
         i += 1;
     }
     touched

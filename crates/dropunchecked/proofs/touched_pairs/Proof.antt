@@ -1,9 +1,10 @@
 -- `dropunchecked::touched_pairs` meets its contract. The loop's invariant: the array tells the heaps and classes of the addresses passed. The measure is what is left of them. Assumes nothing.
 use mathlib.Core.Path.{refl}
+use mathlib.Core.Logic.{⊎-elim}
 use Prim.Native.Nat.{_-_, _≤_}
 use native.Mathlib.Omega.{arith}
 use lib.ListN.{length}
-use Rattle.dropunchecked.proofs.TouchedLaws.{ToldBelow, none-told, told-at-next, told-at-end}
+use Rattle.dropunchecked.proofs.TouchedLaws.{ToldBelow, none-told, pair-in-array, told-at-block, told-at-run, told-at-end}
 use borrow.Author.Needs.{needs}
 use Rattle.dropunchecked.proofs.touched_pairs.Statement.{statement}
 use Rattle.dropunchecked.proofs.touched_pairs.Tie as tie
@@ -26,32 +27,29 @@ shared-slice-read-k c = search needs
 cast-k : tie.Need-cast-k Inv-loop μ-loop
 cast-k c = let at = c .before .before .before .pre _ (c .before .loop-test .taken) in omega arith
 
-mul-owner : tie.Need-mul-owner Inv-loop μ-loop
-mul-owner c = let at = c .before .before .before .pre _ (c .before .loop-test .taken) in omega arith
+mul-b : tie.Need-mul-b Inv-loop μ-loop
+mul-b c = let at = c .before .before .before .pre _ (c .before .loop-test .taken) in omega arith
 
-element-copy-out-owner : tie.Need-element-copy-out-owner Inv-loop μ-loop
-element-copy-out-owner c = let at = c .before .before .before .pre _ (c .before .loop-test .taken) in omega arith
+element-copy-out-b : tie.Need-element-copy-out-b Inv-loop μ-loop
+element-copy-out-b c = let at = c .before .before .before .pre _ (c .before .loop-test .taken) in omega arith
 
-cast-owner : tie.Need-cast-owner Inv-loop μ-loop
-cast-owner c = let at = c .before .before .before .pre _ (c .before .loop-test .taken) in omega arith
-
-mul-class : tie.Need-mul-class Inv-loop μ-loop
-mul-class c = let at = c .before .before .before .pre _ (c .before .loop-test .taken) in omega arith
-
-element-copy-out-class : tie.Need-element-copy-out-class Inv-loop μ-loop
-element-copy-out-class c = let at = c .before .before .before .pre _ (c .before .loop-test .taken) in omega arith
-
-cast-class : tie.Need-cast-class Inv-loop μ-loop
-cast-class c = let at = c .before .before .before .pre _ (c .before .loop-test .taken) in omega arith
+cast-touched : tie.Need-cast-touched Inv-loop μ-loop
+cast-touched c = search needs
 
 mul-touched : tie.Need-mul-touched Inv-loop μ-loop
-mul-touched c = let at = c .before .before .before .pre _ (c .before .loop-test .taken) in omega arith
+mul-touched c = search needs
+
+cast-touched-2 : tie.Need-cast-touched-2 Inv-loop μ-loop
+cast-touched-2 c = search needs
 
 add-touched : tie.Need-add-touched Inv-loop μ-loop
-add-touched c = let at = c .before .before .before .pre _ (c .before .loop-test .taken) in omega arith
+add-touched c = search needs
 
 array-write-touched : tie.Need-array-write-touched Inv-loop μ-loop
-array-write-touched c = let at = c .before .before .before .pre _ (c .before .loop-test .taken) in omega arith
+array-write-touched c =
+    let read = c .before .before .before .before .before in
+    let turn = read .before .before in
+    pair-in-array _ _ _ (turn .before .pre) (read .before .loop-test .taken) _ refl (c .before .before .if1 .taken) _ refl
 
 add-i : tie.Need-add-i Inv-loop μ-loop
 add-i c = search needs
@@ -60,7 +58,15 @@ loop-less : tie.Need-loop-less Inv-loop μ-loop
 loop-less c = search needs
 
 loop-again : tie.Need-loop-again Inv-loop μ-loop
-loop-again c = (omega arith, told-at-next _ _ _ (c .before .before .before .pre) (c .before .loop-test .taken) _ _ refl refl _ (c .before .before .loop .inv .1))
+loop-again c =
+    let read = c .before .before .before in
+    let turn = read .before .before in (
+      omega arith,
+      ⊎-elim
+          (λ w. told-at-block _ _ _ (turn .before .pre) (read .before .loop-test .taken) _ refl (w .0 .taken) _ refl _ _ (turn .loop .inv .1) (w .3))
+          (λ w. told-at-run _ _ _ (turn .before .pre) (read .before .loop-test .taken) _ refl (w .0 .left) _ _ (turn .loop .inv .1) (w .1))
+          (c .if1 .came),
+    )
 
 returns : tie.Need-returns Inv-loop μ-loop
 returns c = told-at-end _ _ _ _ (c .before .loop .inv .1) (c .loop-test .left)
@@ -75,13 +81,11 @@ touched-pairs-spec =
     mul-k
     shared-slice-read-k
     cast-k
-    mul-owner
-    element-copy-out-owner
-    cast-owner
-    mul-class
-    element-copy-out-class
-    cast-class
+    mul-b
+    element-copy-out-b
+    cast-touched
     mul-touched
+    cast-touched-2
     add-touched
     array-write-touched
     add-i
