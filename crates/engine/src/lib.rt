@@ -32,7 +32,7 @@ pub fn setup(u: Setup, order: &mut [u16]) -> Answer
     }
 }
 
-// The address of a block for the size, in a superblock of the processor's heap; or the first refusal.
+// The address of a block for the size, in a superblock of the processor's heap or, of a long size, at the start of a run; or the first refusal.
 pub fn take(s: State, order: &mut [u16], processor: u8, size: u16) -> Answer
     ensures { λ r. ⌜ record { answer = r; order = now (order .exit) } ≡ takeOf s (now (order .entry)) processor size ⌝ }
     ensures number_and_values { λ r. ⌜ HasNumberAndValuesOf (r .outcome) (takeOf s (now (order .entry)) processor size .answer .outcome) ⌝ }
@@ -41,7 +41,7 @@ pub fn take(s: State, order: &mut [u16], processor: u8, size: u16) -> Answer
     call_state(s, order, CallHeader::Take { processor, size }, &[])
 }
 
-// The block at the address is free again, and the move rule is followed; or the first refusal.
+// The block or run at the address is free again, and the move rule is followed; or the first refusal.
 pub fn free(s: State, order: &mut [u16], processor: u8, address: u32) -> Answer
     ensures { λ r. ⌜ record { answer = r; order = now (order .exit) } ≡ freeOf s (now (order .entry)) processor address ⌝ }
     ensures number_and_values { λ r. ⌜ HasNumberAndValuesOf (r .outcome) (freeOf s (now (order .entry)) processor address .answer .outcome) ⌝ }

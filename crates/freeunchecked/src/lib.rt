@@ -9,7 +9,7 @@ use calls::Answer;
 use calls::Outcome;
 use heap::State;
 
-// The block at the address is free again, and the move rule is followed; or refusal 2, 5, 6 or 7.
+// The block or run at the address is free again, and the move rule is followed; or refusal 2, 5, 6 or 7.
 pub fn free(s: State, order: &mut [u16], processor: u8, address: u32) -> Answer
     requires { ⌜ passes s (now order) ≡ true ⌝ }
     ensures { λ r. ⌜ record { answer = r; order = now (order .exit) } ≡ freeUnchecked s (now (order .entry)) processor address ⌝ }

@@ -8,7 +8,7 @@ ghost use Rattle.calls.specs.Named.{namedTakeUnchecked, namedFreeUnchecked};
 use calls::Answer;
 use heap::State;
 
-// The address of a block for the size, with the name bound to it; or refusal 2, 14, 3 or 4.
+// The address of a block or a run for the size, with the name bound to it; or refusal 2, 14, 4 or 17.
 pub fn take(s: State, order: &mut [u16], processor: u8, name: u16, size: u16) -> Answer
     requires { ⌜ passes s (now order) ≡ true ⌝ }
     ensures { λ r. ⌜ record { answer = r; order = now (order .exit) } ≡ namedTakeUnchecked s (now (order .entry)) processor name size ⌝ }
@@ -31,7 +31,7 @@ pub fn take(s: State, order: &mut [u16], processor: u8, name: u16, size: u16) ->
     }
 }
 
-// The block that the name points at is free again, its name let go, and the move rule is followed; or refusal 2, 15, 5, 6 or 7.
+// The block or run that the name points at is free again, its name let go, and the move rule is followed; or refusal 2, 15, 5, 6 or 7.
 pub fn free(s: State, order: &mut [u16], processor: u8, name: u16) -> Answer
     requires { ⌜ passes s (now order) ≡ true ⌝ }
     ensures { λ r. ⌜ record { answer = r; order = now (order .exit) } ≡ namedFreeUnchecked s (now (order .entry)) processor name ⌝ }
