@@ -132,7 +132,7 @@ record Freed (s : State) (ledger : List Entry) (a moves : ℕ) (after : After) :
   moves-le-q : moves ≤ s .setup .q
   owned : (d : ℕ) → superblocksOfClass d (after .answer .state) ≡ superblocksOfClass d s
 
--- an address with no block of a class and no long block is in the ledger in none of the 27 classes, and not in the 28th place either
+-- an address with no block of a class and no long block is not in the ledger, of a class or of none
 none-at : (s : State) (ledger : List Entry) (a : ℕ) → Listed s ledger → ((d : ℕ) → d < 27 → liveAt s a d ≡ 0) → longAt s a ≡ 0 → (d : ℕ) → d ≤ 27 → entriesAt ledger a d ≡ 0
 none-at s ledger a listed blocks long d l = go (decLt d 27)
   where

@@ -28,15 +28,17 @@ use Rattle.checkrules.specs.Check.{namesValid}
 use Rattle.heaplaws.proofs.StateFacts.{Shape, SoundWith, RunsKept}
 use Rattle.heaplaws.proofs.StateCheckLaws.{names-sound-of-valid, unowned-of-owner}
 use Rattle.heaplaws.proofs.RunsKeptLaws.{owner-of-run}
+use Rattle.heaplaws.proofs.RunChoiceLaws.{facts-of-is-available}
 use Rattle.calls.specs.Take.{addressOf}
 use Rattle.calls.specs.Named.{heldAddress}
 use Rattle.calllaws.proofs.CallEffects.{Passed, TakeEffect, FreeEffect, InRun, LongTakeEffect, LongFreeEffect}
 use Rattle.calllaws.proofs.AddressLaws.{address-superblock, address-offset}
 use Rattle.calllaws.proofs.NamesKeptLaws.{live-block-in-table}
-use Rattle.calllaws.proofs.NamedCallLaws.{held-block-is-live, held-block-is-run, live-class-lt-27}
+use Rattle.calllaws.proofs.NamedCallLaws.{held-block-is-live, held-address-block}
+use Rattle.calllaws.proofs.RunTakenLaws.{live-of-available, available-outside-run}
 use Rattle.bound.specs.Ledger.{named, unnamed, Entry, classOfEntry, isAt, isCalled, hasName, removed}
 use Rattle.boundlaws.proofs.LedgerLaws.{entriesAt}
-use Rattle.boundlaws.proofs.OneMoreLongLaws.{in-run-or-not, available-is-empty, available-is-outside-run}
+use Rattle.boundlaws.proofs.OneMoreLongLaws.{in-run-or-not}
 use Rattle.boundlaws.proofs.LedgerRuns.{LongAgrees, long-agrees-of-kept, long-agrees-after-long-take, long-agrees-after-long-free}
 
 -- ---- what is so of each entry
@@ -108,25 +110,6 @@ held-address-cong : (s t : State) (m : ℕ) → blockNamed (t .names) m ≡ bloc
 unfolding heldAddress
 held-address-cong s t m e f = rw (e, f)
 
--- ---- a held name's block
--- it is in its superblock: a block of a class, or the long block of a run that begins there
-module _ (s : State) (order : List ℕ) (shape : Shape s) (passed : Passed s order) (m : ℕ) (held : T (isHeld (s .names) m)) where
-  abbrev home : ℕ
-  home = blockNamed (s .names) m / 256
-
-  abbrev block : ℕ
-  block = blockNamed (s .names) m % 256
-
-  held-address-superblock : heldAddress s m / 4096 ≡ blockNamed (s .names) m / 256
-  unfolding heldAddress addressOf
-  held-address-superblock = go (isOfRun (superblockAt s home)) refl
-    where
-      go : (x : Bool) → isOfRun (superblockAt s home) ≡ x → addressOf home (superblockAt s home .class) block / 4096 ≡ home
-      go true e = let z : block ≡ 0 = held-block-is-run s order shape passed m held e .0 in rw z (omega arith)
-      go false e =
-          let live = held-block-is-live s order shape passed m held e in
-          address-superblock (superblockAt s home .class) home block (live-class-lt-27 s order home block live) (live .block)
-
 -- ---- a take of block j of superblock k, at address a: what the names of the ledger and the state go by
 pub record BlockTaken (a k j : ℕ) (s t : State) : Type 0 where
   pub block : j < 256
@@ -164,7 +147,7 @@ module _ (i c k j : ℕ) (s t : State) (order : List ℕ) (shape : Shape s) (pas
   held-not-at-taken : (m : ℕ) → T (isHeld (s .names) m) → addressOf k c j ≡ heldAddress s m → ⊥
   unfolding heldAddress
   held-not-at-taken m held q =
-      let home : blockNamed (s .names) m / 256 ≡ k = sym (held-address-superblock s order shape passed m held) ∙ ap (λ (a : ℕ). a / 4096) (sym q) ∙ address-superblock c k j (effect .class-lt-27) (effect .block) in
+      let home : blockNamed (s .names) m / 256 ≡ k = sym (held-address-block s order m shape passed held .0) ∙ ap (λ (a : ℕ). a / 4096) (sym q) ∙ address-superblock c k j (effect .class-lt-27) (effect .block) in
       let there = held-in-superblock m held home in
       let live = held-block-is-live s order shape passed m held (ap (λ (n : ℕ). isOfRun (superblockAt s n)) home ∙ effect .outside-run) in
       let class : superblockAt s (blockNamed (s .names) m / 256) .class ≡ c = ap (λ (n : ℕ). superblockAt s n .class) home ∙ there .0 in
@@ -191,9 +174,9 @@ module _ (k n : ℕ) (s t : State) (order : List ℕ) (shape : Shape s) (passed 
   held-outside-run : (m : ℕ) → T (isHeld (s .names) m) → InRun k n (blockNamed (s .names) m / 256) → ⊥
   held-outside-run m held inside =
       let b : Superblock = superblockAt s (blockNamed (s .names) m / 256) in
-      let available = effect .available (blockNamed (s .names) m / 256) inside in
-      let live = held-block-is-live s order shape passed m held (available-is-outside-run b available) in
-      omega (arith, live .marked, marks-clear-of-live-count-zero (b .live) (available-is-empty b available) (blockNamed (s .names) m % 256) (omega arith))
+      let available = facts-of-is-available b (effect .available (blockNamed (s .names) m / 256) inside) in
+      let live = held-block-is-live s order shape passed m held (available-outside-run b available) in
+      omega (arith, live .marked, marks-clear-of-live-count-zero (b .live) (live-of-available b available) (blockNamed (s .names) m % 256) (omega arith))
 
   pub block-taken-of-long-take : BlockTaken (k * 4096) k 0 s t
   unfolding addressOf
@@ -203,7 +186,7 @@ module _ (k n : ℕ) (s t : State) (order : List ℕ) (shape : Shape s) (passed 
         address = omega arith;
         held-class = λ m held. ap (λ (b : Superblock). b .class) (effect .others (blockNamed (s .names) m / 256) (held-outside-run m held));
         held-elsewhere = λ m held q.
-            let home : blockNamed (s .names) m / 256 ≡ k = sym (held-address-superblock s order shape passed m held) ∙ ap (λ (a : ℕ). a / 4096) (sym q) ∙ (let z : k * 4096 / 4096 ≡ k = omega arith in z) in
+            let home : blockNamed (s .names) m / 256 ≡ k = sym (held-address-block s order m shape passed held .0) ∙ ap (λ (a : ℕ). a / 4096) (sym q) ∙ (let z : k * 4096 / 4096 ≡ k = omega arith in z) in
             held-outside-run m held (omega arith, omega (arith, effect .some));
         long-kept = λ e h. long-agrees-after-long-take s t e h k n effect;
       }

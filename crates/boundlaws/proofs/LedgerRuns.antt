@@ -10,12 +10,12 @@ use Rattle.laws.proofs.TestLaws.{true-not-false}
 use Rattle.classes.specs.Classes.{runLength}
 use Rattle.heap.specs.declared.Superblock.{Superblock}
 use Rattle.heap.specs.declared.State.{State}
-use Rattle.heap.specs.Table.{superblockAt, isOfRun, startsRun}
+use Rattle.heap.specs.Table.{superblockAt, startsRun}
 use Rattle.heaplaws.proofs.StateFacts.{RunsKept}
 use Rattle.heaplaws.proofs.RunsKeptLaws.{starts-run-same}
 use Rattle.calllaws.proofs.CallEffects.{InRun, LongTakeEffect, LongFreeEffect}
 use Rattle.bound.specs.Ledger.{Name, Entry}
-use Rattle.boundlaws.proofs.OneMoreLongLaws.{OneMoreLong, in-run-or-not, available-is-outside-run, starts-no-run-outside, starts-no-run-of-0, one-more-long-of-take}
+use Rattle.boundlaws.proofs.OneMoreLongLaws.{OneMoreLong, in-run-or-not, starts-no-run-of-available, starts-no-run-of-0, starts-run-with-rank, one-more-long-of-take}
 
 -- "The block's address is the start of the run", which has "as many [superblocks] as size / 4096 rounded up"
 pub record LongAgrees (s : State) (e : Entry) : Type 0 where
@@ -38,14 +38,13 @@ module _ (s t : State) (e : Entry) (h : LongAgrees s e) where
 
   -- so does a take of another run: none of its superblocks was of a run
   pub long-agrees-after-long-take : (k n : ℕ) → LongTakeEffect k n s t → LongAgrees t e
-  unfolding startsRun isOfRun
   long-agrees-after-long-take k n effect = go (in-run-or-not k n (e .address / 4096))
     where
       go : Dec (InRun k n (e .address / 4096)) → LongAgrees t e
       go (yes inside) =
           let b : Superblock = superblockAt s (e .address / 4096) in
-          absurd (true-not-false (startsRun b) (h .starts) (starts-no-run-outside b (available-is-outside-run b (effect .available (e .address / 4096) inside))))
-      go (no out) = let same = effect .others (e .address / 4096) out in long-agrees-of-same (ap startsRun same) (ap (λ (b : Superblock). b .run) same)
+          absurd (true-not-false (startsRun b) (h .starts) (starts-no-run-of-available b (effect .available (e .address / 4096) inside)))
+      go (no out) = let same = effect .others (e .address / 4096) out in long-agrees-of-same (ap startsRun same ∙ starts-run-with-rank _ (superblockAt s (e .address / 4096))) (ap (λ (b : Superblock). b .run) same)
 
   -- and a free of another run: that begins elsewhere, and all but its first superblock carry 0
   pub long-agrees-after-long-free : (k n : ℕ) → LongFreeEffect k n s t → (e .address ≡ k * 4096 → ⊥) → LongAgrees t e

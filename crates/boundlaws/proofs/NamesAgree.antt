@@ -19,11 +19,10 @@ use Rattle.heaplaws.proofs.StateCheckLaws.{names-sound-of-valid}
 use Rattle.calls.specs.declared.Outcome.the-variants.{Ready}
 use Rattle.calls.specs.Answers.{After}
 use Rattle.calls.specs.Setup.{setupOf}
-use Rattle.calls.specs.Take.{addressOf}
 use Rattle.calls.specs.Named.{heldAddress}
 use Rattle.calllaws.proofs.NamesKeptLaws.{live-block-in-table}
 use Rattle.calllaws.proofs.MarkClearedLaws.{LiveBlock}
-use Rattle.calllaws.proofs.NamedCallLaws.{held-block-is-live, held-block-is-run, live-class-lt-27}
+use Rattle.calllaws.proofs.NamedCallLaws.{held-block-is-live, held-block-is-run, held-address-of-run, live-class-lt-27}
 use Rattle.bound.specs.Ledger.{Entry, classOfEntry, isAt, hasName, ledgerAfter}
 use Rattle.bound.specs.Claim.{Step, Linked, peakWith}
 use Rattle.boundlaws.proofs.LedgerLaws.{entriesAt}
@@ -61,7 +60,7 @@ module _ (s : State) (m : ℕ) (held : T (isHeld (s .names) m)) (c : ℕ) where
           either-right (both (hasName m e) (isAt (heldAddress s m) e)) _ (ih (omega arith))
 
 names-agree-of-list-invariant : (u : Setup) (s : State) (order : List ℕ) (ledger : List Entry) (peak : ℕ → ℕ) → ListInvariant u s order ledger peak → NamesAgree s ledger
-unfolding heldAddress addressOf
+unfolding heldAddress
 names-agree-of-list-invariant u s order ledger peak g =
     record {
       entries = each-entry-map (EntryAgrees s) (EntryAgrees s) (λ e. (m : ℕ) → hasName m e ≡ holdsAddress s m (e .address)) ledger (λ e h _. h .name-agrees) (g .names) (g .names);
@@ -73,7 +72,7 @@ names-agree-of-list-invariant u s order ledger peak g =
     listed m held true e =
         let k : ℕ = blockNamed (s .names) m / 256 in
         let run = held-block-is-run s order (g .shape) (g .passed) m held e in
-        let start : heldAddress s m ≡ k * 4096 = rw (run .0) (omega arith) in
+        let start : heldAddress s m ≡ k * 4096 = held-address-of-run s order m (g .shape) (g .passed) held e in
         let below : k < 64 = live-block-in-table s (blockNamed (s .names) m) (g .shape .length-is) (names-sound-of-valid s (g .passed .names) .live m (held-facts (s .names) m held .1)) in
         let one-long : longAt s (heldAddress s m) ≡ 1 = ap (longAt s) start ∙ long-at-start s k below (run .1) in
         entry-of-count s m held 27 ledger (g .names) (omega (arith, g .listed .runs (heldAddress s m)))

@@ -1,7 +1,7 @@
 -- What one long block more or less does to the live blocks of a state (document 02, item 7). Assumes nothing.
 use mathlib.Core.Path.{_≡_, refl, sym, ap, ap₂, _∙_}
 use mathlib.Core.Bool.{Bool, true, false}
-use mathlib.Core.Logic.{inl, inr, ⊎-elim}
+use mathlib.Core.Logic.{⊎-elim}
 use Prim.Native.Nat.{ℕ, _+_, _*_, _/_, _%_, _≤_, _<_}
 use native.Mathlib.Decide.{ℕ-discrete}
 use native.Mathlib.Omega.{arith}
@@ -12,13 +12,14 @@ use Rattle.laws.proofs.TestLaws.{both-false-right, one-of-different}
 use Rattle.marklaws.proofs.MarkLaws.{marks-clear-of-live-count-zero}
 use Rattle.heap.specs.declared.Superblock.{Superblock}
 use Rattle.heap.specs.declared.State.{State}
-use Rattle.heap.specs.Table.{superblockAt, liveIn, isOfRun, startsRun, isOfHeap, runPart, withRank}
+use Rattle.heap.specs.Table.{superblockAt, isOfRun, startsRun, isOfHeap, runPart, withRank}
 use Rattle.heap.specs.Counts.{isOwnedOfClass, liveOfClass}
 use Rattle.choicerules.specs.Runs.{isAvailable}
 use Rattle.heaplaws.proofs.RunLaws.{side-of-range, outside-not-inside}
-use Rattle.heaplaws.proofs.RunsKeptLaws.{outside-run-of-owner, owner-of-run}
-use Rattle.heaplaws.proofs.RunChoiceLaws.{Available, facts-of-is-available}
+use Rattle.heaplaws.proofs.RunsKeptLaws.{owner-of-run}
+use Rattle.heaplaws.proofs.RunChoiceLaws.{facts-of-is-available}
 use Rattle.calllaws.proofs.CallEffects.{InRun, LongTakeEffect, LongFreeEffect}
+use Rattle.calllaws.proofs.RunTakenLaws.{live-of-available, available-outside-run}
 use Rattle.boundlaws.proofs.LongAtLaws.{longAt, long-at-same, long-at-start, long-at-none, long-at-inside}
 use Rattle.boundlaws.proofs.LiveAtLaws.{liveFor, live-for-unowned, live-for-clear, live-for-unused}
 
@@ -56,29 +57,15 @@ module _ (k : ℕ) (s t : State) (more : OneMoreLong k s t) where
       go (no f) (no g) = omega (arith, one-of-different (k * 4096) a f, long-at-inside t a g, long-at-inside s a g)
 
 -- ---- superblocks
--- a superblock that a run may take has no live block, and is of no run
-pub available-is-empty : (b : Superblock) → T (isAvailable b) → liveIn b ≡ 0
-available-is-empty b h = go (facts-of-is-available b h)
-  where
-    go : Available b → liveIn b ≡ 0
-    go (inl u) = u .live
-    go (inr e) = e .1
-
+-- one that a run may take has no live block, and is the first of no run
 live-for-available : (d : ℕ) (b : Superblock) (j : ℕ) → j < 256 → T (isAvailable b) → liveFor d b j ≡ 0
-live-for-available d b j l h = live-for-clear d b j (marks-clear-of-live-count-zero (b .live) (available-is-empty b h) j l)
+live-for-available d b j l h = live-for-clear d b j (marks-clear-of-live-count-zero (b .live) (live-of-available b (facts-of-is-available b h)) j l)
 
-pub available-is-outside-run : (b : Superblock) → T (isAvailable b) → isOfRun b ≡ false
-available-is-outside-run b h = outside-run-of-owner b (λ (q : b .owner ≡ 254). go q (facts-of-is-available b h))
-  where
-    go : b .owner ≡ 254 → Available b → ⊥
-    go q (inl u) = omega (arith, u .owner)
-    go q (inr e) = omega (arith, e .0)
-
--- what is of no run, or carries 0, is the first of none
-pub starts-no-run-outside : (b : Superblock) → isOfRun b ≡ false → startsRun b ≡ false
+pub starts-no-run-of-available : (b : Superblock) → T (isAvailable b) → startsRun b ≡ false
 unfolding startsRun
-starts-no-run-outside b e = ap (λ (x : Bool). both x (ltb 0 (b .run))) e
+starts-no-run-of-available b h = ap (λ (x : Bool). both x (ltb 0 (b .run))) (available-outside-run b (facts-of-is-available b h))
 
+-- nor is one that carries 0
 pub starts-no-run-of-0 : (b : Superblock) → b .run ≡ 0 → startsRun b ≡ false
 unfolding startsRun
 starts-no-run-of-0 b e = ap (λ (n : ℕ). both (isOfRun b) (ltb 0 n)) e ∙ both-false-right (isOfRun b)
@@ -101,14 +88,14 @@ module _ (k n : ℕ) (s t : State) (in-table : k + n ≤ 64) (e : LongTakeEffect
   first-in-run : InRun k n k
   first-in-run = (omega arith, omega (arith, e .some))
 
-  pub long-take-other-start : (m : ℕ) → (m ≡ k → ⊥) → startsRun (superblockAt t m) ≡ startsRun (superblockAt s m)
+  long-take-other-start : (m : ℕ) → (m ≡ k → ⊥) → startsRun (superblockAt t m) ≡ startsRun (superblockAt s m)
   long-take-other-start m apart = go (in-run-or-not k n m)
     where
       go : Dec (InRun k n m) → startsRun (superblockAt t m) ≡ startsRun (superblockAt s m)
       go (no out) = ap startsRun (e .others m out) ∙ starts-run-with-rank (superblockAt t m .rank) (superblockAt s m)
       go (yes inside) =
           ap startsRun (e .run m inside) ∙ starts-no-run-of-0 (runPart (pick (eqb m k) n 0)) (ap (λ (x : Bool). pick x n 0) (ne-eqb m k apart))
-          ∙ sym (starts-no-run-outside (superblockAt s m) (available-is-outside-run (superblockAt s m) (e .available m inside)))
+          ∙ sym (starts-no-run-of-available (superblockAt s m) (e .available m inside))
 
   first-part : superblockAt t k ≡ runPart n
   first-part = e .run k first-in-run ∙ ap (λ (x : Bool). runPart (pick x n 0)) (eq-eqb k k refl)
@@ -121,7 +108,7 @@ module _ (k n : ℕ) (s t : State) (in-table : k + n ≤ 64) (e : LongTakeEffect
         no-class = λ d b l. live-for-available d (superblockAt s k) b l (e .available k first-in-run);
         blocks-same = λ d m b lm lb. same d m b lb (in-run-or-not k n m);
         live = e .live;
-        not-before = starts-no-run-outside (superblockAt s k) (available-is-outside-run (superblockAt s k) (e .available k first-in-run));
+        not-before = starts-no-run-of-available (superblockAt s k) (e .available k first-in-run);
         starts-after = ap startsRun first-part ∙ starts-run-of-length (runPart n) refl (omega (arith, e .some));
         others-same = λ m l apart. long-take-other-start m apart;
       }
@@ -138,7 +125,7 @@ module _ (k n : ℕ) (s t : State) (e : LongFreeEffect k n s t) where
   freed-in-run : InRun k n k
   freed-in-run = (omega arith, omega (arith, e .run-before .some))
 
-  pub long-free-other-start : (m : ℕ) → (m ≡ k → ⊥) → startsRun (superblockAt s m) ≡ startsRun (superblockAt t m)
+  long-free-other-start : (m : ℕ) → (m ≡ k → ⊥) → startsRun (superblockAt s m) ≡ startsRun (superblockAt t m)
   unfolding startsRun isOfRun
   long-free-other-start m apart = go (in-run-or-not k n m)
     where

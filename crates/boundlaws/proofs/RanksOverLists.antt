@@ -43,7 +43,7 @@ use Rattle.calllaws.proofs.AddressFreedLaws.{OwnersKeptOrRunFreed, address-free
 use Rattle.calllaws.proofs.AllFreedLaws.{first-refusal-of-cons}
 use Rattle.calllaws.proofs.DropTransfersLaws.{Transfers}
 use Rattle.calllaws.proofs.DropLaws.{DropAccepted, drop-refused-or-accepted, drop-transfers, drop-outcome, drop-state-is}
-use Rattle.calllaws.proofs.CallRankLaws.{named-take-ranks, named-free-ranks}
+use Rattle.calllaws.proofs.CallRankLaws.{named-take-ranks, named-free-ranks, named-long-free-ranks}
 use Rattle.bound.specs.Claim.{Step, Linked, peakWith}
 use Rattle.bound.specs.Ledger.{Entry, ledgerAfter}
 use Rattle.bound.specs.History.{Event, freedInto, renewed, joinedRun, neither, eventOfFree, eventOfTaken, eventOfTake, eventsAfterDrop, eventsAfter, RankedByLastFree, RankedByLastFreeOver}
@@ -236,8 +236,7 @@ module _ (s : State) (order : List ℕ) (events : List Event) (shape : Shape s) 
       accepted-long : NamedLongFreeAccepted s order i m → RankedByLastFree (namedFreeOf s order i m .answer .state) (eventOfFree s (heldAddress s m) (namedFreeOf s order i m .answer .outcome) ∷ events)
       accepted-long acc =
           let a : ℕ = heldAddress s m in
-          subst (λ (x : After). RankedByLastFree (x .answer .state) (eventOfFree s a (x .answer .outcome) ∷ events)) (sym (acc .result-is))
-          (after-long-free a (freeOf s order i a) (acc .freed .in-run) (long-free-outcome s order i a shape (acc .freed)) (long-free-ranks s order i a shape (acc .freed)))
+          after-long-free a (namedFreeOf s order i m) (acc .freed .in-run) (ap (λ (x : After). x .answer .outcome) (acc .result-is) ∙ long-free-outcome s order i a shape (acc .freed)) (named-long-free-ranks s order i m shape acc)
   ranked-by-last-free-after-call (Drop i addresses) = ⊎-elim (after-refused (Drop i addresses)) accepted (drop-refused-or-accepted s order i addresses)
     where
       accepted : DropAccepted s order i addresses → RankedByLastFree (dropOf s order i addresses .answer .state) (eventsAfterDrop events s addresses (dropOf s order i addresses .answer .outcome))

@@ -38,6 +38,7 @@ pub mod TouchedLaws
 pub mod NameLifetime
 pub mod TotalsKeptLaws
 pub mod CallRankLaws
+pub mod CallRunLaws
 pub mod DropBlockLaws
 pub mod OrderWriteLaws
 pub mod OrderReadLaws

@@ -455,7 +455,7 @@ module _ (s : State) (order : List ℕ) (m : ℕ) (shape : Shape s) (passed : Pa
 
 -- ---- "A name holds .. until its block is freed by either command"
 -- the block at the held address is the name's
-held-address-block : (s : State) (order : List ℕ) (m : ℕ) → Shape s → Passed s order → T (isHeld (s .names) m)
+pub held-address-block : (s : State) (order : List ℕ) (m : ℕ) → Shape s → Passed s order → T (isHeld (s .names) m)
     → (superblockIndex (heldAddress s m) ≡ blockNamed (s .names) m / 256) × (blockOf s (heldAddress s m) ≡ blockNamed (s .names) m % 256)
 unfolding heldAddress
 held-address-block s order m shape passed held = go (isOfRun (superblockAt s (blockNamed (s .names) m / 256))) refl

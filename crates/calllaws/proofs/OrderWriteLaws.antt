@@ -261,7 +261,7 @@ module _ (s : State) (order : List ℕ) (i a : ℕ) where
 
 -- ---- a drop
 -- a block freed keeps the setup
-block-freed-setup : (s : State) (a : ℕ) → blockFreed s a .setup ≡ s .setup
+pub block-freed-setup : (s : State) (a : ℕ) → blockFreed s a .setup ≡ s .setup
 unfolding blockFreed longBlockFreed smallBlockFreed markCleared rankedLatest
 block-freed-setup s a = pick-elim (λ (t : State). t .setup ≡ s .setup) (isInRun s a) _ _ (λ e. run-freed-keeps-rest (superblockIndex a) (superblockHolding s a .run) s .setup) (λ e. refl)
 

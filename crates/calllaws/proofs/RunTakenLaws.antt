@@ -47,10 +47,10 @@ module _ (b : Superblock) (available : Available b) where
   owner-of-available : (b .owner ≡ 0) ⊎ (b .owner ≡ 255)
   owner-of-available = ⊎-elim (λ u. inr (u .owner)) (λ h. inl (h .0)) available
 
-  live-of-available : liveIn b ≡ 0
+  pub live-of-available : liveIn b ≡ 0
   live-of-available = ⊎-elim (λ u. u .live) (λ h. h .1) available
 
-  available-outside-run : isOfRun b ≡ false
+  pub available-outside-run : isOfRun b ≡ false
   available-outside-run = outside-run-of-owner b (λ (q : b .owner ≡ 254). ⊎-elim (λ e. omega arith) (λ e. omega arith) owner-of-available)
 
 -- the rank is no part of it

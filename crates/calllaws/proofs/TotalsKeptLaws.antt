@@ -79,11 +79,11 @@ unfolding runFreed madeUnused
 run-freed-recounted k n s kept = each-of-run-keeps madeUnused k s n TotalsKept (λ m t low high h. refl) kept
 
 -- a block freed replaces a superblock, a long one those of its run, and the moves of a drop keep them as those of a free do
-block-freed-recounted : (s : State) (a : ℕ) → TotalsKept s → TotalsKept (blockFreed s a)
+pub block-freed-recounted : (s : State) (a : ℕ) → TotalsKept s → TotalsKept (blockFreed s a)
 unfolding blockFreed longBlockFreed smallBlockFreed markCleared
 block-freed-recounted s a kept = pick-elim TotalsKept (isInRun s a) _ _ (λ e. run-freed-recounted (superblockIndex a) (superblockHolding s a .run) s kept) (λ e. refl)
 
-all-freed-recounted : (s : State) (addresses : List ℕ) → TotalsKept s → TotalsKept (allFreed s addresses)
+pub all-freed-recounted : (s : State) (addresses : List ℕ) → TotalsKept s → TotalsKept (allFreed s addresses)
 unfolding allFreed
 all-freed-recounted s [] kept = kept
 all-freed-recounted s (a ∷ addresses) kept = all-freed-recounted (blockFreed s a) addresses (block-freed-recounted s a kept)

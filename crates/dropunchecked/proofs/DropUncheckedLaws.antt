@@ -12,9 +12,9 @@ use Rattle.heap.specs.declared.State.{State}
 use Rattle.heap.specs.declared.Moved.{Moved}
 use Rattle.heap.specs.Totals.{TotalsKept}
 use Rattle.checkrules.specs.Check.{passes}
-use Rattle.heaplaws.proofs.StateFacts.{Shape, Sound}
 use Rattle.checkrules.proofs.ClauseLaws.{rest-of-passes}
-use Rattle.heaplaws.proofs.StateCheckLaws.{runs-valid-of-rest, sound-of-passes, totals-kept-of-passes}
+use Rattle.heaplaws.proofs.StateFacts.{Shape, Sound}
+use Rattle.heaplaws.proofs.StateCheckLaws.{sound-of-passes, totals-kept-of-passes, runs-valid-of-rest}
 use Rattle.heaplaws.proofs.RunLaws.{runs-sound-of-valid}
 use Rattle.calllaws.proofs.AllFreedLaws.{run-fits}
 use Rattle.dropaddresses.specs.TestedTable.{RunsFit}

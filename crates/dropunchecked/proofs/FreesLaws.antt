@@ -6,17 +6,22 @@ use native.Mathlib.Nat.{le-of-suc-le-suc, not-suc-le-zero}
 use native.Mathlib.Numerals.{add-one}
 use lib.ListN.{length, getD, take}
 use lib.Seq.{take-all}
-use Rattle.laws.proofs.TestLaws.{pick-elim}
 use Rattle.heap.specs.declared.State.{State}
 use Rattle.heap.specs.Totals.{TotalsKept}
-use Rattle.heap.specs.Ranks.{RanksFit, rankedLatest}
-use Rattle.calls.specs.Free.{superblockIndex, superblockHolding, isInRun, markCleared, orderPushed, smallBlockFreed, longBlockFreed, blockFreed}
+use Rattle.heap.specs.Ranks.{RanksFit}
+use Rattle.calls.specs.Free.{superblockIndex, superblockHolding, orderPushed, blockFreed}
+use Rattle.calllaws.proofs.TotalsKeptLaws.{all-freed-recounted}
+use Rattle.calllaws.proofs.OrderWriteLaws.{block-freed-setup}
 use Rattle.calls.specs.Drop.{allFreed, allPushed}
-use Rattle.calllaws.proofs.RunEffectLaws.{run-freed-keeps-rest}
-use Rattle.dropaddresses.proofs.FirstRefusalLaws.{all-freed-at-next}
 use Rattle.dropunchecked.specs.DropSteps.{FreesSafe}
 
 -- ---- the frees at one address more
+pub all-freed-at-next : (s : State) (addresses : List ℕ) (i : ℕ) → i < length addresses → allFreed s (take (suc i) addresses) ≡ blockFreed (allFreed s (take i addresses)) (getD addresses i 0)
+unfolding allFreed
+all-freed-at-next s [] i l = absurd (not-suc-le-zero l)
+all-freed-at-next s (a ∷ addresses) zero l = refl
+all-freed-at-next s (a ∷ addresses) (suc i) l = all-freed-at-next (blockFreed s a) addresses i (le-of-suc-le-suc l)
+
 pub all-pushed-at-next : (s : State) (order addresses : List ℕ) (i : ℕ) → i < length addresses
     → allPushed s order (take (suc i) addresses) ≡ orderPushed (allFreed s (take i addresses)) (allPushed s order (take i addresses)) (getD addresses i 0)
 unfolding allPushed allFreed
@@ -25,23 +30,13 @@ all-pushed-at-next s order (a ∷ addresses) zero l = refl
 all-pushed-at-next s order (a ∷ addresses) (suc i) l = all-pushed-at-next (blockFreed s a) (orderPushed s order a) addresses i (le-of-suc-le-suc l)
 
 -- ---- what they keep
-block-freed-keeps-setup : (s : State) (a : ℕ) → blockFreed s a .setup ≡ s .setup
-unfolding blockFreed smallBlockFreed longBlockFreed markCleared rankedLatest
-block-freed-keeps-setup s a = pick-elim (λ (t : State). t .setup ≡ s .setup) (isInRun s a) _ _ (λ _. run-freed-keeps-rest (superblockIndex a) (superblockHolding s a .run) s .setup) (λ _. refl)
-
-block-freed-keeps-totals : (s : State) (a : ℕ) → TotalsKept s → TotalsKept (blockFreed s a)
-unfolding blockFreed smallBlockFreed longBlockFreed markCleared
-block-freed-keeps-totals s a kept = pick-elim TotalsKept (isInRun s a) _ _ (λ _. run-freed-keeps-rest (superblockIndex a) (superblockHolding s a .run) s .totals kept) (λ _. refl)
-
 pub all-freed-keeps-setup : (s : State) (addresses : List ℕ) → allFreed s addresses .setup ≡ s .setup
 unfolding allFreed
 all-freed-keeps-setup s [] = refl
-all-freed-keeps-setup s (a ∷ addresses) = all-freed-keeps-setup (blockFreed s a) addresses ∙ block-freed-keeps-setup s a
+all-freed-keeps-setup s (a ∷ addresses) = all-freed-keeps-setup (blockFreed s a) addresses ∙ block-freed-setup s a
 
 pub all-freed-keeps-totals : (s : State) (addresses : List ℕ) → TotalsKept s → TotalsKept (allFreed s addresses)
-unfolding allFreed
-all-freed-keeps-totals s [] kept = kept
-all-freed-keeps-totals s (a ∷ addresses) kept = all-freed-keeps-totals (blockFreed s a) addresses (block-freed-keeps-totals s a kept)
+all-freed-keeps-totals = all-freed-recounted
 
 -- ---- the loop: the frees below i are made
 pub record FreesMade (s : State) (order addresses : List ℕ) (i : ℕ) (t : State) (pushed : List ℕ) : Type 0 where
@@ -54,7 +49,13 @@ no-frees-made s order addresses = record { freed-are = refl; pushed-are = refl }
 
 module _ (s t : State) (order addresses pushed : List ℕ) (i : ℕ) (made : FreesMade s order addresses i t pushed) where
   pub free-can-be-made : FreesSafe s addresses → i < length addresses → (superblockIndex (getD addresses i 0) < 64) × (superblockIndex (getD addresses i 0) + superblockHolding t (getD addresses i 0) .run ≤ 64) × TotalsKept t × RanksFit t
-  free-can-be-made safe l = rw (made .freed-are) (let at = safe i l in (at .in-table, at .run-fits, at .totals, at .ranks))
+  free-can-be-made safe l =
+      let at = safe i l in (
+        at .in-table,
+        subst (λ (x : State). superblockIndex (getD addresses i 0) + superblockHolding x (getD addresses i 0) .run ≤ 64) (sym (made .freed-are)) (at .run-in-table),
+        subst TotalsKept (sym (made .freed-are)) (at .totals),
+        subst RanksFit (sym (made .freed-are)) (at .ranks),
+      )
 
   pub free-made : (next : State) (new : List ℕ) → i < length addresses → new ≡ orderPushed t pushed (getD addresses i 0) → next ≡ blockFreed t (getD addresses i 0) → FreesMade s order addresses (i + 1) next new
   free-made next new l en et = record {

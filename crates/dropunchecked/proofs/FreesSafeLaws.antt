@@ -70,4 +70,4 @@ pub frees-safe-of-passes : (s : State) (order addresses : List ℕ) → Shape s 
 frees-safe-of-passes s order addresses shape passed none i l =
     let more : List ℕ = replicate (s .setup .superblocks * 256) 0 in
     let at = frees-safe s (order ++ more) addresses shape (passes-with-longer-order order more s passed) (omega (arith, length-append order more, length-replicate {A = ℕ} (s .setup .superblocks * 256) 0)) none i l in
-    record { in-table = at .0; owner = λ outside. at .1 outside .0; class = λ outside. at .1 outside .1; run-fits = at .2; totals = at .3; ranks = at .4 }
+    record { in-table = at .0; of-heap-and-class = at .1; run-in-table = at .2; totals = at .3; ranks = at .4 }

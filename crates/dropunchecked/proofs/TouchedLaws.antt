@@ -7,16 +7,16 @@ use native.Mathlib.Nat.{le-of-suc-le-suc, not-suc-le-zero}
 use native.Mathlib.Numerals.{add-one}
 use native.Mathlib.Decide.{ℕ-discrete}
 use native.Mathlib.Omega.{arith}
-use borrow.Author.Tests.{ne-eqb}
 use lib.ListN.{length, getD, take, set, replicate, length-set, getD-replicate}
 use lib.Seq.{take-all, getD-set-same, getD-set-other}
 use Rattle.laws.specs.Sums.{either}
 use Rattle.heap.specs.declared.Superblock.{Superblock}
 use Rattle.heap.specs.declared.State.{State}
-use Rattle.heap.specs.Table.{superblockAt, isOfRun}
+use Rattle.heap.specs.Table.{superblockAt}
 use Rattle.heap.specs.Counts.{belongs}
 use Rattle.heaplaws.proofs.CountLaws.{belongs-true, not-belongs-of-other-owner, not-belongs-of-other-class}
-use Rattle.calls.specs.Free.{superblockHolding, isInRun}
+use Rattle.heaplaws.proofs.RunsKeptLaws.{outside-run-of-owner}
+use Rattle.calls.specs.Free.{superblockHolding}
 use Rattle.calls.specs.Drop.{isTouched}
 use Rattle.dropunchecked.specs.DropSteps.{FreesSafe, touchedIn, TellsTouched}
 
@@ -61,41 +61,40 @@ not-belongs-elsewhere h c b n = go (ℕ-discrete (b .owner) h)
     go (yes o) = not-belongs-of-other-class h c b (λ q. n (omega arith))
     go (no o) = not-belongs-of-other-owner h c b o
 
-module _ (s : State) (addresses : List ℕ) (i : ℕ) (safe : FreesSafe s addresses) (l : i < length addresses) (owner : ℕ) (eo : owner ≡ superblockAt s (getD addresses i 0 / 4096) .owner) where
-  abbrev b : Superblock
-  b = superblockHolding s (getD addresses i 0)
+module _ (s : State) (addresses : List ℕ) (i : ℕ) (safe : FreesSafe s addresses) (l : i < length addresses) where
+  module _ (owner class : ℕ) (eo : owner ≡ superblockAt s (getD addresses i 0 / 4096) .owner) (ec : class ≡ superblockAt s (getD addresses i 0 / 4096) .class) where
+    module _ (of-heap : owner < 9) where
+      -- it is of a heap, and so of no run
+      pub class-in-array : class < 27
+      class-in-array = rw ec (safe i l .of-heap-and-class (outside-run-of-owner (superblockHolding s (getD addresses i 0)) (λ (q : superblockHolding s (getD addresses i 0) .owner ≡ 254). omega (arith, eo))) .1)
 
-  -- in a superblock of a class
-  module _ (f : owner ≡ 254 → ⊥) (class : ℕ) (ec : class ≡ superblockAt s (getD addresses i 0 / 4096) .class) where
-    outside-run : isInRun s (getD addresses i 0) ≡ false
-    unfolding isOfRun
-    outside-run = ne-eqb (b .owner) 254 (λ o. f (eo ∙ o))
+      pub pair-in-array : owner * 27 + class < 243
+      pair-in-array = let c = class-in-array in omega arith
 
-    pub pair-in-array : owner * 27 + class < 243
-    pair-in-array = let at = safe i l in omega (arith, at .owner outside-run, at .class outside-run)
+    -- a superblock of a run is of no heap: the array stays
+    pub told-past-run : 9 ≤ owner → (touched : List Bool) → ToldBelow touched s addresses i → ToldBelow touched s addresses (i + 1)
+    told-past-run high touched told = record {
+      length-is = told .length-is;
+      tells = λ h c lh lc. rw (add-one, is-touched-at-next s addresses i h c l, not-belongs-of-other-owner h c (superblockHolding s (getD addresses i 0)) (λ (q : superblockHolding s (getD addresses i 0) .owner ≡ h). omega (arith, eo)))
+          (told .tells h c lh lc ∙ sym (either-false-right (isTouched s (take i addresses) h c)));
+    }
 
-    pub told-at-block : (touched after : List Bool) → ToldBelow touched s addresses i → after ≡ set touched (owner * 27 + class) true → ToldBelow after s addresses (i + 1)
-    told-at-block touched after told e =
-        rw e (record {
-          length-is = length-set touched (owner * 27 + class) true ∙ told .length-is;
-          tells = λ h c lh lc. rw (add-one, is-touched-at-next s addresses i h c l) (go h c lh lc (ℕ-discrete (h * 27 + c) (owner * 27 + class)));
-        })
+    pub told-at-next : owner < 9 → (touched : List Bool) → ToldBelow touched s addresses i → ToldBelow (set touched (owner * 27 + class) true) s addresses (i + 1)
+    told-at-next of-heap touched told = record {
+      length-is = length-set touched (owner * 27 + class) true ∙ told .length-is;
+      tells = λ h c lh lc. rw (add-one, is-touched-at-next s addresses i h c l) (go h c lh lc (ℕ-discrete (h * 27 + c) (owner * 27 + class)));
+    }
       where
-        go : (h c : ℕ) → h < 9 → c < 27 → Dec (h * 27 + c ≡ owner * 27 + class) → touchedIn (set touched (owner * 27 + class) true) h c ≡ either (isTouched s (take i addresses) h c) (belongs h c b)
-        go h c lh lc (yes q) =
-            let at = same-pair h c owner class lc (rw ec (safe i l .class outside-run)) q in
-            rw (q, getD-set-same touched (owner * 27 + class) true false (omega (arith, pair-in-array, told .length-is)), belongs-true h c b (sym (at .0 ∙ eo)) (sym (at .1 ∙ ec))) (sym (either-true-right (isTouched s (take i addresses) h c)))
-        go h c lh lc (no n) =
-            rw (getD-set-other touched (owner * 27 + class) (h * 27 + c) true false n, not-belongs-elsewhere h c b (λ q. n (q ∙ ap₂ (λ (x y : ℕ). x * 27 + y) (sym eo) (sym ec))))
-            (told .tells h c lh lc ∙ sym (either-false-right (isTouched s (take i addresses) h c)))
+        b : Superblock
+        b = superblockHolding s (getD addresses i 0)
 
-  -- in a run, which is of no heap
-  pub told-at-run : owner ≡ 254 → (touched after : List Bool) → ToldBelow touched s addresses i → after ≡ touched → ToldBelow after s addresses (i + 1)
-  told-at-run o touched after told e =
-      rw e (record {
-        length-is = told .length-is;
-        tells = λ h c lh lc. rw (add-one, is-touched-at-next s addresses i h c l, not-belongs-of-other-owner h c b (λ q. omega (arith, eo))) (told .tells h c lh lc ∙ sym (either-false-right (isTouched s (take i addresses) h c)));
-      })
+        go : (h c : ℕ) → h < 9 → c < 27 → Dec (h * 27 + c ≡ owner * 27 + class) → touchedIn (set touched (owner * 27 + class) true) h c ≡ either (isTouched s (take i addresses) h c) (belongs h c b)
+        go h c lh lc (yes e) =
+            let at = same-pair h c owner class lc (class-in-array of-heap) e in
+            rw (e, getD-set-same touched (owner * 27 + class) true false (omega (arith, pair-in-array of-heap, told .length-is)), belongs-true h c b (sym (at .0 ∙ eo)) (sym (at .1 ∙ ec))) (sym (either-true-right (isTouched s (take i addresses) h c)))
+        go h c lh lc (no f) =
+            rw (getD-set-other touched (owner * 27 + class) (h * 27 + c) true false f, not-belongs-elsewhere h c b (λ e. f (e ∙ ap₂ (λ (x y : ℕ). x * 27 + y) (sym eo) (sym ec))))
+            (told .tells h c lh lc ∙ sym (either-false-right (isTouched s (take i addresses) h c)))
 
 pub told-at-end : (touched : List Bool) (s : State) (addresses : List ℕ) (i : ℕ) → ToldBelow touched s addresses i → length addresses ≤ i → TellsTouched touched s addresses
 told-at-end touched s addresses i told end h c lh lc = told .tells h c lh lc ∙ ap (λ (l : List ℕ). isTouched s l h c) (take-all i addresses end)

@@ -14,13 +14,12 @@ use Rattle.heap.specs.Ranks.{RanksFit}
 use Rattle.calls.specs.Free.{superblockIndex, superblockHolding, isInRun}
 use Rattle.calls.specs.Drop.{allFreed, isTouched}
 
--- the free at address i can be made after those before it: the address lies in the table, in a superblock of a heap and class where it was in no run, and after the
--- frees before the run that may begin there ends in the table, and they have kept the totals and the ranks
+-- the free at address i can be made after those before it: the address lies in the table, in a superblock of a heap and class or in a run, which lies in the table
+-- whole, and the frees before have kept the totals and the ranks
 pub record FreeSafe (s : State) (addresses : List ℕ) (i : ℕ) : Type 0 where
   pub in-table : superblockIndex (getD addresses i 0) < 64
-  pub owner : isInRun s (getD addresses i 0) ≡ false → superblockHolding s (getD addresses i 0) .owner < 9
-  pub class : isInRun s (getD addresses i 0) ≡ false → superblockHolding s (getD addresses i 0) .class < 27
-  pub run-fits : superblockIndex (getD addresses i 0) + superblockHolding (allFreed s (take i addresses)) (getD addresses i 0) .run ≤ 64
+  pub of-heap-and-class : isInRun s (getD addresses i 0) ≡ false → (superblockHolding s (getD addresses i 0) .owner < 9) × (superblockHolding s (getD addresses i 0) .class < 27)
+  pub run-in-table : superblockIndex (getD addresses i 0) + superblockHolding (allFreed s (take i addresses)) (getD addresses i 0) .run ≤ 64
   pub totals : TotalsKept (allFreed s (take i addresses))
   pub ranks : RanksFit (allFreed s (take i addresses))
 

@@ -58,15 +58,16 @@ fn touched_pairs(s: State, addresses: &[u32]) -> [bool; 243]
     while i < addresses.len() {
         let k = (addresses[i] / 4096) as usize;
         let b = s.table[k];
-        if b.owner != 254 {
-            touched[b.owner as usize * 27 + b.class as usize] = true;
+        if b.owner < 9 {
+            let at = b.owner as usize * 27 + b.class as usize;
+            touched[at] = true;
         }
         i += 1;
     }
     touched
 }
 
-// Each block is free again, in the order of the addresses, and its number in the next place of its superblock's order.
+// Each block, or run, is free again, in the order of the addresses, and a block's number in the next place of its superblock's order.
 fn free_all(s: State, order: &mut [u16], addresses: &[u32]) -> State
     requires { ⌜ FreesSafe s (now addresses) ⌝ }
     ensures { λ r. ⌜ (r ≡ allFreed s (now (addresses .entry))) × (now (order .exit) ≡ allPushed s (now (order .entry)) (now (addresses .entry))) ⌝ }

@@ -2,31 +2,33 @@
 use mathlib.Core.Path.{_≡_, refl, sym, _∙_}
 use mathlib.Core.Bool.{Bool, true, false}
 use mathlib.Core.List.{List}
-use Prim.Native.Nat.{ℕ, _/_, _≤_, _<_}
+use Prim.Native.Nat.{ℕ, _+_, _/_, _≤_, _<_}
 use native.Mathlib.Omega.{arith}
-use borrow.Author.Tests.{eq-eqb, ne-eqb, not-true, not-false}
-use lib.ListN.{length}
+use borrow.Author.Tests.{ne-eqb, not-true, not-false}
 use Rattle.laws.proofs.TestLaws.{T-of-true}
 use Rattle.heap.specs.declared.State.{State}
 use Rattle.heap.specs.declared.Moved.{Moved}
-use Rattle.heap.specs.Table.{superblockAt, isOfRun}
+use Rattle.heap.specs.Table.{superblockAt}
 use Rattle.heap.specs.Totals.{TotalsKept}
+use Rattle.heap.specs.Ranks.{RanksFit}
 use Rattle.moverules.specs.Moves.{invariantRestored}
 use Rattle.checkrules.specs.Check.{passes}
 use Rattle.checkrules.proofs.ClauseLaws.{rest-of-passes}
-use Rattle.heaplaws.proofs.StateFacts.{Sound}
-use Rattle.heaplaws.proofs.StateCheckLaws.{runs-valid-of-rest, sound-of-passes, totals-kept-of-passes}
+use Rattle.heaplaws.proofs.StateFacts.{Shape, Sound, RunsSound}
+use Rattle.heaplaws.proofs.StateCheckLaws.{sound-of-passes, totals-kept-of-passes, runs-valid-of-rest}
 use Rattle.heaplaws.proofs.RunLaws.{runs-sound-of-valid}
+use Rattle.heaplaws.proofs.RunsKeptLaws.{outside-run-of-owner, of-run-of-owner}
 use Rattle.heaplaws.proofs.RankLaws.{ranks-fit-of-passes}
 use Rattle.calls.specs.declared.Answer.{Answer}
 use Rattle.calls.specs.declared.Outcome.the-variants.{Moves, Refused}
 use Rattle.calls.specs.Answers.{After, HasNumberAndValuesOf, isProcessor}
-use Rattle.calls.specs.Free.{superblockIndex, isUnmapped, isInRun, addressRefusal, markCleared, orderPushed, smallBlockFreed, blockFreed, smallFreedAt, longFreedAt, freedAt, freeUnchecked}
+use Rattle.calls.specs.Free.{superblockIndex, superblockHolding, isUnmapped, isInRun, addressRefusal, orderPushed, blockFreed, smallFreedAt, longFreedAt, freedAt, freeUnchecked}
 use Rattle.calllaws.proofs.AddressLaws.{mapped-below-64, mapped-is-owned}
 use Rattle.calllaws.proofs.AllFreedLaws.{run-fits}
+use Rattle.calllaws.proofs.AddressFreedLaws.{block-freed-outside-run, block-freed-in-run, order-pushed-outside-run, order-pushed-in-run}
+use Rattle.calllaws.proofs.TotalsKeptLaws.{block-freed-recounted}
 use Rattle.calls.proofs.AddressRefusalLaws.{mapped-of-no-refusal, free-unchecked-by-address-refusal}
 use Rattle.calls.proofs.AnswerLaws.{number-and-values-by-rules, refused-of-answer}
-use Rattle.freeunchecked.specs.FreeSteps.{CanBeFreed}
 
 abbrev answerAndOrder : Answer → List ℕ → After
 answerAndOrder r order = record { answer = r; order = order }
@@ -54,53 +56,60 @@ pub superblocks-in-table : (s : State) (order : List ℕ) → passes s order ≡
 superblocks-in-table s order p = sound-of-passes s order (T-of-true _ p) .numbers .superblocks-high
 
 -- ---- what the check and the tests of the address tell of the superblock
-module _ (s : State) (order : List ℕ) (a : ℕ) (long : length (s .table) ≡ 64) (p : passes s order ≡ true) (bad : ℕ) (g : bad ≡ addressRefusal s a) (z : bad ≡ 0) where
+module _ (s : State) (order : List ℕ) (a : ℕ) (p : passes s order ≡ true) (bad : ℕ) (g : bad ≡ addressRefusal s a) (z : bad ≡ 0) where
   sound : Sound s order
   sound = sound-of-passes s order (T-of-true _ p)
 
   mapped : isUnmapped s a ≡ false
   mapped = mapped-of-no-refusal s a (sym g ∙ z)
 
-  pub freed-superblock : CanBeFreed s a
-  freed-superblock =
-      let below = mapped-below-64 s order a sound mapped in
-      record {
-        in-table = below;
-        run-fits = run-fits s (superblockIndex a) (runs-sound-of-valid s long (runs-valid-of-rest s order (rest-of-passes s order (T-of-true _ p)))) below;
-        owner = λ outside. omega (arith, mapped-is-owned s order a sound mapped outside .owner, sound .numbers .processors-high);
-        class = λ outside. mapped-is-owned s order a sound mapped outside .class;
-        totals = totals-kept-of-passes s order (T-of-true _ p);
-        ranks = ranks-fit-of-passes s order (T-of-true _ p);
-      }
+  module _ (shape : Shape s) where
+    runs : RunsSound s
+    runs = runs-sound-of-valid s (shape .length-is) (runs-valid-of-rest s order (rest-of-passes s order (T-of-true _ p)))
 
--- ---- the free of a run
-module _ (s : State) (order new : List ℕ) (a owner : ℕ) (t : State) (eo : owner ≡ superblockAt s (a / 4096) .owner) (en : new ≡ orderPushed s order a) (et : t ≡ blockFreed s a) where
+    pub freed-superblock : (superblockIndex a < 64)
+        × (superblockIndex a + superblockHolding s a .run ≤ 64)
+        × (isInRun s a ≡ false → (superblockHolding s a .owner < 9) × (superblockHolding s a .class < 27))
+        × TotalsKept s
+        × RanksFit s
+    freed-superblock = (
+      mapped-below-64 s order a sound mapped,
+      run-fits s (superblockIndex a) runs (mapped-below-64 s order a sound mapped),
+      λ outside. let o = mapped-is-owned s order a sound mapped outside in (omega (arith, o .owner, sound .numbers .processors-high), o .class),
+      totals-kept-of-passes s order (T-of-true _ p),
+      ranks-fit-of-passes s order (T-of-true _ p),
+    )
+
+-- so, of its owner and class as the code reads them, where the owner is not that of a run
+module _ (s : State) (a owner : ℕ) (e : owner ≡ superblockAt s (a / 4096) .owner) (other : owner ≡ 254 → ⊥) (of-heap : isInRun s a ≡ false → (superblockHolding s a .owner < 9) × (superblockHolding s a .class < 27)) where
+  outside-run : isInRun s a ≡ false
+  outside-run = outside-run-of-owner (superblockHolding s a) (λ q. other (e ∙ q))
+
+  pub freed-owner : owner < 9
+  freed-owner = rw e (of-heap outside-run .0)
+
+  pub freed-class : (class : ℕ) → class ≡ superblockAt s (a / 4096) .class → class < 27
+  freed-class class f = rw f (of-heap outside-run .1)
+
+-- the totals of the state in which the block is free are the recount too
+pub block-freed-totals-kept : (s t : State) (a : ℕ) → TotalsKept s → t ≡ blockFreed s a → TotalsKept t
+block-freed-totals-kept s t a kept e = rw e (block-freed-recounted s a kept)
+
+module _ (s : State) (order new : List ℕ) (a owner class : ℕ) (t : State) (e : owner ≡ superblockAt s (a / 4096) .owner) (g : new ≡ orderPushed s order a) (h : t ≡ blockFreed s a) where
+  -- of a run
   pub freed-at-of-run : owner ≡ 254 → record { answer = record { outcome = Moves 0; state = t }; order = new } ≡ freedAt s order a
-  unfolding freedAt longFreedAt blockFreed orderPushed isOfRun
-  freed-at-of-run o = rw (en, et, eq-eqb (superblockAt s (a / 4096) .owner) 254 (sym eo ∙ o))
+  unfolding freedAt longFreedAt
+  freed-at-of-run q =
+      let inside = of-run-of-owner (superblockHolding s a) (sym e ∙ q) in
+      rw (h, g, block-freed-in-run s a inside, order-pushed-in-run s a order inside, inside)
 
-  -- ---- the free of a block
-  module _ (f : owner ≡ 254 → ⊥) where
-    outside-run : isInRun s a ≡ false
-    unfolding isOfRun
-    outside-run = ne-eqb (superblockAt s (a / 4096) .owner) 254 (λ o. f (eo ∙ o))
-
-    -- its owner and class, as the code reads them
-    pub freed-owner : CanBeFreed s a → owner < 9
-    freed-owner can = rw eo (can .owner outside-run)
-
-    pub freed-class : CanBeFreed s a → (class : ℕ) → class ≡ superblockAt s (a / 4096) .class → class < 27
-    freed-class can class ec = rw ec (can .class outside-run)
-
-    -- the totals of the state in which the block is free are the recount too
-    pub block-freed-totals-kept : TotalsKept t
-    unfolding blockFreed smallBlockFreed markCleared
-    block-freed-totals-kept = rw (et, outside-run) refl
-
-    pub freed-at-of-block : (class : ℕ) (m : Moved) (count : ℕ) (next : State) → class ≡ superblockAt s (a / 4096) .class → m ≡ invariantRestored owner class t → count ≡ m .moves → next ≡ m .state
-        → record { answer = record { outcome = Moves count; state = next }; order = new } ≡ freedAt s order a
-    unfolding freedAt smallFreedAt blockFreed orderPushed
-    freed-at-of-block class m count next ec em ei es = rw (ei, es, em, et, en, eo, ec, outside-run)
+  -- of a block of a class, with the moves
+  pub freed-at-by-steps : (m : Moved) (count : ℕ) (next : State) → (owner ≡ 254 → ⊥) → class ≡ superblockAt s (a / 4096) .class → m ≡ invariantRestored owner class t → count ≡ m .moves → next ≡ m .state
+      → record { answer = record { outcome = Moves count; state = next }; order = new } ≡ freedAt s order a
+  unfolding freedAt smallFreedAt
+  freed-at-by-steps m count next other f i j k =
+      let outside = outside-run-of-owner (superblockHolding s a) (λ q. other (e ∙ q)) in
+      rw (j, k, i, h, g, block-freed-outside-run s a outside, order-pushed-outside-run s a order outside, outside, e, f)
 
 -- ---- how a proof finds which way out it is at
 pub ruleset free-outcomes = (free-unchecked-refused-2, free-unchecked-refused-by-address, free-unchecked-is-freed-at, not-true, not-false)

@@ -1,15 +1,17 @@
 // Free behind the check, on a state by value and lent order storage that pass it: the check is the caller's to make.
 ghost use mathlib.Core.Path.{_≡_};
-ghost use mathlib.Core.Bool.{true};
+ghost use mathlib.Core.Bool.{true, false};
+ghost use Prim.Native.Nat.{_+_, _≤_, _<_};
 ghost use Rattle.checkrules.specs.Check.{passes};
+ghost use Rattle.heap.specs.Totals.{TotalsKept};
+ghost use Rattle.heap.specs.Ranks.{RanksFit};
 ghost use Rattle.calls.specs.Answers.{After, HasNumberAndValuesOf};
-ghost use Rattle.calls.specs.Free.{freedAt, freeUnchecked};
-ghost use Rattle.freeunchecked.specs.FreeSteps.{CanBeFreed};
+ghost use Rattle.calls.specs.Free.{superblockIndex, superblockHolding, isInRun, freedAt, freeUnchecked};
 use calls::Answer;
 use calls::Outcome;
 use heap::State;
 
-// The block or run at the address is free again, and the move rule is followed; or refusal 2, 5, 6 or 7.
+// The block at the address is free again, and the move rule is followed; or refusal 2, 5, 6 or 7.
 pub fn free(s: State, order: &mut [u16], processor: u8, address: u32) -> Answer
     requires { ⌜ passes s (now order) ≡ true ⌝ }
     ensures { λ r. ⌜ record { answer = r; order = now (order .exit) } ≡ freeUnchecked s (now (order .entry)) processor address ⌝ }
@@ -25,10 +27,16 @@ pub fn free(s: State, order: &mut [u16], processor: u8, address: u32) -> Answer
     free_at(s, order, address)
 }
 
-// The block, or the run, at the address is free again. The emptiness invariant of the heap and class of the block's superblock is restored; a run is of none, so
-// that its free moves nothing.
+// The superblock is the last freed into, the mark is cleared and the name let go, the number goes in the next place, and the emptiness
+// invariant of the owner's heap and class is restored. A run is of no heap and class: it becomes unused, and nothing moves.
 fn free_at(s: State, order: &mut [u16], address: u32) -> Answer
-    requires { ⌜ CanBeFreed s address ⌝ }
+    requires { ⌜
+        (superblockIndex address < 64)
+        × (superblockIndex address + superblockHolding s address .run ≤ 64)
+        × (isInRun s address ≡ false → (superblockHolding s address .owner < 9) × (superblockHolding s address .class < 27))
+        × TotalsKept s
+        × RanksFit s
+        ⌝ }
     ensures { λ r. ⌜ record { answer = r; order = now (order .exit) } ≡ freedAt s (now (order .entry)) address ⌝ }
 {
     let k = (address / 4096) as usize;

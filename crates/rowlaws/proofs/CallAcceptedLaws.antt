@@ -1,11 +1,12 @@
 -- A take or a free, plain or named, or a drop, whichever it is: refused, it changes nothing; accepted, it leaves a state that passes, and as many superblocks. Assumes nothing.
 use mathlib.Core.Path.{_≡_, refl, sym, ap, _∙_, subst}
+use mathlib.Core.Bool.{true, false}
 use mathlib.Core.Logic.{_⊎_, inl, inr, ⊎-elim}
 use mathlib.Core.List.{List}
 use Prim.Native.Nat.{ℕ}
 use native.Mathlib.Omega.{arith}
 use lib.ListN.{length, length-set}
-use Rattle.classes.specs.Classes.{classOf}
+use Rattle.classes.specs.Classes.{classOf, runLength}
 use Rattle.heap.specs.declared.State.{State}
 use Rattle.heap.specs.Table.{superblockAt, withMarkAt}
 use Rattle.heap.specs.States.{withSuperblock}
@@ -16,16 +17,21 @@ use Rattle.calls.specs.declared.Outcome.the-variants.{Ready, Address, Moves, Re
 use Rattle.calls.specs.Answers.{After, refused}
 use Rattle.calllaws.proofs.TakeSourceLaws.{length-unranked-if-empty}
 use Rattle.calls.specs.Take.{acquired, unrankedIfEmpty, nextBlock, takenFrom, takenFromOther, takeOf}
-use Rattle.calls.specs.Free.{superblockHolding, blockFreed, freedAt, freeOf}
+use Rattle.calls.specs.Runs.{longTakenFrom}
+use Rattle.calls.specs.Free.{superblockHolding, isInRun, smallBlockFreed, smallFreedAt, longFreedAt, freeOf}
 use Rattle.calls.specs.Drop.{droppedAll, dropOf}
 use Rattle.calls.specs.Named.{nameBound, boundBy, withNameBound, namedTakeOf, heldAddress, namedFreeOf}
 use Rattle.calls.specs.Calls.{Call, Take, Free, NamedTake, NamedFree, Drop, callOf}
-use Rattle.calllaws.proofs.CallEffects.{Passed, TakeAccepted, FreeAccepted, NamedTakeAccepted, NamedFreeAccepted}
+use Rattle.calllaws.proofs.CallEffects.{Passed, TakeAccepted, LongTakeAccepted, FreeAccepted, LongFreeAccepted, NamedTakeAccepted, NamedLongTakeAccepted, NamedFreeAccepted, NamedLongFreeAccepted}
+use Rattle.calllaws.proofs.RunEffectLaws.{run-taken-keeps-rest}
 use Rattle.calllaws.proofs.TakeLaws.{take-refused-or-accepted, take-passed, take-shape}
-use Rattle.calllaws.proofs.FreeLaws.{free-refused-or-accepted, free-passed, free-shape}
+use Rattle.calllaws.proofs.RunTakenLaws.{long-take-passed, long-take-shape}
+use Rattle.calllaws.proofs.AddressFreedLaws.{block-freed-outside-run, block-freed-in-run}
+use Rattle.calllaws.proofs.FreeLaws.{free-refused-or-accepted, free-passed, free-shape, long-free-passed, long-free-shape}
 use Rattle.calllaws.proofs.DropLaws.{DropAccepted, drop-refused-or-accepted, drop-shape, drop-passed}
 use Rattle.calllaws.proofs.DropMoveLaws.{length-of-block-freed, length-of-drop-moves}
 use Rattle.calllaws.proofs.NamedCallLaws.{named-take-refused-or-accepted, named-take-passed, named-take-shape, named-free-refused-or-accepted}
+use Rattle.calllaws.proofs.NamedLongTakeLaws.{named-long-take-passed, named-long-take-shape}
 
 -- ---- calls that are accepted
 length-of-taken-from : (k : ℕ) (s : State) (order : List ℕ) → length (takenFrom k s order .answer .state .table) ≡ length (s .table)
@@ -38,9 +44,22 @@ length-of-taken-from-other i c k s order long =
     length-of-taken-from k (withSuperblock (unrankedIfEmpty k s) k (acquired i c (superblockAt s k))) _
     ∙ length-set (unrankedIfEmpty k s .table) k (acquired i c (superblockAt s k)) ∙ length-unranked-if-empty k s long
 
-length-of-freed-at : (s : State) (order : List ℕ) (a : ℕ) → length (freedAt s order a .answer .state .table) ≡ 64
-unfolding freedAt
-length-of-freed-at s order a = length-of-invariant-restored (superblockHolding s a .owner) (superblockHolding s a .class) (blockFreed s a) (length-of-block-freed s a)
+-- a run's superblocks are replaced one by one
+length-of-long-taken-from : (k n : ℕ) (s : State) (order : List ℕ) → length (s .table) ≡ 64 → length (longTakenFrom k n s order .answer .state .table) ≡ 64
+unfolding longTakenFrom
+length-of-long-taken-from k n s order = run-taken-keeps-rest k n s .length-is
+
+-- whichever block is freed
+module _ (s : State) (order : List ℕ) (a : ℕ) (long : length (s .table) ≡ 64) where
+  length-of-small-freed-at : isInRun s a ≡ false → length (smallFreedAt s order a .answer .state .table) ≡ 64
+  unfolding smallFreedAt
+  length-of-small-freed-at e =
+      length-of-invariant-restored (superblockHolding s a .owner) (superblockHolding s a .class) (smallBlockFreed s a)
+      (subst (λ (t : State). length (t .table) ≡ 64) (block-freed-outside-run s a e) (length-of-block-freed s a long))
+
+  length-of-long-freed-at : isInRun s a ≡ true → length (longFreedAt s order a .answer .state .table) ≡ 64
+  unfolding longFreedAt
+  length-of-long-freed-at e = subst (λ (t : State). length (t .table) ≡ 64) (block-freed-in-run s a e) (length-of-block-freed s a long)
 
 -- a name that is bound changes no superblock
 table-of-bound-by : (o : Outcome) (m : ℕ) (s : State) → boundBy o m s .table ≡ s .table
@@ -85,11 +104,23 @@ call-accepted-of-take s order i size k acc =
     after : Shape s → Passed (takeOf s order i size .answer .state) (takeOf s order i size .order) × Shape (takeOf s order i size .answer .state)
     after shape = (take-passed s order i size k shape acc, take-shape s order i size k shape acc)
 
+call-accepted-of-long-take : (s : State) (order : List ℕ) (i size k : ℕ) → LongTakeAccepted s order i size k → CallAccepted s order (takeOf s order i size)
+unfolding isRefusal longTakenFrom
+call-accepted-of-long-take s order i size k acc =
+    call-accepted-of-result s order (takeOf s order i size) (longTakenFrom k (runLength size) s order) (acc .result-is) (acc .passed) (length-of-long-taken-from k (runLength size) s order) refl
+    (λ shape. (long-take-passed s order i size k shape acc, long-take-shape s order i size k shape acc))
+
 call-accepted-of-free : (s : State) (order : List ℕ) (i a : ℕ) → FreeAccepted s order i a → CallAccepted s order (freeOf s order i a)
-unfolding isRefusal freedAt
+unfolding isRefusal smallFreedAt
 call-accepted-of-free s order i a acc =
-    call-accepted-of-result s order (freeOf s order i a) (freedAt s order a) (acc .result-is) (acc .passed) (λ long. length-of-freed-at s order a) refl
+    call-accepted-of-result s order (freeOf s order i a) (smallFreedAt s order a) (acc .result-is) (acc .address .passed) (λ long. length-of-small-freed-at s order a long (acc .outside-run)) refl
     (λ shape. (free-passed s order i a shape acc, free-shape s order i a shape acc))
+
+call-accepted-of-long-free : (s : State) (order : List ℕ) (i a : ℕ) → LongFreeAccepted s order i a → CallAccepted s order (freeOf s order i a)
+unfolding isRefusal longFreedAt
+call-accepted-of-long-free s order i a acc =
+    call-accepted-of-result s order (freeOf s order i a) (longFreedAt s order a) (acc .result-is) (acc .address .passed) (λ long. length-of-long-freed-at s order a long (acc .in-run)) refl
+    (λ shape. (long-free-passed s order i a shape acc, long-free-shape s order i a shape acc))
 
 call-accepted-of-drop : (s : State) (order : List ℕ) (i : ℕ) (addresses : List ℕ) → DropAccepted s order i addresses → CallAccepted s order (dropOf s order i addresses)
 unfolding isRefusal droppedAll
@@ -98,26 +129,41 @@ call-accepted-of-drop s order i addresses acc =
     (λ shape. (drop-passed s order i addresses shape acc, drop-shape s order i addresses shape acc))
 
 -- a named take is the plain one with the name bound, and a named free the free of the held address
-call-accepted-of-named-take : (s : State) (order : List ℕ) (i m size k : ℕ) → NamedTakeAccepted s order i m size k → CallAccepted s order (namedTakeOf s order i m size)
+call-accepted-of-name-bound : (s : State) (order : List ℕ) (i m size : ℕ) → CallAccepted s order (takeOf s order i size) → namedTakeOf s order i m size ≡ withNameBound m (takeOf s order i size)
+    → (Shape s → Passed (namedTakeOf s order i m size .answer .state) (namedTakeOf s order i m size .order) × Shape (namedTakeOf s order i m size .answer .state)) → CallAccepted s order (namedTakeOf s order i m size)
 unfolding withNameBound
-call-accepted-of-named-take s order i m size k acc =
-    let plain = call-accepted-of-take s order i size k (acc .taken) in
+call-accepted-of-name-bound s order i m size plain result-is after =
     let result = takeOf s order i size .answer in
     record {
       passed = plain .passed;
-      length-is = λ long. ap (λ (y : After). length (y .answer .state .table)) (acc .result-is) ∙ ap length (table-of-bound-by (result .outcome) m (result .state)) ∙ plain .length-is long;
-      not-refused = λ r f. plain .not-refused r (sym (ap (λ (y : After). y .answer .outcome) (acc .result-is)) ∙ f);
-      passes = λ shape. (named-take-passed s order i m size k shape acc, named-take-shape s order i m size k shape acc);
+      length-is = λ long. ap (λ (y : After). length (y .answer .state .table)) result-is ∙ ap length (table-of-bound-by (result .outcome) m (result .state)) ∙ plain .length-is long;
+      not-refused = λ r f. plain .not-refused r (sym (ap (λ (y : After). y .answer .outcome) result-is) ∙ f);
+      passes = after;
     }
+
+call-accepted-of-named-take : (s : State) (order : List ℕ) (i m size k : ℕ) → NamedTakeAccepted s order i m size k → CallAccepted s order (namedTakeOf s order i m size)
+call-accepted-of-named-take s order i m size k acc =
+    call-accepted-of-name-bound s order i m size (call-accepted-of-take s order i size k (acc .taken)) (acc .result-is)
+    (λ shape. (named-take-passed s order i m size k shape acc, named-take-shape s order i m size k shape acc))
+
+call-accepted-of-named-long-take : (s : State) (order : List ℕ) (i m size k : ℕ) → NamedLongTakeAccepted s order i m size k → CallAccepted s order (namedTakeOf s order i m size)
+call-accepted-of-named-long-take s order i m size k acc =
+    call-accepted-of-name-bound s order i m size (call-accepted-of-long-take s order i size k (acc .taken)) (acc .result-is)
+    (λ shape. (named-long-take-passed s order i m size k shape acc, named-long-take-shape s order i m size k shape acc))
 
 call-accepted-of-named-free : (s : State) (order : List ℕ) (i m : ℕ) → NamedFreeAccepted s order i m → CallAccepted s order (namedFreeOf s order i m)
 call-accepted-of-named-free s order i m acc = subst (CallAccepted s order) (sym (acc .result-is)) (call-accepted-of-free s order i (heldAddress s m) (acc .freed))
 
+call-accepted-of-named-long-free : (s : State) (order : List ℕ) (i m : ℕ) → NamedLongFreeAccepted s order i m → CallAccepted s order (namedFreeOf s order i m)
+call-accepted-of-named-long-free s order i m acc = subst (CallAccepted s order) (sym (acc .result-is)) (call-accepted-of-long-free s order i (heldAddress s m) (acc .freed))
+
 pub call-refused-or-accepted : (s : State) (order : List ℕ) (call : Call) → ((r : ℕ) × (callOf s order call ≡ refused r s order)) ⊎ CallAccepted s order (callOf s order call)
 unfolding callOf
-call-refused-or-accepted s order (Take i size) = ⊎-elim inl (λ h. inr (call-accepted-of-take s order i size (h .0) (h .1))) (take-refused-or-accepted s order i size)
-call-refused-or-accepted s order (Free i a) = ⊎-elim inl (λ h. inr (call-accepted-of-free s order i a h)) (free-refused-or-accepted s order i a)
+call-refused-or-accepted s order (Take i size) =
+    ⊎-elim inl (λ h. inr (⊎-elim (λ g. call-accepted-of-take s order i size (g .0) (g .1)) (λ g. call-accepted-of-long-take s order i size (g .0) (g .1)) h)) (take-refused-or-accepted s order i size)
+call-refused-or-accepted s order (Free i a) = ⊎-elim inl (λ h. inr (⊎-elim (call-accepted-of-free s order i a) (call-accepted-of-long-free s order i a) h)) (free-refused-or-accepted s order i a)
 call-refused-or-accepted s order (NamedTake i m size) =
-    ⊎-elim inl (λ h. inr (call-accepted-of-named-take s order i m size (h .0) (h .1))) (named-take-refused-or-accepted s order i m size)
-call-refused-or-accepted s order (NamedFree i m) = ⊎-elim inl (λ h. inr (call-accepted-of-named-free s order i m h)) (named-free-refused-or-accepted s order i m)
+    ⊎-elim inl (λ h. inr (⊎-elim (λ g. call-accepted-of-named-take s order i m size (g .0) (g .1)) (λ g. call-accepted-of-named-long-take s order i m size (g .0) (g .1)) h)) (named-take-refused-or-accepted s order i m size)
+call-refused-or-accepted s order (NamedFree i m) =
+    ⊎-elim inl (λ h. inr (⊎-elim (call-accepted-of-named-free s order i m) (call-accepted-of-named-long-free s order i m) h)) (named-free-refused-or-accepted s order i m)
 call-refused-or-accepted s order (Drop i addresses) = ⊎-elim inl (λ h. inr (call-accepted-of-drop s order i addresses h)) (drop-refused-or-accepted s order i addresses)

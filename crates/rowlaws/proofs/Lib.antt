@@ -5,4 +5,5 @@ pub mod RowDropLaws
 pub mod RowDemand3
 pub mod RowTotalsLaws
 pub mod RowRankLaws
+pub mod RowRunLaws
 pub mod RowCallCases

@@ -7,7 +7,7 @@ use lib.ListN.{getD, replicate}
 use Rattle.heap.specs.declared.Superblock.{Superblock}
 use Rattle.heap.specs.declared.Totals.{Totals}
 use Rattle.heap.specs.Table.{withRank}
-use Rattle.calls.specs.Calls.{Call, Take, Free, NamedTake, NamedFree}
+use Rattle.calls.specs.Calls.{Call, Take, Free, NamedTake, NamedFree, Drop}
 use Rattle.calls.specs.declared.Outcome.the-variants.{Ready, Address, Moves}
 use Rattle.calls.specs.Answers.{valuesOf}
 use Rattle.calls.proofs.CallDefinitions.{callDefinitions}
@@ -51,7 +51,7 @@ refused-after before call r = call-refused-case r (before .control) (before .row
 -- the call's own refusals; an accepted take and free write their superblock's record and its order places
 abbrev pub whole-row-call-cases : List CallCase
 whole-row-call-cases =
-    call-refused-case 3 unnamed-control unused-row storage-of-258 (Take 2 2049) ∷ call-refused-case 5 unnamed-control unused-row storage-of-258 (Free 2 0)
+    call-refused-case 17 unnamed-control unused-row storage-of-258 (Take 2 4097) ∷ call-refused-case 5 unnamed-control unused-row storage-of-258 (Free 2 0)
     ∷ record { control = unnamed-control; row = unused-row; order = storage-of-258; call = Take 2 2048; after = row-after-take no-name-held }
     ∷ case-after (row-after-take no-name-held) (Free 1 0) row-after-free ∷ []
 
@@ -94,6 +94,40 @@ pub wrong-ranks-cases-are-computed : map (λ (k : CallCase). rowCall (k .control
 unfolding callOn callDefinitions
 wrong-ranks-cases-are-computed = refl
 
+-- Long blocks (document 02, item 7): with N = 1 a size of 2049 takes superblock 0 as a run of one and writes no order place; another address in it is refused 6; either free makes it
+-- unused; the name that holds it is handed back, and let go
+abbrev pub run-part : ℕ → Superblock
+run-part n = record { owner = 254; class = 0; live = 0 ∷ 0 ∷ 0 ∷ 0 ∷ []; rank = 0; run = n }
+
+abbrev pub row-after-long-take : List ℕ → RowAfter
+row-after-long-take names = row-after (Address 0) (control-with example-setup names zero-totals) (run-part 1 ∷ replicate 63 unused-superblock) storage-of-258
+
+abbrev pub row-after-long-free : RowAfter
+row-after-long-free = row-after (Moves 0) unnamed-control unused-row storage-of-258
+
+abbrev pub long-row-call-cases : List CallCase
+long-row-call-cases =
+    record { control = unnamed-control; row = unused-row; order = storage-of-258; call = Take 2 2049; after = row-after-long-take no-name-held }
+    ∷ refused-after (row-after-long-take no-name-held) (Free 1 2048) 6 ∷ refused-after (row-after-long-take no-name-held) (Take 1 16) 4 ∷ refused-after (row-after-long-take no-name-held) (Take 1 2049) 17
+    ∷ case-after (row-after-long-take no-name-held) (Free 1 0) row-after-long-free
+    ∷ record { control = unnamed-control; row = unused-row; order = storage-of-258; call = NamedTake 2 6 2049; after = row-after-long-take name-6-held }
+    ∷ case-after (row-after-long-take name-6-held) (NamedFree 1 6) row-after-long-free ∷ case-after (row-after-long-take name-6-held) (Drop 1 (0 ∷ [])) row-after-long-free ∷ []
+
+pub long-row-call-cases-are-computed : map (λ (k : CallCase). rowCall (k .control) (k .row) (k .order) (k .call)) long-row-call-cases ≡ map (λ (k : CallCase). k .after) long-row-call-cases
+unfolding callOn callDefinitions
+long-row-call-cases-are-computed = refl
+
+-- Runs: a row with a run that is cut off, one whose first record carries no length, one past N or an unused record that carries a length fails the check, 13, and keeps them
+abbrev pub wrong-runs-cases : List CallCase
+wrong-runs-cases =
+    map (λ (row : List Superblock). call-refused-case 13 unnamed-control row storage-of-258 (Take 2 2048))
+    ((run-part 2 ∷ replicate 63 unused-superblock) ∷ (run-part 0 ∷ replicate 63 unused-superblock) ∷ (unused-superblock ∷ run-part 1 ∷ replicate 62 unused-superblock)
+    ∷ (record { owner = 255; class = 0; live = 0 ∷ 0 ∷ 0 ∷ 0 ∷ []; rank = 0; run = 1 } ∷ replicate 63 unused-superblock) ∷ [])
+
+pub wrong-runs-cases-are-computed : map (λ (k : CallCase). rowCall (k .control) (k .row) (k .order) (k .call)) wrong-runs-cases ≡ map (λ (k : CallCase). k .after) wrong-runs-cases
+unfolding callOn callDefinitions
+wrong-runs-cases-are-computed = refl
+
 -- ---- lists
 abbrev pub row-after-setup : RowAfter
 row-after-setup = row-after Ready unnamed-control unused-row storage-of-258
@@ -113,6 +147,11 @@ take-then-free-linked = (refl, (refl, tt))
 pub named-take-then-named-free-linked : RowLinked row-after-setup (record { call = NamedTake 2 6 2048; after = row-after-take name-6-held } ∷ record { call = NamedFree 1 6; after = row-after-free } ∷ [])
 unfolding RowLinked callOn callDefinitions
 named-take-then-named-free-linked = (refl, (refl, tt))
+
+-- and the run that it wrote: a long block that is taken is freed
+pub long-take-then-free-linked : RowLinked row-after-setup (record { call = Take 2 2049; after = row-after-long-take no-name-held } ∷ record { call = Free 1 0; after = row-after-long-free } ∷ [])
+unfolding RowLinked callOn callDefinitions
+long-take-then-free-linked = (refl, (refl, tt))
 
 -- a second take on the row that the setup wrote is no list: the same block is not taken twice
 pub same-take-twice-not-linked : RowLinked row-after-setup (take-step ∷ take-step ∷ []) → ⊥

@@ -23,6 +23,7 @@ use Rattle.heaplaws.proofs.StateFacts.{Shape}
 use Rattle.heaplaws.proofs.StateCheckLaws.{new-state-sound, new-state-names-valid, new-state-shape}
 use Rattle.heaplaws.proofs.RankLaws.{new-state-ranks-sound}
 use Rattle.heaplaws.proofs.TotalsLaws.{new-state-totals-kept}
+use Rattle.heaplaws.proofs.RunLaws.{runs-valid-of-sound, new-state-runs-sound}
 use Rattle.calls.specs.declared.Outcome.{Outcome}
 use Rattle.calls.specs.declared.Outcome.the-variants.{Ready, Address, Moves, Refused}
 use Rattle.calls.specs.Answers.{checked, numberOf}
@@ -189,7 +190,7 @@ module _ (u : Setup) (row : List Superblock) (order : List ℕ) where
             s,
             ap asAfter s ∙ sym (state-setup-accepts u order (true-of-T (withinLimits u) t) l),
             ap (λ (x : RowAfter). length (x .row)) s ∙ length-replicate 64 unused,
-            subst (λ (x : RowAfter). Passed (stateOf (x .control) (x .row)) (x .order)) (sym s) (record { sound = new-state-sound u places t; names = new-state-names-valid u; totals = new-state-totals-kept u; ranks = new-state-ranks-sound u; room = room }),
+            subst (λ (x : RowAfter). Passed (stateOf (x .control) (x .row)) (x .order)) (sym s) (record { sound = new-state-sound u places t; names = new-state-names-valid u; totals = new-state-totals-kept u; ranks = new-state-ranks-sound u; runs = runs-valid-of-sound _ (new-state-shape u .length-is) (new-state-runs-sound u); room = room }),
             subst (λ (x : RowAfter). Shape (stateOf (x .control) (x .row))) (sym s) (new-state-shape u),
           )
 

@@ -78,6 +78,11 @@ module _ (u : Setup) (order : List ℕ) (k : ℕ) (b : Superblock) (r : Bool) (u
         unfolding aloneValid superblockValid isOwned unusedFrom
         alone-valid-is-places-valid t g below owner class e f h = h ∙ sym (simp (is-unowned-false, lt-ltb k (u .superblocks) below, le-leb (b .owner) (u .processors) owner, lt-ltb (b .class) 27 class, sym e ∙ not-false t f, both-true-right))
 
+-- a superblock of another owner is part of no run
+pub no-part-of-run-of-owner : (b : Superblock) → (b .owner ≡ 254 → ⊥) → false ≡ isPartOfRun b
+unfolding isPartOfRun isOfRun
+no-part-of-run-of-owner b f = sym (simp (ne-eqb (b .owner) 254 f))
+
 -- heap 0's superblocks are sparse
 module _ (u : Setup) (b : Superblock) where
   pub sparse-if-global-of-other-heap : (b .owner ≡ 0 → ⊥) → true ≡ sparseIfGlobal u b

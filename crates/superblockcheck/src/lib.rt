@@ -1,6 +1,6 @@
 // What the check of a state handed in asks of each superblock alone.
 ghost use mathlib.Core.Path.{_≡_};
-ghost use Rattle.checkrules.specs.Check.{sparseIfGlobal};
+ghost use Rattle.checkrules.specs.Check.{isPartOfRun, sparseIfGlobal};
 ghost use Rattle.superblockcheck.specs.Alone.{aloneValid, eachValid};
 use heap::Setup;
 use heap::Superblock;
@@ -32,7 +32,7 @@ fn alone_valid(setup: Setup, order: &[u16], k: u8, b: Superblock) -> bool
     if setup.superblocks <= k {
         return false;
     }
-    if predicates::is_part_of_run(b) {
+    if is_part_of_run(b) {
         return true;
     }
     if setup.processors < b.owner {
@@ -46,6 +46,16 @@ fn alone_valid(setup: Setup, order: &[u16], k: u8, b: Superblock) -> bool
     }
     let live = b.live;
     ordercheck::places_valid(order, live, k, b.class)
+}
+
+// Part of a long block's run. The owner is looked at here, since a call of another crate for each superblock takes longer.
+fn is_part_of_run(b: Superblock) -> bool
+    ensures { λ r. ⌜ r ≡ isPartOfRun b ⌝ }
+{
+    if b.owner != 254 {
+        return false;
+    }
+    predicates::is_part_of_run(b)
 }
 
 // A superblock is not heap 0's, or has few enough live blocks.

@@ -6,7 +6,8 @@ ghost use Rattle.heap.specs.Table.{liveBlocks, isLiveBlock};
 use heap::State;
 use heap::Superblock;
 
-// The live blocks of a superblock: its marks, or block 0 alone where it is the first of a run.
+// The live blocks of a superblock: its marks, or block 0 alone where it is the first of a run. The owner and the length are looked at here, since
+// a call of another crate for each superblock takes longer.
 fn live_blocks(b: Superblock) -> [u64; 4]
     ensures { λ r. ⌜ r ≡ liveBlocks b ⌝ }
 {

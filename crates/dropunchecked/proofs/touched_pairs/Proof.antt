@@ -1,10 +1,12 @@
 -- `dropunchecked::touched_pairs` meets its contract. The loop's invariant: the array tells the heaps and classes of the addresses passed. The measure is what is left of them. Assumes nothing.
-use mathlib.Core.Path.{refl}
+use mathlib.Core.Path.{refl, sym, subst}
+use mathlib.Core.Bool.{Bool}
+use mathlib.Core.List.{List}
 use mathlib.Core.Logic.{⊎-elim}
-use Prim.Native.Nat.{_-_, _≤_}
+use Prim.Native.Nat.{_+_, _-_, _≤_}
 use native.Mathlib.Omega.{arith}
 use lib.ListN.{length}
-use Rattle.dropunchecked.proofs.TouchedLaws.{ToldBelow, none-told, pair-in-array, told-at-block, told-at-run, told-at-end}
+use Rattle.dropunchecked.proofs.TouchedLaws.{ToldBelow, none-told, pair-in-array, told-past-run, told-at-next, told-at-end}
 use borrow.Author.Needs.{needs}
 use Rattle.dropunchecked.proofs.touched_pairs.Statement.{statement}
 use Rattle.dropunchecked.proofs.touched_pairs.Tie as tie
@@ -33,23 +35,20 @@ mul-b c = let at = c .before .before .before .pre _ (c .before .loop-test .taken
 element-copy-out-b : tie.Need-element-copy-out-b Inv-loop μ-loop
 element-copy-out-b c = let at = c .before .before .before .pre _ (c .before .loop-test .taken) in omega arith
 
-cast-touched : tie.Need-cast-touched Inv-loop μ-loop
-cast-touched c = search needs
+cast-at : tie.Need-cast-at Inv-loop μ-loop
+cast-at c = omega arith
 
-mul-touched : tie.Need-mul-touched Inv-loop μ-loop
-mul-touched c = search needs
+mul-at : tie.Need-mul-at Inv-loop μ-loop
+mul-at c = let low = c .before .if1 .taken in omega arith
 
-cast-touched-2 : tie.Need-cast-touched-2 Inv-loop μ-loop
-cast-touched-2 c = search needs
+cast-at-2 : tie.Need-cast-at-2 Inv-loop μ-loop
+cast-at-2 c = omega arith
 
-add-touched : tie.Need-add-touched Inv-loop μ-loop
-add-touched c = search needs
+add-at : tie.Need-add-at Inv-loop μ-loop
+add-at c = let low = pair-in-array _ _ _ (c .before .before .before .before .before .before .before .before .pre) (c .before .before .before .before .before .before .loop-test .taken) _ _ refl refl (c .before .before .if1 .taken) in omega arith
 
 array-write-touched : tie.Need-array-write-touched Inv-loop μ-loop
-array-write-touched c =
-    let read = c .before .before .before .before .before in
-    let turn = read .before .before in
-    pair-in-array _ _ _ (turn .before .pre) (read .before .loop-test .taken) _ refl (c .before .before .if1 .taken) _ refl
+array-write-touched c = pair-in-array _ _ _ (c .before .before .before .before .before .before .before .before .pre) (c .before .before .before .before .before .before .loop-test .taken) _ _ refl refl (c .before .before .if1 .taken)
 
 add-i : tie.Need-add-i Inv-loop μ-loop
 add-i c = search needs
@@ -58,15 +57,11 @@ loop-less : tie.Need-loop-less Inv-loop μ-loop
 loop-less c = search needs
 
 loop-again : tie.Need-loop-again Inv-loop μ-loop
-loop-again c =
-    let read = c .before .before .before in
-    let turn = read .before .before in (
-      omega arith,
-      ⊎-elim
-          (λ w. told-at-block _ _ _ (turn .before .pre) (read .before .loop-test .taken) _ refl (w .0 .taken) _ refl _ _ (turn .loop .inv .1) (w .3))
-          (λ w. told-at-run _ _ _ (turn .before .pre) (read .before .loop-test .taken) _ refl (w .0 .left) _ _ (turn .loop .inv .1) (w .1))
-          (c .if1 .came),
-    )
+loop-again c = (
+  omega arith,
+  ⊎-elim (λ w. subst (λ (l : List Bool). ToldBelow l (c .before .before .before .before .before .before .args .t1) (c .before .before .before .before .before .before .args .addresses .now) (c .before .before .before .before .before .loop .i + 1)) (sym (w .3)) (told-at-next _ _ _ (c .before .before .before .before .before .before .pre) (c .before .before .before .before .loop-test .taken) _ _ refl refl (w .0 .taken) _ (c .before .before .before .before .before .loop .inv .1)))
+      (λ w. subst (λ (l : List Bool). ToldBelow l (c .before .before .before .before .before .before .args .t1) (c .before .before .before .before .before .before .args .addresses .now) (c .before .before .before .before .before .loop .i + 1)) (sym (w .1)) (told-past-run _ _ _ (c .before .before .before .before .before .before .pre) (c .before .before .before .before .loop-test .taken) _ _ refl refl (w .0 .left) _ (c .before .before .before .before .before .loop .inv .1))) (c .if1 .came),
+)
 
 returns : tie.Need-returns Inv-loop μ-loop
 returns c = told-at-end _ _ _ _ (c .before .loop .inv .1) (c .loop-test .left)
@@ -83,10 +78,10 @@ touched-pairs-spec =
     cast-k
     mul-b
     element-copy-out-b
-    cast-touched
-    mul-touched
-    cast-touched-2
-    add-touched
+    cast-at
+    mul-at
+    cast-at-2
+    add-at
     array-write-touched
     add-i
     loop-less

@@ -1,6 +1,6 @@
 -- `freeunchecked::free` meets its contract. Assumes nothing.
-use Rattle.laws.proofs.ReplacedElement.{length-of-length-map}
 use Rattle.freeunchecked.proofs.FreeUncheckedLaws.{free-unchecked-clauses, free-outcomes, superblocks-in-table, freed-superblock}
+use Rattle.heaplaws.proofs.ShapeLaws.{shape-of-state}
 use borrow.Author.Needs.{needs}
 use Rattle.freeunchecked.proofs.free.Statement.{statement}
 use Rattle.freeunchecked.proofs.free.Tie as tie
@@ -24,7 +24,7 @@ returns-2 : tie.Need-returns-2
 returns-2 c = free-unchecked-clauses _ _ _ _ (search free-outcomes)
 
 free-at-requires : tie.Need-free-at-requires
-free-at-requires c κs = freed-superblock _ _ _ (search length-of-length-map) (c .before .before .before .before .before .before .pre) _ (c .before .before .refusal .ensures) (c .before .if2 .left)
+free-at-requires c κs = freed-superblock _ _ _ (c .before .before .before .before .before .before .pre) _ (c .before .before .refusal .ensures) (c .before .if2 .left) (search shape-of-state)
 
 same-length : tie.Need-same-length
 same-length c = search needs

@@ -1,5 +1,5 @@
--- `freeunchecked::free_at` meets its contract: by whether the superblock is of a run. Assumes nothing.
-use Rattle.freeunchecked.proofs.FreeUncheckedLaws.{freed-at-of-run, freed-owner, freed-class, block-freed-totals-kept, freed-at-of-block}
+-- `freeunchecked::free_at` meets its contract. Assumes nothing.
+use Rattle.freeunchecked.proofs.FreeUncheckedLaws.{freed-owner, freed-class, block-freed-totals-kept, freed-at-of-run, freed-at-by-steps}
 use borrow.Author.Needs.{needs}
 use Rattle.freeunchecked.proofs.free_at.Statement.{statement}
 use Rattle.freeunchecked.proofs.free_at.Tie as tie
@@ -16,20 +16,20 @@ class-at-requires c κs = search needs
 release-block-requires : tie.Need-release-block-requires
 release-block-requires c κs = search needs
 
+restore-invariant-requires : tie.Need-restore-invariant-requires
+restore-invariant-requires c κs = (search freed-owner, search freed-class, search block-freed-totals-kept)
+
 same-length : tie.Need-same-length
 same-length c = search needs
 
 returns : tie.Need-returns
 returns c = search freed-at-of-run
 
-restore-invariant-requires : tie.Need-restore-invariant-requires
-restore-invariant-requires c κs = (search (freed-owner, needs), search freed-class, search block-freed-totals-kept)
-
 same-length-2 : tie.Need-same-length-2
 same-length-2 c = search needs
 
 returns-2 : tie.Need-returns-2
-returns-2 c = search freed-at-of-block
+returns-2 c = search freed-at-by-steps
 
 pub free-at-spec : {M : Type 1} → statement M
 free-at-spec =
