@@ -20,9 +20,6 @@ refuse-requires-2 c κs = search needs
 returns-2 : tie.Need-returns-2
 returns-2 c = drop-unchecked-clauses _ _ _ _ (search drop-outcomes)
 
-first-address-refusal-requires : tie.Need-first-address-refusal-requires
-first-address-refusal-requires c κs = addresses-can-be-tested _ _ (c .before .before .before .before .before .pre) (search shape-of-state)
-
 refuse-requires-3 : tie.Need-refuse-requires-3
 refuse-requires-3 c κs = search needs
 
@@ -37,6 +34,9 @@ same-length c = search needs
 
 returns-4 : tie.Need-returns-4
 returns-4 c = drop-unchecked-clauses _ _ _ _ (search drop-outcomes)
+
+first-address-refusal-requires : tie.Need-first-address-refusal-requires
+first-address-refusal-requires c κs = addresses-can-be-tested _ _ (c .before .before .before .before .before .pre) (search shape-of-state)
 
 pub drop-spec : {M : Type 1} → statement M
 drop-spec =

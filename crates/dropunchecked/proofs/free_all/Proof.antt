@@ -26,14 +26,14 @@ shared-slice-read-address c = search needs
 release-block-requires : tie.Need-release-block-requires Inv-loop μ-loop
 release-block-requires c κs = let at = c .before .before .before in free-can-be-made _ _ _ _ _ _ (at .loop .inv .2) (at .before .before .before .pre) (c .before .before .loop-test .taken)
 
+loop-again : tie.Need-loop-again Inv-loop μ-loop
+loop-again c = (omega arith, search needs, search free-made)
+
 add-i : tie.Need-add-i Inv-loop μ-loop
 add-i c = search needs
 
 loop-less : tie.Need-loop-less Inv-loop μ-loop
 loop-less c = search needs
-
-loop-again : tie.Need-loop-again Inv-loop μ-loop
-loop-again c = (omega arith, search needs, search free-made)
 
 same-length : tie.Need-same-length Inv-loop μ-loop
 same-length c = search needs

@@ -17,7 +17,7 @@ release-block-requires : tie.Need-release-block-requires
 release-block-requires c κs = search needs
 
 restore-invariant-requires : tie.Need-restore-invariant-requires
-restore-invariant-requires c κs = (search freed-owner, search freed-class, search block-freed-totals-kept)
+restore-invariant-requires c κs = (search (freed-owner, needs), search freed-class, search block-freed-totals-kept)
 
 same-length : tie.Need-same-length
 same-length c = search needs
