@@ -23,6 +23,7 @@ use Rattle.heap.specs.declared.State.{State}
 use Rattle.heap.specs.Table.{superblockAt, isUnused, isOfRun, startsRun, liveBlocks}
 use Rattle.heap.specs.States.{withNames}
 use Rattle.heap.specs.Counts.{superblocksOf, superblocksOfClass, liveOfClass, ownersChanged}
+use Rattle.checkrules.specs.Check.{namesValid}
 use Rattle.heaplaws.proofs.StateFacts.{Shape, Unowned, Owned}
 use Rattle.heaplaws.proofs.RunsKeptLaws.{runs-valid-with-names, live-blocks-outside-run, live-blocks-of-first, live-blocks-not-first, outside-run-of-owner, owner-of-run}
 use Rattle.heaplaws.proofs.StateCheckLaws.{shape-with-names, sound-with-names, names-sound-of-valid, owned-below-superblocks, owned-of-owner, unowned-of-owner, not-unused-of-owner}
@@ -30,7 +31,7 @@ use Rattle.calls.specs.declared.Outcome.{Outcome}
 use Rattle.calls.specs.declared.Outcome.the-variants.{Address}
 use Rattle.calls.specs.Answers.{After, refused, isProcessor}
 use Rattle.calls.specs.Take.{addressOf, takeUnchecked, takeOf}
-use Rattle.calls.specs.Free.{superblockIndex, offsetOf, superblockHolding, blockOf, isUnmapped, isInRun, isRunStart, isOffBlock, isMisaligned, isLiveAt, smallFreedAt, longFreedAt, freedAt, freeUnchecked, freeOf}
+use Rattle.calls.specs.Free.{superblockIndex, offsetOf, superblockHolding, blockOf, isUnmapped, isInRun, isRunStart, isOffBlock, isMisaligned, isLiveAt, blockNumberAt, smallFreedAt, longFreedAt, freedAt, freeUnchecked, freeOf}
 use Rattle.calls.specs.Named.{isUnavailable, nameBound, boundBy, withNameBound, namedTakeUnchecked, namedTakeOf, heldAddress, namedFreeUnchecked, namedFreeOf}
 use Rattle.heaplaws.proofs.RankLaws.{ranks-sound-of-same-ranks}
 use Rattle.calllaws.proofs.CallEffects.{Passed, TakeAccepted, LongTakeAccepted, FreeAccepted, LongFreeAccepted, NamedTakeAccepted, NamedLongTakeAccepted, NamedFreeAccepted, NamedLongFreeAccepted, TakeEffect}
@@ -129,6 +130,58 @@ take-effect-with-names i c k j s t names e =
       live-of-others = e .live-of-others;
     }
 
+-- what a named take leaves, of a block of a class or a long one, where the plain take has given block b and kept the names
+module _ (s : State) (order : List ℕ) (i m size b : ℕ) where
+  abbrev plain-take : After
+  plain-take = takeOf s order i size
+
+  abbrev bound : State
+  bound = withNames (plain-take .answer .state) (withName (s .names) m b)
+
+  -- its answer and its order places are the plain take's
+  pub named-outcome-is-plain : namedTakeOf s order i m size ≡ withNameBound m plain-take → namedTakeOf s order i m size .answer .outcome ≡ plain-take .answer .outcome
+  unfolding withNameBound
+  named-outcome-is-plain e = ap (λ (x : After). x .answer .outcome) e
+
+  pub named-order-is-plain : namedTakeOf s order i m size ≡ withNameBound m plain-take → namedTakeOf s order i m size .order ≡ plain-take .order
+  unfolding withNameBound
+  named-order-is-plain e = ap (λ (x : After). x .order) e
+
+  -- its state is the plain take's with the name bound to the block that was taken
+  pub named-state-is-bound : (a : ℕ) → namedTakeOf s order i m size ≡ withNameBound m plain-take → plain-take .answer .outcome ≡ Address a → plain-take .answer .state .names ≡ s .names → blockNumberAt (plain-take .answer .state) a ≡ b
+      → namedTakeOf s order i m size .answer .state ≡ bound
+  unfolding withNameBound boundBy nameBound
+  named-state-is-bound a e address names number =
+      ap (λ (x : After). x .answer .state) e
+      ∙ ap (λ (o : Outcome). boundBy o m (plain-take .answer .state)) address
+      ∙ ap₂ (λ (names : List ℕ) (b : ℕ). withNames (plain-take .answer .state) (withName names m b)) names number
+
+  module _ (shape : Shape s) (state-is : namedTakeOf s order i m size .answer .state ≡ bound) where
+    pub shape-of-bound : Shape (plain-take .answer .state) → Shape (namedTakeOf s order i m size .answer .state)
+    shape-of-bound x = subst Shape (sym state-is) (shape-with-names (plain-take .answer .state) (withName (s .names) m b) x (length-with-name (s .names) m b ∙ shape .names-length))
+
+    -- an accepted named take yields a state that passes
+    pub passed-of-bound : namedTakeOf s order i m size .order ≡ plain-take .order → Passed (plain-take .answer .state) (plain-take .order) → T (namesValid bound) → Passed (namedTakeOf s order i m size .answer .state) (namedTakeOf s order i m size .order)
+    passed-of-bound order-is passed names =
+        subst (λ (t : State). Passed t (namedTakeOf s order i m size .order)) (sym state-is)
+        (subst (λ (l : List ℕ). Passed bound l) (sym order-is)
+        record {
+          sound = sound-with-names (plain-take .answer .state) (withName (s .names) m b) (plain-take .order) (passed .sound);
+          names = names;
+          totals = passed .totals;
+          ranks = ranks-sound-of-same-ranks (plain-take .answer .state) bound (λ j l. refl) (λ j l u. u) (passed .ranks);
+          runs = runs-valid-with-names (plain-take .answer .state) (withName (s .names) m b) (passed .runs);
+          room = passed .room;
+        })
+
+    -- "A name holds from its take": the name points at the block that was taken, and every other name at what it did
+    pub name-points-at-taken : isUnavailable s m ≡ false → blockNamed (namedTakeOf s order i m size .answer .state .names) m ≡ b
+    name-points-at-taken available =
+        ap (λ (t : State). blockNamed (t .names) m) state-is ∙ block-named-with-name (s .names) m b (let l = facts-of-available s m available .0 in let n = shape .names-length in omega arith)
+
+    pub other-names-point-as-before : (l : ℕ) → (l ≡ m → ⊥) → blockNamed (namedTakeOf s order i m size .answer .state .names) l ≡ blockNamed (s .names) l
+    other-names-point-as-before l f = ap (λ (t : State). blockNamed (t .names) l) state-is ∙ block-named-with-other-name (s .names) m b l f
+
 module _ (s : State) (order : List ℕ) (i m size k : ℕ) (shape : Shape s) (acc : NamedTakeAccepted s order i m size k) where
   abbrev plain : After
   plain = takeOf s order i size
@@ -136,6 +189,9 @@ module _ (s : State) (order : List ℕ) (i m size k : ℕ) (shape : Shape s) (ac
   -- the block that it gives is the plain take's
   abbrev pub named-taken-block : ℕ
   named-taken-block = taken-block s order i size k shape (acc .taken)
+
+  abbrev b : ℕ
+  b = blockNumber k named-taken-block
 
   effect : TakeEffect i (classOf size) k named-taken-block s (plain .answer .state)
   effect = take-effect s order i size k shape (acc .taken)
@@ -146,25 +202,18 @@ module _ (s : State) (order : List ℕ) (i m size k : ℕ) (shape : Shape s) (ac
   block : named-taken-block < 256
   block = omega (arith, effect .block, blocks-of-le-256 (classOf size))
 
-  -- its answer and its order places are the plain take's
   pub named-take-outcome : namedTakeOf s order i m size .answer .outcome ≡ plain .answer .outcome
-  unfolding withNameBound
-  named-take-outcome = ap (λ (x : After). x .answer .outcome) (acc .result-is)
+  named-take-outcome = named-outcome-is-plain s order i m size b (acc .result-is)
 
   pub named-take-order : namedTakeOf s order i m size .order ≡ plain .order
-  unfolding withNameBound
-  named-take-order = ap (λ (x : After). x .order) (acc .result-is)
+  named-take-order = named-order-is-plain s order i m size b (acc .result-is)
 
-  -- its state is the plain take's with the name bound to the block that was taken
-  pub named-take-state : namedTakeOf s order i m size .answer .state ≡ withNames (plain .answer .state) (withName (s .names) m (blockNumber k named-taken-block))
-  unfolding withNameBound boundBy nameBound
+  pub named-take-state : namedTakeOf s order i m size .answer .state ≡ withNames (plain .answer .state) (withName (s .names) m b)
   named-take-state =
-      ap (λ (x : After). x .answer .state) (acc .result-is)
-      ∙ ap (λ (o : Outcome). boundBy o m (plain .answer .state)) (take-address s order i size k shape (acc .taken))
-      ∙ ap₂ (λ (names : List ℕ) (b : ℕ). withNames (plain .answer .state) (withName names m b)) (take-names s order i size k shape (acc .taken))
+      named-state-is-bound s order i m size b (addressOf k (classOf size) named-taken-block) (acc .result-is) (take-address s order i size k shape (acc .taken)) (take-names s order i size k shape (acc .taken))
       (address-block-number (classOf size) k named-taken-block (effect .class-lt-27) (effect .block) (plain .answer .state) (effect .class) below)
 
-  pub named-take-names : namedTakeOf s order i m size .answer .state .names ≡ withName (s .names) m (blockNumber k named-taken-block)
+  pub named-take-names : namedTakeOf s order i m size .answer .state .names ≡ withName (s .names) m b
   named-take-names = ap (λ (t : State). t .names) named-take-state
 
   pub named-take-address : namedTakeOf s order i m size .answer .outcome ≡ Address (addressOf k (classOf size) named-taken-block)
@@ -173,37 +222,21 @@ module _ (s : State) (order : List ℕ) (i m size k : ℕ) (shape : Shape s) (ac
   pub named-take-effect : TakeEffect i (classOf size) k named-taken-block s (namedTakeOf s order i m size .answer .state)
   named-take-effect =
       subst (TakeEffect i (classOf size) k named-taken-block s) (sym named-take-state)
-      (take-effect-with-names i (classOf size) k named-taken-block s (plain .answer .state) (withName (s .names) m (blockNumber k named-taken-block)) effect)
+      (take-effect-with-names i (classOf size) k named-taken-block s (plain .answer .state) (withName (s .names) m b) effect)
 
   pub named-take-shape : Shape (namedTakeOf s order i m size .answer .state)
-  named-take-shape =
-      subst Shape (sym named-take-state)
-      (shape-with-names (plain .answer .state) (withName (s .names) m (blockNumber k named-taken-block)) (take-shape s order i size k shape (acc .taken))
-      (length-with-name (s .names) m (blockNumber k named-taken-block) ∙ shape .names-length))
+  named-take-shape = shape-of-bound s order i m size b shape named-take-state (take-shape s order i size k shape (acc .taken))
 
-  -- an accepted named take yields a state that passes
   pub named-take-passed : Passed (namedTakeOf s order i m size .answer .state) (namedTakeOf s order i m size .order)
   named-take-passed =
-      subst (λ (t : State). Passed t (namedTakeOf s order i m size .order)) (sym named-take-state)
-      (subst (λ (l : List ℕ). Passed (withNames (plain .answer .state) (withName (s .names) m (blockNumber k named-taken-block))) l) (sym named-take-order)
-      (let passed = take-passed s order i size k shape (acc .taken) in
-      record {
-        sound = sound-with-names (plain .answer .state) (withName (s .names) m (blockNumber k named-taken-block)) (plain .order) (passed .sound);
-        names = names-valid-after-named-take i (classOf size) k named-taken-block s (plain .answer .state) block (shape .length-is) effect m below (take-names s order i size k shape (acc .taken)) (acc .taken .passed .names);
-        totals = passed .totals;
-        ranks = ranks-sound-of-same-ranks (plain .answer .state) (withNames (plain .answer .state) (withName (s .names) m (blockNumber k named-taken-block))) (λ j l. refl) (λ j l u. u) (passed .ranks);
-        runs = runs-valid-with-names (plain .answer .state) (withName (s .names) m (blockNumber k named-taken-block)) (passed .runs);
-        room = passed .room;
-      }))
+      passed-of-bound s order i m size b shape named-take-state named-take-order (take-passed s order i size k shape (acc .taken))
+      (names-valid-after-named-take i (classOf size) k named-taken-block s (plain .answer .state) block (shape .length-is) effect m below (take-names s order i size k shape (acc .taken)) (acc .taken .passed .names))
 
-  -- "A name holds from its take": the name points at the block that was taken, and every other name at what it did
-  pub named-take-binds-name : blockNamed (namedTakeOf s order i m size .answer .state .names) m ≡ blockNumber k named-taken-block
-  named-take-binds-name =
-      ap (λ (l : List ℕ). blockNamed l m) named-take-names
-      ∙ block-named-with-name (s .names) m (blockNumber k named-taken-block) (let l = facts-of-available s m (acc .available) .0 in let n = shape .names-length in omega arith)
+  pub named-take-binds-name : blockNamed (namedTakeOf s order i m size .answer .state .names) m ≡ b
+  named-take-binds-name = name-points-at-taken s order i m size b shape named-take-state (acc .available)
 
   pub named-take-keeps-other-names : (l : ℕ) → (l ≡ m → ⊥) → blockNamed (namedTakeOf s order i m size .answer .state .names) l ≡ blockNamed (s .names) l
-  named-take-keeps-other-names l f = ap (λ (x : List ℕ). blockNamed x l) named-take-names ∙ block-named-with-other-name (s .names) m (blockNumber k named-taken-block) l f
+  named-take-keeps-other-names = other-names-point-as-before s order i m size b shape named-take-state
 
 -- ---- a named free
 module _ (s : State) (order : List ℕ) (i m : ℕ) where

@@ -1,5 +1,5 @@
 -- A named take of a long block (document 02, items 2 and 7): the name points at block 0 of the run's first superblock. Assumes nothing.
-use mathlib.Core.Path.{_≡_, refl, sym, ap, ap₂, _∙_, subst}
+use mathlib.Core.Path.{_≡_, refl, sym, ap, _∙_, subst}
 use mathlib.Core.List.{List}
 use Prim.Native.Nat.{ℕ, _*_, _/_, _<_}
 use native.Mathlib.Nat.{le-refl}
@@ -9,26 +9,21 @@ use lib.Dec.{eqb, ltb}
 use Rattle.laws.proofs.TestLaws.{pick-true}
 use Rattle.classes.specs.Classes.{runLength}
 use Rattle.names.specs.Names.{blockNumber, blockNamed, withName}
-use Rattle.namelaws.proofs.NameLaws.{block-named-with-name, block-named-with-other-name, length-with-name}
 use Rattle.heap.specs.declared.State.{State}
 use Rattle.heap.specs.declared.Superblock.{Superblock}
 use Rattle.heap.specs.Table.{superblockAt, runPart}
 use Rattle.heap.specs.States.{withNames}
 use Rattle.heap.specs.Counts.{superblocksOfClass, liveOfClass}
 use Rattle.heaplaws.proofs.StateFacts.{Shape}
-use Rattle.heaplaws.proofs.RunsKeptLaws.{runs-valid-with-names}
-use Rattle.heaplaws.proofs.StateCheckLaws.{shape-with-names, sound-with-names}
-use Rattle.calls.specs.declared.Outcome.{Outcome}
 use Rattle.calls.specs.declared.Outcome.the-variants.{Address}
 use Rattle.calls.specs.Answers.{After}
 use Rattle.calls.specs.Take.{takeOf}
 use Rattle.calls.specs.Free.{blockNumberAt}
-use Rattle.calls.specs.Named.{nameBound, boundBy, withNameBound, namedTakeOf}
-use Rattle.heaplaws.proofs.RankLaws.{ranks-sound-of-same-ranks}
+use Rattle.calls.specs.Named.{namedTakeOf}
 use Rattle.calllaws.proofs.CallEffects.{Passed, NamedLongTakeAccepted, LongTakeEffect, RunUnranked}
 use Rattle.calllaws.proofs.NamesKeptLaws.{names-valid-after-named-long-take}
 use Rattle.calllaws.proofs.RunTakenLaws.{long-take-address, long-take-effect, long-take-names, long-take-ranks, long-take-shape, long-take-passed}
-use Rattle.calllaws.proofs.NamedCallLaws.{facts-of-available, start-block-is-0}
+use Rattle.calllaws.proofs.NamedCallLaws.{start-block-is-0, named-outcome-is-plain, named-order-is-plain, named-state-is-bound, shape-of-bound, passed-of-bound, name-points-at-taken, other-names-point-as-before}
 
 -- the number by which a name points at the start of a run
 start-block-number : (s : State) (k : ℕ) → k < 64 → superblockAt s k .class ≡ 0 → blockNumberAt s (k * 4096) ≡ blockNumber k 0
@@ -69,31 +64,29 @@ module _ (s : State) (order : List ℕ) (i m size k : ℕ) (shape : Shape s) (ac
   first : superblockAt (plain .answer .state) k ≡ runPart n
   first = effect .run k (le-refl k, omega (arith, effect .some)) ∙ ap runPart (pick-true (eqb k k) n 0 (eq-eqb k k refl))
 
-  -- its answer and its order places are the plain take's
+  abbrev b : ℕ
+  b = blockNumber k 0
+
   pub named-long-take-outcome : namedTakeOf s order i m size .answer .outcome ≡ plain .answer .outcome
-  unfolding withNameBound
-  named-long-take-outcome = ap (λ (x : After). x .answer .outcome) (acc .result-is)
+  named-long-take-outcome = named-outcome-is-plain s order i m size b (acc .result-is)
 
   pub named-long-take-address : namedTakeOf s order i m size .answer .outcome ≡ Address (k * 4096)
   named-long-take-address = named-long-take-outcome ∙ long-take-address s order i size k shape (acc .taken)
 
   pub named-long-take-order : namedTakeOf s order i m size .order ≡ plain .order
-  unfolding withNameBound
-  named-long-take-order = ap (λ (x : After). x .order) (acc .result-is)
+  named-long-take-order = named-order-is-plain s order i m size b (acc .result-is)
 
-  pub named-long-take-state : namedTakeOf s order i m size .answer .state ≡ withNames (plain .answer .state) (withName (s .names) m (blockNumber k 0))
-  unfolding withNameBound boundBy nameBound
+  pub named-long-take-state : namedTakeOf s order i m size .answer .state ≡ withNames (plain .answer .state) (withName (s .names) m b)
   named-long-take-state =
-      ap (λ (x : After). x .answer .state) (acc .result-is)
-      ∙ ap (λ (o : Outcome). boundBy o m (plain .answer .state)) (long-take-address s order i size k shape (acc .taken))
-      ∙ ap₂ (λ (names : List ℕ) (b : ℕ). withNames (plain .answer .state) (withName names m b)) (long-take-names s order i size k shape (acc .taken)) (start-block-number (plain .answer .state) k below (ap (λ (b : Superblock). b .class) first))
+      named-state-is-bound s order i m size b (k * 4096) (acc .result-is) (long-take-address s order i size k shape (acc .taken)) (long-take-names s order i size k shape (acc .taken))
+      (start-block-number (plain .answer .state) k below (ap (λ (b : Superblock). b .class) first))
 
-  pub named-long-take-names : namedTakeOf s order i m size .answer .state .names ≡ withName (s .names) m (blockNumber k 0)
+  pub named-long-take-names : namedTakeOf s order i m size .answer .state .names ≡ withName (s .names) m b
   named-long-take-names = ap (λ (t : State). t .names) named-long-take-state
 
   pub named-long-take-effect : LongTakeEffect k n s (namedTakeOf s order i m size .answer .state)
   named-long-take-effect =
-      subst (LongTakeEffect k n s) (sym named-long-take-state) (long-take-effect-with-names k n s (plain .answer .state) (withName (s .names) m (blockNumber k 0)) effect)
+      subst (LongTakeEffect k n s) (sym named-long-take-state) (long-take-effect-with-names k n s (plain .answer .state) (withName (s .names) m b) effect)
 
   pub named-long-take-ranks : RunUnranked k n s (namedTakeOf s order i m size .answer .state)
   named-long-take-ranks =
@@ -101,30 +94,15 @@ module _ (s : State) (order : List ℕ) (i m size k : ℕ) (shape : Shape s) (ac
       (let r = long-take-ranks s order i size k shape (acc .taken) in record { in-run = r .in-run; ranked-iff = r .ranked-iff; order-kept = r .order-kept })
 
   pub named-long-take-shape : Shape (namedTakeOf s order i m size .answer .state)
-  named-long-take-shape =
-      subst Shape (sym named-long-take-state)
-      (shape-with-names (plain .answer .state) (withName (s .names) m (blockNumber k 0)) (long-take-shape s order i size k shape (acc .taken))
-      (length-with-name (s .names) m (blockNumber k 0) ∙ shape .names-length))
+  named-long-take-shape = shape-of-bound s order i m size b shape named-long-take-state (long-take-shape s order i size k shape (acc .taken))
 
   pub named-long-take-passed : Passed (namedTakeOf s order i m size .answer .state) (namedTakeOf s order i m size .order)
   named-long-take-passed =
-      subst (λ (t : State). Passed t (namedTakeOf s order i m size .order)) (sym named-long-take-state)
-      (subst (λ (l : List ℕ). Passed (withNames (plain .answer .state) (withName (s .names) m (blockNumber k 0))) l) (sym named-long-take-order)
-      (let passed = long-take-passed s order i size k shape (acc .taken) in
-      record {
-        sound = sound-with-names (plain .answer .state) (withName (s .names) m (blockNumber k 0)) (plain .order) (passed .sound);
-        names = names-valid-after-named-long-take k n s (plain .answer .state) effect m below (long-take-names s order i size k shape (acc .taken)) (acc .taken .passed .names);
-        totals = passed .totals;
-        ranks = ranks-sound-of-same-ranks (plain .answer .state) (withNames (plain .answer .state) (withName (s .names) m (blockNumber k 0))) (λ j l. refl) (λ j l u. u) (passed .ranks);
-        runs = runs-valid-with-names (plain .answer .state) (withName (s .names) m (blockNumber k 0)) (passed .runs);
-        room = passed .room;
-      }))
+      passed-of-bound s order i m size b shape named-long-take-state named-long-take-order (long-take-passed s order i size k shape (acc .taken))
+      (names-valid-after-named-long-take k n s (plain .answer .state) effect m below (long-take-names s order i size k shape (acc .taken)) (acc .taken .passed .names))
 
-  -- "A name holds from its take", and every other name points at what it did
-  pub named-long-take-binds-name : blockNamed (namedTakeOf s order i m size .answer .state .names) m ≡ blockNumber k 0
-  named-long-take-binds-name =
-      ap (λ (l : List ℕ). blockNamed l m) named-long-take-names
-      ∙ block-named-with-name (s .names) m (blockNumber k 0) (let l = facts-of-available s m (acc .available) .0 in let n = shape .names-length in omega arith)
+  pub named-long-take-binds-name : blockNamed (namedTakeOf s order i m size .answer .state .names) m ≡ b
+  named-long-take-binds-name = name-points-at-taken s order i m size b shape named-long-take-state (acc .available)
 
   pub named-long-take-keeps-other-names : (l : ℕ) → (l ≡ m → ⊥) → blockNamed (namedTakeOf s order i m size .answer .state .names) l ≡ blockNamed (s .names) l
-  named-long-take-keeps-other-names l f = ap (λ (x : List ℕ). blockNamed x l) named-long-take-names ∙ block-named-with-other-name (s .names) m (blockNumber k 0) l f
+  named-long-take-keeps-other-names = other-names-point-as-before s order i m size b shape named-long-take-state

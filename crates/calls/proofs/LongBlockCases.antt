@@ -11,7 +11,7 @@ use Rattle.heap.specs.declared.Found.the-variants.{At, Nothing}
 use Rattle.heap.specs.Table.{unused, runPart}
 use Rattle.heap.specs.States.{withNames}
 use Rattle.heap.proofs.CaseStates.{unnamedState}
-use Rattle.heap.proofs.TableCases.{of, ranked}
+use Rattle.heap.proofs.TableCases.{ranked}
 use Rattle.calls.specs.declared.Outcome.the-variants.{Address, Moves}
 use Rattle.calls.specs.Answers.{After, refused}
 use Rattle.calls.specs.Runs.{eachOfRun, runTaken, longTakenAt, runFreed}

@@ -5,7 +5,7 @@ use mathlib.Core.List.{[], _∷_, _++_, map}
 use Prim.Native.Nat.{ℕ, _+_}
 use lib.ListN.{replicate}
 use Rattle.laws.specs.Sums.{sumBelow}
-use Rattle.marks.specs.Marks.{bit, markBit, isMarked, withMark, withoutMark, noMarks}
+use Rattle.marks.specs.Marks.{bit, markBit, isMarked, withMark, noMarks}
 use Rattle.heap.specs.declared.Superblock.{Superblock}
 use Rattle.heap.specs.declared.State.{State}
 use Rattle.heap.specs.Table.{unused, isOfRun, startsRun, runPart, isOfHeap, liveBlocks, withOwner, withMarkAt, withoutMarkAt, withRank, isLiveBlock}

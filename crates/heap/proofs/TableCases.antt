@@ -10,7 +10,7 @@ use Rattle.marks.specs.Marks.{bit, markBit, isMarked, withMark, withoutMark, li
 use Rattle.heap.specs.declared.Superblock.{Superblock}
 use Rattle.heap.specs.declared.Setup.{Setup}
 use Rattle.heap.specs.declared.State.{State}
-use Rattle.heap.specs.Table.{unused, isUnused, isOfRun, startsRun, runPart, isOfHeap, liveBlocks, withOwner, withMarkAt, withoutMarkAt, withRank, isLiveBlock}
+use Rattle.heap.specs.Table.{unused, isUnused, isOfRun, startsRun, isOfHeap, liveBlocks, withOwner, withMarkAt, withoutMarkAt, withRank, isLiveBlock}
 use Rattle.heap.specs.States.{withSuperblock, noState, newState}
 use Rattle.heap.specs.Counts.{total, belongs, isOwnedOfClass, oneIfBelongs, liveIfBelongs, superblocksOf, blocksIn, liveOf, superblocksOfClass, liveOfClass, ownersChanged}
 use Rattle.heap.proofs.CaseStates.{unnamedState}

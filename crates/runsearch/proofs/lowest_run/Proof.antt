@@ -1,7 +1,7 @@
 -- `runsearch::lowest_run` meets its contract. The loop's invariant: so many available superblocks stand in a row before superblock k, and no run ends
 -- at or before k. The measure is what is left of the superblocks. Assumes nothing.
 use mathlib.Core.Logic.{⊎-elim}
-use Prim.Native.Nat.{_-_, _≤_, _<_}
+use Prim.Native.Nat.{_-_, _≤_}
 use native.Mathlib.Omega.{arith}
 use Rattle.runsearch.proofs.RowLaws.{RowBefore, no-row-at-start, row-step-available, row-step-other, run-found, no-run-found}
 use Rattle.runsearch.proofs.lowest_run.Statement.{statement}
