@@ -208,12 +208,12 @@ module _ (s : State) (order : List ℕ) (i m size k : ℕ) (shape : Shape s) (ac
   pub named-take-order : namedTakeOf s order i m size .order ≡ plain .order
   named-take-order = named-order-is-plain s order i m size b (acc .result-is)
 
-  pub named-take-state : namedTakeOf s order i m size .answer .state ≡ withNames (plain .answer .state) (withName (s .names) m b)
+  pub named-take-state : namedTakeOf s order i m size .answer .state ≡ withNames (plain .answer .state) (withName (s .names) m (blockNumber k named-taken-block))
   named-take-state =
       named-state-is-bound s order i m size b (addressOf k (classOf size) named-taken-block) (acc .result-is) (take-address s order i size k shape (acc .taken)) (take-names s order i size k shape (acc .taken))
       (address-block-number (classOf size) k named-taken-block (effect .class-lt-27) (effect .block) (plain .answer .state) (effect .class) below)
 
-  pub named-take-names : namedTakeOf s order i m size .answer .state .names ≡ withName (s .names) m b
+  pub named-take-names : namedTakeOf s order i m size .answer .state .names ≡ withName (s .names) m (blockNumber k named-taken-block)
   named-take-names = ap (λ (t : State). t .names) named-take-state
 
   pub named-take-address : namedTakeOf s order i m size .answer .outcome ≡ Address (addressOf k (classOf size) named-taken-block)
@@ -232,7 +232,7 @@ module _ (s : State) (order : List ℕ) (i m size k : ℕ) (shape : Shape s) (ac
       passed-of-bound s order i m size b shape named-take-state named-take-order (take-passed s order i size k shape (acc .taken))
       (names-valid-after-named-take i (classOf size) k named-taken-block s (plain .answer .state) block (shape .length-is) effect m below (take-names s order i size k shape (acc .taken)) (acc .taken .passed .names))
 
-  pub named-take-binds-name : blockNamed (namedTakeOf s order i m size .answer .state .names) m ≡ b
+  pub named-take-binds-name : blockNamed (namedTakeOf s order i m size .answer .state .names) m ≡ blockNumber k named-taken-block
   named-take-binds-name = name-points-at-taken s order i m size b shape named-take-state (acc .available)
 
   pub named-take-keeps-other-names : (l : ℕ) → (l ≡ m → ⊥) → blockNamed (namedTakeOf s order i m size .answer .state .names) l ≡ blockNamed (s .names) l

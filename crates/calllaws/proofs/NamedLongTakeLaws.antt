@@ -76,12 +76,12 @@ module _ (s : State) (order : List ℕ) (i m size k : ℕ) (shape : Shape s) (ac
   pub named-long-take-order : namedTakeOf s order i m size .order ≡ plain .order
   named-long-take-order = named-order-is-plain s order i m size b (acc .result-is)
 
-  pub named-long-take-state : namedTakeOf s order i m size .answer .state ≡ withNames (plain .answer .state) (withName (s .names) m b)
+  pub named-long-take-state : namedTakeOf s order i m size .answer .state ≡ withNames (plain .answer .state) (withName (s .names) m (blockNumber k 0))
   named-long-take-state =
       named-state-is-bound s order i m size b (k * 4096) (acc .result-is) (long-take-address s order i size k shape (acc .taken)) (long-take-names s order i size k shape (acc .taken))
       (start-block-number (plain .answer .state) k below (ap (λ (b : Superblock). b .class) first))
 
-  pub named-long-take-names : namedTakeOf s order i m size .answer .state .names ≡ withName (s .names) m b
+  pub named-long-take-names : namedTakeOf s order i m size .answer .state .names ≡ withName (s .names) m (blockNumber k 0)
   named-long-take-names = ap (λ (t : State). t .names) named-long-take-state
 
   pub named-long-take-effect : LongTakeEffect k n s (namedTakeOf s order i m size .answer .state)
@@ -101,7 +101,7 @@ module _ (s : State) (order : List ℕ) (i m size k : ℕ) (shape : Shape s) (ac
       passed-of-bound s order i m size b shape named-long-take-state named-long-take-order (long-take-passed s order i size k shape (acc .taken))
       (names-valid-after-named-long-take k n s (plain .answer .state) effect m below (long-take-names s order i size k shape (acc .taken)) (acc .taken .passed .names))
 
-  pub named-long-take-binds-name : blockNamed (namedTakeOf s order i m size .answer .state .names) m ≡ b
+  pub named-long-take-binds-name : blockNamed (namedTakeOf s order i m size .answer .state .names) m ≡ blockNumber k 0
   named-long-take-binds-name = name-points-at-taken s order i m size b shape named-long-take-state (acc .available)
 
   pub named-long-take-keeps-other-names : (l : ℕ) → (l ≡ m → ⊥) → blockNamed (namedTakeOf s order i m size .answer .state .names) l ≡ blockNamed (s .names) l
