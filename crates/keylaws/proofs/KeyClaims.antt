@@ -24,6 +24,7 @@ use Rattle.boundlaws.proofs.NamesAgree.{lastAfter}
 use Rattle.boundlaws.proofs.TotalsOverLists.{TotalsCountedOver, totals-kept-over-list, LiveTotalsAgreeOver, live-totals-agree-with-ledger}
 use Rattle.bound.specs.History.{RankedByLastFreeOver}
 use Rattle.boundlaws.proofs.RanksOverLists.{ranked-by-last-free-over-list}
+use Rattle.boundlaws.proofs.LongBlocksOverLists.{LongBlocksAgreeOver, long-blocks-agree-with-ledger}
 use Rattle.boundlaws.proofs.CallListLaws.{stepsBy, steps-linked}
 use Rattle.littleendian.proofs.FoursLaws.{length-of-fours-at}
 use Rattle.commands.specs.declared.Command.{Command}
@@ -253,3 +254,8 @@ key-live-totals-agree-with-ledger r order u commands h = live-totals-agree-with-
 pub key-ranked-by-last-free : (r order : List ℕ) (u : Setup) (commands : List Command) → KeyClaims r order u commands
     → RankedByLastFreeOver (setupOf u order) [] (stepsIn r (setupOf u order) commands)
 key-ranked-by-last-free r order u commands h = ranked-by-last-free-over-list u order (setupOf u order) refl (h .ready) (stepsIn r (setupOf u order) commands) (h .linked)
+
+-- Document 02, item 7: after its setup and after each of its calls the long blocks of that ledger are the runs of the state, by start and length
+pub key-long-blocks-agree-with-ledger : (r order : List ℕ) (u : Setup) (commands : List Command) → KeyClaims r order u commands
+    → LongBlocksAgreeOver (setupOf u order) [] (stepsIn r (setupOf u order) commands)
+key-long-blocks-agree-with-ledger r order u commands h = long-blocks-agree-with-ledger u order (setupOf u order) refl (h .ready) (stepsIn r (setupOf u order) commands) (h .linked)
