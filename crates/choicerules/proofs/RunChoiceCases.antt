@@ -46,6 +46,11 @@ pub lowest-run-cases : map (λ (n : ℕ). lowestRun n (gaps-state 14)) (1 ∷ 2 
 unfolding lowestRun lowestBelow isFreeRun allBelow isAvailable isUnused emptyInGlobal liveCount sumBelow markBit bit
 lowest-run-cases = refl
 
+-- N = 9: superblock 8 alone is a gap of just one, and the lowest run of one is in the gap from 1 on all the same
+pub lowest-run-before-exact-gap-case : lowestRun 1 (gaps-state 9) ≡ At 1
+unfolding lowestRun lowestBelow isFreeRun allBelow isAvailable isUnused emptyInGlobal liveCount sumBelow markBit bit
+lowest-run-before-exact-gap-case = refl
+
 -- the last superblock alone, and 16 up to the last; of a full table none
 pub lowest-run-at-end-cases :
     lowestRun 1 (unnamedState (gaps-state 64 .setup) (replicate 63 (runPart 1) ++ unused ∷ [])) ∷ lowestRun 16 (unnamedState (gaps-state 64 .setup) (replicate 48 (runPart 1) ++ replicate 16 unused))

@@ -22,10 +22,10 @@ pub fn put_byte(out: &mut [u8], at: usize, label: &[u8], n: u8) -> usize
     put_field(out, at, label, n as u32)
 }
 
-pub fn put_short(out: &mut [u8], at: usize, label: &[u8], n: u16) -> usize
-    ensures { λ r. ⌜ record { end = r; buffer = now (out .exit) } ≡ pasted (now (out .entry)) at (now (label .entry) ++ decimal n) ⌝ }
+pub fn put_short(out: &mut [u8], at: usize, label: &[u8], number: u16) -> usize
+    ensures { λ r. ⌜ record { end = r; buffer = now (out .exit) } ≡ pasted (now (out .entry)) at (now (label .entry) ++ decimal number) ⌝ }
 {
-    put_field(out, at, label, n as u32)
+    put_field(out, at, label, number as u32)
 }
 
 // A word, a number and the end of the line.

@@ -16,8 +16,9 @@ places-and-validity =
     (4 ∷ 0 ∷ 2 ∷ 9 ∷ 9 ∷ [], true)
     ∷ (0 ∷ 2 ∷ 4 ∷ 1 ∷ 3 ∷ [], true)
     ∷ (4 ∷ 0 ∷ 2 ∷ [], true)
-    -- too few are lent
+    -- too few are lent, also where the one that is not would read as block 0
     ∷ (4 ∷ 0 ∷ [], false)
+    ∷ (4 ∷ 2 ∷ [], false)
     -- one free block twice, and one not at all
     ∷ (4 ∷ 0 ∷ 0 ∷ 2 ∷ 2 ∷ [], false)
     -- a live block
@@ -35,10 +36,10 @@ pub places-valid-cases : map (λ (e : List ℕ × Bool). placesValid (replicate 
 unfolding placesValid placesInStorage eachOnce occurrences place noMarkFrom liveCount isMarked markBit bit sumBelow allBelow
 places-valid-cases = refl
 
--- "no mark at n or above": blocks 1, 3 and 4 live, of five and of four; block 255 live
+-- "no mark at n or above": blocks 1, 3 and 4 live, of five and of four; block 255 live; all five live, and the next one
 pub marks-past-n-cases :
-    map (λ (e : List ℕ × ℕ). placesValid (replicate 256 7 ++ 0 ∷ 2 ∷ 9 ∷ []) (e .0) 1 (e .1)) ((26 ∷ 0 ∷ 0 ∷ 0 ∷ [], 5) ∷ (26 ∷ 0 ∷ 0 ∷ 0 ∷ [], 4) ∷ (10 ∷ 0 ∷ 0 ∷ 2 ^ 63 ∷ [], 5) ∷ [])
-    ≡ true ∷ false ∷ false ∷ []
+    map (λ (e : List ℕ × ℕ). placesValid (replicate 256 7 ++ 0 ∷ 2 ∷ 9 ∷ []) (e .0) 1 (e .1)) ((26 ∷ 0 ∷ 0 ∷ 0 ∷ [], 5) ∷ (26 ∷ 0 ∷ 0 ∷ 0 ∷ [], 4) ∷ (10 ∷ 0 ∷ 0 ∷ 2 ^ 63 ∷ [], 5) ∷ (63 ∷ 0 ∷ 0 ∷ 0 ∷ [], 5) ∷ [])
+    ≡ true ∷ false ∷ false ∷ false ∷ []
 unfolding placesValid placesInStorage eachOnce occurrences place noMarkFrom liveCount isMarked markBit bit sumBelow allBelow
 marks-past-n-cases = refl
 

@@ -147,6 +147,14 @@ another-row-not-linked linked =
     let z : _≡_ {A = ℕ} 99 255 = ap (λ (x : RowAfter). getD (x .row) 0 unused-superblock .owner) (linked .0) in
     absurd (omega (arith, z))
 
+-- nor is one that got another storage
+pub other-storage-not-linked :
+    RowLinked refused-before (record { call = Take 2 2048; after = row-after (Refused 13) example-control (replicate 63 ranked-superblock) (replicate 258 9) } ∷ []) → ⊥
+unfolding RowLinked callOn withinLimits
+other-storage-not-linked linked =
+    let z : _≡_ {A = ℕ} 9 7 = ap (λ (x : RowAfter). getD (x .order) 0 1) (linked .0) in
+    absurd (omega (arith, z))
+
 -- nor is one that got other ranks
 pub other-ranks-not-linked : RowLinked refused-before (refused-step (Take 2 2048) example-control (replicate 63 unused-superblock) ∷ []) → ⊥
 unfolding RowLinked callOn withinLimits
