@@ -1,4 +1,4 @@
--- Drops in cases that tell them from near misses, by computation (document 02, item 5). Assumes nothing.
+-- The parts of drops in cases that tell them from near misses, by computation (document 02, item 5). Assumes nothing.
 use mathlib.Core.Path.{_≡_, refl}
 use mathlib.Core.List.{List, [], _∷_, map}
 use Prim.Native.Nat.{ℕ}
@@ -7,40 +7,42 @@ use lib.ListN.{replicate}
 use Rattle.laws.specs.Sums.{both, either}
 use Rattle.names.specs.Names.{noNames, withName}
 use Rattle.heap.specs.declared.State.{State}
-use Rattle.heap.specs.Table.{unused}
+use Rattle.heap.specs.Table.{unused, superblockAt}
 use Rattle.heap.specs.States.{withNames}
 use Rattle.heap.proofs.CaseStates.{unnamedState}
 use Rattle.heap.proofs.TableCases.{ranked}
-use Rattle.calls.specs.declared.Outcome.the-variants.{Moves}
-use Rattle.calls.specs.Answers.{After, refused}
 use Rattle.calls.specs.Free.{addressRefusal}
-use Rattle.calls.specs.Drop.{Pair, allFreed, allPushed, firstAddressRefusal, isTouched, touchedPairs, dropMoves}
-use Rattle.calls.specs.Calls.{Call, Free, Drop, callUnchecked}
+use Rattle.calls.specs.Drop.{Pair, allFreed, allPushed, firstAddressRefusal, isTouched, touchedPairs}
 use Rattle.calls.proofs.CallDefinitions.{uncheckedCallDefinitions}
-use Rattle.calls.proofs.RuleCases.{setup-with, after-with}
-use Rattle.calls.proofs.CallCases.{pair-state, ranked-pair-state, pairOrder, state-before, order-before}
-use Rattle.calls.proofs.NamedCases.{named-state}
+use Rattle.calls.proofs.RuleCases.{setup-with}
+use Rattle.calls.proofs.PairStates.{pair-state, pairOrder, state-before}
 
 -- ---- the frees. P = 3, N = 8, K = 1, p/q = 1/4: superblocks 0 to 3 are heap 2's of class 26, with two blocks of 2048 bytes; 4 and 5 heap 1's of class 23, with three of
 -- 1280; 6 heap 0's and 7 heap 3's of class 26. Names 5, 6 and 7 are of block 1 of superblock 5, block 0 of 4 and block 0 of 3.
-abbrev page-state : State
+abbrev pub page-state : State
 page-state =
     withNames (unnamedState (setup-with 3 8 1 1 4) (ranked 2 26 3 0 ∷ ranked 2 26 3 0 ∷ ranked 2 26 1 0 ∷ ranked 2 26 1 2 ∷ ranked 1 23 1 0 ∷ ranked 1 23 3 1 ∷ ranked 0 26 1 0 ∷ ranked 3 26 3 0 ∷ replicate 56 unused))
     (withName (withName (withName noNames 5 1281) 6 1024) 7 768)
 
 -- a block of heap 2, then of heap 0, heap 1, heap 3, and heap 2 again
-abbrev page : List ℕ
+abbrev pub page : List ℕ
 page = 2048 ∷ 24576 ∷ 21760 ∷ 28672 ∷ 12288 ∷ []
 
--- marks cleared, the last freed into first in the ranking, names 5 and 7 let go; no owner changed: a move after the first of them would have passed superblock 0 on
+-- "All blocks are freed first": a move after the free of the first of them would have passed superblock 0 on
+pub freed-before-moves-case : superblockAt (allFreed page-state (2048 ∷ [])) 0 .owner ≡ 2
+unfolding uncheckedCallDefinitions
+freed-before-moves-case = refl
+
+-- marks cleared, the last freed into first in the ranking, names 5 and 7 let go; no owner changed
 abbrev page-freed : State
 page-freed =
     withNames (unnamedState (setup-with 3 8 1 1 4) (ranked 2 26 1 5 ∷ ranked 2 26 3 0 ∷ ranked 2 26 1 0 ∷ ranked 2 26 0 1 ∷ ranked 1 23 1 0 ∷ ranked 1 23 1 3 ∷ ranked 0 26 0 4 ∷ ranked 3 26 2 2 ∷ replicate 56 unused))
     (withName noNames 6 1024)
 
+-- computed where the small case holds: two states that differ take long to compare
 pub all-freed-case : allFreed page-state page ≡ page-freed
 unfolding uncheckedCallDefinitions
-all-freed-case = refl
+all-freed-case = let small = freed-before-moves-case in refl
 
 -- superblocks 0 and 1, full: the next place of each is told by the frees before it, and the last freed is on top
 pub all-pushed-case : allPushed (pair-state 3 3) (pairOrder 66 67 68 69) (2048 ∷ 4096 ∷ 0 ∷ []) ≡ pairOrder 1 0 0 69
@@ -69,31 +71,3 @@ pub touched-pairs-cases :
     ≡ (pair 1 26 ∷ pair 2 3 ∷ pair 2 26 ∷ pair 3 26 ∷ []) ∷ (pair 1 23 ∷ pair 2 26 ∷ pair 3 26 ∷ []) ∷ [] ∷ []
 unfolding uncheckedCallDefinitions
 touched-pairs-cases = refl
-
--- superblock 4 passes on from heap 1, superblock 3, which the frees have emptied, from heap 2, and none from heap 3: two moves in all
-pub drop-moves-case :
-    dropMoves page-state page
-    ≡ record {
-      moves = 2;
-      state = withNames (unnamedState (setup-with 3 8 1 1 4) (ranked 2 26 1 5 ∷ ranked 2 26 3 0 ∷ ranked 2 26 1 0 ∷ ranked 0 26 0 1 ∷ ranked 0 23 1 0 ∷ ranked 1 23 1 3 ∷ ranked 0 26 0 4 ∷ ranked 3 26 2 2 ∷ replicate 56 unused)) (withName noNames 6 1024);
-    }
-unfolding uncheckedCallDefinitions
-drop-moves-case = refl
-
--- ---- behind the check, on the state of the named calls
-abbrev dropped : Call → After
-dropped = callUnchecked named-state order-before
-
--- 2 before 16, and before a bad address; 16; refused with the first bad address's number, nothing freed, no place written, no name let go
-pub refused-drop-cases :
-    map dropped (Drop 0 [] ∷ Drop 3 (8192 ∷ []) ∷ Drop 1 [] ∷ Drop 1 (0 ∷ 0 ∷ []) ∷ Drop 1 (0 ∷ 8192 ∷ []) ∷ Drop 2 (2049 ∷ 0 ∷ []) ∷ [])
-    ≡ refused 2 named-state order-before ∷ refused 2 named-state order-before ∷ refused 16 named-state order-before ∷ refused 7 named-state order-before ∷ refused 5 named-state order-before ∷ refused 6 named-state order-before ∷ []
-unfolding uncheckedCallDefinitions
-refused-drop-cases = refl
-
--- a drop of one address is its free; one of both blocks lets both names go and fills a place of each superblock
-pub accepted-drop-cases :
-    map dropped (Drop 1 (0 ∷ []) ∷ Drop 2 (6144 ∷ 0 ∷ []) ∷ [])
-    ≡ dropped (Free 1 0) ∷ after-with (Moves 0) (ranked-pair-state 0 1 0 2) (pairOrder 1 0 0 1) ∷ []
-unfolding uncheckedCallDefinitions
-accepted-drop-cases = refl

@@ -1,6 +1,6 @@
 pub mod CallDefinitions
 pub mod RuleCases
-pub mod CallCases
+pub mod PairStates
 pub mod NamedCases
 pub mod AnswerLaws
 pub mod CheckFirst
@@ -8,3 +8,5 @@ pub mod AddressRefusalLaws
 pub mod TouchedPairLaws
 pub mod DropCases
 pub mod LongBlockCases
+pub mod PartsHold
+pub mod CallCases

@@ -1,4 +1,4 @@
--- Long blocks (document 02, item 7) in cases that tell the rules from near misses, by computation. Assumes nothing.
+-- The parts of calls with long blocks (document 02, item 7) in cases that tell the rules from near misses, by computation. Assumes nothing.
 use mathlib.Core.Path.{_≡_, refl}
 use mathlib.Core.Bool.{true, false}
 use mathlib.Core.List.{List, [], _∷_, map}
@@ -13,12 +13,11 @@ use Rattle.heap.specs.States.{withNames}
 use Rattle.heap.proofs.CaseStates.{unnamedState}
 use Rattle.heap.proofs.TableCases.{ranked}
 use Rattle.calls.specs.declared.Outcome.the-variants.{Address, Moves}
-use Rattle.calls.specs.Answers.{After, refused}
+use Rattle.calls.specs.Answers.{refused}
 use Rattle.calls.specs.Runs.{eachOfRun, runTaken, longTakenAt, runFreed}
 use Rattle.calls.specs.Free.{isRunStart, isMisaligned, isLiveAt, addressRefusal, orderPushed, blockNumberAt, blockFreed, freedAt}
 use Rattle.calls.specs.Named.{heldAddress}
 use Rattle.calls.specs.Drop.{Pair, firstAddressRefusal, isTouched, touchedPairs}
-use Rattle.calls.specs.Calls.{Call, Take, Free, NamedTake, NamedFree, callUnchecked}
 use Rattle.calls.proofs.CallDefinitions.{uncheckedCallDefinitions}
 use Rattle.calls.proofs.RuleCases.{setup-with, after-with}
 
@@ -111,24 +110,3 @@ heap-2-class-26 = record { heap = 2; class = 26 }
 pub touched-beside-run-cases : map (λ (l : List ℕ). touchedPairs (isTouched with-run l) 2) ((4096 ∷ []) ∷ (4096 ∷ 16384 ∷ []) ∷ []) ≡ [] ∷ (heap-2-class-26 ∷ []) ∷ []
 unfolding uncheckedCallDefinitions
 touched-beside-run-cases = refl
-
--- ---- behind the check
-abbrev long-unchecked : State → Call → After
-long-unchecked s = callUnchecked s used-places
-
--- 2 before 17; three superblocks for 8193 and for 12288 bytes, for processor 2 as for 1; 17 for four, in place of 4, though heap 0 has an empty superblock and others are unused, and
--- for 65535 bytes; a named take binds the run
-pub long-take-cases :
-    map (long-unchecked before-run) (Take 0 16384 ∷ Take 1 8193 ∷ Take 2 12288 ∷ Take 1 12289 ∷ Take 1 65535 ∷ NamedTake 1 7 12288 ∷ NamedTake 1 7 12289 ∷ [])
-    ≡ refused 2 before-run used-places ∷ after-with (Address 4096) with-run used-places ∷ after-with (Address 4096) with-run used-places ∷ refused 17 before-run used-places ∷ refused 17 before-run used-places
-    ∷ after-with (Address 4096) (withNames with-run (withName noNames 7 256)) used-places ∷ refused 17 before-run used-places ∷ []
-unfolding uncheckedCallDefinitions
-long-take-cases = refl
-
--- by its address and by its name; the start of its second superblock is 6, and so is where a block of class 0 would start
-pub long-free-cases :
-    map (long-unchecked (withNames with-run names-7-and-8)) (Free 1 4096 ∷ NamedFree 2 7 ∷ Free 1 8192 ∷ Free 1 4112 ∷ [])
-    ≡ after-with (Moves 0) (withNames run-gone (withName noNames 8 0)) used-places ∷ after-with (Moves 0) (withNames run-gone (withName noNames 8 0)) used-places
-    ∷ refused 6 (withNames with-run names-7-and-8) used-places ∷ refused 6 (withNames with-run names-7-and-8) used-places ∷ []
-unfolding uncheckedCallDefinitions
-long-free-cases = refl

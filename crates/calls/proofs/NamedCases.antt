@@ -1,4 +1,4 @@
--- Named calls in cases that tell them from near misses, by computation. Assumes nothing.
+-- The parts of named calls in cases that tell them from near misses, by computation. Assumes nothing.
 use mathlib.Core.Path.{_≡_, refl}
 use mathlib.Core.Bool.{true, false}
 use mathlib.Core.List.{List, [], _∷_, map}
@@ -11,13 +11,11 @@ use Rattle.heap.specs.States.{withNames}
 use Rattle.heap.proofs.CaseStates.{unnamedState}
 use Rattle.heap.proofs.TableCases.{ranked}
 use Rattle.calls.specs.declared.Outcome.the-variants.{Ready, Address, Moves, Refused}
-use Rattle.calls.specs.Answers.{After, refused}
 use Rattle.calls.specs.Free.{blockNumberAt, blockFreed}
 use Rattle.calls.specs.Named.{isUnavailable, nameBound, boundBy, heldAddress}
-use Rattle.calls.specs.Calls.{Call, Take, Free, NamedTake, NamedFree, callUnchecked}
 use Rattle.calls.proofs.CallDefinitions.{uncheckedCallDefinitions}
-use Rattle.calls.proofs.RuleCases.{setup-with, after-with, refusal-state}
-use Rattle.calls.proofs.CallCases.{pair-state, ranked-pair-state, pairOrder, order-before}
+use Rattle.calls.proofs.RuleCases.{setup-with, refusal-state}
+use Rattle.calls.proofs.PairStates.{pair-state}
 
 -- Superblocks 0 and 1, of class 26, are heap 2's and heap 1's; block 0 of superblock 0, at 0, is live and name 5's, block 1 of superblock 1, at 6144,
 -- is live and name 1022's
@@ -27,10 +25,7 @@ two-names = withName (withName noNames 5 0) 1022 257
 abbrev pub named-state : State
 named-state = withNames (pair-state 1 2) two-names
 
-abbrev pub named-unchecked : Call → After
-named-unchecked = callUnchecked named-state order-before
-
--- ---- parts. 14: "taken name or one above 1023"
+-- 14: "taken name or one above 1023"
 pub is-unavailable-cases : map (isUnavailable named-state) (5 ∷ 1022 ∷ 4 ∷ 0 ∷ 1023 ∷ 1024 ∷ 65535 ∷ []) ≡ true ∷ true ∷ false ∷ false ∷ false ∷ true ∷ true ∷ []
 unfolding uncheckedCallDefinitions
 is-unavailable-cases = refl
@@ -62,30 +57,3 @@ pub block-freed-case :
     ≡ withNames (unnamedState (setup-with 2 5 1 3 7) (ranked 1 26 3 3 ∷ unused ∷ ranked 2 26 1 4 ∷ ranked 2 20 9 1 ∷ record { owner = 1; class = 1; live = 0 ∷ 0 ∷ 2199023255552 ∷ 0 ∷ []; rank = 2; run = 0 } ∷ replicate 59 unused)) (withName noNames 8 768)
 unfolding uncheckedCallDefinitions
 block-freed-case = refl
-
--- ---- a named take behind the check: 2 before 14, 14 before 17 for a held name, and before 3 for 1024; 3, 17, and 4 for size 0, bind none; an accepted one binds, for the
--- first and the last free name
-pub named-take-cases :
-    map named-unchecked (NamedTake 3 5 2049 ∷ NamedTake 1 5 2049 ∷ NamedTake 1 1024 65536 ∷ NamedTake 1 1022 2048 ∷ NamedTake 1 7 65536 ∷ NamedTake 1 7 2049 ∷ NamedTake 1 7 0 ∷ NamedTake 1 0 2048 ∷ NamedTake 1 1023 2048 ∷ [])
-    ≡ refused 2 named-state order-before ∷ refused 14 named-state order-before ∷ refused 14 named-state order-before ∷ refused 14 named-state order-before ∷ refused 3 named-state order-before ∷ refused 17 named-state order-before ∷ refused 4 named-state order-before
-    ∷ after-with (Address 4096) (withNames (pair-state 1 3) (withName two-names 0 256)) order-before ∷ after-with (Address 4096) (withNames (pair-state 1 3) (withName two-names 1023 256)) order-before ∷ []
-unfolding uncheckedCallDefinitions
-named-take-cases = refl
-
--- ---- a named free behind the check: 2 before 15; 15 for a name that is not held and for 1024; a free of name 5's block lets it go and keeps name 1022,
--- and a plain free of that address does the same
-pub named-free-cases :
-    map named-unchecked (NamedFree 0 9 ∷ NamedFree 1 9 ∷ NamedFree 1 1024 ∷ NamedFree 1 5 ∷ Free 1 0 ∷ NamedFree 2 1022 ∷ [])
-    ≡ refused 2 named-state order-before ∷ refused 15 named-state order-before ∷ refused 15 named-state order-before
-    ∷ after-with (Moves 0) (withNames (ranked-pair-state 0 1 2 2) (withName noNames 1022 257)) (pairOrder 1 0 0 67)
-    ∷ after-with (Moves 0) (withNames (ranked-pair-state 0 1 2 2) (withName noNames 1022 257)) (pairOrder 1 0 0 67)
-    ∷ after-with (Moves 0) (withNames (pair-state 1 0) (withName noNames 5 0)) (pairOrder 1 66 0 1) ∷ []
-unfolding uncheckedCallDefinitions
-named-free-cases = refl
-
--- a plain take keeps the names, and so do refused calls
-pub plain-call-cases :
-    map named-unchecked (Take 1 2048 ∷ Take 1 2049 ∷ Free 1 2048 ∷ [])
-    ≡ after-with (Address 4096) (withNames (pair-state 1 3) two-names) order-before ∷ refused 17 named-state order-before ∷ refused 7 named-state order-before ∷ []
-unfolding uncheckedCallDefinitions
-plain-call-cases = refl

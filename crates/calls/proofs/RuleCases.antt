@@ -82,14 +82,6 @@ pub checked-cases :
 unfolding callDefinitions
 checked-cases = refl
 
--- a state that passes, with P = 1, and storage enough: what follows
-abbrev pub state-that-passes : State
-state-that-passes = unnamedState (setup-with 1 1 1 3 7) (of 1 26 1 ∷ replicate 63 unused)
-
-pub checked-passing-case : checked state-that-passes (1 ∷ replicate 255 77) after-check ≡ after-check
-unfolding callDefinitions
-checked-passing-case = refl
-
 -- a refusal: its number, the state and the storage as they were
 pub refused-case : refused 9 (state-with-wrong-owner 7) (4 ∷ 5 ∷ []) ≡ record { answer = record { outcome = Refused 9; state = state-with-wrong-owner 7 }; order = 4 ∷ 5 ∷ [] }
 refused-case = refl
