@@ -1,8 +1,8 @@
--- `engine::drop` meets its contract. Assumes nothing.
+-- `entries::drop` meets its contract. Assumes nothing.
 use Rattle.calls.specs.Calls.{callOf, callWith}
 use borrow.Author.Needs.{needs}
-use Rattle.engine.proofs.drop.Statement.{statement}
-use Rattle.engine.proofs.drop.Tie as tie
+use Rattle.entries.proofs.drop.Statement.{statement}
+use Rattle.entries.proofs.drop.Tie as tie
 
 call-state-requires : tie.Need-call-state-requires
 call-state-requires c κs = search needs
@@ -12,7 +12,7 @@ same-length c = search needs
 
 returns : tie.Need-returns
 unfolding callOf callWith
-returns c = search needs
+returns c = c .before .before .call-state .ensures
 
 pub drop-spec : {M : Type 1} → statement M
 drop-spec = tie.close (tie.spec call-state-requires same-length returns)

@@ -1,8 +1,8 @@
--- `engine::named_free` meets its contract. Assumes nothing.
+-- `entries::named_take` meets its contract. Assumes nothing.
 use Rattle.calls.specs.Calls.{callOf, callWith}
 use borrow.Author.Needs.{needs}
-use Rattle.engine.proofs.named_free.Statement.{statement}
-use Rattle.engine.proofs.named_free.Tie as tie
+use Rattle.entries.proofs.named_take.Statement.{statement}
+use Rattle.entries.proofs.named_take.Tie as tie
 
 slice-aggregate-call-state : tie.Need-slice-aggregate-call-state
 slice-aggregate-call-state c = search needs
@@ -15,7 +15,7 @@ same-length c = search needs
 
 returns : tie.Need-returns
 unfolding callOf callWith
-returns c = search needs
+returns c = c .before .before .call-state .ensures
 
-pub named-free-spec : {M : Type 1} → statement M
-named-free-spec = tie.close (tie.spec slice-aggregate-call-state call-state-requires same-length returns)
+pub named-take-spec : {M : Type 1} → statement M
+named-take-spec = tie.close (tie.spec slice-aggregate-call-state call-state-requires same-length returns)
