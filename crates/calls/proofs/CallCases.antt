@@ -4,6 +4,7 @@ use mathlib.Core.Path.{_≡_, refl}
 use mathlib.Core.List.{List, [], _∷_, _++_, map}
 use lib.ListN.{replicate}
 use Prim.Native.Nat.{ℕ}
+use Rattle.laws.proofs.Stages.{_also_}
 use Rattle.names.specs.Names.{noNames, withName}
 use Rattle.heap.specs.declared.State.{State}
 use Rattle.heap.specs.Table.{unused}
@@ -22,7 +23,7 @@ use Rattle.calls.proofs.PairStates.{pair-state, ranked-pair-state, pair
 use Rattle.calls.proofs.NamedCases.{two-names, named-state}
 use Rattle.calls.proofs.DropCases.{page-state, page}
 use Rattle.calls.proofs.LongBlockCases.{before-run, with-run, run-gone, used-places, names-7-and-8}
-use Rattle.calls.proofs.PartsHold.{_also_, partsHold}
+use Rattle.calls.proofs.PartsHold.{partsHold}
 
 -- ---- plain calls
 abbrev pub unchecked : Call → After

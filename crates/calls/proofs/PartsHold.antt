@@ -1,5 +1,6 @@
 -- The cases and laws of the parts of calls, cited in one declaration. A case of a whole call, which takes the prover longer, unfolds it and so cites them: a
 -- declaration that cites a refused one is skipped, so that an edit which a part's case refuses computes no whole call. Assumes nothing.
+use Rattle.laws.proofs.Stages.{_also_}
 use Rattle.calls.proofs.AddressRefusalLaws.{free-unchecked-by-address-refusal}
 use Rattle.calls.proofs.CheckFirst.{checked-past-check}
 use Rattle.calls.proofs.RuleCases.{number-and-values-cases, setup-refused-cases, setup-accepted-cases, checked-cases, refused-case, is-processor-cases}
@@ -12,11 +13,6 @@ use Rattle.calls.proofs.DropCases.{touched-pairs-cases}
 use Rattle.calls.proofs.LongBlockCases.{each-of-run-cases, run-taken-cases, run-freed-cases, long-taken-at-cases, is-misaligned-in-run-cases}
 use Rattle.calls.proofs.LongBlockCases.{address-refusal-in-run-cases, order-pushed-of-run-case, run-named-cases, long-block-freed-case}
 use Rattle.calls.proofs.LongBlockCases.{long-freed-at-case, first-refusal-in-run-cases, touched-beside-run-cases}
-
-infixr 5 _also_
--- one more is cited, and nothing is made of it
-abbrev pub _also_ : {A : Type 0} → A → Unit {0} → Unit {0}
-_also_ case rest = rest
 
 unfoldable pub partsHold : Unit {0}
 partsHold =

@@ -13,8 +13,8 @@ use Rattle.heap.specs.declared.State.{State}
 use Rattle.heap.specs.Table.{unused, withRank}
 use Rattle.heap.specs.Totals.{noTotals}
 use Rattle.heap.specs.States.{withNames}
-use Rattle.checkrules.specs.Check.{withinLimits, superblockValid, unusedFrom, emptinessInvariant, sparseIfGlobal, namesValid, totalsValid, ranksValid}
-use Rattle.heap.proofs.TableCases.{of, ranked, small-setup}
+use Rattle.checkrules.specs.Check.{withinLimits, superblockValid, unusedFrom, sparseIfGlobal, namesValid, totalsValid}
+use Rattle.heap.proofs.TableCases.{of, small-setup}
 use Rattle.heap.proofs.CaseStates.{unnamedState}
 use Rattle.checkrules.proofs.CheckDefinitions.{checkDefinitions}
 
@@ -58,18 +58,6 @@ pub sparse-if-global-cases :
     × map (sparseIfGlobal (setup-with 2 5 1 4 8)) (of 0 24 1 ∷ of 0 24 0 ∷ []) ≡ false ∷ true ∷ []
 unfolding checkDefinitions
 sparse-if-global-cases = (refl, refl)
-
--- ---- "no processor heap and class meets both conditions of the move rule": two empty superblocks of one heap and class do, for K = 1, of the first
--- heap and class and of the last; not in heap 0, nor of two heaps, nor of two classes
-abbrev pub state-of-superblocks : List Superblock → State
-state-of-superblocks l = unnamedState small-setup (l ++ replicate (64 - length l) unused)
-
-pub emptiness-invariant-cases :
-    map (λ (l : List Superblock). emptinessInvariant (state-of-superblocks l))
-    ((of 1 0 0 ∷ of 1 0 0 ∷ []) ∷ (of 2 26 0 ∷ of 2 26 0 ∷ []) ∷ (of 0 26 0 ∷ of 0 26 0 ∷ of 1 26 0 ∷ of 2 26 0 ∷ of 1 25 0 ∷ []) ∷ [])
-    ≡ false ∷ false ∷ true ∷ []
-unfolding checkDefinitions
-emptiness-invariant-cases = refl
 
 -- ---- "each held name points at a live block, no two at one". Superblock 1, of class 20, has blocks 1 and 3 live, superblock 63 its block 255
 abbrev pub state-with-names : List ℕ → State
@@ -119,27 +107,3 @@ pub totals-cancel-cases :
     ≡ true ∷ replicate 4 false
 unfolding checkDefinitions
 totals-cancel-cases = refl
-
--- ---- "the ranked ones carry 1 (latest) upwards, each once without a gap, the rest 0, unused ones too": superblocks 0, 1 and 63 of heaps 1, 0 and 2, and superblock 2, which is unused
-abbrev pub with-ranks : ℕ → ℕ → ℕ → ℕ → State
-with-ranks a b c d = unnamedState small-setup (ranked 1 17 1 a ∷ ranked 0 17 1 b ∷ withRank c unused ∷ replicate 60 unused ++ ranked 2 16 1 d ∷ [])
-
--- none ranked; one, two and three, in two orders
-pub ranks-valid-cases :
-    ranksValid (with-ranks 0 0 0 0) ∷ ranksValid (with-ranks 0 1 0 0) ∷ ranksValid (with-ranks 0 0 0 1) ∷ ranksValid (with-ranks 2 0 0 1) ∷ ranksValid (with-ranks 2 3 0 1) ∷ ranksValid (with-ranks 1 2 0 3) ∷ []
-    ≡ replicate 6 true
-unfolding checkDefinitions
-ranks-valid-cases = refl
-
--- a gap: from 2 on, and in between; a double: of 1, of the last; an unused one ranked, in order too; a rank above the number of superblocks, the widest too
-pub ranks-not-valid-cases :
-    ranksValid (with-ranks 0 2 0 0) ∷ ranksValid (with-ranks 1 0 0 3) ∷ ranksValid (with-ranks 1 1 0 0) ∷ ranksValid (with-ranks 1 1 0 2) ∷ ranksValid (with-ranks 2 2 0 1)
-    ∷ ranksValid (with-ranks 0 0 1 0) ∷ ranksValid (with-ranks 1 2 3 0) ∷ ranksValid (with-ranks 0 0 0 65) ∷ ranksValid (with-ranks 1 2 0 255) ∷ []
-    ≡ replicate 9 false
-unfolding checkDefinitions
-ranks-not-valid-cases = refl
-
--- all 64 ranked
-pub all-ranked-case : ranksValid (unnamedState small-setup (listed (λ k. ranked 1 26 1 (64 - k)) 64)) ≡ true
-unfolding checkDefinitions listed
-all-ranked-case = refl

@@ -5,9 +5,9 @@ use mathlib.Core.List.{List, [], _∷_, _++_, map}
 use Prim.Native.Nat.{ℕ, _^_}
 use lib.ListN.{replicate}
 use Rattle.heap.specs.declared.Superblock.{Superblock}
-use Rattle.heap.specs.Table.{unused, runPart, withRank}
-use Rattle.checkrules.specs.Check.{isPartOfRun, superblockValid, unusedFrom, ranksValid, runsWhole, runsValid}
-use Rattle.heap.proofs.TableCases.{of, ranked, small-setup}
+use Rattle.heap.specs.Table.{unused, runPart}
+use Rattle.checkrules.specs.Check.{isPartOfRun, superblockValid, unusedFrom, runsWhole, runsValid}
+use Rattle.heap.proofs.TableCases.{of, small-setup}
 use Rattle.heap.proofs.RunCases.{with-length}
 use Rattle.heap.proofs.CaseStates.{unnamedState}
 use Rattle.checkrules.proofs.CheckDefinitions.{checkDefinitions}
@@ -31,14 +31,6 @@ run-parts-valid-cases = (refl, refl)
 pub run-part-unused-from-cases : map (λ (k : ℕ). unusedFrom 5 k (runPart 0)) (4 ∷ 5 ∷ 63 ∷ []) ≡ true ∷ false ∷ false ∷ []
 unfolding checkDefinitions
 run-part-unused-from-cases = refl
-
--- "no rank": superblocks 0 and 1 are ranked, and the run of two behind them is not; its first, or its last, of the next rank
-pub ranks-beside-run-cases :
-    map (λ (run : List Superblock). ranksValid (unnamedState small-setup (ranked 1 17 1 2 ∷ ranked 0 17 1 1 ∷ run ++ replicate 60 unused)))
-    ((runPart 2 ∷ runPart 0 ∷ []) ∷ (withRank 3 (runPart 2) ∷ runPart 0 ∷ []) ∷ (runPart 2 ∷ withRank 3 (runPart 0) ∷ []) ∷ [])
-    ≡ true ∷ false ∷ false ∷ []
-unfolding checkDefinitions
-ranks-beside-run-cases = refl
 
 -- ---- whole runs: none; of one superblock, and three such side by side; of two and one behind it, between others; of 16
 pub whole-runs-cases :

@@ -8,6 +8,7 @@ use native.Mathlib.Omega.{arith}
 use mir.Syntax.{w8}
 use mir.Val.{Fits}
 use lib.ListN.{length}
+use Rattle.laws.specs.Sums.{pick}
 use Rattle.heap.specs.declared.State.{State}
 use Rattle.heap.specs.declared.Moved.{Moved}
 use Rattle.heap.specs.Totals.{TotalsKept}
@@ -96,7 +97,9 @@ module _ (touched told : ℕ → ℕ → Bool) where
   classes-restored-cong : (h c : ℕ) (before : Moved) → ((d : ℕ) → d < c → told h d ≡ touched h d) → classesRestored told h c before ≡ classesRestored touched h c before
   unfolding classesRestored
   classes-restored-cong h zero before e = refl
-  classes-restored-cong h (suc c) before e = rw (classes-restored-cong h c before (λ d l. e d (omega arith)), e c (le-refl (suc c)))
+  classes-restored-cong h (suc c) before e =
+      ap (λ (b : Bool). pick b (thenRestored h c (classesRestored told h c before)) (classesRestored told h c before)) (e c (le-refl (suc c)))
+      ∙ ap (λ (m : Moved). pick (touched h c) (thenRestored h c m) m) (classes-restored-cong h c before (λ d l. e d (omega arith)))
 
   pub heaps-restored-cong : (n : ℕ) (before : Moved) → ((h c : ℕ) → h ≤ n → c < 27 → told h c ≡ touched h c) → heapsRestored told n before ≡ heapsRestored touched n before
   unfolding heapsRestored

@@ -7,6 +7,7 @@ use borrow.Author.Tests.{eq-eqb}
 use lib.ListN.{getD, length, replicate, take}
 use Rattle.laws.specs.Lists.{listed}
 use Rattle.laws.proofs.ListedLaws.{length-listed, getD-listed}
+use Rattle.laws.proofs.Stages.{_also_}
 use Rattle.littleendian.specs.Bytes.{byteAt, twoAt, foursAt}
 use Rattle.heap.specs.Table.{blank}
 use Rattle.formrules.specs.declared.Request.the-variants.{Setup, Take, Free, NamedTake, NamedFree, Drop}
@@ -91,26 +92,15 @@ totals-of-superblocks-in-cases = (refl, refl, refl)
 
 -- ---- inputs that hold a whole state, thousands of bytes. They are computed only where the cases above hold: a declaration that cites a refused one is
 -- skipped, which makes an edit of a definition cheap
-parts-hold : Unit {0}
-parts-hold =
-    let call = call-in-cases in
-    let addresses = addresses-in-cases in
-    let count = drop-count-of-two-bytes in
-    let table = table-offset-cases in
-    let places = places-offset-cases in
-    let drop = drop-offset-cases in
-    let superblock = superblock-in-case in
-    let names = names-of-two-bytes in
-    let state = state-parts-in-order in
-    let known = drop-well-formed-by-length in
-    let unknown = unknown-call-not-well-formed in
-    let live = totals-of-live-blocks-in-cases in
-    let superblocks = totals-of-superblocks-in-cases in
-    tt
+partsHold : Unit {0}
+partsHold =
+    call-in-cases also addresses-in-cases also drop-count-of-two-bytes also table-offset-cases also places-offset-cases also drop-offset-cases
+    also superblock-in-case also names-of-two-bytes also state-parts-in-order also drop-well-formed-by-length also unknown-call-not-well-formed
+    also totals-of-live-blocks-in-cases also totals-of-superblocks-in-cases also tt
 
 -- ---- the names: 1024, past the end 0
 names-in-cases : (take 4 (namesIn distinct-bytes 5) ≡ 1798 ∷ 2312 ∷ 10 ∷ 0 ∷ []) × (length (namesIn [] 0) ≡ 1024)
-unfolding parts-hold namesIn listed
+unfolding partsHold namesIn listed
 names-in-cases = (refl, refl)
 
 -- ---- the state: superblocks from byte 3 on, 7 the last byte of the last of them, its run length, then name 0
@@ -118,11 +108,11 @@ abbrev state-bytes : List ℕ
 state-bytes = replicate 2306 255 ++ (7 ∷ 1 ∷ 2 ∷ [])
 
 names-after-superblocks : getD (stateIn state-bytes 3 .names) 0 0 ≡ 513
-unfolding parts-hold stateIn namesIn listed
+unfolding partsHold stateIn namesIn listed
 names-after-superblocks = refl
 
 superblocks-before-names : getD (stateIn state-bytes 3 .table) 63 blank ≡ record { owner = 255; class = 255; live = 18446744073709551615 ∷ 18446744073709551615 ∷ 18446744073709551615 ∷ 18446744073709551615 ∷ []; rank = 255; run = 7 }
-unfolding parts-hold stateIn superblockIn listed
+unfolding partsHold stateIn superblockIn listed
 superblocks-before-names = refl
 
 -- superblock 0 has the bytes 1 to 36 and superblock 63 the bytes 41 to 76: owner, class, marks, rank and run length each from its own
@@ -130,7 +120,7 @@ abbrev distinct-superblock-bytes : List ℕ
 distinct-superblock-bytes = replicate 3 255 ++ (listed (λ k. 1 + k) 36 ++ (replicate 2232 255 ++ (listed (λ k. 41 + k) 36 ++ (255 ∷ []))))
 
 superblock-fields-in-order : (getD (stateIn distinct-superblock-bytes 3 .table) 0 blank ≡ record { owner = 1; class = 2; live = 723118041428460547 ∷ 1301839424133073931 ∷ 1880560806837687315 ∷ 2459282189542300699 ∷ []; rank = 35; run = 36 }) × (getD (stateIn distinct-superblock-bytes 3 .table) 63 blank ≡ record { owner = 41; class = 42; live = 3616724954951527467 ∷ 4195446337656140851 ∷ 4774167720360754235 ∷ 5352889103065367619 ∷ []; rank = 75; run = 76 })
-unfolding parts-hold stateIn superblockIn listed
+unfolding partsHold stateIn superblockIn listed
 superblock-fields-in-order = (refl, refl)
 
 -- 1 and 2 the last name, then the totals
@@ -138,7 +128,7 @@ abbrev names-then-totals : List ℕ
 names-then-totals = replicate 4353 255 ++ (1 ∷ 2 ∷ 3 ∷ 4 ∷ [])
 
 totals-after-names : (getD (stateIn names-then-totals 3 .names) 1023 0 ≡ 513) × (take 3 (stateIn names-then-totals 3 .totals .superblocks) ≡ 3 ∷ 4 ∷ 0 ∷ [])
-unfolding parts-hold stateIn namesIn totalsIn listed
+unfolding partsHold stateIn namesIn totalsIn listed
 totals-after-names = (refl, refl)
 
 -- ---- L: of a setup behind its numbers, of a call on a state behind the totals
@@ -146,7 +136,7 @@ abbrev totals-then-length : List ℕ
 totals-then-length = replicate 5089 255 ++ (1 ∷ 2 ∷ 3 ∷ 4 ∷ 5 ∷ 6 ∷ [])
 
 place-count-cases : (placeCount (0 ∷ distinct-bytes) ≡ 151521030) × (placeCount (3 ∷ totals-then-length) ≡ 100992003) × (placeCount (4 ∷ totals-then-length) ≡ 67305985)
-unfolding parts-hold placeCount tableOffset
+unfolding partsHold placeCount tableOffset
 place-count-cases = (refl, refl, refl)
 
 -- ---- a drop of C addresses, whose superblocks begin with 10 and end with 11; then name 0, the first totals of superblocks and of live blocks, L and a
@@ -162,31 +152,31 @@ landmarks b at =
 
 -- with C of 0, 1 and 3
 all-behind-addresses : (landmarks (drop-on-state 0) (tableOffset (drop-on-state 0)) ≡ 10 ∷ 11 ∷ 3340 ∷ 14 ∷ 4111 ∷ 1 ∷ 4625 ∷ []) × (landmarks (drop-on-state 1) (tableOffset (drop-on-state 1)) ≡ 10 ∷ 11 ∷ 3340 ∷ 14 ∷ 4111 ∷ 1 ∷ 4625 ∷ []) × (landmarks (drop-on-state 3) (tableOffset (drop-on-state 3)) ≡ 10 ∷ 11 ∷ 3340 ∷ 14 ∷ 4111 ∷ 1 ∷ 4625 ∷ [])
-unfolding parts-hold tableOffset placesOffset placeCount placesIn listed
+unfolding partsHold tableOffset placesOffset placeCount placesIn listed
 all-behind-addresses = (refl, refl, refl)
 
 -- ---- the whole form: named calls without a place; a byte missing or left over; the length of the other; one place
 well-formed-named-take : (wellFormed (3 ∷ replicate 5095 0) ≡ true) × (wellFormed (3 ∷ replicate 5094 0) ≡ false) × (wellFormed (3 ∷ replicate 5096 0) ≡ false) × (wellFormed (3 ∷ replicate 5093 0) ≡ false)
-unfolding parts-hold wellFormed placesOffset placeCount tableOffset
+unfolding partsHold wellFormed placesOffset placeCount tableOffset
 well-formed-named-take = (refl, refl, refl, refl)
 
 well-formed-named-free : (wellFormed (4 ∷ replicate 5093 0) ≡ true) × (wellFormed (4 ∷ replicate 5092 0) ≡ false) × (wellFormed (4 ∷ replicate 5094 0) ≡ false) × (wellFormed (4 ∷ replicate 5095 0) ≡ false)
-unfolding parts-hold wellFormed placesOffset placeCount tableOffset
+unfolding partsHold wellFormed placesOffset placeCount tableOffset
 well-formed-named-free = (refl, refl, refl, refl)
 
 abbrev one-place-lent : List ℕ
 one-place-lent = 4 ∷ (replicate 5089 0 ++ (1 ∷ 0 ∷ 0 ∷ 0 ∷ []))
 
 well-formed-with-place : (wellFormed (one-place-lent ++ (8 ∷ 9 ∷ [])) ≡ true) × (wellFormed (one-place-lent ++ (8 ∷ [])) ≡ false) × (wellFormed one-place-lent ≡ false)
-unfolding parts-hold wellFormed placesOffset placeCount tableOffset
+unfolding partsHold wellFormed placesOffset placeCount tableOffset
 well-formed-with-place = (refl, refl, refl)
 
 -- a drop of 0, 1 and 3 addresses with one place lent; a byte missing or left over
 well-formed-drop : (wellFormed (drop-on-state 0) ≡ true) × (wellFormed (drop-on-state 1) ≡ true) × (wellFormed (drop-on-state 3) ≡ true) × (wellFormed (take 5107 (drop-on-state 3)) ≡ false) × (wellFormed (drop-on-state 3 ++ (0 ∷ [])) ≡ false)
-unfolding parts-hold wellFormed placesOffset placeCount tableOffset
+unfolding partsHold wellFormed placesOffset placeCount tableOffset
 well-formed-drop = (refl, refl, refl, refl, refl)
 
 -- without a place: C one too large, so that the last address is read from the state; one too small; and 256
 drop-with-other-count : (wellFormed (drop-bytes 1 0 0 ++ replicate 5085 0) ≡ false) × (wellFormed (drop-bytes 0 0 0 ++ replicate 5089 0) ≡ false) × (wellFormed (drop-bytes 0 1 0 ++ replicate 5085 0) ≡ false)
-unfolding parts-hold wellFormed placesOffset placeCount tableOffset listed
+unfolding partsHold wellFormed placesOffset placeCount tableOffset listed
 drop-with-other-count = (refl, refl, refl)

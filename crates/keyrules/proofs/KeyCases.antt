@@ -1,22 +1,32 @@
--- Keys of small records, computed from the definitions alone. Assumes nothing.
+-- Keys of small records, computed from the definitions alone: first those in which no call finds a state that passes its check. Assumes nothing.
 use mathlib.Core.Path.{_≡_, refl}
 use mathlib.Core.Bool.{true}
 use mathlib.Core.List.{List, [], _∷_, _++_}
 use Prim.Native.Nat.{ℕ, _+_, _*_}
 use lib.ListN.{replicate}
 use lib.Dec.{leb}
+use Rattle.laws.proofs.Stages.{_also_}
 use Rattle.names.specs.Names.{noNames, withName}
+use Rattle.heap.specs.declared.State.{State}
 use Rattle.heap.specs.Table.{unused}
 use Rattle.heap.specs.States.{withNames}
 use Rattle.heap.proofs.CaseStates.{unnamedState}
 use Rattle.heap.proofs.TableCases.{of}
+use Rattle.calls.specs.declared.Outcome.{Outcome}
 use Rattle.calls.specs.Answers.{After, numberOf}
-use Rattle.commands.specs.declared.Command.the-variants.{Take, NamedTake, NamedFree, Drop}
+use Rattle.calls.specs.Take.{takeOf}
+use Rattle.calls.specs.Free.{freeOf}
+use Rattle.calls.specs.Named.{namedTakeOf, namedFreeOf}
+use Rattle.calls.specs.Drop.{dropOf}
+use Rattle.commands.specs.declared.Command.{Command}
+use Rattle.commands.specs.Record.{addressesIn}
+use Rattle.commands.specs.declared.Command.the-variants.{Take, Free, NamedTake, NamedFree, Drop, Refused}
 use Rattle.textrules.specs.Text.{letters}
+use Rattle.linerules.specs.Lines.{takeLine, freeLine, namedTakeLine, namedFreeLine, dropLine}
 use Rattle.calls.proofs.CallDefinitions.{callDefinitions}
 use Rattle.commands.proofs.CommandDefinitions.{commandDefinitions}
 use Rattle.linerules.proofs.LineDefinitions.{lineDefinitions}
-use Rattle.keyrules.specs.Key.{stateAndStorage, setupText, textOf, orderAfter, keyOf, storageOf, room}
+use Rattle.keyrules.specs.Key.{stateAndStorage, beforeFirst, setupText, textOf, orderAfter, keyOf, storageOf, room}
 
 -- what a key's case computes with
 unfoldable pub keyDefinitions : Unit {0}
@@ -47,19 +57,66 @@ key-of-short-storage-case : keyOf (setup ++ take) (replicate 255 0) ≡ letters 
 unfolding keyDefinitions
 key-of-short-storage-case = refl
 
+-- a refused setup leaves the storage as it was
+storage-after-refused-setup : storageOf (0 ∷ 0 ∷ 1 ∷ 1 ∷ 1 ∷ 2 ∷ take) (replicate 3 7) ≡ replicate 3 7
+unfolding keyDefinitions
+storage-after-refused-setup = refl
+
 -- a setup alone: no heap and class has a superblock
 key-of-setup-only-case : keyOf setup storage ≡ letters "setup 1 1 1 1 2\n" ++ letters "end\n"
 unfolding keyDefinitions
 key-of-setup-only-case = refl
 
+-- calls on no state, which are refused 13: each has its own line, and the record goes on; a stop line is the last
+text-of-calls-on-no-state :
+    textOf [] (beforeFirst []) (Take 0 2048 ∷ Free 1 4096 ∷ NamedTake 1 5 2048 ∷ NamedFree 1 5 ∷ Drop 1 2 1 ∷ Refused 8 10 ∷ Take 0 2048 ∷ [])
+    ≡ letters "take 0 2048 refused 13\n" ++ letters "free 1 4096 refused 13\n" ++ letters "take 1 name 5 2048 refused 13\n"
+    ++ letters "free 1 name 5 refused 13\n" ++ letters "drop 1 count 2 refused 13\n" ++ letters "stopped 8 at 10\n"
+unfolding keyDefinitions
+text-of-calls-on-no-state = refl
+
+-- the room holds 10 bytes for each byte of a record of 60000, 9 times 27 heap lines of 64 bytes, and 64 run lines of 31 with `end`
+room-enough : leb (60000 * 10 + 9 * 27 * 64 + 64 * 31 + 4) room ≡ true
+room-enough = refl
+
+-- ---- each call, of any state and storage: its line has the outcome that it gives on them, and the commands behind it find what it leaves
+abbrev line-and-rest : List ℕ → (Outcome → List ℕ) → After → List Command → List ℕ
+line-and-rest r line left rest = line (left .answer .outcome) ++ textOf r left rest
+
+text-of-call : (r order : List ℕ) (s : State) (i a m size count first : ℕ) (rest : List Command)
+    → (textOf r (stateAndStorage s order) (Take i size ∷ rest) ≡ line-and-rest r (takeLine i size) (takeOf s order i size) rest)
+    × (textOf r (stateAndStorage s order) (Free i a ∷ rest) ≡ line-and-rest r (freeLine i a) (freeOf s order i a) rest)
+    × (textOf r (stateAndStorage s order) (NamedTake i m size ∷ rest) ≡ line-and-rest r (namedTakeLine i m size) (namedTakeOf s order i m size) rest)
+    × (textOf r (stateAndStorage s order) (NamedFree i m ∷ rest) ≡ line-and-rest r (namedFreeLine i m) (namedFreeOf s order i m) rest)
+    × (textOf r (stateAndStorage s order) (Drop i count first ∷ rest)
+    ≡ line-and-rest r (dropLine i count) (dropOf s order i (addressesIn r first count)) rest)
+unfolding textOf
+text-of-call r order s i a m size count first rest = (refl, refl, refl, refl, refl)
+
+storage-of-call : (r order : List ℕ) (s : State) (i a m size count first : ℕ) (rest : List Command)
+    → (orderAfter r (stateAndStorage s order) (Take i size ∷ rest) ≡ orderAfter r (takeOf s order i size) rest)
+    × (orderAfter r (stateAndStorage s order) (Free i a ∷ rest) ≡ orderAfter r (freeOf s order i a) rest)
+    × (orderAfter r (stateAndStorage s order) (NamedTake i m size ∷ rest) ≡ orderAfter r (namedTakeOf s order i m size) rest)
+    × (orderAfter r (stateAndStorage s order) (NamedFree i m ∷ rest) ≡ orderAfter r (namedFreeOf s order i m) rest)
+    × (orderAfter r (stateAndStorage s order) (Drop i count first ∷ rest) ≡ orderAfter r (dropOf s order i (addressesIn r first count)) rest)
+unfolding orderAfter
+storage-of-call r order s i a m size count first rest = (refl, refl, refl, refl, refl)
+
+-- ---- calls on states that pass, whose check is long. They are computed only where the cases above hold: a declaration that cites a refused one is skipped,
+-- which makes an edit of a definition cheap
+casesWithoutCheckHold : Unit {0}
+casesWithoutCheckHold =
+    key-of-refused-setup-case also key-of-short-storage-case also storage-after-refused-setup also key-of-setup-only-case
+    also text-of-calls-on-no-state also room-enough also text-of-call also storage-of-call also tt
+
 -- an unknown byte behind a setup and an accepted take: their lines, and the stop line with the byte's own offset, as the last line
 key-stopped-by-unknown-byte : keyOf (setup ++ take ++ (6 ∷ [])) storage ≡ letters "setup 1 1 1 1 2\n" ++ letters "take 1 2048 at 0\n" ++ letters "stopped 8 at 10\n"
-unfolding keyDefinitions
+unfolding casesWithoutCheckHold keyDefinitions
 key-stopped-by-unknown-byte = refl
 
 -- a refused take prints its number and the record goes on, to `end`
 key-of-refused-take : keyOf (setup ++ take-by-processor-0) storage ≡ letters "setup 1 1 1 1 2\n" ++ letters "take 0 2048 refused 2\n" ++ letters "end\n"
-unfolding keyDefinitions
+unfolding casesWithoutCheckHold keyDefinitions
 key-of-refused-take = refl
 
 -- ---- calls by name, on a state of that setup: heap 1 has the superblock, of class 26, with these marks; name 5 points at its block j, or at none
@@ -70,18 +127,18 @@ with-name-5 marks j order =
 -- a named free lets go the block that the name holds, not the one at address 0: the take after it gets that block
 text-of-held-block-freed : textOf [] (with-name-5 3 1 (1 ∷ 0 ∷ replicate 254 0)) (NamedFree 1 5 ∷ Take 1 2048 ∷ [])
     ≡ letters "free 1 name 5 moved 0\n" ++ letters "take 1 2048 at 2048\n" ++ letters "heap 1 class 26 superblocks 1 live 2\n" ++ letters "end\n"
-unfolding keyDefinitions
+unfolding casesWithoutCheckHold keyDefinitions
 text-of-held-block-freed = refl
 
 -- a named take binds its name, by which its block is freed
 text-of-bound-name : textOf [] (with-name-5 1 65535 (1 ∷ 0 ∷ replicate 254 0)) (NamedTake 1 5 2048 ∷ NamedFree 1 5 ∷ [])
     ≡ letters "take 1 name 5 2048 at 2048\n" ++ letters "free 1 name 5 moved 0\n" ++ letters "heap 1 class 26 superblocks 1 live 1\n" ++ letters "end\n"
-unfolding keyDefinitions
+unfolding casesWithoutCheckHold keyDefinitions
 text-of-bound-name = refl
 
 -- and the storage is what the named free leaves: the block's number in the first place
 storage-after-named-free : orderAfter [] (with-name-5 3 0 (1 ∷ 0 ∷ replicate 255 7)) (NamedFree 1 5 ∷ []) ≡ 0 ∷ 0 ∷ replicate 255 7
-unfolding keyDefinitions
+unfolding casesWithoutCheckHold keyDefinitions
 storage-after-named-free = refl
 
 -- ---- a drop, on the same state, whose name 5 points at block 0 (document 02, item 5)
@@ -92,24 +149,15 @@ both-blocks = 9 ∷ 0 ∷ 8 ∷ 0 ∷ 0 ∷ 0 ∷ 0 ∷ 0 ∷ 0 ∷ 9 ∷ []
 -- the line has the count and the moves, the blocks are free, the last one first, and the name is let go
 text-of-drop : textOf both-blocks (with-name-5 3 0 (replicate 256 0)) (Drop 1 2 1 ∷ NamedFree 1 5 ∷ Take 1 2048 ∷ [])
     ≡ letters "drop 1 count 2 moved 0\n" ++ letters "free 1 name 5 refused 15\n" ++ letters "take 1 2048 at 0\n" ++ letters "heap 1 class 26 superblocks 1 live 1\n" ++ letters "end\n"
-unfolding keyDefinitions
+unfolding casesWithoutCheckHold keyDefinitions
 text-of-drop = refl
 
 -- the storage is what the drop leaves: the numbers of its blocks, in the order written
 storage-after-drop : orderAfter both-blocks (with-name-5 3 0 (replicate 257 7)) (Drop 1 2 1 ∷ []) ≡ 1 ∷ 0 ∷ replicate 255 7
-unfolding keyDefinitions
+unfolding casesWithoutCheckHold keyDefinitions
 storage-after-drop = refl
 
 -- the storage that is left: the setup clears the places of its superblocks and no other, and a take of an unused superblock renews it
 storage-after-setup-and-take : storageOf (setup ++ take) (replicate 257 7) ≡ 1 ∷ 0 ∷ (replicate 254 0 ++ (7 ∷ []))
-unfolding keyDefinitions
+unfolding casesWithoutCheckHold keyDefinitions
 storage-after-setup-and-take = refl
-
--- a refused setup leaves it as it was
-storage-after-refused-setup : storageOf (0 ∷ 0 ∷ 1 ∷ 1 ∷ 1 ∷ 2 ∷ take) (replicate 3 7) ≡ replicate 3 7
-unfolding keyDefinitions
-storage-after-refused-setup = refl
-
--- the room holds 10 bytes for each byte of a record of 60000, 9 times 27 heap lines of 64 bytes, and 64 run lines of 31 with `end`
-room-enough : leb (60000 * 10 + 9 * 27 * 64 + 64 * 31 + 4) room ≡ true
-room-enough = refl

@@ -7,3 +7,4 @@ pub mod Decides
 pub mod FieldArrays
 pub mod ListedLaws
 pub mod NumberLists
+pub mod Stages
