@@ -1,12 +1,10 @@
--- Words and numbers put into a buffer, and the result of a call. Assumes nothing.
+-- Words and numbers put into a buffer. Assumes nothing.
 use mathlib.Core.Path.{_≡_}
-use mathlib.Core.List.{List, [], _++_, append-assoc}
+use mathlib.Core.List.{List, _++_, append-assoc}
 use Prim.Native.Nat.{ℕ}
-use Rattle.textrules.specs.Text.{pasted, letters, decimal}
+use Rattle.textrules.specs.Text.{pasted, decimal}
 use Rattle.textrules.proofs.PasteLaws.{paste-then-paste}
-use Rattle.calls.specs.declared.Outcome.{Outcome}
-use Rattle.calls.specs.declared.Outcome.the-variants.{Ready, Address, Moves, Refused}
-use Rattle.linerules.specs.Lines.{field, result}
+use Rattle.linerules.specs.Lines.{field}
 
 module _ (l₀ : List ℕ) {l : List ℕ} (at : ℕ) {r : ℕ} where
   -- the text put is this word
@@ -31,21 +29,3 @@ module _ (l₀ : List ℕ) {l : List ℕ} (at : ℕ) {r : ℕ} where
   pub put-then-last-field : {l₂ : List ℕ} {r₂ : ℕ} (text last end : List ℕ) → record { end = r; buffer = l } ≡ pasted l₀ at text
       → record { end = r₂; buffer = l₂ } ≡ pasted l r (last ++ end) → record { end = r₂; buffer = l₂ } ≡ pasted l₀ at (text ++ last ++ end)
   put-then-last-field text last end p q = rw append-assoc (paste-then-paste l₀ text (last ++ end) at p q)
-
-  -- the result of a call, by its outcome
-  module _ (o : Outcome) where
-    pub result-of-ready-put : record { end = r; buffer = l } ≡ pasted l₀ at [] → o ≡ Ready → record { end = r; buffer = l } ≡ pasted l₀ at (result o)
-    unfolding result
-    result-of-ready-put p k = rw k p
-
-    pub result-of-address-put : (a : ℕ) → record { end = r; buffer = l } ≡ pasted l₀ at (field (letters " at ") a) → o ≡ Address a → record { end = r; buffer = l } ≡ pasted l₀ at (result o)
-    unfolding result
-    result-of-address-put a p k = rw k p
-
-    pub result-of-moves-put : (m : ℕ) → record { end = r; buffer = l } ≡ pasted l₀ at (field (letters " moved ") m) → o ≡ Moves m → record { end = r; buffer = l } ≡ pasted l₀ at (result o)
-    unfolding result
-    result-of-moves-put m p k = rw k p
-
-    pub result-of-refused-put : (n : ℕ) → record { end = r; buffer = l } ≡ pasted l₀ at (field (letters " refused ") n) → o ≡ Refused n → record { end = r; buffer = l } ≡ pasted l₀ at (result o)
-    unfolding result
-    result-of-refused-put n p k = rw k p

@@ -1,11 +1,9 @@
 // The fields of the key's lines, written into a lent buffer, as far as they reach.
-use calls::Outcome;
 use text::put_decimal;
 use text::put_text;
 ghost use mathlib.Core.Path.{_≡_};
 ghost use mathlib.Core.List.{[], _++_};
 ghost use Rattle.textrules.specs.Text.{letters, decimal, pasted};
-ghost use Rattle.linerules.specs.Lines.{result};
 
 // A word and a number after it.
 pub fn put_field(out: &mut [u8], at: usize, label: &[u8], n: u32) -> usize
@@ -54,24 +52,4 @@ pub fn put_nothing(out: &mut [u8], at: usize) -> usize
     ensures { λ r. ⌜ record { end = r; buffer = now (out .exit) } ≡ pasted (now (out .entry)) at [] ⌝ }
 {
     put_text(out, at, b"")
-}
-
-// The address given, the moves or the refusal.
-pub fn put_result(out: &mut [u8], at: usize, outcome: Outcome) -> usize
-    ensures { λ r. ⌜ record { end = r; buffer = now (out .exit) } ≡ pasted (now (out .entry)) at (result outcome) ⌝ }
-{
-    match outcome {
-        Outcome::Ready => put_nothing(out, at),
-        Outcome::Address(a) => put_field(out, at, b" at ", a),
-        Outcome::Moves(m) => put_byte(out, at, b" moved ", m),
-        Outcome::Refused(r) => put_byte(out, at, b" refused ", r),
-    }
-}
-
-// The same and the end of its line.
-pub fn put_result_end(out: &mut [u8], at: usize, outcome: Outcome) -> usize
-    ensures { λ r. ⌜ record { end = r; buffer = now (out .exit) } ≡ pasted (now (out .entry)) at (result outcome ++ letters "\n") ⌝ }
-{
-    let end = put_result(out, at, outcome);
-    put_text(out, end, b"\n")
 }

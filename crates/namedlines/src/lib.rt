@@ -1,8 +1,8 @@
 // The lines of a take and a free by name, written into a lent buffer, as far as they reach.
 use calls::Outcome;
 use fields::put_byte;
-use fields::put_result_end;
 use fields::put_short;
+use results::put_result_end;
 ghost use mathlib.Core.Path.{_≡_};
 ghost use Rattle.textrules.specs.Text.{pasted};
 ghost use Rattle.linerules.specs.Lines.{processorAndName, namedTakeLine, namedFreeLine};

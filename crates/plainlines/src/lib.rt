@@ -2,8 +2,8 @@
 use calls::Outcome;
 use fields::put_byte;
 use fields::put_next;
-use fields::put_result_end;
 use fields::put_short;
+use results::put_result_end;
 ghost use mathlib.Core.Path.{_≡_};
 ghost use Rattle.textrules.specs.Text.{pasted};
 ghost use Rattle.linerules.specs.Lines.{takeLine, freeLine, dropLine};

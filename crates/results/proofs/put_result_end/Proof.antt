@@ -1,11 +1,11 @@
--- `fields::put_result_end` meets its contract: the result, then the end of the line. Assumes nothing.
+-- `results::put_result_end` meets its contract: the result, then the end of the line. Assumes nothing.
 use mathlib.Core.Path.{refl}
 use Rattle.textrules.specs.Text.{letters}
 use Rattle.textrules.proofs.PasteLaws.{paste-then-paste}
 use Rattle.fields.proofs.FieldLaws.{word-put}
 use borrow.Author.Needs.{needs}
-use Rattle.fields.proofs.put_result_end.Statement.{statement}
-use Rattle.fields.proofs.put_result_end.Tie as tie
+use Rattle.results.proofs.put_result_end.Statement.{statement}
+use Rattle.results.proofs.put_result_end.Tie as tie
 
 put-result-requires : tie.Need-put-result-requires
 put-result-requires c κs = search needs

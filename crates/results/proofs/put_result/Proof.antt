@@ -1,10 +1,11 @@
--- `fields::put_result` meets its contract: one arm for each outcome. Assumes nothing.
+-- `results::put_result` meets its contract: one arm for each outcome. Assumes nothing.
 use mathlib.Core.Path.{refl}
 use Rattle.textrules.specs.Text.{letters}
-use Rattle.fields.proofs.FieldLaws.{field-put, result-of-ready-put, result-of-address-put, result-of-moves-put, result-of-refused-put}
+use Rattle.fields.proofs.FieldLaws.{field-put}
+use Rattle.results.proofs.ResultLaws.{result-of-ready-put, result-of-address-put, result-of-moves-put, result-of-refused-put}
 use borrow.Author.Needs.{needs}
-use Rattle.fields.proofs.put_result.Statement.{statement}
-use Rattle.fields.proofs.put_result.Tie as tie
+use Rattle.results.proofs.put_result.Statement.{statement}
+use Rattle.results.proofs.put_result.Tie as tie
 
 enum-told : tie.Need-enum-told
 enum-told c = search needs
