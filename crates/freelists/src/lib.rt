@@ -4,7 +4,7 @@ ghost use mathlib.Core.Path.{_≡_};
 ghost use Rattle.order.specs.Order.{place, lastFilled, withPlace};
 
 // What place p of superblock s holds; 0 where the storage has no such place.
-pub fn place_at(order: &[u16], s: u8, p: u8) -> u16
+fn place_at(order: &[u16], s: u8, p: u8) -> u16
     ensures { λ r. ⌜ r ≡ place (now (order .entry)) s p ⌝ }
 {
     let at = s as usize * 256 + p as usize;

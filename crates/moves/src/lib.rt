@@ -10,7 +10,7 @@ use heap::State;
 use heap::Superblock;
 
 // The heap and class meet both conditions of the move rule, by the totals kept.
-pub fn must_move(s: State, heap: u8, class: u8) -> bool
+fn must_move(s: State, heap: u8, class: u8) -> bool
     requires { ⌜ (heap < 9) × (class < 27) × TotalsKept s ⌝ }
     ensures { λ r. ⌜ r ≡ mustMove heap class s ⌝ }
 {
