@@ -1,3 +1,4 @@
+pub mod CaseForm
 pub mod WholeCallCases
 pub mod NamedCallCases
 pub mod LongCallCases

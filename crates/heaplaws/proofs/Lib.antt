@@ -15,3 +15,4 @@ pub mod RankLaws
 pub mod MovesKeepLaws
 pub mod OutsideGlobalLaws
 pub mod PassedBetweenHeapsLaws
+pub mod UsedPartLaws
