@@ -6,4 +6,5 @@ pub mod RowDemand3
 pub mod RowTotalsLaws
 pub mod RowRankLaws
 pub mod RowRunLaws
+pub mod RowCaseLaws
 pub mod RowCallCases

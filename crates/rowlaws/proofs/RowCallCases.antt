@@ -1,20 +1,32 @@
--- Cases of whole calls on a lent row of 64 records that pass the check: refusals, a take, a free, and lists of them. Assumes nothing.
-use mathlib.Core.Path.{_≡_, refl, ap}
+-- Cases of whole calls on a lent row of 64 records that pass the check: refusals, a take, a free, and lists of them; and of rows that do not pass it. Assumes
+-- nothing.
+use mathlib.Core.Path.{_≡_, refl, sym, ap, _∙_}
+use mathlib.Core.Bool.{Bool, true}
 use mathlib.Core.List.{List, [], _∷_, _++_, map}
 use Prim.Native.Nat.{ℕ}
 use native.Mathlib.Omega.{arith}
 use lib.ListN.{getD, replicate}
+use lib.Dec.{T}
+use Rattle.laws.specs.Sums.{both, allBelow}
+use Rattle.laws.proofs.TestLaws.{both-make}
 use Rattle.heap.specs.declared.Superblock.{Superblock}
 use Rattle.heap.specs.declared.Totals.{Totals}
-use Rattle.heap.specs.Table.{withRank}
+use Rattle.heap.specs.declared.State.{State}
+use Rattle.heap.specs.Table.{withRank, superblockAt}
+use Rattle.checkrules.specs.Check.{unusedFrom, namesValid, totalsValid, ranksValid, runsValid, restValid}
+use Rattle.checkrules.proofs.CheckDefinitions.{checkDefinitions}
+use Rattle.checkrules.proofs.ClauseLaws.{clauses-of-rest}
+use Rattle.heaplaws.proofs.UsedPartLaws.{usedPartDefinitions}
 use Rattle.calls.specs.Calls.{Call, Take, Free, NamedTake, NamedFree, Drop}
 use Rattle.calls.specs.declared.Outcome.the-variants.{Ready, Address, Moves}
 use Rattle.calls.specs.Answers.{valuesOf}
-use Rattle.calls.proofs.CallDefinitions.{callDefinitions}
+use Rattle.calls.proofs.CallDefinitions.{uncheckedCallDefinitions}
 use Rattle.rowrules.specs.declared.Control.{Control}
-use Rattle.rowrules.specs.Row.{RowAfter, callOn, rowCall}
+use Rattle.rowrules.specs.Row.{RowAfter, rowCall}
 use Rattle.rowrules.specs.RowClaim.{RowStep, RowLinked}
 use Rattle.rowrules.proofs.RowCases.{CallCase, call-refused-case, row-after, control-with, example-setup, name-6-held, no-name-held, example-totals, zero-totals, unused-superblock, storage-of-258}
+use Rattle.rowlaws.proofs.RowCaseLaws.{row-call-of, row-passes, row-call-behind-check, row-call-past-check, row-calls-past-check}
+use Rattle.rowlaws.proofs.RowCaseLaws.{refused-by, row-calls-refused}
 
 -- superblock 0 with its first 2048 bytes live, and then, freed into, with nothing live
 abbrev pub first-block-live : Superblock
@@ -55,23 +67,47 @@ whole-row-call-cases =
     ∷ record { control = unnamed-control; row = unused-row; order = storage-of-258; call = Take 2 2048; after = row-after-take no-name-held }
     ∷ case-after (row-after-take no-name-held) (Free 1 0) row-after-free ∷ []
 
-pub whole-row-call-cases-are-computed : map (λ (k : CallCase). rowCall (k .control) (k .row) (k .order) (k .call)) whole-row-call-cases ≡ map (λ (k : CallCase). k .after) whole-row-call-cases
-unfolding callOn callDefinitions
-whole-row-call-cases-are-computed = refl
+whole-row-calls-pass : map row-passes whole-row-call-cases ≡ map (λ (k : CallCase). true) whole-row-call-cases
+unfolding usedPartDefinitions
+whole-row-calls-pass = refl
 
--- Names: a name at a block that is not live fails the check, 13; an accepted named take hands its name back held; a held name is refused, 14, and handed back;
--- either free of its block lets it go; and then it is not held, 15
+whole-row-calls-behind-check : map row-call-behind-check whole-row-call-cases ≡ map (λ (k : CallCase). k .after) whole-row-call-cases
+unfolding uncheckedCallDefinitions
+whole-row-calls-behind-check = refl
+
+pub whole-row-call-cases-are-computed : map (λ (k : CallCase). rowCall (k .control) (k .row) (k .order) (k .call)) whole-row-call-cases ≡ map (λ (k : CallCase). k .after) whole-row-call-cases
+whole-row-call-cases-are-computed = row-calls-past-check whole-row-call-cases refl whole-row-calls-pass ∙ whole-row-calls-behind-check
+
+-- Names: an accepted named take hands its name back held; a held name is refused, 14, and handed back; either free of its block lets it go; and then it is not
+-- held, 15
 abbrev pub named-row-call-cases : List CallCase
 named-row-call-cases =
-    call-refused-case 13 (control-with example-setup name-6-held zero-totals) unused-row storage-of-258 (NamedTake 2 10 2048)
-    ∷ record { control = unnamed-control; row = unused-row; order = storage-of-258; call = NamedTake 2 6 2048; after = row-after-take name-6-held }
+    record { control = unnamed-control; row = unused-row; order = storage-of-258; call = NamedTake 2 6 2048; after = row-after-take name-6-held }
     ∷ refused-after (row-after-take name-6-held) (NamedTake 1 6 2048) 14
     ∷ case-after (row-after-take name-6-held) (Free 1 0) row-after-free ∷ case-after (row-after-take name-6-held) (NamedFree 1 6) row-after-free
     ∷ refused-after row-after-free (NamedFree 1 6) 15 ∷ []
 
+named-row-calls-pass : map row-passes named-row-call-cases ≡ map (λ (k : CallCase). true) named-row-call-cases
+unfolding usedPartDefinitions
+named-row-calls-pass = refl
+
+named-row-calls-behind-check : map row-call-behind-check named-row-call-cases ≡ map (λ (k : CallCase). k .after) named-row-call-cases
+unfolding uncheckedCallDefinitions
+named-row-calls-behind-check = refl
+
 pub named-row-call-cases-are-computed : map (λ (k : CallCase). rowCall (k .control) (k .row) (k .order) (k .call)) named-row-call-cases ≡ map (λ (k : CallCase). k .after) named-row-call-cases
-unfolding callOn callDefinitions
-named-row-call-cases-are-computed = refl
+named-row-call-cases-are-computed = row-calls-past-check named-row-call-cases refl named-row-calls-pass ∙ named-row-calls-behind-check
+
+-- a name at a block that is not live fails the check, 13, and is handed back
+abbrev pub wrong-names-cases : List CallCase
+wrong-names-cases = call-refused-case 13 (control-with example-setup name-6-held zero-totals) unused-row storage-of-258 (NamedTake 2 10 2048) ∷ []
+
+wrong-names-refused : map (refused-by namesValid) wrong-names-cases ≡ map (λ (k : CallCase). true) wrong-names-cases
+unfolding checkDefinitions
+wrong-names-refused = refl
+
+pub wrong-names-cases-are-computed : map (λ (k : CallCase). rowCall (k .control) (k .row) (k .order) (k .call)) wrong-names-cases ≡ map (λ (k : CallCase). k .after) wrong-names-cases
+wrong-names-cases-are-computed = row-calls-refused namesValid (λ s order t. clauses-of-rest s order t .names) wrong-names-cases wrong-names-refused
 
 -- Totals: one that is not the recount fails the check, 13, whether of live blocks or of superblocks, and is handed back
 abbrev pub wrong-totals-cases : List CallCase
@@ -80,9 +116,12 @@ wrong-totals-cases =
     ∷ call-refused-case 13 (control-with example-setup no-name-held (totals-with-live 0)) unused-row storage-of-258 (Take 2 2048)
     ∷ call-refused-case 13 (control-with example-setup no-name-held example-totals) unused-row storage-of-258 (NamedTake 2 6 2048) ∷ []
 
+wrong-totals-refused : map (refused-by totalsValid) wrong-totals-cases ≡ map (λ (k : CallCase). true) wrong-totals-cases
+unfolding checkDefinitions
+wrong-totals-refused = refl
+
 pub wrong-totals-cases-are-computed : map (λ (k : CallCase). rowCall (k .control) (k .row) (k .order) (k .call)) wrong-totals-cases ≡ map (λ (k : CallCase). k .after) wrong-totals-cases
-unfolding callOn callDefinitions
-wrong-totals-cases-are-computed = refl
+wrong-totals-cases-are-computed = row-calls-refused totalsValid (λ s order t. clauses-of-rest s order t .totals) wrong-totals-cases wrong-totals-refused
 
 -- Ranks: a row with a rank of 2 alone, or with an unused record ranked, fails the check, 13, and keeps them
 abbrev pub wrong-ranks-cases : List CallCase
@@ -90,9 +129,12 @@ wrong-ranks-cases =
     call-refused-case 13 (row-after-free .control) (withRank 2 no-block-live ∷ replicate 63 unused-superblock) (row-after-free .order) (Take 2 2048)
     ∷ call-refused-case 13 unnamed-control (withRank 1 unused-superblock ∷ replicate 63 unused-superblock) storage-of-258 (Take 2 2048) ∷ []
 
+wrong-ranks-refused : map (refused-by ranksValid) wrong-ranks-cases ≡ map (λ (k : CallCase). true) wrong-ranks-cases
+unfolding checkDefinitions
+wrong-ranks-refused = refl
+
 pub wrong-ranks-cases-are-computed : map (λ (k : CallCase). rowCall (k .control) (k .row) (k .order) (k .call)) wrong-ranks-cases ≡ map (λ (k : CallCase). k .after) wrong-ranks-cases
-unfolding callOn callDefinitions
-wrong-ranks-cases-are-computed = refl
+wrong-ranks-cases-are-computed = row-calls-refused ranksValid (λ s order t. clauses-of-rest s order t .ranks) wrong-ranks-cases wrong-ranks-refused
 
 -- Long blocks (document 02, item 7): with N = 1 a size of 2049 takes superblock 0 as a run of one and writes no order place; another address in it is refused 6; either free makes it
 -- unused; the name that holds it is handed back, and let go
@@ -113,9 +155,23 @@ long-row-call-cases =
     ∷ record { control = unnamed-control; row = unused-row; order = storage-of-258; call = NamedTake 2 6 2049; after = row-after-long-take name-6-held }
     ∷ case-after (row-after-long-take name-6-held) (NamedFree 1 6) row-after-long-free ∷ case-after (row-after-long-take name-6-held) (Drop 1 (0 ∷ [])) row-after-long-free ∷ []
 
+long-row-calls-pass : map row-passes long-row-call-cases ≡ map (λ (k : CallCase). true) long-row-call-cases
+unfolding usedPartDefinitions
+long-row-calls-pass = refl
+
+long-row-calls-behind-check : map row-call-behind-check long-row-call-cases ≡ map (λ (k : CallCase). k .after) long-row-call-cases
+unfolding uncheckedCallDefinitions
+long-row-calls-behind-check = refl
+
 pub long-row-call-cases-are-computed : map (λ (k : CallCase). rowCall (k .control) (k .row) (k .order) (k .call)) long-row-call-cases ≡ map (λ (k : CallCase). k .after) long-row-call-cases
-unfolding callOn callDefinitions
-long-row-call-cases-are-computed = refl
+long-row-call-cases-are-computed = row-calls-past-check long-row-call-cases refl long-row-calls-pass ∙ long-row-calls-behind-check
+
+-- the clauses of runs: that they are whole, and below N
+abbrev runsWholeAndBelowN : State → Bool
+runsWholeAndBelowN s = both (runsValid s) (allBelow (λ k. unusedFrom (s .setup .superblocks) k (superblockAt s k)) 64)
+
+asks-runs : (s : State) (order : List ℕ) → T (restValid s order) → T (runsWholeAndBelowN s)
+asks-runs s order t = let clauses = clauses-of-rest s order t in both-make (runsValid s) _ (clauses .runs) (clauses .past-unused)
 
 -- Runs: a row with a run that is cut off, one whose first record carries no length, one past N or an unused record that carries a length fails the check, 13, and keeps them
 abbrev pub wrong-runs-cases : List CallCase
@@ -124,9 +180,12 @@ wrong-runs-cases =
     ((run-part 2 ∷ replicate 63 unused-superblock) ∷ (run-part 0 ∷ replicate 63 unused-superblock) ∷ (unused-superblock ∷ run-part 1 ∷ replicate 62 unused-superblock)
     ∷ (record { owner = 255; class = 0; live = 0 ∷ 0 ∷ 0 ∷ 0 ∷ []; rank = 0; run = 1 } ∷ replicate 63 unused-superblock) ∷ [])
 
+wrong-runs-refused : map (refused-by runsWholeAndBelowN) wrong-runs-cases ≡ map (λ (k : CallCase). true) wrong-runs-cases
+unfolding checkDefinitions
+wrong-runs-refused = refl
+
 pub wrong-runs-cases-are-computed : map (λ (k : CallCase). rowCall (k .control) (k .row) (k .order) (k .call)) wrong-runs-cases ≡ map (λ (k : CallCase). k .after) wrong-runs-cases
-unfolding callOn callDefinitions
-wrong-runs-cases-are-computed = refl
+wrong-runs-cases-are-computed = row-calls-refused runsWholeAndBelowN asks-runs wrong-runs-cases wrong-runs-refused
 
 -- ---- lists
 abbrev pub row-after-setup : RowAfter
@@ -138,24 +197,47 @@ take-step = record { call = Take 2 2048; after = row-after-take no-name-held }
 abbrev pub free-step : RowStep
 free-step = record { call = Free 1 0; after = row-after-free }
 
+-- what a case of a list left, by its number from 0 on
+nth-after : (n : ℕ) (l : List CallCase) → map row-call-of l ≡ map (λ (k : CallCase). k .after) l
+    → getD (map (λ (k : CallCase). k .after) l) n row-after-setup ≡ getD (map row-call-of l) n row-after-setup
+nth-after n l e = sym (ap (λ (x : List RowAfter). getD x n row-after-setup) e)
+
 -- each call gets the row and the storage that the one before it left
 pub take-then-free-linked : RowLinked row-after-setup (take-step ∷ free-step ∷ [])
-unfolding RowLinked callOn callDefinitions
-take-then-free-linked = (refl, (refl, tt))
+unfolding RowLinked
+take-then-free-linked =
+    let computed = whole-row-call-cases-are-computed in
+    (nth-after 2 whole-row-call-cases computed, (nth-after 3 whole-row-call-cases computed, tt))
 
 -- and the names that it handed back: a block that is taken by name is freed by it
 pub named-take-then-named-free-linked : RowLinked row-after-setup (record { call = NamedTake 2 6 2048; after = row-after-take name-6-held } ∷ record { call = NamedFree 1 6; after = row-after-free } ∷ [])
-unfolding RowLinked callOn callDefinitions
-named-take-then-named-free-linked = (refl, (refl, tt))
+unfolding RowLinked
+named-take-then-named-free-linked =
+    let computed = named-row-call-cases-are-computed in
+    (nth-after 0 named-row-call-cases computed, (nth-after 3 named-row-call-cases computed, tt))
 
 -- and the run that it wrote: a long block that is taken is freed
 pub long-take-then-free-linked : RowLinked row-after-setup (record { call = Take 2 2049; after = row-after-long-take no-name-held } ∷ record { call = Free 1 0; after = row-after-long-free } ∷ [])
-unfolding RowLinked callOn callDefinitions
-long-take-then-free-linked = (refl, (refl, tt))
+unfolding RowLinked
+long-take-then-free-linked =
+    let computed = long-row-call-cases-are-computed in
+    (nth-after 0 long-row-call-cases computed, (nth-after 4 long-row-call-cases computed, tt))
 
 -- a second take on the row that the setup wrote is no list: the same block is not taken twice
+abbrev second-take : CallCase
+second-take = case-after (row-after-take no-name-held) (Take 2 2048) (row-after-take no-name-held)
+
+second-take-passes : row-passes second-take ≡ true
+unfolding usedPartDefinitions
+second-take-passes = refl
+
+second-take-address : valuesOf (row-call-behind-check second-take .outcome) ≡ 2048 ∷ []
+unfolding uncheckedCallDefinitions valuesOf
+second-take-address = refl
+
 pub same-take-twice-not-linked : RowLinked row-after-setup (take-step ∷ take-step ∷ []) → ⊥
-unfolding RowLinked callOn callDefinitions valuesOf
+unfolding RowLinked valuesOf
 same-take-twice-not-linked linked =
-    let z : _≡_ {A = ℕ} 0 2048 = ap (λ (x : RowAfter). getD (valuesOf (x .outcome)) 0 0) (linked .1 .0) in
+    let second = linked .1 .0 ∙ row-call-past-check second-take refl second-take-passes in
+    let z : _≡_ {A = ℕ} 0 2048 = ap (λ (l : List ℕ). getD l 0 0) (ap (λ (x : RowAfter). valuesOf (x .outcome)) second ∙ second-take-address) in
     absurd (omega (arith, z))
