@@ -3,6 +3,7 @@ pub mod KeyRoomLaws
 pub mod KeyOrNoRoomLaws
 pub mod RefusedSetupKey
 pub mod KeyClaims
+pub mod KeyPastCheck
 pub mod NamedCallKey
 pub mod WholeCaseKey
 pub mod DropKey
