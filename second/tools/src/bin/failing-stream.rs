@@ -30,12 +30,20 @@ fn main() -> ExitCode {
     }
 }
 
+/// Bytes of the output that are taken before the program starts. Most systems let a
+/// stream hold some 200 KB, which a whole answer of `call` would fit.
+const TAKEN_BEFORE: usize = 128 * 1024;
+
 /// Two ends of a stream. A read from an empty or a write to a full one fails at
-/// the end that is handed out, since that end does not wait.
-fn stream() -> io::Result<(UnixStream, Stdio)> {
+/// the second, which is handed out, since that end does not wait.
+fn stream() -> io::Result<(UnixStream, UnixStream)> {
     let (ours, handed_out) = UnixStream::pair()?;
     handed_out.set_nonblocking(true)?;
-    Ok((ours, Stdio::from(OwnedFd::from(handed_out))))
+    Ok((ours, handed_out))
+}
+
+fn stdio(end: UnixStream) -> Stdio {
+    Stdio::from(OwnedFd::from(end))
 }
 
 fn failing_input(program: &str) -> io::Result<bool> {
@@ -44,15 +52,16 @@ fn failing_input(program: &str) -> io::Result<bool> {
     io::stdin().lock().read_to_end(&mut bytes)?;
     ours.write_all(&bytes)?;
     // Our end stays open until the program ends, so that it meets no end of input.
-    let status = Command::new(program).stdin(handed_out).status()?;
+    let status = Command::new(program).stdin(stdio(handed_out)).status()?;
     Ok(status.success())
 }
 
 fn failing_output(program: &str) -> io::Result<bool> {
-    let (mut ours, handed_out) = stream()?;
-    let status = Command::new(program).stdout(handed_out).status()?;
+    let (mut ours, mut handed_out) = stream()?;
+    let before = handed_out.write(&[0; TAKEN_BEFORE])?;
+    let status = Command::new(program).stdout(stdio(handed_out)).status()?;
     let mut taken = Vec::new();
     ours.read_to_end(&mut taken)?;
-    io::stdout().write_all(&taken)?;
+    io::stdout().write_all(&taken[before..])?;
     Ok(status.success())
 }

@@ -1,0 +1,4 @@
+pub mod AnswerDefinitions
+pub mod AnswerCases
+pub mod AnswerLineLaws
+pub mod AnswerLengthLaws
