@@ -1,4 +1,3 @@
-pub mod CaseForm
 pub mod WholeCallCases
 pub mod NamedCallCases
 pub mod LongCallCases

@@ -1,6 +1,6 @@
 -- Whole calls that take and free long blocks (document 02, item 7), with all that they leave, in cases that tell the rules from near misses. By computation.
 -- Assumes nothing.
-use mathlib.Core.Path.{_≡_, refl, _∙_}
+use mathlib.Core.Path.{_≡_, refl, ap, _∙_}
 use mathlib.Core.Bool.{true}
 use mathlib.Core.List.{List, [], _∷_, map}
 use Prim.Native.Nat.{ℕ}
@@ -9,9 +9,10 @@ use Rattle.heaplaws.proofs.UsedPartLaws.{usedPartDefinitions}
 use Rattle.calls.specs.declared.Outcome.the-variants.{Address, Moves}
 use Rattle.calls.specs.Calls.{Take, Free, NamedTake, NamedFree, Drop}
 use Rattle.calls.proofs.CallDefinitions.{uncheckedCallDefinitions}
-use Rattle.callcases.proofs.CaseForm.{SuperblockAndPlaces, CallCase, owned-with, ranked-with, unused-with}
+use Rattle.calllaws.proofs.UsedPartCallLaws.{calls-past-used-part}
+use Rattle.callcases.proofs.WholeCallCases.{SuperblockAndPlaces, CallCase, seen, owned-with, ranked-with, unused-with}
 use Rattle.callcases.proofs.NamedCallCases.{NamedCallCase, named-result-of, named-expected-of, naming, refused-with}
-use Rattle.callcases.proofs.NamedCallCases.{named-passes, named-result-behind-check, named-results-past-check}
+use Rattle.callcases.proofs.NamedCallCases.{named-before, order-before, named-passes, named-result-behind-check}
 
 -- a superblock of a run, with the length that it carries
 abbrev pub run-with : ℕ → List ℕ → SuperblockAndPlaces
@@ -57,13 +58,14 @@ long-calls =
     ∷ record { named-call = Drop 1 (12288 ∷ 4096 ∷ []); effect = run-and-block-dropped; names = naming ((4, 0) ∷ (9, 256) ∷ []); names-after = naming ((4, 0) ∷ []) }
     ∷ refused-with (Take 1 8193) 17 (run-of-two-taken .before) ((4, 0) ∷ []) ∷ refused-with (Free 1 8192) 6 (run-of-two-freed .before) ((9, 256) ∷ []) ∷ []
 
-long-calls-pass-check : map named-passes long-calls ≡ map (λ (r : NamedCallCase). true) long-calls
+long-calls-pass : map named-passes long-calls ≡ map (λ (r : NamedCallCase). true) long-calls
 unfolding usedPartDefinitions
-long-calls-pass-check = refl
+long-calls-pass = refl
 
 long-calls-behind-check : map named-result-behind-check long-calls ≡ map named-expected-of long-calls
 unfolding uncheckedCallDefinitions
 long-calls-behind-check = refl
 
 pub long-call-cases : map named-result-of long-calls ≡ map named-expected-of long-calls
-long-call-cases = named-results-past-check long-calls long-calls-pass-check ∙ long-calls-behind-check
+long-call-cases =
+    ap (map seen) (calls-past-used-part named-before order-before (λ (r : NamedCallCase). r .named-call) long-calls refl refl long-calls-pass) ∙ long-calls-behind-check

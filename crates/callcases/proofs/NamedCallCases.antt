@@ -3,15 +3,15 @@ use mathlib.Core.Path.{_≡_, refl, ap, _∙_}
 use mathlib.Core.Bool.{Bool, true}
 use mathlib.Core.List.{List, [], _∷_, map}
 use Prim.Native.Nat.{ℕ}
-use lib.ListN.{getD, drop}
 use Rattle.names.specs.Names.{noNames, withName}
+use Rattle.heap.specs.declared.State.{State}
 use Rattle.heap.specs.States.{withNames}
 use Rattle.heaplaws.proofs.UsedPartLaws.{usedPartDefinitions}
 use Rattle.calls.specs.declared.Outcome.the-variants.{Refused}
 use Rattle.calls.specs.Calls.{Call, Take, Free, NamedTake, NamedFree, Drop, callOf, callUnchecked}
 use Rattle.calls.proofs.CallDefinitions.{uncheckedCallDefinitions, callDefinitions}
-use Rattle.callcases.proofs.CaseForm.{SuperblockAndPlaces, CallCase, Seen, seen, expected-of, state-of, order-of, passes-check, call-behind-check}
-use Rattle.callcases.proofs.WholeCallCases.{from-place-2, three-moves, nothing-offered}
+use Rattle.calllaws.proofs.UsedPartCallLaws.{usedPartPasses, calls-past-used-part}
+use Rattle.callcases.proofs.WholeCallCases.{SuperblockAndPlaces, CallCase, Seen, seen, expected-of, state-of, order-of, from-place-2, three-moves, nothing-offered}
 
 -- what a call does to superblocks and places, and the names before and after it
 pub record NamedCallCase : Type 0 where
@@ -20,25 +20,21 @@ pub record NamedCallCase : Type 0 where
   pub names : List ℕ
   pub names-after : List ℕ
 
+abbrev pub named-before : NamedCallCase → State
+named-before r = withNames (state-of (r .effect .before)) (r .names)
+
+abbrev pub order-before : NamedCallCase → List ℕ
+order-before r = order-of (r .effect .before)
+
 abbrev pub named-result-of : NamedCallCase → Seen
-named-result-of r = seen (callOf (withNames (state-of (r .effect .before)) (r .names)) (order-of (r .effect .before)) (r .named-call))
+named-result-of r = seen (callOf (named-before r) (order-before r) (r .named-call))
+
+abbrev pub named-result-behind-check : NamedCallCase → Seen
+named-result-behind-check r = seen (callUnchecked (named-before r) (order-before r) (r .named-call))
 
 abbrev pub named-expected-of : NamedCallCase → Seen
 named-expected-of r = let e = expected-of (r .effect) in
     record { outcome = e .outcome; setup = e .setup; table = e .table; names = r .names-after; order = e .order; totals-recounted = e .totals-recounted }
-
--- behind the check, where the state passes
-abbrev pub named-passes : NamedCallCase → Bool
-named-passes r = passes-check (r .effect .before) (r .names)
-
-abbrev pub named-result-behind-check : NamedCallCase → Seen
-named-result-behind-check r = seen (callUnchecked (withNames (state-of (r .effect .before)) (r .names)) (order-of (r .effect .before)) (r .named-call))
-
-pub named-results-past-check : (l : List NamedCallCase) → map named-passes l ≡ map (λ (r : NamedCallCase). true) l
-    → map named-result-of l ≡ map named-result-behind-check l
-named-results-past-check [] e = refl
-named-results-past-check (r ∷ l) e =
-    rw (call-behind-check (r .effect .before) (r .names) (ap (λ (x : List Bool). getD x 0 true) e) (r .named-call), named-results-past-check l (ap (drop 1) e))
 
 -- the first names point at these blocks
 abbrev pub naming : List (ℕ × ℕ) → List ℕ
@@ -70,20 +66,24 @@ refused-named-calls =
     refused-with (NamedTake 1 5 2048) 14 nothing-offered ((5, 256) ∷ []) ∷ refused-with (NamedTake 1 6 2048) 4 nothing-offered ((5, 256) ∷ [])
     ∷ refused-with (NamedFree 1 6) 15 nothing-offered ((5, 256) ∷ []) ∷ refused-with (Drop 1 (4096 ∷ 4096 ∷ [])) 7 (three-moves .before) ((5, 256) ∷ (6, 1) ∷ []) ∷ []
 
--- ---- the rules leave what is expected: the states pass the check, and behind it the calls do
+-- ---- the rules leave what is expected: each state passes the check, and the call behind it leaves that
+abbrev pub named-passes : NamedCallCase → Bool
+named-passes r = usedPartPasses (named-before r) (order-before r)
+
 abbrev pub named-calls : List NamedCallCase
 named-calls = named-from-place-2 ∷ named-three-moves ∷ plain-three-moves ∷ drop-three-moves ∷ refused-named-calls
 
-named-calls-pass-check : map named-passes named-calls ≡ map (λ (r : NamedCallCase). true) named-calls
+named-calls-pass : map named-passes named-calls ≡ map (λ (r : NamedCallCase). true) named-calls
 unfolding usedPartDefinitions
-named-calls-pass-check = refl
+named-calls-pass = refl
 
 named-calls-behind-check : map named-result-behind-check named-calls ≡ map named-expected-of named-calls
 unfolding uncheckedCallDefinitions
 named-calls-behind-check = refl
 
 pub named-call-cases : map named-result-of named-calls ≡ map named-expected-of named-calls
-named-call-cases = named-results-past-check named-calls named-calls-pass-check ∙ named-calls-behind-check
+named-call-cases =
+    ap (map seen) (calls-past-used-part named-before order-before (λ (r : NamedCallCase). r .named-call) named-calls refl refl named-calls-pass) ∙ named-calls-behind-check
 
 -- ---- 13 for a name at a free block and for two names at one block, for a plain call too and before 2, and before a drop's 2 and 16. These are computed with
 -- the check

@@ -1,16 +1,96 @@
 -- Whole calls, with all that they leave, in cases that tell the rules from near misses. P = 2, N = 5, K = 1, p/q = 3/7; every order place that is not
 -- filled holds something, and three places more than N × 256 are lent. By computation. Assumes nothing.
-use mathlib.Core.Path.{_≡_, refl, _∙_}
-use mathlib.Core.Bool.{true}
+use mathlib.Core.Path.{_≡_, refl, ap, _∙_}
+use mathlib.Core.Bool.{Bool, true}
 use mathlib.Core.List.{List, [], _∷_, _++_, map}
-use Prim.Native.Nat.{ℕ}
-use lib.ListN.{replicate}
+use Prim.Native.Nat.{ℕ, _+_, _-_}
+use lib.ListN.{length, replicate}
+use Rattle.names.specs.Names.{noNames}
+use Rattle.heap.specs.declared.Superblock.{Superblock}
+use Rattle.heap.specs.declared.Setup.{Setup}
+use Rattle.heap.specs.declared.State.{State}
+use Rattle.heap.specs.Table.{unused}
+use Rattle.heap.proofs.TableCases.{of, ranked}
+use Rattle.heap.proofs.CaseStates.{unnamedState}
+use Rattle.checkrules.specs.Check.{totalsValid}
 use Rattle.heaplaws.proofs.UsedPartLaws.{usedPartDefinitions}
+use Rattle.calls.specs.declared.Outcome.{Outcome}
 use Rattle.calls.specs.declared.Outcome.the-variants.{Address, Moves, Refused}
-use Rattle.calls.specs.Calls.{Call, Take, Free}
+use Rattle.calls.specs.Answers.{After}
+use Rattle.calls.specs.Calls.{Call, Take, Free, callOf, callUnchecked}
 use Rattle.calls.proofs.CallDefinitions.{uncheckedCallDefinitions}
-use Rattle.callcases.proofs.CaseForm.{SuperblockAndPlaces, owned-with, ranked-with, unused-with, CallCase, result-of, expected-of}
-use Rattle.callcases.proofs.CaseForm.{before-passes, result-behind-check, results-past-check}
+use Rattle.calls.proofs.RuleCases.{setup-with}
+use Rattle.calllaws.proofs.UsedPartCallLaws.{usedPartPasses, calls-past-used-part}
+
+-- a superblock of heap h and class c, with these marks, and what stands in its first places
+pub record SuperblockAndPlaces : Type 0 where
+  pub superblock : Superblock
+  pub places : List ℕ
+
+abbrev pub owned-with : ℕ → ℕ → ℕ → List ℕ → SuperblockAndPlaces
+owned-with h c marks places = record { superblock = of h c marks; places = places }
+
+-- one of rank r
+abbrev pub ranked-with : ℕ → ℕ → ℕ → ℕ → List ℕ → SuperblockAndPlaces
+ranked-with h c marks r places = record { superblock = ranked h c marks r; places = places }
+
+abbrev pub unused-with : List ℕ → SuperblockAndPlaces
+unused-with places = record { superblock = unused; places = places }
+
+abbrev pub table-of : List SuperblockAndPlaces → List Superblock
+table-of l = map (λ (h : SuperblockAndPlaces). h .superblock) l ++ replicate (64 - length l) unused
+
+abbrev pub order-of : List SuperblockAndPlaces → List ℕ
+order-of [] = 91 ∷ 92 ∷ 93 ∷ []
+order-of (h ∷ l) = h .places ++ replicate (256 - length (h .places)) 77 ++ order-of l
+
+-- a call, its outcome, and the superblocks before and after it, of which there are N
+pub record CallCase : Type 0 where
+  pub before : List SuperblockAndPlaces
+  pub call : Call
+  pub outcome : Outcome
+  pub after : List SuperblockAndPlaces
+
+abbrev pub state-of : List SuperblockAndPlaces → State
+state-of l = unnamedState (setup-with 2 (length l) 1 3 7) (table-of l)
+
+-- what a call leaves: outcome, setup, all 64 superblocks, names and all order places, and whether the totals are the recount
+pub record Seen : Type 0 where
+  pub outcome : Outcome
+  pub setup : Setup
+  pub table : List Superblock
+  pub names : List ℕ
+  pub order : List ℕ
+  pub totals-recounted : Bool
+
+abbrev pub seen : After → Seen
+seen a =
+    record {
+      outcome = a .answer .outcome;
+      setup = a .answer .state .setup;
+      table = a .answer .state .table;
+      names = a .answer .state .names;
+      order = a .order;
+      totals-recounted = totalsValid (a .answer .state);
+    }
+
+-- what the rules leave, and what is expected
+abbrev pub result-of : CallCase → Seen
+result-of r = seen (callOf (state-of (r .before)) (order-of (r .before)) (r .call))
+
+abbrev result-behind-check : CallCase → Seen
+result-behind-check r = seen (callUnchecked (state-of (r .before)) (order-of (r .before)) (r .call))
+
+abbrev pub expected-of : CallCase → Seen
+expected-of r =
+    record {
+      outcome = r .outcome;
+      setup = setup-with 2 (length (r .before)) 1 3 7;
+      table = table-of (r .after);
+      names = noNames;
+      order = order-of (r .after);
+      totals-recounted = true;
+    }
 
 -- ---- takes. Class 20 has 5 blocks of 768 bytes. Heap 1 has 3, 4 and 4 live, heap 2 has 4 and heap 0 has 2.
 abbrev pub five-of-20 : List SuperblockAndPlaces
@@ -173,33 +253,40 @@ refused-takes =
 abbrev pub refused-frees : List CallCase
 refused-frees = refused-case (Free 0 20480) 2 ∷ refused-case (Free 1 20481) 5 ∷ refused-case (Free 1 1) 6 ∷ refused-case (Free 1 2048) 7 ∷ []
 
--- ---- the rules leave what is expected: the states pass the check, and behind it the calls do
+-- ---- the rules leave what is expected: each state passes the check, and the call behind it leaves that
+abbrev before-passes : CallCase → Bool
+before-passes r = usedPartPasses (state-of (r .before)) (order-of (r .before))
+
 abbrev pub whole-takes : List CallCase
 whole-takes =
     from-place-1 ∷ last-freed-into-from-place-1 ∷ from-own-heap ∷ empty-from-place-1 ∷ from-place-2 ∷ last-freed-into-from-place-2 ∷ empty-from-place-2 ∷ from-place-3 ∷ from-place-4 ∷ from-superblock-17
     ∷ refused-takes
 
-takes-pass-check : map before-passes whole-takes ≡ map (λ (r : CallCase). true) whole-takes
+takes-pass : map before-passes whole-takes ≡ map (λ (r : CallCase). true) whole-takes
 unfolding usedPartDefinitions
-takes-pass-check = refl
+takes-pass = refl
 
 takes-behind-check : map result-behind-check whole-takes ≡ map expected-of whole-takes
 unfolding uncheckedCallDefinitions
 takes-behind-check = refl
 
 pub whole-take-cases : map result-of whole-takes ≡ map expected-of whole-takes
-whole-take-cases = results-past-check whole-takes takes-pass-check ∙ takes-behind-check
+whole-take-cases =
+    ap (map seen) (calls-past-used-part (λ (r : CallCase). state-of (r .before)) (λ (r : CallCase). order-of (r .before)) (λ (r : CallCase). r .call) whole-takes refl refl takes-pass)
+    ∙ takes-behind-check
 
 abbrev pub whole-frees : List CallCase
 whole-frees = freed-for-owner ∷ three-moves ∷ freed-in-heap-0 ∷ freed-in-superblock-17 ∷ refused-frees
 
-frees-pass-check : map before-passes whole-frees ≡ map (λ (r : CallCase). true) whole-frees
+frees-pass : map before-passes whole-frees ≡ map (λ (r : CallCase). true) whole-frees
 unfolding usedPartDefinitions
-frees-pass-check = refl
+frees-pass = refl
 
 frees-behind-check : map result-behind-check whole-frees ≡ map expected-of whole-frees
 unfolding uncheckedCallDefinitions
 frees-behind-check = refl
 
 pub whole-free-cases : map result-of whole-frees ≡ map expected-of whole-frees
-whole-free-cases = results-past-check whole-frees frees-pass-check ∙ frees-behind-check
+whole-free-cases =
+    ap (map seen) (calls-past-used-part (λ (r : CallCase). state-of (r .before)) (λ (r : CallCase). order-of (r .before)) (λ (r : CallCase). r .call) whole-frees refl refl frees-pass)
+    ∙ frees-behind-check

@@ -12,7 +12,7 @@ use Rattle.heap.specs.States.{withNames}
 use Rattle.heap.proofs.CaseStates.{unnamedState}
 use Rattle.heap.proofs.TableCases.{ranked}
 use Rattle.calls.specs.Free.{addressRefusal}
-use Rattle.calls.specs.Drop.{Pair, allFreed, allPushed, firstAddressRefusal, isTouched, touchedPairs}
+use Rattle.calls.specs.Drop.{Pair, allFreed, allPushed, firstAddressRefusal, isTouched, touchedPairs, thenRestored}
 use Rattle.calls.proofs.CallDefinitions.{uncheckedCallDefinitions}
 use Rattle.calls.proofs.RuleCases.{setup-with}
 use Rattle.calls.proofs.PairStates.{pair-state, pairOrder, state-before}
@@ -71,3 +71,8 @@ pub touched-pairs-cases :
     ≡ (pair 1 26 ∷ pair 2 3 ∷ pair 2 26 ∷ pair 3 26 ∷ []) ∷ (pair 1 23 ∷ pair 2 26 ∷ pair 3 26 ∷ []) ∷ [] ∷ []
 unfolding uncheckedCallDefinitions
 touched-pairs-cases = refl
+
+-- five moves came before, and heap 1 and class 26 make none
+pub then-restored-case : thenRestored 1 26 (record { moves = 5; state = state-before }) .moves ≡ 5
+unfolding uncheckedCallDefinitions
+then-restored-case = refl

@@ -9,7 +9,7 @@ use Rattle.calls.proofs.RuleCases.{acquired-cases, unranked-if-empty-ca
 use Rattle.calls.proofs.RuleCases.{order-pushed-case, freed-at-case, freed-in-heap-0-case, taken-at-place-1-case, next-block-cases}
 use Rattle.calls.proofs.NamedCases.{is-unavailable-cases, block-number-at-cases, held-address-cases, name-bound-case, bound-by-cases, block-freed-case}
 use Rattle.calls.proofs.DropCases.{freed-before-moves-case, all-freed-case, all-pushed-case, address-refusal-cases, first-refusal-cases}
-use Rattle.calls.proofs.DropCases.{touched-pairs-cases}
+use Rattle.calls.proofs.DropCases.{touched-pairs-cases, then-restored-case}
 use Rattle.calls.proofs.LongBlockCases.{each-of-run-cases, run-taken-cases, run-freed-cases, long-taken-at-cases, is-misaligned-in-run-cases}
 use Rattle.calls.proofs.LongBlockCases.{address-refusal-in-run-cases, order-pushed-of-run-case, run-named-cases, long-block-freed-case}
 use Rattle.calls.proofs.LongBlockCases.{long-freed-at-case, first-refusal-in-run-cases, touched-beside-run-cases}
@@ -22,7 +22,8 @@ partsHold =
     also acquired-cases also unranked-if-empty-cases also other-places-cases also acquired-order-cases also taken-from-case also taken-at-place-1-case
     also next-block-cases also mark-cleared-case also order-pushed-case also freed-at-case also freed-in-heap-0-case
     also is-unavailable-cases also block-number-at-cases also held-address-cases also name-bound-case also bound-by-cases also block-freed-case
-    also freed-before-moves-case also all-freed-case also all-pushed-case also address-refusal-cases also first-refusal-cases also touched-pairs-cases
+    also freed-before-moves-case also all-freed-case also all-pushed-case also address-refusal-cases also first-refusal-cases
+    also touched-pairs-cases also then-restored-case
     also each-of-run-cases also run-taken-cases also run-freed-cases also long-taken-at-cases also is-misaligned-in-run-cases
     also address-refusal-in-run-cases also order-pushed-of-run-case also run-named-cases also long-block-freed-case also long-freed-at-case
     also first-refusal-in-run-cases also touched-beside-run-cases also tt

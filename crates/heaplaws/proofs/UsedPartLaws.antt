@@ -6,7 +6,7 @@ use mathlib.Core.List.{List, [], _∷_, _++_}
 use Prim.Native.Nat.{ℕ, zero, suc, _+_, _-_, _*_, _≤_, _<_}
 use native.Mathlib.Decide.{decLt}
 use native.Mathlib.Omega.{arith}
-use lib.ListN.{length, getD, replicate, getD-replicate}
+use lib.ListN.{length, take, getD, replicate, length-append, length-take, length-replicate, getD-replicate}
 use lib.Dec.{T, eqb, ltb, lt→ltb}
 use Rattle.laws.specs.Sums.{both, sumBelow, allBelow}
 use Rattle.laws.proofs.TestLaws.{T-of-true, both-left, both-right, both-make, both-false-right, either-left, either-right}
@@ -27,8 +27,11 @@ use Rattle.heaplaws.proofs.TotalsLaws.{totals-valid-of-kept}
 use Rattle.heaplaws.proofs.CountLaws.{one-if-belongs-other-owner, live-if-belongs-other-owner}
 use Rattle.heaplaws.proofs.StateCheckLaws.{facts-of-within-limits, superblock-valid-of-unowned, unowned-of-unused, unused-is-unused, is-unused-of-facts}
 
--- a table that begins with some superblocks, all behind them unused
-pub unused-behind : (l : List Superblock) (m k : ℕ) → length l ≤ k → k < length l + m → getD (l ++ replicate m unused) k blank ≡ unused
+-- the table with all from N on unused
+abbrev pub usedTable : State → List Superblock
+usedTable s = take (s .setup .superblocks) (s .table) ++ replicate (64 - s .setup .superblocks) unused
+
+unused-behind : (l : List Superblock) (m k : ℕ) → length l ≤ k → k < length l + m → getD (l ++ replicate m unused) k blank ≡ unused
 unused-behind [] m k low high = getD-replicate m k unused blank (omega arith)
 unused-behind (b ∷ l) m zero low high = absurd (omega arith)
 unused-behind (b ∷ l) m (suc k) low high = unused-behind l m k (omega arith) (omega arith)
@@ -72,7 +75,15 @@ unfoldable pub usedPartDefinitions : Unit {0}
 unfolding usedPartValid mustMoveBelow checkDefinitions
 usedPartDefinitions = tt
 
-module _ (s : State) (behind : (k : ℕ) → s .setup .superblocks ≤ k → k < 64 → superblockAt s k ≡ unused) where
+module _ (s : State) (table : s .table ≡ usedTable s) where
+  behind : (k : ℕ) → s .setup .superblocks ≤ k → k < 64 → superblockAt s k ≡ unused
+  behind k low high =
+      let used = take (s .setup .superblocks) (s .table) in
+      let l = length-take (s .setup .superblocks) (s .table) in
+      let whole = ap length table ∙ length-append used (replicate (64 - s .setup .superblocks) unused) in
+      let rest = length-replicate (64 - s .setup .superblocks) unused in
+      ap (λ (t : List Superblock). getD t k blank) table ∙ unused-behind used (64 - s .setup .superblocks) k (omega arith) (omega arith)
+
   -- a test that unused superblocks pass, of all 64
   all-of-used : (p : ℕ → Superblock → Bool) → ((k : ℕ) → s .setup .superblocks ≤ k → T (p k unused))
       → T (allBelow (λ k. p k (superblockAt s k)) (s .setup .superblocks)) → T (allBelow (λ k. p k (superblockAt s k)) 64)

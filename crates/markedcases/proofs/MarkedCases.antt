@@ -1,6 +1,7 @@
 -- The cases marked in document 01, "Edges", with size 0 as document 02, item 1, changes it, and size 2049 as item 7 does, as one theorem over one list.
 -- Assumes nothing.
-use mathlib.Core.Path.{_≡_, refl}
+use mathlib.Core.Path.{_≡_, refl, ap, _∙_}
+use mathlib.Core.Bool.{true}
 use mathlib.Core.List.{List, [], _∷_, _++_, map}
 use Prim.Native.Nat.{ℕ, _+_, _-_, _^_}
 use lib.ListN.{length, getD, replicate}
@@ -8,11 +9,13 @@ use Rattle.heap.specs.declared.Superblock.{Superblock}
 use Rattle.heap.specs.declared.State.{State}
 use Rattle.heap.specs.Table.{unused, superblockAt}
 use Rattle.heap.proofs.CaseStates.{unnamedState}
+use Rattle.heaplaws.proofs.UsedPartLaws.{usedPartDefinitions}
 use Rattle.calls.specs.declared.Outcome.{Outcome}
 use Rattle.calls.specs.declared.Outcome.the-variants.{Address, Moves, Refused}
 use Rattle.calls.specs.Answers.{After}
-use Rattle.calls.specs.Calls.{Call, Take, Free, callOf}
-use Rattle.calls.proofs.CallDefinitions.{callDefinitions}
+use Rattle.calls.specs.Calls.{Call, Take, Free, callOf, callUnchecked}
+use Rattle.calls.proofs.CallDefinitions.{uncheckedCallDefinitions}
+use Rattle.calllaws.proofs.UsedPartCallLaws.{usedPartPasses, calls-past-used-part}
 
 -- a call on a state and storage; its outcome, and then superblock 0's owner, its class, the length of the run of which it is the first, and what stands
 -- in its first order place
@@ -86,13 +89,26 @@ marked-cases =
     class-case 0 0 255 ∷ class-case 1 0 255 ∷ class-case 16 0 255 ∷ class-case 17 1 169 ∷ class-case 64 6 63 ∷ class-case 65 7 50 ∷ class-case 80 7 50 ∷ class-case 81 8 41
     ∷ class-case 2048 26 1 ∷ run-of-one-case 2049 ∷ last-block-case ∷ misaligned-case ∷ two-moves-case 12288 ∷ two-moves-case 20480 ∷ []
 
-abbrev pub result-of : MarkedCase → Outcome × ℕ × ℕ × ℕ × ℕ
-result-of k =
-    let after : After = callOf (k .state) (k .order) (k .call) in
+abbrev pub seen : After → Outcome × ℕ × ℕ × ℕ × ℕ
+seen after =
     let b : Superblock = superblockAt (after .answer .state) 0 in
     (after .answer .outcome, b .owner, b .class, b .run, getD (after .order) 0 0)
 
--- the rules give each case its outcome, owner, class, run and place
+abbrev pub result-of : MarkedCase → Outcome × ℕ × ℕ × ℕ × ℕ
+result-of k = seen (callOf (k .state) (k .order) (k .call))
+
+-- the rules give each case its outcome, owner, class, run and place: its state passes the check, and the call behind it gives that
+marked-cases-pass : map (λ (k : MarkedCase). usedPartPasses (k .state) (k .order)) marked-cases ≡ map (λ (k : MarkedCase). true) marked-cases
+unfolding usedPartDefinitions
+marked-cases-pass = refl
+
+marked-cases-behind-check : map (λ (k : MarkedCase). seen (callUnchecked (k .state) (k .order) (k .call))) marked-cases
+    ≡ map (λ (k : MarkedCase). (k .outcome, k .owner-after, k .class-after, k .run-after, k .place-after)) marked-cases
+unfolding uncheckedCallDefinitions
+marked-cases-behind-check = refl
+
 pub marked-cases-are-computed : map result-of marked-cases ≡ map (λ (k : MarkedCase). (k .outcome, k .owner-after, k .class-after, k .run-after, k .place-after)) marked-cases
-unfolding callDefinitions
-marked-cases-are-computed = refl
+marked-cases-are-computed =
+    ap (map seen)
+    (calls-past-used-part (λ (k : MarkedCase). k .state) (λ (k : MarkedCase). k .order) (λ (k : MarkedCase). k .call) marked-cases refl refl marked-cases-pass)
+    ∙ marked-cases-behind-check

@@ -3,21 +3,20 @@
 use mathlib.Core.Path.{_≡_, refl, ap, _∙_}
 use mathlib.Core.Bool.{Bool, true, not}
 use mathlib.Core.List.{List, [], _∷_, map}
-use Prim.Native.Nat.{ℕ, _*_, _≤_, _<_}
-use native.Mathlib.Omega.{arith}
-use lib.ListN.{length, getD, drop, replicate}
+use Prim.Native.Nat.{ℕ, _*_}
+use lib.ListN.{length, getD, drop}
 use lib.Dec.{T, eqb, leb, eqb→eq, leb→le, T-not}
 use Rattle.laws.specs.Sums.{both}
-use Rattle.laws.proofs.TestLaws.{T-of-true, true-of-T, false-of-not-T, both-left, both-right, both-make}
+use Rattle.laws.proofs.TestLaws.{T-of-true, true-of-T, false-of-not-T, both-left, both-right}
 use Rattle.heap.specs.declared.Superblock.{Superblock}
 use Rattle.heap.specs.declared.State.{State}
-use Rattle.heap.specs.Table.{blank, unused}
 use Rattle.checkrules.specs.Check.{withinLimits, totalsValid, restValid}
 use Rattle.heaplaws.proofs.TotalsLaws.{totals-kept-of-valid}
-use Rattle.heaplaws.proofs.UsedPartLaws.{unused-behind, usedPartValid, rest-of-used-part}
+use Rattle.heaplaws.proofs.UsedPartLaws.{usedTable}
 use Rattle.calls.specs.Calls.{callOf, callUnchecked}
-use Rattle.calls.proofs.CheckFirst.{call-of-checks-first, call-past-check}
+use Rattle.calls.proofs.CheckFirst.{call-of-checks-first}
 use Rattle.calllaws.proofs.CheckedLaws.{checked-refuses-13-of-rest}
+use Rattle.calllaws.proofs.UsedPartCallLaws.{usedPartPasses, call-past-used-part}
 use Rattle.rowrules.specs.Row.{RowAfter, stateOf, asRowAfter, rowRefused, rowCall}
 use Rattle.rowrules.proofs.RowCases.{CallCase}
 use Rattle.rowlaws.proofs.RowLaws.{call-on-64-is-call-of}
@@ -28,76 +27,56 @@ state-before k = stateOf (k .control) (k .row)
 abbrev pub row-call-of : CallCase → RowAfter
 row-call-of k = rowCall (k .control) (k .row) (k .order) (k .call)
 
--- what is asked before the rest of the check: the setup numbers, the storage and 64 records
-abbrev first-tests : CallCase → Bool
-first-tests k = both (withinLimits (k .control .setup)) (both (leb (k .control .setup .superblocks * 256) (length (k .order))) (eqb (length (k .row)) 64))
+abbrev has-64 : CallCase → Bool
+has-64 k = eqb (length (k .row)) 64
 
-module _ (k : CallCase) (t : T (first-tests k)) where
-  limits-of : T (withinLimits (k .control .setup))
-  limits-of = both-left (withinLimits (k .control .setup)) _ t
+is-call-on-state : (k : CallCase) → T (has-64 k) → row-call-of k ≡ asRowAfter (callOf (state-before k) (k .order) (k .call))
+is-call-on-state k t = call-on-64-is-call-of (length (k .row)) (k .control) (k .row) (k .order) (k .call) (eqb→eq _ _ t)
 
-  storage-of : T (leb (k .control .setup .superblocks * 256) (length (k .order)))
-  storage-of = both-left (leb (k .control .setup .superblocks * 256) (length (k .order))) _ (both-right (withinLimits (k .control .setup)) _ t)
-
-  is-call-on-state : row-call-of k ≡ asRowAfter (callOf (state-before k) (k .order) (k .call))
-  is-call-on-state =
-      call-on-64-is-call-of (length (k .row)) (k .control) (k .row) (k .order) (k .call)
-      (eqb→eq _ _ (both-right (leb (k .control .setup .superblocks * 256) (length (k .order))) _ (both-right (withinLimits (k .control .setup)) _ t)))
-
--- ---- a row that passes, with N = 1 and the records from 1 on unused
+-- ---- a row that passes, its records from N on unused
 abbrev pub row-passes : CallCase → Bool
-row-passes k =
-    let s = state-before k in
-    both (first-tests k) (both (eqb (s .setup .superblocks) 1) (both (totalsValid s) (usedPartValid s (k .order))))
+row-passes k = both (has-64 k) (both (totalsValid (state-before k)) (usedPartPasses (state-before k) (k .order)))
 
 abbrev pub row-call-behind-check : CallCase → RowAfter
 row-call-behind-check k = asRowAfter (callUnchecked (state-before k) (k .order) (k .call))
 
-abbrev pub rest-unused : List Superblock → List Superblock
-rest-unused row = getD row 0 unused ∷ replicate 63 unused
-
-pub row-call-past-check : (k : CallCase) → k .row ≡ rest-unused (k .row) → row-passes k ≡ true → row-call-of k ≡ row-call-behind-check k
-row-call-past-check k rest e =
+pub row-call-past-check : (k : CallCase) → k .row ≡ usedTable (state-before k) → row-passes k ≡ true → row-call-of k ≡ row-call-behind-check k
+row-call-past-check k table e =
     let s = state-before k in
-    let first = both-left (first-tests k) _ (T-of-true _ e) in
-    let a = both-right (first-tests k) _ (T-of-true _ e) in
-    let one : s .setup .superblocks ≡ 1 = eqb→eq _ _ (both-left (eqb (s .setup .superblocks) 1) _ a) in
-    let b = both-right (eqb (s .setup .superblocks) 1) _ a in
-    let kept = totals-kept-of-valid s (both-left (totalsValid s) _ b) in
-    let valid = rest-of-used-part s (λ m low high. behind m (omega (arith, one)) high) (k .order) (limits-of k first) kept (both-right (totalsValid s) _ b) in
-    let storage-and-rest = both-make (leb (s .setup .superblocks * 256) (length (k .order))) _ (storage-of k first) valid in
-    let passes = true-of-T _ (both-make (withinLimits (s .setup)) _ (limits-of k first) storage-and-rest) in
-    is-call-on-state k first ∙ ap asRowAfter (call-past-check s (k .order) (k .call) passes)
-  where
-    behind : (m : ℕ) → 1 ≤ m → m < 64 → getD (k .row) m blank ≡ unused
-    behind m low high = ap (λ (row : List Superblock). getD row m blank) rest ∙ unused-behind (getD (k .row) 0 unused ∷ []) 63 m low high
+    let t = both-right (has-64 k) _ (T-of-true _ e) in
+    let kept = totals-kept-of-valid s (both-left (totalsValid s) _ t) in
+    let passes = true-of-T _ (both-right (totalsValid s) _ t) in
+    is-call-on-state k (both-left (has-64 k) _ (T-of-true _ e)) ∙ ap asRowAfter (call-past-used-part s (k .order) (k .call) table kept passes)
 
 -- each of a list
-abbrev pub rows-of : List CallCase → List (List Superblock)
-rows-of l = map (λ (k : CallCase). k .row) l
-
-pub row-calls-past-check : (l : List CallCase) → rows-of l ≡ map rest-unused (rows-of l) → map row-passes l ≡ map (λ (k : CallCase). true) l
-    → map row-call-of l ≡ map row-call-behind-check l
-row-calls-past-check [] rest e = refl
-row-calls-past-check (k ∷ l) rest e =
+pub row-calls-past-check : (l : List CallCase) → map (λ (k : CallCase). k .row) l ≡ map (λ (k : CallCase). usedTable (state-before k)) l
+    → map row-passes l ≡ map (λ (k : CallCase). true) l → map row-call-of l ≡ map row-call-behind-check l
+row-calls-past-check [] tables e = refl
+row-calls-past-check (k ∷ l) tables e =
     rw (
-      row-call-past-check k (ap (λ (x : List (List Superblock)). getD x 0 []) rest) (ap (λ (x : List Bool). getD x 0 true) e),
-      row-calls-past-check l (ap (drop 1) rest) (ap (drop 1) e),
+      row-call-past-check k (ap (λ (x : List (List Superblock)). getD x 0 []) tables) (ap (λ (x : List Bool). getD x 0 true) e),
+      row-calls-past-check l (ap (drop 1) tables) (ap (drop 1) e),
     )
 
--- ---- a row that a clause of the check refuses
+-- ---- a row that a clause of the check refuses, what comes before the rest of it being right
+abbrev first-tests : CallCase → Bool
+first-tests k = both (withinLimits (k .control .setup)) (leb (k .control .setup .superblocks * 256) (length (k .order)))
+
 abbrev pub refused-by : (State → Bool) → CallCase → Bool
-refused-by clause k = both (first-tests k) (not (clause (state-before k)))
+refused-by clause k = both (has-64 k) (both (first-tests k) (not (clause (state-before k))))
 
 module _ (clause : State → Bool) (asked : (s : State) (order : List ℕ) → T (restValid s order) → T (clause s)) where
   row-call-refused : (k : CallCase) → refused-by clause k ≡ true → row-call-of k ≡ rowRefused 13 (k .control) (k .row) (k .order)
   row-call-refused k e =
       let s = state-before k in
-      let first = both-left (first-tests k) _ (T-of-true _ e) in
-      let wrong = both-right (first-tests k) _ (T-of-true _ e) in
+      let t = both-right (has-64 k) _ (T-of-true _ e) in
+      let first = both-left (first-tests k) _ t in
+      let wrong = both-right (first-tests k) _ t in
+      let limits = true-of-T _ (both-left (withinLimits (s .setup)) _ first) in
+      let storage = leb→le _ _ (both-right (withinLimits (s .setup)) _ first) in
       let not-valid = false-of-not-T (restValid s (k .order)) (λ valid. T-not (clause s) wrong (asked s (k .order) valid)) in
-      let refuses = checked-refuses-13-of-rest s (k .order) _ (true-of-T _ (limits-of k first)) (leb→le _ _ (storage-of k first)) not-valid in
-      is-call-on-state k first ∙ ap asRowAfter (call-of-checks-first s (k .order) (k .call) ∙ refuses)
+      is-call-on-state k (both-left (has-64 k) _ (T-of-true _ e))
+      ∙ ap asRowAfter (call-of-checks-first s (k .order) (k .call) ∙ checked-refuses-13-of-rest s (k .order) _ limits storage not-valid)
 
   pub row-calls-refused : (l : List CallCase) → map (refused-by clause) l ≡ map (λ (k : CallCase). true) l
       → map row-call-of l ≡ map (λ (k : CallCase). rowRefused 13 (k .control) (k .row) (k .order)) l
