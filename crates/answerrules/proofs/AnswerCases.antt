@@ -9,7 +9,6 @@ use Rattle.heap.specs.declared.Superblock.{Superblock}
 use Rattle.heap.specs.declared.Totals.{Totals}
 use Rattle.heap.specs.Table.{unused}
 use Rattle.heap.specs.Totals.{noTotals}
-use Rattle.heap.specs.States.{noState}
 use Rattle.calls.specs.declared.Outcome.the-variants.{Ready, Address, Moves, Refused}
 use Rattle.answerrules.specs.AnswerLines.{wideDecimal, textsBelow, outcomeLine, superblockLine, superblockLineIf, superblockLines, nameLine, nameLineIf, nameLines, totalLine, totalLineIf, totalLines, placeLine, placeLineIf, placeLines, answerText, badInputText}
 use Rattle.answerrules.proofs.AnswerDefinitions.{answerDefinitions}
@@ -73,11 +72,6 @@ name-line-if-cases : (nameLineIf 7 0 ≡ letters "name 7 superblock 0 block 0\n"
 unfolding answerDefinitions
 name-line-if-cases = (refl, refl, refl)
 
--- "M rising", from 0 to 1023
-name-lines-case : nameLines (set (set (set noNames 1023 261) 700 0) 0 16383) ≡ letters "name 0 superblock 63 block 255\nname 700 superblock 0 block 0\nname 1023 superblock 1 block 5\n"
-unfolding answerDefinitions
-name-lines-case = refl
-
 -- ---- totals
 total-line-case : totalLine 8 26 64 128 ≡ letters "total heap 8 class 26 superblocks 64 live 128\n"
 unfolding answerDefinitions
@@ -112,12 +106,32 @@ place-lines-cases : (placeLines (5 ∷ 6 ∷ 7 ∷ 8 ∷ []) (4 ∷ 6 ∷ 0 ∷ 
 unfolding answerDefinitions
 place-lines-cases = (refl, refl, refl, refl)
 
--- ---- whole answers: every kind of line, each where it is to stand; and of a refused setup, which hands back no state
-whole-answer-case : answerText (Moves 2) (record { setup = record { processors = 7; superblocks = 63; spare = 15; p = 3; q = 8 }; table = unused ∷ busy ∷ []; names = set noNames 9 261; totals = record { superblocks = set (noTotals .superblocks) 242 1; live = noTotals .live } }) (5 ∷ 6 ∷ []) (5 ∷ 4 ∷ [])
-    ≡ letters "moved 2\nsetup 7 63 15 3 8\nsuperblock 1 owner 8 class 26 live 3 18446744073709551615 4294967296 5 rank 64 run 16\nname 9 superblock 1 block 5\ntotal heap 8 class 26 superblocks 1 live 0\nplace 1 4\nend\n"
+-- ---- whole answers: every kind of line, each where it is to stand; and of a refused call on a state where nothing is to be told, past whose lists no
+-- name is held and totals are 0
+whole-answer-case : answerText (Moves 2) (record { setup = record { processors = 7; superblocks = 63; spare = 15; p = 3; q = 8 }; table = unused ∷ busy ∷ []; names = notHeld ∷ 261 ∷ []; totals = record { superblocks = 0 ∷ 4 ∷ []; live = 0 ∷ 9 ∷ [] } }) (5 ∷ 6 ∷ []) (5 ∷ 4 ∷ [])
+    ≡ letters "moved 2\nsetup 7 63 15 3 8\nsuperblock 1 owner 8 class 26 live 3 18446744073709551615 4294967296 5 rank 64 run 16\nname 1 superblock 1 block 5\ntotal heap 0 class 1 superblocks 4 live 9\nplace 1 4\nend\n"
 unfolding answerDefinitions
 whole-answer-case = refl
 
-refused-setup-case : answerText (Refused 1) noState (5 ∷ []) (5 ∷ []) ≡ letters "refused 1\nsetup 0 0 0 0 0\nend\n"
+nothing-told-case : answerText (Refused 1) (record { setup = record { processors = 0; superblocks = 0; spare = 0; p = 0; q = 0 }; table = unused ∷ []; names = notHeld ∷ []; totals = record { superblocks = 0 ∷ []; live = 0 ∷ [] } }) (5 ∷ []) (5 ∷ [])
+    ≡ letters "refused 1\nsetup 0 0 0 0 0\nend\n"
 unfolding answerDefinitions
-refused-setup-case = refl
+nothing-told-case = refl
+
+-- ---- all names: a case that takes the prover longer than those above together. It unfolds a declaration that cites them, and so is skipped where an
+-- edit makes one of them false.
+infixr 5 _also_
+-- one more is cited, and nothing is made of it
+abbrev _also_ : {A : Type 0} → A → Unit {0} → Unit {0}
+_also_ case rest = rest
+
+unfoldable linesHold : Unit {0}
+linesHold =
+    wide-decimal-cases also texts-below-cases also outcome-line-cases also bad-input-case also superblock-line-case also superblock-as-new-case also
+    single-field-cases also superblock-lines-cases also name-line-case also name-line-if-cases also total-line-case also total-line-if-cases also
+    total-lines-case also place-line-case also place-line-if-cases also place-lines-cases also whole-answer-case also nothing-told-case also tt
+
+-- "M rising", from 0 to 1023
+name-lines-case : nameLines (set (set (set noNames 1023 261) 700 0) 0 16383) ≡ letters "name 0 superblock 63 block 255\nname 700 superblock 0 block 0\nname 1023 superblock 1 block 5\n"
+unfolding linesHold answerDefinitions
+name-lines-case = refl
