@@ -68,4 +68,5 @@ long-calls-behind-check = refl
 
 pub long-call-cases : map named-result-of long-calls ≡ map named-expected-of long-calls
 long-call-cases =
-    ap (map seen) (calls-past-used-part named-before order-before (λ (r : NamedCallCase). r .named-call) long-calls refl refl long-calls-pass) ∙ long-calls-behind-check
+    ap (map seen) (calls-past-used-part named-before order-before (λ (r : NamedCallCase). r .named-call) long-calls refl refl long-calls-pass)
+    ∙ long-calls-behind-check

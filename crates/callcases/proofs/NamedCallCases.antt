@@ -64,7 +64,8 @@ refused-with call r before l = record { named-call = call; effect = record { bef
 abbrev pub refused-named-calls : List NamedCallCase
 refused-named-calls =
     refused-with (NamedTake 1 5 2048) 14 nothing-offered ((5, 256) ∷ []) ∷ refused-with (NamedTake 1 6 2048) 4 nothing-offered ((5, 256) ∷ [])
-    ∷ refused-with (NamedFree 1 6) 15 nothing-offered ((5, 256) ∷ []) ∷ refused-with (Drop 1 (4096 ∷ 4096 ∷ [])) 7 (three-moves .before) ((5, 256) ∷ (6, 1) ∷ []) ∷ []
+    ∷ refused-with (NamedFree 1 6) 15 nothing-offered ((5, 256) ∷ [])
+    ∷ refused-with (Drop 1 (4096 ∷ 4096 ∷ [])) 7 (three-moves .before) ((5, 256) ∷ (6, 1) ∷ []) ∷ []
 
 -- ---- the rules leave what is expected: each state passes the check, and the call behind it leaves that
 abbrev pub named-passes : NamedCallCase → Bool
@@ -83,7 +84,8 @@ named-calls-behind-check = refl
 
 pub named-call-cases : map named-result-of named-calls ≡ map named-expected-of named-calls
 named-call-cases =
-    ap (map seen) (calls-past-used-part named-before order-before (λ (r : NamedCallCase). r .named-call) named-calls refl refl named-calls-pass) ∙ named-calls-behind-check
+    ap (map seen) (calls-past-used-part named-before order-before (λ (r : NamedCallCase). r .named-call) named-calls refl refl named-calls-pass)
+    ∙ named-calls-behind-check
 
 -- ---- 13 for a name at a free block and for two names at one block, for a plain call too and before 2, and before a drop's 2 and 16. These are computed with
 -- the check

@@ -75,11 +75,17 @@ seen a =
     }
 
 -- what the rules leave, and what is expected
+abbrev state-before : CallCase → State
+state-before r = state-of (r .before)
+
+abbrev order-before : CallCase → List ℕ
+order-before r = order-of (r .before)
+
 abbrev pub result-of : CallCase → Seen
-result-of r = seen (callOf (state-of (r .before)) (order-of (r .before)) (r .call))
+result-of r = seen (callOf (state-before r) (order-before r) (r .call))
 
 abbrev result-behind-check : CallCase → Seen
-result-behind-check r = seen (callUnchecked (state-of (r .before)) (order-of (r .before)) (r .call))
+result-behind-check r = seen (callUnchecked (state-before r) (order-before r) (r .call))
 
 abbrev pub expected-of : CallCase → Seen
 expected-of r =
@@ -255,7 +261,7 @@ refused-frees = refused-case (Free 0 20480) 2 ∷ refused-case (Free 1 20481) 5 
 
 -- ---- the rules leave what is expected: each state passes the check, and the call behind it leaves that
 abbrev before-passes : CallCase → Bool
-before-passes r = usedPartPasses (state-of (r .before)) (order-of (r .before))
+before-passes r = usedPartPasses (state-before r) (order-before r)
 
 abbrev pub whole-takes : List CallCase
 whole-takes =
@@ -272,8 +278,7 @@ takes-behind-check = refl
 
 pub whole-take-cases : map result-of whole-takes ≡ map expected-of whole-takes
 whole-take-cases =
-    ap (map seen) (calls-past-used-part (λ (r : CallCase). state-of (r .before)) (λ (r : CallCase). order-of (r .before)) (λ (r : CallCase). r .call) whole-takes refl refl takes-pass)
-    ∙ takes-behind-check
+    ap (map seen) (calls-past-used-part state-before order-before (λ (r : CallCase). r .call) whole-takes refl refl takes-pass) ∙ takes-behind-check
 
 abbrev pub whole-frees : List CallCase
 whole-frees = freed-for-owner ∷ three-moves ∷ freed-in-heap-0 ∷ freed-in-superblock-17 ∷ refused-frees
@@ -288,5 +293,4 @@ frees-behind-check = refl
 
 pub whole-free-cases : map result-of whole-frees ≡ map expected-of whole-frees
 whole-free-cases =
-    ap (map seen) (calls-past-used-part (λ (r : CallCase). state-of (r .before)) (λ (r : CallCase). order-of (r .before)) (λ (r : CallCase). r .call) whole-frees refl refl frees-pass)
-    ∙ frees-behind-check
+    ap (map seen) (calls-past-used-part state-before order-before (λ (r : CallCase). r .call) whole-frees refl refl frees-pass) ∙ frees-behind-check

@@ -44,3 +44,4 @@ pub mod OrderWriteLaws
 pub mod OrderReadLaws
 pub mod FreeStackLaws
 pub mod SizeZeroLaws
+pub mod UsedPartCallLaws

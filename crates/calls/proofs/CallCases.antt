@@ -62,7 +62,8 @@ pub named-free-cases :
 unfolding partsHold uncheckedCallDefinitions
 named-free-cases = refl
 
--- 2 before 16, and before a bad address; 16; refused with the first bad address's number, nothing freed, no place written, no name let go
+-- a drop, on the same state: 2 before 16, and before a bad address; 16; refused with the first bad address's number, nothing freed, no place written, no
+-- name let go
 pub refused-drop-cases :
     map named-unchecked (Drop 0 [] ∷ Drop 3 (8192 ∷ []) ∷ Drop 1 [] ∷ Drop 1 (0 ∷ 0 ∷ []) ∷ Drop 1 (0 ∷ 8192 ∷ []) ∷ Drop 2 (2049 ∷ 0 ∷ []) ∷ [])
     ≡ refused 2 named-state order-before ∷ refused 2 named-state order-before ∷ refused 16 named-state order-before ∷ refused 7 named-state order-before ∷ refused 5 named-state order-before ∷ refused 6 named-state order-before ∷ []

@@ -133,7 +133,8 @@ module _ (s : State) (table : s .table ≡ usedTable s) where
       rest-of-clauses s order (record {
         superblocks =
             all-of-used (superblockValid (s .setup) order)
-            (λ k l. superblock-valid-of-unowned (s .setup) order k unused (unowned-of-unused unused unused-is-unused)) (both-left (usedSuperblocksValid s order) _ t);
+            (λ k l. superblock-valid-of-unowned (s .setup) order k unused (unowned-of-unused unused unused-is-unused))
+            (both-left (usedSuperblocksValid s order) _ t);
         past-unused =
             all-of-used (unusedFrom n) (λ k l. either-right (ltb k n) (isUnused unused) (is-unused-of-facts unused unused-is-unused))
             (all-of-each (λ k. unusedFrom n k (superblockAt s k)) n (λ k l. either-left (ltb k n) _ (lt→ltb k n l)));

@@ -37,7 +37,8 @@ key-after-refused-take = key-past-check refused-take storage numbers _ refl refl
 abbrev size-0-take : List ℕ
 size-0-take = setup ++ (1 ∷ 1 ∷ 0 ∷ 0 ∷ [])
 
-key-of-size-0 : keyOf size-0-take storage ≡ letters "setup 1 1 1 1 2\n" ++ letters "take 1 0 at 0\n" ++ letters "heap 1 class 0 superblocks 1 live 1\n" ++ letters "end\n"
+key-of-size-0 : keyOf size-0-take storage
+    ≡ letters "setup 1 1 1 1 2\n" ++ letters "take 1 0 at 0\n" ++ letters "heap 1 class 0 superblocks 1 live 1\n" ++ letters "end\n"
 unfolding pastCheckDefinitions
 key-of-size-0 = key-past-check size-0-take storage numbers _ refl refl ∙ refl
 

@@ -28,7 +28,8 @@ module _ (r order : List ℕ) (u : Setup) (commands : List Command) where
   abbrev pub textBy : List Step → List ℕ
   textBy steps = setupLine u ++ (stepLines steps ++ endingLines (lastAfter (setupOf u order) steps) commands)
 
-  module _ (e : commandsOf r ≡ command.Setup (u .processors) (u .superblocks) (u .spare) (u .p) (u .q) ∷ commands) (ready : setupOf u order .answer .outcome ≡ Ready) where
+  module _ (e : commandsOf r ≡ command.Setup (u .processors) (u .superblocks) (u .spare) (u .p) (u .q) ∷ commands)
+      (ready : setupOf u order .answer .outcome ≡ Ready) where
     pub key-past-check : keyOf r order ≡ textBy steps-behind-check
     unfolding stepsIn
     key-past-check = key-claims-of-accepted-setup r order u commands e ready .printed ∙ ap textBy (steps-are-unchecked u order ready (callsIn r commands))

@@ -106,7 +106,7 @@ wrong-names-refused : map (refused-by namesValid) wrong-names-cases ≡ map (λ 
 unfolding checkDefinitions
 wrong-names-refused = refl
 
-pub wrong-names-cases-are-computed : map (λ (k : CallCase). rowCall (k .control) (k .row) (k .order) (k .call)) wrong-names-cases ≡ map (λ (k : CallCase). k .after) wrong-names-cases
+pub wrong-names-cases-are-computed : map row-call-of wrong-names-cases ≡ map (λ (k : CallCase). k .after) wrong-names-cases
 wrong-names-cases-are-computed = row-calls-refused namesValid (λ s order t. clauses-of-rest s order t .names) wrong-names-cases wrong-names-refused
 
 -- Totals: one that is not the recount fails the check, 13, whether of live blocks or of superblocks, and is handed back
