@@ -1,2 +1,3 @@
 pub mod LoadStoreLaws
 pub mod LoadStoreContracts
+pub mod RowCallLaws

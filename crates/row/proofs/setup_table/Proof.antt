@@ -1,8 +1,8 @@
--- `rowcore::setup_table` meets its contract. Assumes nothing.
-use Rattle.rowcore.proofs.RowCallLaws.{refused-setup-is-setup-on, answered-setup-is-setup-on, table-call-clauses, accepted-flag-of-refused-call, accepted-flag-of-answered-call, refused-call-passes-if-accepted, answered-call-passes-if-accepted}
+-- `row::setup_table` meets its contract. Assumes nothing.
+use Rattle.row.proofs.RowCallLaws.{refused-setup-is-setup-on, answered-setup-is-setup-on, table-call-clauses, accepted-flag-of-refused-call, accepted-flag-of-answered-call, refused-call-passes-if-accepted, answered-call-passes-if-accepted}
 use borrow.Author.Needs.{needs}
-use Rattle.rowcore.proofs.setup_table.Statement.{statement}
-use Rattle.rowcore.proofs.setup_table.Tie as tie
+use Rattle.row.proofs.setup_table.Statement.{statement}
+use Rattle.row.proofs.setup_table.Tie as tie
 
 first-refusal-requires : tie.Need-first-refusal-requires
 first-refusal-requires c κs = search needs

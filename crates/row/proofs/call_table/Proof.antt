@@ -1,8 +1,8 @@
--- `rowcore::call_table` meets its contract. Assumes nothing.
-use Rattle.rowcore.proofs.RowCallLaws.{refused-call-is-call-on, answered-call-is-call-on, table-call-clauses, accepted-flag-of-refused-call, accepted-flag-of-answered-call, refused-call-passes-if-accepted, answered-call-passes-if-accepted}
+-- `row::call_table` meets its contract. Assumes nothing.
+use Rattle.row.proofs.RowCallLaws.{refused-call-is-call-on, answered-call-is-call-on, table-call-clauses, accepted-flag-of-refused-call, accepted-flag-of-answered-call, refused-call-passes-if-accepted, answered-call-passes-if-accepted}
 use borrow.Author.Needs.{needs}
-use Rattle.rowcore.proofs.call_table.Statement.{statement}
-use Rattle.rowcore.proofs.call_table.Tie as tie
+use Rattle.row.proofs.call_table.Statement.{statement}
+use Rattle.row.proofs.call_table.Tie as tie
 
 first-refusal-requires : tie.Need-first-refusal-requires
 first-refusal-requires c κs = search needs
