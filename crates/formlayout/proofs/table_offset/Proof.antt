@@ -1,9 +1,9 @@
--- `callform::table_offset` meets its contract. Assumes nothing.
+-- `formlayout::table_offset` meets its contract. Assumes nothing.
 use native.Mathlib.Omega.{arith}
-use Rattle.callform.proofs.FormLaws.{table-offset-of-take-or-named-free, table-offset-of-drop, table-offset-of-free-or-named-take}
+use Rattle.formlayout.proofs.LayoutLaws.{table-offset-of-take-or-named-free, table-offset-of-drop, table-offset-of-free-or-named-take}
 use borrow.Author.Needs.{needs}
-use Rattle.callform.proofs.table_offset.Statement.{statement}
-use Rattle.callform.proofs.table_offset.Tie as tie
+use Rattle.formlayout.proofs.table_offset.Statement.{statement}
+use Rattle.formlayout.proofs.table_offset.Tie as tie
 
 byte-at-requires : tie.Need-byte-at-requires
 byte-at-requires c κs = search needs

@@ -1,9 +1,9 @@
--- `callform::places_offset` meets its contract. Assumes nothing.
+-- `formlayout::places_offset` meets its contract. Assumes nothing.
 use native.Mathlib.Omega.{arith}
-use Rattle.callform.proofs.FormLaws.{places-offset-of-setup, places-offset-of-state}
+use Rattle.formlayout.proofs.LayoutLaws.{places-offset-of-setup, places-offset-of-state}
 use borrow.Author.Needs.{needs}
-use Rattle.callform.proofs.places_offset.Statement.{statement}
-use Rattle.callform.proofs.places_offset.Tie as tie
+use Rattle.formlayout.proofs.places_offset.Statement.{statement}
+use Rattle.formlayout.proofs.places_offset.Tie as tie
 
 byte-at-requires : tie.Need-byte-at-requires
 byte-at-requires c κs = search needs

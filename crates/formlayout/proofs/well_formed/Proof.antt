@@ -1,10 +1,10 @@
--- `callform::well_formed` meets its contract. Assumes nothing.
+-- `formlayout::well_formed` meets its contract. Assumes nothing.
 use Prim.Native.Nat.{_≤_, _<_}
 use native.Mathlib.Omega.{arith}
-use Rattle.callform.proofs.FormLaws.{well-formed-false-of-unknown, well-formed-is-length-test}
+use Rattle.formlayout.proofs.LayoutLaws.{well-formed-false-of-unknown, well-formed-is-length-test}
 use borrow.Author.Needs.{needs}
-use Rattle.callform.proofs.well_formed.Statement.{statement}
-use Rattle.callform.proofs.well_formed.Tie as tie
+use Rattle.formlayout.proofs.well_formed.Statement.{statement}
+use Rattle.formlayout.proofs.well_formed.Tie as tie
 
 byte-at-requires : tie.Need-byte-at-requires
 byte-at-requires c κs = search needs

@@ -1,9 +1,9 @@
--- `callform::place_count` meets its contract. Assumes nothing.
+-- `formlayout::place_count` meets its contract. Assumes nothing.
 use native.Mathlib.Omega.{arith}
-use Rattle.callform.proofs.FormLaws.{place-count-of-setup, place-count-of-state}
+use Rattle.formlayout.proofs.LayoutLaws.{place-count-of-setup, place-count-of-state}
 use borrow.Author.Needs.{needs}
-use Rattle.callform.proofs.place_count.Statement.{statement}
-use Rattle.callform.proofs.place_count.Tie as tie
+use Rattle.formlayout.proofs.place_count.Statement.{statement}
+use Rattle.formlayout.proofs.place_count.Tie as tie
 
 byte-at-requires : tie.Need-byte-at-requires
 byte-at-requires c κs = search needs
