@@ -1,9 +1,9 @@
--- `addresses::is_unmapped` meets its contract. Assumes nothing.
+-- `addresscheck::is_unmapped` meets its contract. Assumes nothing.
 use borrow.Author.Needs.{needs}
 use native.Mathlib.Omega.{arith}
-use Rattle.addresses.proofs.FreedAddressLaws.{is-unmapped-past-end, is-unmapped-is-unused}
-use Rattle.addresses.proofs.is_unmapped.Statement.{statement}
-use Rattle.addresses.proofs.is_unmapped.Tie as tie
+use Rattle.addresscheck.proofs.AddressTestLaws.{is-unmapped-past-end, is-unmapped-is-unused}
+use Rattle.addresscheck.proofs.is_unmapped.Statement.{statement}
+use Rattle.addresscheck.proofs.is_unmapped.Tie as tie
 
 mul-end : tie.Need-mul-end
 mul-end c = search needs

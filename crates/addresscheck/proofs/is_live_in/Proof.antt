@@ -1,8 +1,8 @@
--- `addresses::is_live_in` meets its contract. Assumes nothing.
+-- `addresscheck::is_live_in` meets its contract. Assumes nothing.
 use borrow.Author.Needs.{needs}
-use Rattle.addresses.proofs.FreedAddressLaws.{is-live-at-run-start, is-live-at-is-mark}
-use Rattle.addresses.proofs.is_live_in.Statement.{statement}
-use Rattle.addresses.proofs.is_live_in.Tie as tie
+use Rattle.addresscheck.proofs.AddressTestLaws.{is-live-at-run-start, is-live-at-is-mark}
+use Rattle.addresscheck.proofs.is_live_in.Statement.{statement}
+use Rattle.addresscheck.proofs.is_live_in.Tie as tie
 
 block-in-requires : tie.Need-block-in-requires
 block-in-requires c κs = search needs

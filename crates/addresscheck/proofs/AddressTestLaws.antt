@@ -1,24 +1,22 @@
 -- The tests of an address, step by step as the code goes. Assumes nothing.
-use mathlib.Core.Path.{_≡_, refl, sym, ap, _∙_}
+use mathlib.Core.Path.{_≡_, refl, sym, _∙_}
 use mathlib.Core.Bool.{Bool, true, false, not}
-use Prim.Native.Nat.{ℕ, _+_, _*_, _/_, _%_, _≤_, _<_, zero-le}
-use native.Mathlib.Nat.{div-zero, div-lt-iff-lt-mul, mul-le-mul-left}
+use Prim.Native.Nat.{ℕ, _*_, _/_, _%_, _≤_, _<_, zero-le}
 use native.Mathlib.Decide.{ℕ-discrete, decLt}
 use native.Mathlib.Omega.{arith}
-use borrow.Author.Tests.{le-leb, lt-leb, lt-ltb, le-ltb, eq-eqb, ne-eqb}
+use borrow.Author.Tests.{le-leb, lt-leb, eq-eqb, ne-eqb}
 use lib.Dec.{eqb, leb}
 use Rattle.laws.specs.Sums.{either}
 use Rattle.laws.proofs.TestLaws.{both-false-right, both-true-right}
 use Rattle.laws.proofs.Inequalities.{le-of-not-below}
 use Rattle.classes.specs.Classes.{sizeOf, blocksOf}
-use Rattle.classes.proofs.ClassTableLaws.{size-of-ge-16, size-of-no-class, blocks-of-no-class}
+use Rattle.classes.proofs.ClassTableLaws.{size-of-ge-16, blocks-of-no-class}
 use Rattle.marks.specs.Marks.{isMarked, noMarks, withMark}
 use Rattle.marklaws.proofs.MarkLaws.{mark-of-mark-bit-one, no-mark-of-mark-bit-zero, with-mark-same, with-mark-other, mark-bit-of-no-marks}
-use Rattle.names.specs.Names.{notHeld}
 use Rattle.heap.specs.declared.Superblock.{Superblock}
 use Rattle.heap.specs.declared.State.{State}
-use Rattle.heap.specs.Table.{superblockAt, isUnused, isOfRun, startsRun, liveBlocks}
-use Rattle.calls.specs.Free.{superblockHolding, blockOf, isUnmapped, isRunStart, isOffBlock, isMisaligned, isLiveAt, addressRefusal, blockNumberAt}
+use Rattle.heap.specs.Table.{isUnused, isOfRun, startsRun, liveBlocks}
+use Rattle.calls.specs.Free.{superblockHolding, blockOf, isUnmapped, isRunStart, isOffBlock, isMisaligned, isLiveAt, addressRefusal}
 use Rattle.calls.proofs.AddressRefusalLaws.{address-refusal-5}
 
 -- a class with no block size has no blocks
@@ -40,17 +38,6 @@ only-block-0 j = go (ℕ-discrete j 0)
     go : Dec (j ≡ 0) → eqb j 0 ≡ isMarked (withMark noMarks 0) j
     go (yes e) = rw e (sym (mark-of-mark-bit-one (withMark noMarks 0) 0 (with-mark-same noMarks 0 refl (omega arith))))
     go (no f) = ne-eqb j 0 f ∙ sym (no-mark-of-mark-bit-zero (withMark noMarks 0) j (with-mark-other noMarks 0 j f ∙ mark-bit-of-no-marks j))
-
--- the block of an address, from the block size that the code reads
-pub block-of-size-0 : (a class size : ℕ) → size ≡ sizeOf class → size ≡ 0 → 0 ≡ a % 4096 / sizeOf class
-block-of-size-0 a class size es e = sym (ap (λ (n : ℕ). a % 4096 / n) (sym es ∙ e) ∙ div-zero (a % 4096))
-
-pub block-of-is-quotient : (a class size : ℕ) → size ≡ sizeOf class → a % 4096 / size ≡ a % 4096 / sizeOf class
-block-of-is-quotient a class size es = ap (λ (n : ℕ). a % 4096 / n) es
-
-pub block-of-by-class : (s : State) (a class j : ℕ) → class ≡ superblockAt s (a / 4096) .class → j ≡ a % 4096 / sizeOf class → j ≡ blockOf s a
-unfolding blockOf
-block-of-by-class s a class j ec e = e ∙ ap (λ (n : ℕ). a % 4096 / sizeOf n) ec
 
 -- the tests, in a state that has the superblock there
 module _ (s : State) (a : ℕ) (b : Superblock) (eb : superblockHolding s a ≡ b) where
@@ -111,27 +98,3 @@ module _ (s : State) (a : ℕ) (b : Superblock) (eb : superblockHolding s a ≡ 
 -- the refusal of an address past the table, which has no more than 64 superblocks
 pub address-refusal-past-table : (s : State) (a : ℕ) → s .setup .superblocks ≤ 64 → 64 ≤ a / 4096 → 5 ≡ addressRefusal s a
 address-refusal-past-table s a high h = address-refusal-5 s a true (is-unmapped-past-end s a (superblockHolding s a) refl (s .setup .superblocks) refl (omega arith)) refl
-
--- the block's number: a block is one of 256, whatever the class
-block-of-offset-lt-256 : (a class : ℕ) → a % 4096 / sizeOf class < 256
-block-of-offset-lt-256 a class = go (decLt class 27)
-  where
-    go : Dec (class < 27) → a % 4096 / sizeOf class < 256
-    go (yes h) =
-        let g : 16 ≤ sizeOf class = size-of-ge-16 class h in
-        let m : 256 * 16 ≤ 256 * sizeOf class = mul-le-mul-left 256 g in
-        div-lt-iff-lt-mul {k = sizeOf class} {x = a % 4096} {y = 256} (omega arith) .1 (omega arith)
-    go (no f) = let q : a % 4096 / sizeOf class ≡ 0 = ap (λ (n : ℕ). a % 4096 / n) (size-of-no-class class (le-of-not-below f)) ∙ div-zero (a % 4096) in omega arith
-
-module _ (s : State) (a : ℕ) where
-  pub block-of-lt-256 : (j : ℕ) → j ≡ blockOf s a → j < 256
-  unfolding blockOf
-  block-of-lt-256 j e = rw e (block-of-offset-lt-256 a (superblockHolding s a .class))
-
-  pub block-number-past-table : 64 ≤ a / 4096 → notHeld ≡ blockNumberAt s a
-  unfolding blockNumberAt
-  block-number-past-table h = rw (le-ltb (a / 4096) 64 h)
-
-  pub block-number-in-table : (j : ℕ) → a / 4096 < 64 → j ≡ blockOf s a → a / 4096 * 256 + j ≡ blockNumberAt s a
-  unfolding blockNumberAt
-  block-number-in-table j h e = rw (lt-ltb (a / 4096) 64 h, e)

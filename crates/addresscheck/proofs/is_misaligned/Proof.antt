@@ -1,8 +1,8 @@
--- `addresses::is_misaligned` meets its contract: by whether the superblock is of a run. Assumes nothing.
+-- `addresscheck::is_misaligned` meets its contract: by whether the superblock is of a run. Assumes nothing.
 use borrow.Author.Needs.{needs}
-use Rattle.addresses.proofs.FreedAddressLaws.{is-misaligned-in-run, is-misaligned-of-class}
-use Rattle.addresses.proofs.is_misaligned.Statement.{statement}
-use Rattle.addresses.proofs.is_misaligned.Tie as tie
+use Rattle.addresscheck.proofs.AddressTestLaws.{is-misaligned-in-run, is-misaligned-of-class}
+use Rattle.addresscheck.proofs.is_misaligned.Statement.{statement}
+use Rattle.addresscheck.proofs.is_misaligned.Tie as tie
 
 is-run-start-requires : tie.Need-is-run-start-requires
 is-run-start-requires c κs = search needs

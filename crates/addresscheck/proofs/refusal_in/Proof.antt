@@ -1,9 +1,9 @@
--- `addresses::refusal_in` meets its contract. Assumes nothing.
+-- `addresscheck::refusal_in` meets its contract. Assumes nothing.
 use borrow.Author.Needs.{needs}
 use borrow.Author.Tests.{not-true, not-false}
 use Rattle.calls.proofs.AddressRefusalLaws.{address-refusal-5, address-refusal-6, address-refusal-7, address-refusal-0}
-use Rattle.addresses.proofs.refusal_in.Statement.{statement}
-use Rattle.addresses.proofs.refusal_in.Tie as tie
+use Rattle.addresscheck.proofs.refusal_in.Statement.{statement}
+use Rattle.addresscheck.proofs.refusal_in.Tie as tie
 
 is-unmapped-requires : tie.Need-is-unmapped-requires
 is-unmapped-requires c κs = search needs

@@ -1,8 +1,8 @@
--- `addresses::is_off_block` meets its contract: a class with no block size has no blocks, so that every address is off a block. Assumes nothing.
+-- `addresscheck::is_off_block` meets its contract: a class with no block size has no blocks, so that every address is off a block. Assumes nothing.
 use borrow.Author.Needs.{needs}
-use Rattle.addresses.proofs.FreedAddressLaws.{is-off-block-of-size-0, is-off-block-of-remainder, is-off-block-is-past-last-block}
-use Rattle.addresses.proofs.is_off_block.Statement.{statement}
-use Rattle.addresses.proofs.is_off_block.Tie as tie
+use Rattle.addresscheck.proofs.AddressTestLaws.{is-off-block-of-size-0, is-off-block-of-remainder, is-off-block-is-past-last-block}
+use Rattle.addresscheck.proofs.is_off_block.Statement.{statement}
+use Rattle.addresscheck.proofs.is_off_block.Tie as tie
 
 block-size-requires : tie.Need-block-size-requires
 block-size-requires c κs = search needs

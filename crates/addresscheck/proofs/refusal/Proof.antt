@@ -1,10 +1,10 @@
--- `addresses::refusal` meets its contract. Assumes nothing.
+-- `addresscheck::refusal` meets its contract. Assumes nothing.
 use borrow.Author.Needs.{needs}
 use mathlib.Core.Path.{refl}
 use native.Mathlib.Omega.{arith}
-use Rattle.addresses.proofs.FreedAddressLaws.{address-refusal-past-table}
-use Rattle.addresses.proofs.refusal.Statement.{statement}
-use Rattle.addresses.proofs.refusal.Tie as tie
+use Rattle.addresscheck.proofs.AddressTestLaws.{address-refusal-past-table}
+use Rattle.addresscheck.proofs.refusal.Statement.{statement}
+use Rattle.addresscheck.proofs.refusal.Tie as tie
 
 cast-k : tie.Need-cast-k
 cast-k c = search needs

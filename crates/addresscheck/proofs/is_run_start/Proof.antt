@@ -1,8 +1,8 @@
--- `addresses::is_run_start` meets its contract. Assumes nothing.
+-- `addresscheck::is_run_start` meets its contract. Assumes nothing.
 use borrow.Author.Needs.{needs}
-use Rattle.addresses.proofs.FreedAddressLaws.{no-run-start-inside, run-start-is-first-superblock}
-use Rattle.addresses.proofs.is_run_start.Statement.{statement}
-use Rattle.addresses.proofs.is_run_start.Tie as tie
+use Rattle.addresscheck.proofs.AddressTestLaws.{no-run-start-inside, run-start-is-first-superblock}
+use Rattle.addresscheck.proofs.is_run_start.Statement.{statement}
+use Rattle.addresscheck.proofs.is_run_start.Tie as tie
 
 returns : tie.Need-returns
 returns c s eb = search no-run-start-inside
