@@ -1,1 +1,1 @@
-pub mod FreedAddressLaws
+pub mod BlockLaws

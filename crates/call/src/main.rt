@@ -44,10 +44,10 @@ fn reply_any(bytes: &[u8]) {
 
 // Input that is not of the form, or that lends more places or addresses than the program has, calls nothing.
 fn reply(on: Lent, bytes: &[u8]) {
-    if !callform::well_formed(bytes) {
+    if !formlayout::well_formed(bytes) {
         return reply_bad_input();
     }
-    let lent = callform::place_count(bytes);
+    let lent = formlayout::place_count(bytes);
     if lent > 17000 {
         return reply_bad_input();
     }
@@ -95,7 +95,7 @@ fn make_call(on: Lent, bytes: &[u8], lent: usize, count: usize)
 
 // The order places as the input has them; a copy of these shows which of them changed.
 fn load_and_call(on: Lent, bytes: &[u8], order: &mut [u16], before: &mut [u16], addresses: &[u32]) {
-    let from = callform::places_offset(bytes);
+    let from = formlayout::places_offset(bytes);
     callload::load_places(bytes, from, order);
     callload::load_places(bytes, from, before);
     call_on(on, bytes, order, before, addresses);
@@ -176,7 +176,7 @@ fn asked_in(bytes: &[u8]) -> Asked {
 }
 
 fn state_in(bytes: &[u8]) -> State {
-    stateload::state_at(bytes, callform::table_offset(bytes))
+    stateload::state_at(bytes, formlayout::table_offset(bytes))
 }
 
 fn answer_to(bytes: &[u8], order: &mut [u16], addresses: &[u32]) -> Answer {

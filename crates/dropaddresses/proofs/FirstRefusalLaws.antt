@@ -24,8 +24,8 @@ use Rattle.heaplaws.proofs.RerankedLaws.{superblock-keeps-all-but-rank}
 use Rattle.calls.specs.Runs.{eachOfRun, madeUnused, runFreed}
 use Rattle.calls.specs.Free.{superblockIndex, superblockHolding, blockOf, isUnmapped, isInRun, isRunStart, isOffBlock, isMisaligned, isLiveAt, addressRefusal, markCleared, smallBlockFreed, longBlockFreed, blockFreed}
 use Rattle.calls.specs.Drop.{allFreed, firstAddressRefusal}
-use Rattle.addresses.specs.Holding.{TellsOf}
-use Rattle.addresses.proofs.FreedAddressLaws.{address-refusal-past-table}
+use Rattle.addresscheck.specs.Holding.{TellsOf}
+use Rattle.addresscheck.proofs.AddressTestLaws.{address-refusal-past-table}
 use Rattle.dropaddresses.specs.TestedTable.{RunsFit, tableWithoutRun}
 
 -- ---- the frees at one address more

@@ -25,7 +25,7 @@ pub fn first_address_refusal(s: State, addresses: &[u32]) -> u8
             return 5;
         }
         let b = t[k];
-        let bad = addresses::refusal_in(s.setup.superblocks, b, address);
+        let bad = addresscheck::refusal_in(s.setup.superblocks, b, address);
         if bad != 0 {
             return bad;
         }

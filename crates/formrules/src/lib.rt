@@ -1,5 +1,5 @@
 // The input of the program `call` (docs/FORMATS.md, "One call"). What its bytes hold is in specs/; the code is that of crates callform,
-// namesload, totalsload, stateload and callload.
+// formlayout, namesload, totalsload, stateload and callload.
 
 // The call, with the numbers of a take or a free, plain or named, or of a drop: its processor, and how many addresses it has.
 pub enum Request {

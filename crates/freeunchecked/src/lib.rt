@@ -20,7 +20,7 @@ pub fn free(s: State, order: &mut [u16], processor: u8, address: u32) -> Answer
     if !states::is_processor(s, processor) {
         return states::refuse(s, 2);
     }
-    let bad = addresses::refusal(s, address);
+    let bad = addresscheck::refusal(s, address);
     if bad != 0 {
         return states::refuse(s, bad);
     }

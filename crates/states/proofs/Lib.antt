@@ -1,2 +1,3 @@
 pub mod ProcessorLaws
 pub mod NumberLaws
+pub mod StateLaws

@@ -1,6 +1,6 @@
 -- `addresses::block_at` meets its contract. Assumes nothing.
 use borrow.Author.Needs.{needs}
-use Rattle.addresses.proofs.FreedAddressLaws.{block-of-by-class}
+use Rattle.addresses.proofs.BlockLaws.{block-of-by-class}
 use Rattle.addresses.proofs.block_at.Statement.{statement}
 use Rattle.addresses.proofs.block_at.Tie as tie
 

@@ -1,6 +1,6 @@
 -- `addresses::block_in` meets its contract: a quotient by 0 is 0. Assumes nothing.
 use borrow.Author.Needs.{needs}
-use Rattle.addresses.proofs.FreedAddressLaws.{block-of-is-quotient, block-of-size-0}
+use Rattle.addresses.proofs.BlockLaws.{block-of-is-quotient, block-of-size-0}
 use Rattle.addresses.proofs.block_in.Statement.{statement}
 use Rattle.addresses.proofs.block_in.Tie as tie
 

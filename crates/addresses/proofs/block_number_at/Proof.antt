@@ -2,7 +2,7 @@
 use Prim.Native.Nat.{_<_}
 use native.Mathlib.Omega.{arith}
 use borrow.Author.Needs.{needs}
-use Rattle.addresses.proofs.FreedAddressLaws.{block-of-lt-256, block-number-past-table, block-number-in-table}
+use Rattle.addresses.proofs.BlockLaws.{block-of-lt-256, block-number-past-table, block-number-in-table}
 use Rattle.addresses.proofs.block_number_at.Statement.{statement}
 use Rattle.addresses.proofs.block_number_at.Tie as tie
 

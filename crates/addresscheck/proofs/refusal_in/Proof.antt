@@ -1,0 +1,39 @@
+-- `addresscheck::refusal_in` meets its contract. Assumes nothing.
+use borrow.Author.Needs.{needs}
+use borrow.Author.Tests.{not-true, not-false}
+use Rattle.calls.proofs.AddressRefusalLaws.{address-refusal-5, address-refusal-6, address-refusal-7, address-refusal-0}
+use Rattle.addresscheck.proofs.refusal_in.Statement.{statement}
+use Rattle.addresscheck.proofs.refusal_in.Tie as tie
+
+is-unmapped-requires : tie.Need-is-unmapped-requires
+is-unmapped-requires c κs = search needs
+
+returns : tie.Need-returns
+returns c s en eb = let p = c .before .is-unmapped .ensures s en eb in search address-refusal-5
+
+is-misaligned-requires : tie.Need-is-misaligned-requires
+is-misaligned-requires c κs = search needs
+
+returns-2 : tie.Need-returns-2
+returns-2 c s en eb = let p = c .before .before .before .is-unmapped .ensures s en eb in let q = c .before .is-misaligned .ensures s eb in search address-refusal-6
+
+is-live-in-requires : tie.Need-is-live-in-requires
+is-live-in-requires c κs = search needs
+
+returns-3 : tie.Need-returns-3
+returns-3 c s en eb = let p = c .before .before .before .before .before .is-unmapped .ensures s en eb in let q = c .before .before .before .is-misaligned .ensures s eb in let r = c .before .is-live-in .ensures s eb in search (address-refusal-7, not-true)
+
+returns-4 : tie.Need-returns-4
+returns-4 c s en eb = let p = c .before .before .before .before .before .is-unmapped .ensures s en eb in let q = c .before .before .before .is-misaligned .ensures s eb in let r = c .before .is-live-in .ensures s eb in search (address-refusal-0, not-false)
+
+pub refusal-in-spec : {M : Type 1} → statement M
+refusal-in-spec =
+    tie.close
+    (tie.spec
+    is-unmapped-requires
+    returns
+    is-misaligned-requires
+    returns-2
+    is-live-in-requires
+    returns-3
+    returns-4)
