@@ -7,6 +7,7 @@ use native.Mathlib.Omega.{arith}
 use lib.ListN.{getD, replicate}
 use lib.Dec.{leb, leb→le}
 use borrow.Author.Tests.{le-leb}
+use Rattle.laws.proofs.Stages.{_also_}
 use Rattle.laws.specs.Sums.{sumBelow, allBelow}
 use Rattle.laws.proofs.TestLaws.{T-of-true, true-not-false}
 use Rattle.laws.proofs.SumLaws.{all-at}
@@ -26,6 +27,7 @@ use Rattle.calls.specs.Calls.{Call, Take, Free, NamedTake, NamedFree, Drop, cal
 use Rattle.bound.specs.Ledger.{Name, named, unnamed, Entry, ledgerAfter, entriesOf}
 use Rattle.bound.specs.Claim.{Step, Linked, Bounded, OwnerChanges, peakWith, Claims}
 use Rattle.bound.proofs.LedgerDefinitions.{ledgerDefinitions}
+use Rattle.bound.proofs.HistoryCases.{historyHolds}
 
 -- ---- the ledger: blocks of sizes 1100, 384 and 1280, so of classes 23, 16 and 23; the second was taken by name 7, the third by name 9
 abbrev pub entry : ℕ → ℕ → Name → Entry
@@ -256,16 +258,6 @@ unfolding Linked callOf takeOf checked withinLimits numberOf
 linked-fails-of-other-outcome k = let z : _≡_ {A = ℕ} 2 13 = ap (λ (x : After). numberOf (x .answer .outcome)) (k .0) in omega arith
 
 -- ---- what the claim holds of, at the limit
--- class 23 with 17 superblocks: (q - p) × n × A and the bound are both 204
-pub bound-holds-at-limit : Bounded u (state-of-class 23 6) (λ c. 12)
-unfolding Bounded superblocksOfClass total isOwnedOfClass isOfHeap sumBelow allBelow blocksOf counts
-bound-holds-at-limit = each-class-le-by-test _ _ refl
-
--- with nothing live, P × K = 10 superblocks, of class 0 and of class 26
-pub bound-holds-of-spare : Bounded u (only-of-class 0 10) (λ c. 0) × Bounded u (only-of-class 26 10) (λ c. 0)
-unfolding Bounded superblocksOfClass total isOwnedOfClass isOfHeap sumBelow allBelow blocksOf counts
-bound-holds-of-spare = (each-class-le-by-test _ _ refl, each-class-le-by-test _ _ refl)
-
 -- a free that changed 7 owners, and reports them
 pub seven-owner-changes-hold : OwnerChanges 7 7 7 (Free 2 9) (Moves 7)
 unfolding OwnerChanges
@@ -287,30 +279,53 @@ pub refused-without-owner-change-holds : OwnerChanges 7 0 0 (Free 2 9) (Refused 
 unfolding OwnerChanges
 refused-without-owner-change-holds = ((omega arith, λ m e. absurd (Refused-not-Moves e), λ r e. refl), λ r e. refl)
 
--- with nothing live, and the spare superblocks all in use, ten long blocks of class field 0 beside them: they are of no class
-pub bound-holds-beside-runs : Bounded u (unnamedState u (replicate 10 (of 0 0 0) ++ replicate 10 (runPart 1) ++ replicate 44 unused)) (λ c. 0)
-unfolding Bounded superblocksOfClass total isOwnedOfClass isOfHeap sumBelow allBelow blocksOf counts
-bound-holds-beside-runs = each-class-le-by-test _ _ refl
-
--- a take that makes a twelfth block live, and so comes to seventeen superblocks; when that block is freed M is 12 still
-pub claim-holds-of-take-and-free : Claims u (after-with Ready (state-of-class 23 5)) eleven-entries (λ c. 11) take-and-free
-unfolding Claims OwnerChanges Bounded ownersChanged passedBetweenHeaps superblocksOfClass total isOwnedOfClass isOfHeap sumBelow allBelow blocksOf counts ledgerDefinitions
-claim-holds-of-take-and-free = (each-class-le-by-test _ _ refl, λ r e. absurd (address-refused e), (each-class-le-by-test _ _ refl, (omega arith, λ m e. Moves-injective e, λ r e. absurd (Moves-not-Refused e)), each-class-le-by-test _ _ refl))
-  where
-    address-refused : {a r : ℕ} → Address a ≡ Refused r → ⊥
-    address-refused {a} {r} e = let z : _≡_ {A = ℕ} 0 1 = cc in omega arith
-
--- a free that passes seven superblocks to heap 0
-pub claim-holds-of-seven-moves : Claims u (after-with Ready (all-in-heap-2 7)) [] (λ c. 0) (step-with (Free 1 16) (Moves 7) (all-in-heap-0 7) ∷ [])
-unfolding Claims OwnerChanges Bounded ownersChanged passedBetweenHeaps superblocksOfClass total isOwnedOfClass isOfHeap sumBelow allBelow blocksOf counts ledgerDefinitions
-claim-holds-of-seven-moves = (each-class-le-by-test _ _ refl, (omega arith, λ m e. Moves-injective e, λ r e. absurd (Moves-not-Refused e)), each-class-le-by-test _ _ refl)
-
--- the free of the run that reports none
-pub claim-holds-of-run-freed : Claims u (after-with Ready run-in-state) [] (λ c. 0) (step-with (Free 1 4096) (Moves 0) run-freed-state ∷ [])
-unfolding Claims OwnerChanges Bounded ownersChanged passedBetweenHeaps superblocksOfClass total isOwnedOfClass isOfHeap sumBelow allBelow blocksOf counts ledgerDefinitions
-claim-holds-of-run-freed = (each-class-le-by-test _ _ refl, (omega arith, λ m e. Moves-injective e, λ r e. absurd (Moves-not-Refused e)), each-class-le-by-test _ _ refl)
-
 -- two calls, each refused with 13
 pub linked-holds-of-refused-calls : Linked (after-refused-13 (4 ∷ [])) (record { call = Take 1 16; after = after-refused-13 (4 ∷ []) } ∷ record { call = Take 2 9; after = after-refused-13 (4 ∷ []) } ∷ [])
 unfolding Linked callOf takeOf checked withinLimits numberOf
 linked-holds-of-refused-calls = (refl, (refl, tt))
+
+-- the cases so far take little. Each that follows takes longer, and is computed where they, those of the history and the one before it hold
+unfoldable quickClaimsHold : Unit {0}
+quickClaimsHold =
+    historyHolds also entries-of-cases also ledger-after-take-cases also entries-of-size-0-case also ledger-after-free-cases
+    also ledger-after-named-free-cases also ledger-after-drop-cases also long-entry-cases also peak-with-cases also bound-exceeded
+    also bound-of-other-class-exceeded also bound-of-class-0-exceeded also bound-of-class-26-exceeded also eight-owner-changes-fail
+    also unreported-owner-change-fails also reported-move-not-made-fails also refused-free-owner-change-fails
+    also refused-named-call-owner-change-fails also named-free-owner-changes-fail also refused-take-owner-change-fails also drop-owner-changes-fail
+    also run-counted-in-moves-fails also refused-call-with-run-changed-fails also claim-fails-of-refused-take also claim-fails-of-other-class-take
+    also claim-fails-after-last-call also claim-fails-of-eight-moves also claim-fails-of-refused-free-move also claim-fails-of-run-reported
+    also linked-fails-of-other-storage also linked-fails-of-other-outcome also seven-owner-changes-hold also fourteen-owner-changes-of-drop-hold
+    also free-of-run-holds also refused-without-owner-change-holds also linked-holds-of-refused-calls also tt
+
+-- class 23 with 17 superblocks: (q - p) × n × A and the bound are both 204
+pub bound-holds-at-limit : Bounded u (state-of-class 23 6) (λ c. 12)
+unfolding quickClaimsHold Bounded superblocksOfClass total isOwnedOfClass isOfHeap sumBelow allBelow blocksOf counts
+bound-holds-at-limit = each-class-le-by-test _ _ refl
+
+-- a free that passes seven superblocks to heap 0
+pub claim-holds-of-seven-moves : Claims u (after-with Ready (all-in-heap-2 7)) [] (λ c. 0) (step-with (Free 1 16) (Moves 7) (all-in-heap-0 7) ∷ [])
+unfolding Claims OwnerChanges Bounded ownersChanged passedBetweenHeaps superblocksOfClass total isOwnedOfClass isOfHeap sumBelow allBelow blocksOf counts ledgerDefinitions
+claim-holds-of-seven-moves = let before = bound-holds-at-limit in (each-class-le-by-test _ _ refl, (omega arith, λ m e. Moves-injective e, λ r e. absurd (Moves-not-Refused e)), each-class-le-by-test _ _ refl)
+
+-- a take that makes a twelfth block live, and so comes to seventeen superblocks; when that block is freed M is 12 still
+pub claim-holds-of-take-and-free : Claims u (after-with Ready (state-of-class 23 5)) eleven-entries (λ c. 11) take-and-free
+unfolding Claims OwnerChanges Bounded ownersChanged passedBetweenHeaps superblocksOfClass total isOwnedOfClass isOfHeap sumBelow allBelow blocksOf counts ledgerDefinitions
+claim-holds-of-take-and-free = let before = claim-holds-of-seven-moves in (each-class-le-by-test _ _ refl, λ r e. absurd (address-refused e), (each-class-le-by-test _ _ refl, (omega arith, λ m e. Moves-injective e, λ r e. absurd (Moves-not-Refused e)), each-class-le-by-test _ _ refl))
+  where
+    address-refused : {a r : ℕ} → Address a ≡ Refused r → ⊥
+    address-refused {a} {r} e = let z : _≡_ {A = ℕ} 0 1 = cc in omega arith
+
+-- the free of the run that reports none
+pub claim-holds-of-run-freed : Claims u (after-with Ready run-in-state) [] (λ c. 0) (step-with (Free 1 4096) (Moves 0) run-freed-state ∷ [])
+unfolding Claims OwnerChanges Bounded ownersChanged passedBetweenHeaps superblocksOfClass total isOwnedOfClass isOfHeap sumBelow allBelow blocksOf counts ledgerDefinitions
+claim-holds-of-run-freed = let before = claim-holds-of-take-and-free in (each-class-le-by-test _ _ refl, (omega arith, λ m e. Moves-injective e, λ r e. absurd (Moves-not-Refused e)), each-class-le-by-test _ _ refl)
+
+-- with nothing live, P × K = 10 superblocks, of class 0 and of class 26
+pub bound-holds-of-spare : Bounded u (only-of-class 0 10) (λ c. 0) × Bounded u (only-of-class 26 10) (λ c. 0)
+unfolding Bounded superblocksOfClass total isOwnedOfClass isOfHeap sumBelow allBelow blocksOf counts
+bound-holds-of-spare = let before = claim-holds-of-run-freed in (each-class-le-by-test _ _ refl, each-class-le-by-test _ _ refl)
+
+-- with nothing live, and the spare superblocks all in use, ten long blocks of class field 0 beside them: they are of no class
+pub bound-holds-beside-runs : Bounded u (unnamedState u (replicate 10 (of 0 0 0) ++ replicate 10 (runPart 1) ++ replicate 44 unused)) (λ c. 0)
+unfolding Bounded superblocksOfClass total isOwnedOfClass isOfHeap sumBelow allBelow blocksOf counts
+bound-holds-beside-runs = let before = bound-holds-of-spare in each-class-le-by-test _ _ refl

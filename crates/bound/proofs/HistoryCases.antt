@@ -4,6 +4,7 @@ use mathlib.Core.List.{List, [], _∷_, _++_, map}
 use Prim.Native.Nat.{ℕ, _<_}
 use native.Mathlib.Omega.{arith}
 use lib.ListN.{replicate}
+use Rattle.laws.proofs.Stages.{_also_}
 use Rattle.heap.specs.declared.State.{State}
 use Rattle.heap.specs.Table.{unused, isOfRun, runPart}
 use Rattle.heap.specs.States.{withNames}
@@ -99,3 +100,10 @@ freed-without-rank-refused h = let e : eventsAgo 0 ≡ notSinceRenewal = h .unra
 pub renewed-with-rank-refused : RankedByLastFree (with-ranks-of-0-and-1 1 0) (renewed 0 ∷ freedInto 0 ∷ []) → ⊥
 unfolding lastFree lastFreeAfter
 renewed-with-rank-refused h = let e : _≡_ {A = ℕ} 1 0 = h .unranked-iff 0 (omega arith) .1 refl in omega arith
+
+-- what the dear cases of the claim unfold
+unfoldable pub historyHolds : Unit {0}
+historyHolds =
+    event-of-free-cases also event-of-take-cases also event-of-long-take-cases also events-of-run-cases also events-after-cases
+    also events-after-drop-cases also last-free-cases also freed-after-renewal-case also joined-run-cases also earliest-first-refused
+    also freed-without-rank-refused also renewed-with-rank-refused also tt

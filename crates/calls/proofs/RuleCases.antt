@@ -4,6 +4,7 @@ use mathlib.Core.Bool.{true, false}
 use mathlib.Core.List.{List, [], _∷_, _++_, map}
 use Prim.Native.Nat.{ℕ}
 use lib.ListN.{replicate}
+use Rattle.laws.proofs.Stages.{_also_}
 use Rattle.heap.specs.declared.Superblock.{Superblock}
 use Rattle.heap.specs.declared.Setup.{Setup}
 use Rattle.heap.specs.declared.State.{State}
@@ -18,6 +19,8 @@ use Rattle.calls.specs.Setup.{setupOf}
 use Rattle.calls.specs.Take.{otherPlaces, acquired, acquiredOrder, unrankedIfEmpty, nextBlock, addressOf, takenFrom, takenAt}
 use Rattle.calls.specs.Free.{blockOf, isUnmapped, isMisaligned, isLiveAt, markCleared, orderPushed, freedAt}
 use Rattle.calls.proofs.CallDefinitions.{uncheckedCallDefinitions, callDefinitions}
+use Rattle.calls.proofs.CheckFirst.{checked-past-check}
+use Rattle.calls.proofs.AddressRefusalLaws.{free-unchecked-by-address-refusal}
 
 abbrev pub setup-with : ℕ → ℕ → ℕ → ℕ → ℕ → Setup
 setup-with processors superblocks spare p q = record { processors = processors; superblocks = superblocks; spare = spare; p = p; q = q }
@@ -30,57 +33,9 @@ pub number-and-values-cases : map numberOf outcomes ≡ 0 ∷ 0 ∷ 0 ∷ 7 ∷ 
 unfolding numberOf valuesOf
 number-and-values-cases = (refl, refl)
 
--- ---- a setup. P = 2, N = 5, K = 1, p/q = 3/7, and 1283 order places, which all hold something
-abbrev pub used-order : ℕ → List ℕ
-used-order k = replicate 1279 61 ++ replicate k 62
-
-abbrev pub accepted-with : List ℕ → After
-accepted-with order =
-    record {
-      answer = record {
-        outcome = Ready;
-        state = unnamedState (record { processors = 2; superblocks = 5; spare = 1; p = 3; q = 7 }) (replicate 64 (record { owner = 255; class = 0; live = 0 ∷ 0 ∷ 0 ∷ 0 ∷ []; rank = 0; run = 0 }));
-      };
-      order = order;
-    }
-
--- "five zeros and 64 unused superblocks", and the storage as it was
-abbrev pub refused-setup-with : ℕ → List ℕ → After
-refused-setup-with r order =
-    record {
-      answer = record {
-        outcome = Refused r;
-        state = unnamedState (record { processors = 0; superblocks = 0; spare = 0; p = 0; q = 0 }) (replicate 64 (record { owner = 255; class = 0; live = 0 ∷ 0 ∷ 0 ∷ 0 ∷ []; rank = 0; run = 0 }));
-      };
-      order = order;
-    }
-
--- 1 before 12: the numbers fail, with storage enough and without; then 1279 places for N × 256 = 1280
-pub setup-refused-cases :
-    setupOf (setup-with 2 5 1 7 7) (used-order 4) ∷ setupOf (setup-with 2 5 1 7 7) (used-order 0) ∷ setupOf (setup-with 2 5 1 3 7) (used-order 0) ∷ []
-    ≡ refused-setup-with 1 (used-order 4) ∷ refused-setup-with 1 (used-order 0) ∷ refused-setup-with 12 (used-order 0) ∷ []
-unfolding callDefinitions
-setup-refused-cases = refl
-
--- 1280 places are enough; of 1283 the last three keep what they had
-pub setup-accepted-cases :
-    setupOf (setup-with 2 5 1 3 7) (used-order 1) ∷ setupOf (setup-with 2 5 1 3 7) (used-order 4) ∷ [] ≡ accepted-with (replicate 1280 0) ∷ accepted-with (replicate 1280 0 ++ 62 ∷ 62 ∷ 62 ∷ []) ∷ []
-unfolding callDefinitions
-setup-accepted-cases = refl
-
--- ---- "Take or free: 13 for setup numbers, 12, the rest of 13": a state whose superblock 0 has an owner above P, with q = 2 and storage short,
--- with storage short, and with storage enough
+-- a state whose superblock 0 has an owner above P
 abbrev pub state-with-wrong-owner : ℕ → State
 state-with-wrong-owner q = unnamedState (setup-with 2 5 1 3 q) (of 3 26 3 ∷ replicate 63 unused)
-
-abbrev pub after-check : After
-after-check = accepted-with []
-
-pub checked-cases :
-    checked (state-with-wrong-owner 2) (used-order 0) after-check ∷ checked (state-with-wrong-owner 7) (used-order 0) after-check ∷ checked (state-with-wrong-owner 7) (used-order 1) after-check ∷ []
-    ≡ refused 13 (state-with-wrong-owner 2) (used-order 0) ∷ refused 12 (state-with-wrong-owner 7) (used-order 0) ∷ refused 13 (state-with-wrong-owner 7) (used-order 1) ∷ []
-unfolding callDefinitions
-checked-cases = refl
 
 -- a refusal: its number, the state and the storage as they were
 pub refused-case : refused 9 (state-with-wrong-owner 7) (4 ∷ 5 ∷ []) ≡ record { answer = record { outcome = Refused 9; state = state-with-wrong-owner 7 }; order = 4 ∷ 5 ∷ [] }
@@ -143,29 +98,6 @@ acquired-cases = refl
 abbrev pub three-ranked : Superblock → Superblock → Superblock → State
 three-ranked a b c = unnamedState (setup-with 2 3 1 3 7) (a ∷ b ∷ c ∷ replicate 61 unused)
 
-pub unranked-if-empty-cases :
-    map (λ (k : ℕ). unrankedIfEmpty k (three-ranked (ranked 0 20 4 1) (ranked 0 23 0 2) (ranked 1 20 31 3))) (1 ∷ 0 ∷ [])
-    ≡ three-ranked (ranked 0 20 4 1) (of 0 23 0) (ranked 1 20 31 2) ∷ three-ranked (ranked 0 20 4 1) (ranked 0 23 0 2) (ranked 1 20 31 3) ∷ []
-unfolding uncheckedCallDefinitions
-unranked-if-empty-cases = refl
-
--- the places that go first: heap 0's superblock of class 24 with a block live (place 2), its lowest empty one (3), the lowest unused one (4)
-abbrev pub state-offering : Superblock → Superblock → State
-state-offering a b = unnamedState (setup-with 2 3 1 3 7) (unused ∷ a ∷ b ∷ replicate 61 unused)
-
-pub other-places-cases :
-    map (otherPlaces 24) (state-offering (of 0 23 0) (of 0 24 1) ∷ state-offering (of 0 23 0) (of 0 24 0) ∷ state-offering (of 0 26 0) (of 0 23 0) ∷ state-offering (of 1 24 0) (of 2 24 1) ∷ [])
-    ≡ At 2 ∷ At 2 ∷ At 1 ∷ At 0 ∷ []
-unfolding uncheckedCallDefinitions
-other-places-cases = refl
-
--- "put n - 1 - j in place j for j below n": superblock 1 with nothing live, of the class or of another, and with block 2 live
-pub acquired-order-cases :
-    map (λ (b : Superblock). acquiredOrder 20 1 b (used-order 4)) (of 0 20 0 ∷ of 0 26 0 ∷ of 0 20 4 ∷ [])
-    ≡ (replicate 256 61 ++ 4 ∷ 3 ∷ 2 ∷ 1 ∷ 0 ∷ replicate 1018 61 ++ replicate 4 62) ∷ (replicate 256 61 ++ 4 ∷ 3 ∷ 2 ∷ 1 ∷ 0 ∷ replicate 1018 61 ++ replicate 4 62) ∷ used-order 4 ∷ []
-unfolding uncheckedCallDefinitions
-acquired-order-cases = refl
-
 -- superblock 3 has two free blocks, 4 and 1: block 1 is taken and marked live, and every place keeps its number
 abbrev pub order-of-3 : List ℕ
 order-of-3 = replicate 768 61 ++ 4 ∷ 1 ∷ replicate 254 62
@@ -194,19 +126,6 @@ one-superblock-state marks = unnamedState (setup-with 2 1 1 3 7) (of 2 20 marks 
 abbrev pub after-with : Outcome → State → List ℕ → After
 after-with outcome s order = record { answer = record { outcome = outcome; state = s }; order = order }
 
--- a free of block 3, with the moves of its heap and class: none. The superblock is the last freed into
-pub freed-at-case :
-    freedAt (one-superblock-state 29) (1 ∷ 8 ∷ 9 ∷ []) 2304
-    ≡ after-with (Moves 0) (unnamedState (setup-with 2 1 1 3 7) (ranked 2 20 21 1 ∷ replicate 63 unused)) (1 ∷ 3 ∷ 9 ∷ [])
-unfolding uncheckedCallDefinitions
-freed-at-case = refl
-
--- in heap 0 it is so too, and one that was ranked follows
-pub freed-in-heap-0-case :
-    freedAt (three-ranked (of 0 20 29) (ranked 1 20 31 1) unused) (1 ∷ 8 ∷ 9 ∷ []) 2304 ≡ after-with (Moves 0) (three-ranked (ranked 0 20 21 1) (ranked 1 20 31 2) unused) (1 ∷ 3 ∷ 9 ∷ [])
-unfolding uncheckedCallDefinitions
-freed-in-heap-0-case = refl
-
 -- from place 1 an empty superblock is not renewed, and keeps its rank: its block 0 is the last filled place's
 pub taken-at-place-1-case :
     takenAt 2 26 (three-ranked (ranked 2 26 0 1) (ranked 1 20 31 2) unused) (1 ∷ 0 ∷ 9 ∷ []) (At 0) Nothing
@@ -220,3 +139,98 @@ pub next-block-cases :
     ≡ 3 ∷ 1 ∷ []
 unfolding uncheckedCallDefinitions
 next-block-cases = refl
+
+-- ---- the cases so far take little. Each that follows takes longer, and is computed where they and the one before it hold
+unfoldable quickRulesHold : Unit {0}
+quickRulesHold =
+    checked-past-check also free-unchecked-by-address-refusal also number-and-values-cases also refused-case also is-processor-cases
+    also is-unmapped-cases also is-unmapped-past-N-cases also is-misaligned-cases also block-of-cases also is-live-at-cases also address-of-cases
+    also acquired-cases also taken-from-case also mark-cleared-case also order-pushed-case also taken-at-place-1-case also next-block-cases also tt
+
+-- the places that go first: heap 0's superblock of class 24 with a block live (place 2), its lowest empty one (3), the lowest unused one (4)
+abbrev pub state-offering : Superblock → Superblock → State
+state-offering a b = unnamedState (setup-with 2 3 1 3 7) (unused ∷ a ∷ b ∷ replicate 61 unused)
+
+pub other-places-cases :
+    map (otherPlaces 24) (state-offering (of 0 23 0) (of 0 24 1) ∷ state-offering (of 0 23 0) (of 0 24 0) ∷ state-offering (of 0 26 0) (of 0 23 0) ∷ state-offering (of 1 24 0) (of 2 24 1) ∷ [])
+    ≡ At 2 ∷ At 2 ∷ At 1 ∷ At 0 ∷ []
+unfolding quickRulesHold uncheckedCallDefinitions
+other-places-cases = refl
+
+-- a free of block 3, with the moves of its heap and class: none. The superblock is the last freed into
+pub freed-at-case :
+    freedAt (one-superblock-state 29) (1 ∷ 8 ∷ 9 ∷ []) 2304
+    ≡ after-with (Moves 0) (unnamedState (setup-with 2 1 1 3 7) (ranked 2 20 21 1 ∷ replicate 63 unused)) (1 ∷ 3 ∷ 9 ∷ [])
+unfolding uncheckedCallDefinitions
+freed-at-case = let before = other-places-cases in refl
+
+-- in heap 0 it is so too, and one that was ranked follows
+pub freed-in-heap-0-case :
+    freedAt (three-ranked (of 0 20 29) (ranked 1 20 31 1) unused) (1 ∷ 8 ∷ 9 ∷ []) 2304 ≡ after-with (Moves 0) (three-ranked (ranked 0 20 21 1) (ranked 1 20 31 2) unused) (1 ∷ 3 ∷ 9 ∷ [])
+unfolding uncheckedCallDefinitions
+freed-in-heap-0-case = let before = freed-at-case in refl
+
+-- ---- a setup. P = 2, N = 5, K = 1, p/q = 3/7, and 1283 order places, which all hold something
+abbrev pub used-order : ℕ → List ℕ
+used-order k = replicate 1279 61 ++ replicate k 62
+
+abbrev pub accepted-with : List ℕ → After
+accepted-with order =
+    record {
+      answer = record {
+        outcome = Ready;
+        state = unnamedState (record { processors = 2; superblocks = 5; spare = 1; p = 3; q = 7 }) (replicate 64 (record { owner = 255; class = 0; live = 0 ∷ 0 ∷ 0 ∷ 0 ∷ []; rank = 0; run = 0 }));
+      };
+      order = order;
+    }
+
+-- "five zeros and 64 unused superblocks", and the storage as it was
+abbrev pub refused-setup-with : ℕ → List ℕ → After
+refused-setup-with r order =
+    record {
+      answer = record {
+        outcome = Refused r;
+        state = unnamedState (record { processors = 0; superblocks = 0; spare = 0; p = 0; q = 0 }) (replicate 64 (record { owner = 255; class = 0; live = 0 ∷ 0 ∷ 0 ∷ 0 ∷ []; rank = 0; run = 0 }));
+      };
+      order = order;
+    }
+
+-- 1 before 12: the numbers fail, with storage enough and without; then 1279 places for N × 256 = 1280
+pub setup-refused-cases :
+    setupOf (setup-with 2 5 1 7 7) (used-order 4) ∷ setupOf (setup-with 2 5 1 7 7) (used-order 0) ∷ setupOf (setup-with 2 5 1 3 7) (used-order 0) ∷ []
+    ≡ refused-setup-with 1 (used-order 4) ∷ refused-setup-with 1 (used-order 0) ∷ refused-setup-with 12 (used-order 0) ∷ []
+unfolding callDefinitions
+setup-refused-cases = let before = freed-in-heap-0-case in refl
+
+-- "put n - 1 - j in place j for j below n": superblock 1 with nothing live, of the class or of another, and with block 2 live
+pub acquired-order-cases :
+    map (λ (b : Superblock). acquiredOrder 20 1 b (used-order 4)) (of 0 20 0 ∷ of 0 26 0 ∷ of 0 20 4 ∷ [])
+    ≡ (replicate 256 61 ++ 4 ∷ 3 ∷ 2 ∷ 1 ∷ 0 ∷ replicate 1018 61 ++ replicate 4 62) ∷ (replicate 256 61 ++ 4 ∷ 3 ∷ 2 ∷ 1 ∷ 0 ∷ replicate 1018 61 ++ replicate 4 62) ∷ used-order 4 ∷ []
+unfolding uncheckedCallDefinitions
+acquired-order-cases = let before = setup-refused-cases in refl
+
+-- 1280 places are enough; of 1283 the last three keep what they had
+pub setup-accepted-cases :
+    setupOf (setup-with 2 5 1 3 7) (used-order 1) ∷ setupOf (setup-with 2 5 1 3 7) (used-order 4) ∷ [] ≡ accepted-with (replicate 1280 0) ∷ accepted-with (replicate 1280 0 ++ 62 ∷ 62 ∷ 62 ∷ []) ∷ []
+unfolding callDefinitions
+setup-accepted-cases = let before = acquired-order-cases in refl
+
+abbrev pub after-check : After
+after-check = accepted-with []
+
+-- ---- "Take or free: 13 for setup numbers, 12, the rest of 13": q = 2 and storage short, storage short, and storage enough
+pub checked-cases :
+    checked (state-with-wrong-owner 2) (used-order 0) after-check ∷ checked (state-with-wrong-owner 7) (used-order 0) after-check ∷ checked (state-with-wrong-owner 7) (used-order 1) after-check ∷ []
+    ≡ refused 13 (state-with-wrong-owner 2) (used-order 0) ∷ refused 12 (state-with-wrong-owner 7) (used-order 0) ∷ refused 13 (state-with-wrong-owner 7) (used-order 1) ∷ []
+unfolding callDefinitions
+checked-cases = let before = setup-accepted-cases in refl
+
+pub unranked-if-empty-cases :
+    map (λ (k : ℕ). unrankedIfEmpty k (three-ranked (ranked 0 20 4 1) (ranked 0 23 0 2) (ranked 1 20 31 3))) (1 ∷ 0 ∷ [])
+    ≡ three-ranked (ranked 0 20 4 1) (of 0 23 0) (ranked 1 20 31 2) ∷ three-ranked (ranked 0 20 4 1) (ranked 0 23 0 2) (ranked 1 20 31 3) ∷ []
+unfolding uncheckedCallDefinitions
+unranked-if-empty-cases = let before = checked-cases in refl
+
+-- what the cases of the other parts unfold
+unfoldable pub rulesHold : Unit {0}
+rulesHold = unranked-if-empty-cases also tt
