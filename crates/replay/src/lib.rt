@@ -163,7 +163,7 @@ fn drop_step(
     requires { ⌜ InBounds x (now out) × (x .going ≡ true) × (command.Drop processor count first ≡ commandAt (now bytes) (x .at)) ⌝ }
     ensures { λ y. ⌜ Stepped (now (bytes .entry)) x (now (order .entry)) (now (out .entry)) y (now (order .exit)) (now (out .exit)) ⌝ }
 {
-    let addresses = littleendian::fours_at(bytes, first as usize, count);
+    let addresses = bytelists::fours_at(bytes, first as usize, count);
     let n = count as usize;
     let call = CallHeader::Drop { processor };
     call_step(bytes, order, out, x, call, &addresses[..n], count)
