@@ -141,7 +141,7 @@ fn setup_step(
     };
     let a = engine::setup(u, order);
     let outcome = a.outcome;
-    let number = states::number_of(outcome);
+    let number = outcomes::number_of(outcome);
     if number != 0 {
         return stop_step(out, x, number, 0);
     }
