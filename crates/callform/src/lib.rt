@@ -2,11 +2,11 @@
 // past their end a byte reads as 0.
 ghost use mathlib.Core.Path.{_≡_};
 ghost use Rattle.formrules.specs.Form.{callIn, setupIn};
+use bytereader::byte_at;
+use bytereader::four_at;
+use bytereader::two_at;
 use formrules::Request;
 use heap::Setup;
-use littleendian::byte_at;
-use littleendian::four_at;
-use littleendian::two_at;
 
 // The call that byte 0 names. An unknown byte reads as a drop; `well_formed` (formlayout) is false then.
 pub fn call_in(bytes: &[u8]) -> Request

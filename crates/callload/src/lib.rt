@@ -4,9 +4,9 @@ ghost use mathlib.Core.Path.{_≡_};
 ghost use lib.ListN.{length, take};
 ghost use Rattle.littleendian.specs.Bytes.{twoAt};
 ghost use Rattle.formrules.specs.Form.{dropAddresses, placesIn};
-use littleendian::four_at;
-use littleendian::position_after;
-use littleendian::two_at;
+use bytelists::position_after;
+use bytereader::four_at;
+use bytereader::two_at;
 
 // The addresses of a drop, or the first 512 of more. Where it has fewer, numbers made of the bytes behind them follow.
 pub fn load_addresses(bytes: &[u8]) -> [u32; 512]

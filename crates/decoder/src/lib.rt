@@ -89,7 +89,7 @@ fn take_at(bytes: &[u8], at: usize) -> Command
     if at + 4 <= bytes.len() {
         return Command::Take {
             processor: bytes[at + 1],
-            size: littleendian::two_at(bytes, at + 2),
+            size: bytereader::two_at(bytes, at + 2),
         };
     }
     refused(9, at)
@@ -105,7 +105,7 @@ fn free_at(bytes: &[u8], at: usize) -> Command
     if at + 6 <= bytes.len() {
         return Command::Free {
             processor: bytes[at + 1],
-            address: littleendian::four_at(bytes, at + 2),
+            address: bytereader::four_at(bytes, at + 2),
         };
     }
     refused(9, at)
@@ -122,8 +122,8 @@ fn named_take_at(bytes: &[u8], at: usize) -> Command
     if end <= bytes.len() {
         return Command::NamedTake {
             processor: bytes[at + 1],
-            name: littleendian::two_at(bytes, at + 2),
-            size: littleendian::two_at(bytes, at + 4),
+            name: bytereader::two_at(bytes, at + 2),
+            size: bytereader::two_at(bytes, at + 4),
         };
     }
     refused(9, at)
@@ -140,7 +140,7 @@ fn named_free_at(bytes: &[u8], at: usize) -> Command
     if end <= bytes.len() {
         return Command::NamedFree {
             processor: bytes[at + 1],
-            name: littleendian::two_at(bytes, at + 2),
+            name: bytereader::two_at(bytes, at + 2),
         };
     }
     refused(9, at)
@@ -154,7 +154,7 @@ fn drop_at(bytes: &[u8], at: usize) -> Command
     if at == 0 {
         return refused(10, at);
     }
-    let count = littleendian::byte_at(bytes, at + 2);
+    let count = bytereader::byte_at(bytes, at + 2);
     let size = 3 + 4 * (count as usize);
     if at + size <= bytes.len() {
         return Command::Drop {

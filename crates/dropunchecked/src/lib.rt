@@ -21,14 +21,14 @@ pub fn drop(s: State, order: &mut [u16], processor: u8, addresses: &[u32]) -> An
     ensures number_and_values { λ r. ⌜ HasNumberAndValuesOf (r .outcome) (dropUnchecked s (now (order .entry)) processor (now (addresses .entry)) .answer .outcome) ⌝ }
 {
     if !states::is_processor(s, processor) {
-        return states::refuse(s, 2);
+        return outcomes::refuse(s, 2);
     }
     if addresses.len() == 0 {
-        return states::refuse(s, 16);
+        return outcomes::refuse(s, 16);
     }
     let bad = dropaddresses::first_address_refusal(s, addresses);
     if bad != 0 {
-        return states::refuse(s, bad);
+        return outcomes::refuse(s, bad);
     }
     drop_all(s, order, addresses)
 }

@@ -18,7 +18,7 @@ pub fn setup(u: Setup, order: &mut [u16]) -> Answer
 {
     let first = limits::setup_refusal(1, u, order);
     if first != 0 {
-        return states::refuse(states::no_state(), first);
+        return outcomes::refuse(states::no_state(), first);
     }
     freelistinit::clear_order(order, u.superblocks as usize * 256);
     let s = states::new_state(u);
@@ -36,7 +36,7 @@ pub fn call_state(s: State, order: &mut [u16], c: CallHeader, addresses: &[u32])
 {
     let first = statecheck::first_refusal(s, order);
     if first != 0 {
-        return states::refuse(s, first);
+        return outcomes::refuse(s, first);
     }
     match c {
         CallHeader::Take { processor, size } => takeunchecked::take(s, order, processor, size),

@@ -3,9 +3,9 @@
 ghost use mathlib.Core.Path.{_≡_};
 ghost use Prim.Native.Nat.{_^_, _≤_, _<_};
 ghost use Rattle.formrules.specs.Form.{tableOffset, placesOffset, placeCount, wellFormed};
-use littleendian::byte_at;
-use littleendian::four_at;
-use littleendian::two_at;
+use bytereader::byte_at;
+use bytereader::four_at;
+use bytereader::two_at;
 
 // Where the superblocks begin: a take and a named free have two bytes fewer before them than a free and a named take, and a drop has
 // its addresses there, four bytes each.

@@ -18,11 +18,11 @@ pub fn free(s: State, order: &mut [u16], processor: u8, address: u32) -> Answer
     ensures number_and_values { λ r. ⌜ HasNumberAndValuesOf (r .outcome) (freeUnchecked s (now (order .entry)) processor address .answer .outcome) ⌝ }
 {
     if !states::is_processor(s, processor) {
-        return states::refuse(s, 2);
+        return outcomes::refuse(s, 2);
     }
     let bad = addresscheck::refusal(s, address);
     if bad != 0 {
-        return states::refuse(s, bad);
+        return outcomes::refuse(s, bad);
     }
     free_at(s, order, address)
 }

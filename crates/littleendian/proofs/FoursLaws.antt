@@ -1,11 +1,8 @@
--- Several numbers of four bytes: how many there are, which stands where, and a loop that reads them into an array of zeros. Assumes nothing.
+-- Several numbers of four bytes: how many there are, and which stands where. Assumes nothing.
 use mathlib.Core.Path.{_≡_, sym, ap, _∙_}
 use mathlib.Core.List.{List}
-use Prim.Native.Nat.{ℕ, suc, _+_, _-_, _*_, _≤_, _<_}
-use native.Mathlib.Omega.{arith}
-use lib.ListN.{length, getD, take, drop, set, replicate}
-use lib.Seq.{drop-set-lt, drop-drop}
-use Rattle.laws.specs.Lists.{listed}
+use Prim.Native.Nat.{ℕ, _+_, _*_, _<_}
+use lib.ListN.{length, getD, take}
 use Rattle.laws.proofs.ListedLaws.{length-listed, getD-listed}
 use Rattle.littleendian.specs.Bytes.{fourAt, foursAt}
 -- the computed cases come first: a wrong definition fails there
@@ -18,22 +15,6 @@ length-of-fours-at r at n = length-listed (λ (i : ℕ). fourAt r (at + 4 * i)) 
 pub fours-at-number : (r : List ℕ) (at n i : ℕ) → i < n → getD (foursAt r at n) i 0 ≡ fourAt r (at + 4 * i)
 unfolding foursAt
 fours-at-number r at n i h = getD-listed (λ (k : ℕ). fourAt r (at + 4 * k)) n i 0 h
-
--- ---- the loop
--- zeros stand behind the numbers read, and behind one more
-pub zeros-behind-one-more : (l : List ℕ) (i n v : ℕ) → i < n → drop i l ≡ replicate (n - i) 0 → drop (i + 1) (set l i v) ≡ replicate (n - (i + 1)) 0
-zeros-behind-one-more l i n v h e =
-    let one : n - i ≡ suc (n - (i + 1)) = omega arith in
-    drop-set-lt (i + 1) l i v (omega arith) ∙ (rw (← drop-drop 1 i l, e, one))
-
--- all of them are read
-module _ (count i : ℕ) (l : List ℕ) (h : i ≤ count) (g : count ≤ i) where
-  pub fours-read : (r : List ℕ) (at : ℕ) → take i l ≡ listed (λ k. fourAt r (at + 4 * k)) i → take count l ≡ foursAt r at count
-  unfolding foursAt
-  fours-read r at e = let s : i ≡ count = omega arith in rw s at e
-
-  pub zeros-behind-fours : drop i l ≡ replicate (255 - i) 0 → drop count l ≡ replicate (255 - count) 0
-  zeros-behind-fours e = let s : i ≡ count = omega arith in rw s at e
 
 -- so many of them may be lent
 pub fours-read-counted : (r : List ℕ) (at count : ℕ) (l : List ℕ) → take count l ≡ foursAt r at count → count ≡ length (take count l)

@@ -1,10 +1,10 @@
 -- Past the end of the bytes every number is 0, so that all positions there read the same. Assumes nothing.
 use mathlib.Core.Path.{_≡_, refl, sym, ap, _∙_}
 use mathlib.Core.List.{List}
-use Prim.Native.Nat.{ℕ, _+_, _≤_, _<_}
+use Prim.Native.Nat.{ℕ, _+_, _≤_}
 use native.Mathlib.Nat.{le-refl}
 use native.Mathlib.Omega.{arith}
-use borrow.Author.Tests.{ltb-false, lt-ltb, le-ltb}
+use borrow.Author.Tests.{ltb-false}
 use lib.ListN.{length, List·getD-eq-default}
 use lib.Dec.{ltb}
 use Rattle.laws.proofs.TestLaws.{pick-elim}
@@ -25,14 +25,6 @@ pub eight-at-past-end : (r : List ℕ) (i : ℕ) → length r ≤ i → 0 ≡ ei
 eight-at-past-end r i past = omega (arith, four-at-past-end r i past, four-at-past-end r (i + 4) (omega arith))
 
 -- ---- a position after another
-pub position-at-end : (r : List ℕ) (at i : ℕ) → length r ≤ at + i → length r ≡ positionAfter r at i
-unfolding positionAfter
-position-at-end r at i past = rw (le-ltb (at + i) (length r) past)
-
-pub position-inside : (r : List ℕ) (at i : ℕ) → at + i < length r → at + i ≡ positionAfter r at i
-unfolding positionAfter
-position-inside r at i inside = rw (lt-ltb (at + i) (length r) inside)
-
 -- what is the same at all positions past the end is so at a position and at the one clamped to the end
 pub read-at-position-after : {A : Type 0} (f : ℕ → A) (z : A) (r : List ℕ) (at i : ℕ) → ((j : ℕ) → length r ≤ j → z ≡ f j) → f (positionAfter r at i) ≡ f (at + i)
 unfolding positionAfter

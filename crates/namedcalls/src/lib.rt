@@ -16,10 +16,10 @@ pub fn take(s: State, order: &mut [u16], processor: u8, name: u16, size: u16) ->
 {
     let names = s.names;
     if !states::is_processor(s, processor) {
-        return states::refuse(s, 2);
+        return outcomes::refuse(s, 2);
     }
     if nametable::is_unavailable(names, name) {
-        return states::refuse(s, 14);
+        return outcomes::refuse(s, 14);
     }
     let plain = takeunchecked::take(s, order, processor, size);
     let outcome = plain.outcome;
@@ -39,10 +39,10 @@ pub fn free(s: State, order: &mut [u16], processor: u8, name: u16) -> Answer
 {
     let held = s.names;
     if !states::is_processor(s, processor) {
-        return states::refuse(s, 2);
+        return outcomes::refuse(s, 2);
     }
     if !nametable::is_held(held, name) {
-        return states::refuse(s, 15);
+        return outcomes::refuse(s, 15);
     }
     let address = namedblocks::held_address(s, name);
     freeunchecked::free(s, order, processor, address)

@@ -1,8 +1,8 @@
 // Reads the names that the input of the program `call` holds. It answers for any bytes: past their end a byte reads as 0.
 ghost use mathlib.Core.Path.{_≡_};
 ghost use Rattle.formrules.specs.Form.{namesIn};
-use littleendian::position_after;
-use littleendian::two_at;
+use bytelists::position_after;
+use bytereader::two_at;
 
 // The 1024 names that begin at a position.
 pub fn names_at(bytes: &[u8], at: usize) -> [u16; 1024]

@@ -141,7 +141,7 @@ fn setup_step(
     };
     let a = engine::setup(u, order);
     let outcome = a.outcome;
-    let number = states::number_of(outcome);
+    let number = outcomes::number_of(outcome);
     if number != 0 {
         return stop_step(out, x, number, 0);
     }
@@ -163,7 +163,7 @@ fn drop_step(
     requires { ⌜ InBounds x (now out) × (x .going ≡ true) × (command.Drop processor count first ≡ commandAt (now bytes) (x .at)) ⌝ }
     ensures { λ y. ⌜ Stepped (now (bytes .entry)) x (now (order .entry)) (now (out .entry)) y (now (order .exit)) (now (out .exit)) ⌝ }
 {
-    let addresses = littleendian::fours_at(bytes, first as usize, count);
+    let addresses = bytelists::fours_at(bytes, first as usize, count);
     let n = count as usize;
     let call = CallHeader::Drop { processor };
     call_step(bytes, order, out, x, call, &addresses[..n], count)

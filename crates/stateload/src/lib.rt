@@ -2,11 +2,11 @@
 ghost use mathlib.Core.Path.{_≡_};
 ghost use Prim.Native.Nat.{_^_, _<_};
 ghost use Rattle.formrules.specs.Form.{superblockIn, stateIn};
+use bytelists::position_after;
+use bytereader::byte_at;
+use bytereader::eight_at;
 use heap::State;
 use heap::Superblock;
-use littleendian::byte_at;
-use littleendian::eight_at;
-use littleendian::position_after;
 
 // The superblock at a position.
 fn superblock_in(bytes: &[u8], at: usize) -> Superblock

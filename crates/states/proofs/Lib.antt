@@ -1,3 +1,2 @@
 pub mod ProcessorLaws
-pub mod NumberLaws
 pub mod StateLaws

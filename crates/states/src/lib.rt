@@ -1,18 +1,13 @@
-// Whole states, the number of an outcome, and the answer that is a refusal.
+// Whole states, and the test of a processor.
 ghost use mathlib.Core.Path.{_≡_};
 ghost use lib.ListN.{replicate};
 ghost use Rattle.heap.specs.Table.{unused};
 ghost use Rattle.heap.specs.States.{noState, newState};
-ghost use Rattle.calls.specs.declared.Outcome.the-variants.{Refused};
-ghost use Rattle.calls.specs.Answers.{isProcessor, numberOf, HasNumberAndValuesOf};
-use calls::Answer;
-use calls::Outcome;
+ghost use Rattle.calls.specs.Answers.{isProcessor};
 use heap::Setup;
 use heap::State;
 use heap::Superblock;
 use heap::Totals;
-
-// ---- whole states
 
 // The processor is one of the setup's.
 pub fn is_processor(s: State, processor: u8) -> bool
@@ -65,29 +60,4 @@ pub fn unused_table() -> [Superblock; 64]
 {
     let s = no_state();
     s.table
-}
-
-// ---- answers
-
-// Document 01's number for an outcome: 0 where the call is accepted.
-pub fn number_of(outcome: Outcome) -> u8
-    ensures { λ r. ⌜ r ≡ numberOf outcome ⌝ }
-{
-    match outcome {
-        Outcome::Ready => 0,
-        Outcome::Address(a) => 0,
-        Outcome::Moves(m) => 0,
-        Outcome::Refused(r) => r,
-    }
-}
-
-// The refusal with its number alone.
-pub fn refuse(s: State, number: u8) -> Answer
-    ensures { λ r. ⌜ r ≡ record { outcome = Refused number; state = s } ⌝ }
-    ensures number_and_values { λ r. ⌜ HasNumberAndValuesOf (r .outcome) (Refused number) ⌝ }
-{
-    Answer {
-        outcome: Outcome::Refused(number),
-        state: s,
-    }
 }

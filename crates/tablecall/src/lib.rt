@@ -67,7 +67,7 @@ pub fn first_refusal(numbers: u8, n: usize, order: &[u16], u: Setup) -> u8
 fn accepted(outcome: Outcome) -> bool
     ensures { λ r. ⌜ r ≡ isAccepted outcome ⌝ }
 {
-    states::number_of(outcome) == 0
+    outcomes::number_of(outcome) == 0
 }
 
 // A refusal, with the control and the table as they are to be.

@@ -25,7 +25,7 @@ pub fn take(s: State, order: &mut [u16], processor: u8, size: u16) -> Answer
     ensures number_and_values { λ r. ⌜ HasNumberAndValuesOf (r .outcome) (takeUnchecked s (now (order .entry)) processor size .answer .outcome) ⌝ }
 {
     if !states::is_processor(s, processor) {
-        return states::refuse(s, 2);
+        return outcomes::refuse(s, 2);
     }
     if sizeclass::is_long(size) {
         return take_long(s, size);
@@ -48,7 +48,7 @@ fn take_long(s: State, size: u16) -> Answer
     let found = runsearch::lowest_run(s, length);
     match found {
         Found::At(k) => take_run(s, k, n),
-        Found::Nothing => states::refuse(s, 17),
+        Found::Nothing => outcomes::refuse(s, 17),
     }
 }
 
@@ -73,7 +73,7 @@ fn take_elsewhere(s: State, order: &mut [u16], heap: u8, class: u8) -> Answer
     let other = other_places(s, class);
     match other {
         Found::At(k) => acquisition::take_from_other(s, order, heap, class, k as u8),
-        Found::Nothing => states::refuse(s, 4),
+        Found::Nothing => outcomes::refuse(s, 4),
     }
 }
 

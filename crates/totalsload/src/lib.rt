@@ -1,10 +1,10 @@
 // Reads the totals that the input of the program `call` holds. It answers for any bytes: past their end a byte reads as 0.
 ghost use mathlib.Core.Path.{_≡_};
 ghost use Rattle.formrules.specs.Form.{totalsIn};
+use bytelists::position_after;
+use bytereader::byte_at;
+use bytereader::two_at;
 use heap::Totals;
-use littleendian::byte_at;
-use littleendian::position_after;
-use littleendian::two_at;
 
 // The 243 totals of superblocks that begin at a position, and behind them the 243 of live blocks.
 pub fn totals_at(bytes: &[u8], at: usize) -> Totals

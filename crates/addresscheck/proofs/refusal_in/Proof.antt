@@ -9,22 +9,30 @@ is-unmapped-requires : tie.Need-is-unmapped-requires
 is-unmapped-requires c κs = search needs
 
 returns : tie.Need-returns
-returns c s en eb = let p = c .before .is-unmapped .ensures s en eb in search address-refusal-5
+returns c s en eb = address-refusal-5 s _ _ (c .before .is-unmapped .ensures s en eb) (c .if1 .taken)
 
 is-misaligned-requires : tie.Need-is-misaligned-requires
 is-misaligned-requires c κs = search needs
 
 returns-2 : tie.Need-returns-2
-returns-2 c s en eb = let p = c .before .before .before .is-unmapped .ensures s en eb in let q = c .before .is-misaligned .ensures s eb in search address-refusal-6
+returns-2 c s en eb =
+    address-refusal-6 s _ _ (c .before .before .before .is-unmapped .ensures s en eb) (c .before .before .if1 .left)
+    _ (c .before .is-misaligned .ensures s eb) (c .if2 .taken)
 
 is-live-in-requires : tie.Need-is-live-in-requires
 is-live-in-requires c κs = search needs
 
 returns-3 : tie.Need-returns-3
-returns-3 c s en eb = let p = c .before .before .before .before .before .is-unmapped .ensures s en eb in let q = c .before .before .before .is-misaligned .ensures s eb in let r = c .before .is-live-in .ensures s eb in search (address-refusal-7, not-true)
+returns-3 c s en eb =
+    address-refusal-7 s _ _ (c .before .before .before .before .before .is-unmapped .ensures s en eb) (c .before .before .before .before .if1 .left)
+    _ (c .before .before .before .is-misaligned .ensures s eb) (c .before .before .if2 .left)
+    _ (c .before .is-live-in .ensures s eb) (not-true _ (c .if3 .taken))
 
 returns-4 : tie.Need-returns-4
-returns-4 c s en eb = let p = c .before .before .before .before .before .is-unmapped .ensures s en eb in let q = c .before .before .before .is-misaligned .ensures s eb in let r = c .before .is-live-in .ensures s eb in search (address-refusal-0, not-false)
+returns-4 c s en eb =
+    address-refusal-0 s _ _ (c .before .before .before .before .before .is-unmapped .ensures s en eb) (c .before .before .before .before .if1 .left)
+    _ (c .before .before .before .is-misaligned .ensures s eb) (c .before .before .if2 .left)
+    _ (c .before .is-live-in .ensures s eb) (not-false _ (c .if3 .left))
 
 pub refusal-in-spec : {M : Type 1} → statement M
 refusal-in-spec =

@@ -1,9 +1,9 @@
--- `littleendian::eight_at` meets its contract: the low half first. Assumes nothing.
+-- `bytereader::eight_at` meets its contract: the low half first. Assumes nothing.
 use native.Mathlib.Omega.{arith}
 use Rattle.littleendian.proofs.PastEndLaws.{eight-at-past-end}
 use borrow.Author.Needs.{needs}
-use Rattle.littleendian.proofs.eight_at.Statement.{statement}
-use Rattle.littleendian.proofs.eight_at.Tie as tie
+use Rattle.bytereader.proofs.eight_at.Statement.{statement}
+use Rattle.bytereader.proofs.eight_at.Tie as tie
 
 returns : tie.Need-returns
 returns c = search eight-at-past-end

@@ -1,9 +1,9 @@
--- `littleendian::position_after` meets its contract. Assumes nothing.
+-- `bytelists::position_after` meets its contract. Assumes nothing.
 use native.Mathlib.Omega.{arith}
-use Rattle.littleendian.proofs.PastEndLaws.{position-at-end, position-inside}
+use Rattle.bytelists.proofs.PositionLaws.{position-at-end, position-inside}
 use borrow.Author.Needs.{needs}
-use Rattle.littleendian.proofs.position_after.Statement.{statement}
-use Rattle.littleendian.proofs.position_after.Tie as tie
+use Rattle.bytelists.proofs.position_after.Statement.{statement}
+use Rattle.bytelists.proofs.position_after.Tie as tie
 
 returns : tie.Need-returns
 returns c = (position-at-end (c .before .args .bytes .now) (c .before .args .at) (c .before .args .i) (omega arith), omega arith)

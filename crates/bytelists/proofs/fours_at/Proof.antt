@@ -1,4 +1,4 @@
--- `littleendian::fours_at` meets its contract. The loop's invariant: the numbers passed are as the bytes have them, and zeros stand behind them. The
+-- `bytelists::fours_at` meets its contract. The loop's invariant: the numbers passed are as the bytes have them, and zeros stand behind them. The
 -- measure is what is left of the count. Assumes nothing.
 use mathlib.Core.Path.{_≡_, refl}
 use Prim.Native.Nat.{_+_, _-_, _*_, _≤_, _<_, zero-le}
@@ -7,11 +7,11 @@ use borrow.Author.Needs.{needs}
 use lib.ListN.{length, take, drop, replicate, length-set}
 use Rattle.laws.specs.Lists.{listed}
 use Rattle.laws.proofs.ListedLaws.{listed-none, listed-step}
 use Rattle.littleendian.specs.Bytes.{fourAt}
 use Rattle.littleendian.proofs.PastEndLaws.{four-at-position-after}
-use Rattle.littleendian.proofs.FoursLaws.{zeros-behind-one-more, fours-read, zeros-behind-fours}
-use Rattle.littleendian.proofs.fours_at.Statement.{statement}
-use Rattle.littleendian.proofs.fours_at.Tie as tie
+use Rattle.bytelists.proofs.FoursReadLaws.{zeros-behind-one-more, fours-read, zeros-behind-fours}
+use Rattle.bytelists.proofs.fours_at.Statement.{statement}
+use Rattle.bytelists.proofs.fours_at.Tie as tie
 
 abbrev Inv-loop : tie.InvT-loop
 Inv-loop bytes at count numbers₀ n i₀ numbers i =

@@ -1,8 +1,8 @@
--- `states::number_of` meets its contract. Assumes nothing.
-use Rattle.states.proofs.NumberLaws.{number-rules}
+-- `outcomes::number_of` meets its contract. Assumes nothing.
+use Rattle.outcomes.proofs.NumberLaws.{number-rules}
 use borrow.Author.Needs.{needs}
-use Rattle.states.proofs.number_of.Statement.{statement}
-use Rattle.states.proofs.number_of.Tie as tie
+use Rattle.outcomes.proofs.number_of.Statement.{statement}
+use Rattle.outcomes.proofs.number_of.Tie as tie
 
 enum-told : tie.Need-enum-told
 enum-told c = search needs

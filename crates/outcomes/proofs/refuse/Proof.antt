@@ -1,7 +1,7 @@
--- `states::refuse` meets its contract: by computation. Assumes nothing.
+-- `outcomes::refuse` meets its contract: by computation. Assumes nothing.
 use mathlib.Core.Path.{refl}
-use Rattle.states.proofs.refuse.Statement.{statement}
-use Rattle.states.proofs.refuse.Tie as tie
+use Rattle.outcomes.proofs.refuse.Statement.{statement}
+use Rattle.outcomes.proofs.refuse.Tie as tie
 
 returns : tie.Need-returns
 returns c = (refl, record { number-is = refl; values-are = refl })

@@ -1,9 +1,9 @@
--- `littleendian::four_at` meets its contract: the low half first. Assumes nothing.
+-- `bytereader::four_at` meets its contract: the low half first. Assumes nothing.
 use native.Mathlib.Omega.{arith}
 use Rattle.littleendian.proofs.PastEndLaws.{four-at-past-end}
 use borrow.Author.Needs.{needs}
-use Rattle.littleendian.proofs.four_at.Statement.{statement}
-use Rattle.littleendian.proofs.four_at.Tie as tie
+use Rattle.bytereader.proofs.four_at.Statement.{statement}
+use Rattle.bytereader.proofs.four_at.Tie as tie
 
 returns : tie.Need-returns
 returns c = search four-at-past-end

@@ -1,9 +1,9 @@
--- `littleendian::two_at` meets its contract: the low byte first. Assumes nothing.
+-- `bytereader::two_at` meets its contract: the low byte first. Assumes nothing.
 use native.Mathlib.Omega.{arith}
 use Rattle.littleendian.proofs.PastEndLaws.{two-at-past-end}
 use borrow.Author.Needs.{needs}
-use Rattle.littleendian.proofs.two_at.Statement.{statement}
-use Rattle.littleendian.proofs.two_at.Tie as tie
+use Rattle.bytereader.proofs.two_at.Statement.{statement}
+use Rattle.bytereader.proofs.two_at.Tie as tie
 
 returns : tie.Need-returns
 returns c = search two-at-past-end

@@ -1,8 +1,8 @@
--- `littleendian::byte_at` meets its contract. Assumes nothing.
+-- `bytereader::byte_at` meets its contract. Assumes nothing.
 use Rattle.littleendian.proofs.PastEndLaws.{byte-at-past-end}
 use borrow.Author.Needs.{needs}
-use Rattle.littleendian.proofs.byte_at.Statement.{statement}
-use Rattle.littleendian.proofs.byte_at.Tie as tie
+use Rattle.bytereader.proofs.byte_at.Statement.{statement}
+use Rattle.bytereader.proofs.byte_at.Tie as tie
 
 returns : tie.Need-returns
 returns c = search byte-at-past-end

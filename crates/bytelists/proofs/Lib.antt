@@ -1,0 +1,2 @@
+pub mod PositionLaws
+pub mod FoursReadLaws
