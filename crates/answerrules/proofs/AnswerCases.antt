@@ -1,16 +1,19 @@
 -- The lines of an answer computed, and held against the text that docs/FORMATS.md has: each field another number, and who has a line. Assumes nothing.
 use mathlib.Core.Path.{_≡_, refl}
+use mathlib.Core.Bool.{true}
 use mathlib.Core.List.{List, [], _∷_, _++_}
-use Prim.Native.Nat.{ℕ}
+use Prim.Native.Nat.{ℕ, _+_, _*_}
+use lib.Dec.{leb}
 use lib.ListN.{set, replicate}
+use Rattle.laws.proofs.Stages.{_also_}
 use Rattle.textrules.specs.Text.{letters}
-use Rattle.names.specs.Names.{notHeld, noNames}
+use Rattle.names.specs.Names.{notHeld, noNames, blockNamed}
 use Rattle.heap.specs.declared.Superblock.{Superblock}
 use Rattle.heap.specs.declared.Totals.{Totals}
 use Rattle.heap.specs.Table.{unused}
 use Rattle.heap.specs.Totals.{noTotals}
 use Rattle.calls.specs.declared.Outcome.the-variants.{Ready, Address, Moves, Refused}
-use Rattle.answerrules.specs.AnswerLines.{wideDecimal, textsBelow, outcomeLine, superblockLine, superblockLineIf, superblockLines, nameLine, nameLineIf, nameLines, totalLine, totalLineIf, totalLines, placeLine, placeLineIf, placeLines, answerText, badInputText}
+use Rattle.answerrules.specs.AnswerLines.{wideDecimal, textsBelow, outcomeLine, superblockLine, superblockLineIf, superblockLines, nameLine, nameLineIf, nameLines, totalLine, totalLineIf, totalLines, placeLine, placeLineIf, placeLines, answerText, badInputText, answerRoom}
 use Rattle.answerrules.proofs.AnswerDefinitions.{answerDefinitions}
 
 -- ---- numbers, and texts one after another
@@ -118,18 +121,23 @@ nothing-told-case : answerText (Refused 1) (record { setup = record { processors
 unfolding answerDefinitions
 nothing-told-case = refl
 
+-- ---- how many there are at most: a line for each of 1024 names; and the room holds the longest lines of all kinds (AnswerLengthLaws), with 65 superblocks
+-- and 17000 places
+lines-of-1024-names : (names : List ℕ) → nameLines names ≡ textsBelow (λ m. nameLineIf m (blockNamed names m)) 1024
+unfolding answerDefinitions
+lines-of-1024-names names = refl
+
+room-of-longest-lines : leb (19 + 61 + 65 * 169 + 1024 * 43 + 243 * 64 + 17000 * 23 + 4) answerRoom ≡ true
+room-of-longest-lines = refl
+
 -- ---- all names: a case that takes the prover longer than those above together. It unfolds a declaration that cites them, and so is skipped where an
 -- edit makes one of them false.
-infixr 5 _also_
--- one more is cited, and nothing is made of it
-abbrev _also_ : {A : Type 0} → A → Unit {0} → Unit {0}
-_also_ case rest = rest
-
 unfoldable linesHold : Unit {0}
 linesHold =
     wide-decimal-cases also texts-below-cases also outcome-line-cases also bad-input-case also superblock-line-case also superblock-as-new-case also
     single-field-cases also superblock-lines-cases also name-line-case also name-line-if-cases also total-line-case also total-line-if-cases also
-    total-lines-case also place-line-case also place-line-if-cases also place-lines-cases also whole-answer-case also nothing-told-case also tt
+    total-lines-case also place-line-case also place-line-if-cases also place-lines-cases also whole-answer-case also nothing-told-case also
+    lines-of-1024-names also room-of-longest-lines also tt
 
 -- "M rising", from 0 to 1023
 name-lines-case : nameLines (set (set (set noNames 1023 261) 700 0) 0 16383) ≡ letters "name 0 superblock 63 block 255\nname 700 superblock 0 block 0\nname 1023 superblock 1 block 5\n"

@@ -5,6 +5,7 @@ use mathlib.Core.List.{List, [], _∷_, _++_}
 use Prim.Native.Nat.{ℕ, suc}
 use lib.ListN.{replicate}
 use lib.ListN as bytes
+use Rattle.laws.proofs.Stages.{_also_}
 use Rattle.laws.specs.Lists.{listed}
 use Rattle.commands.specs.declared.Command.{Command}
 use Rattle.commands.specs.declared.Command.the-variants.{Setup, Take, Free, NamedTake, NamedFree, Drop, Refused}
@@ -160,15 +161,6 @@ drop-first : listed (λ n. commandsOf (bytes.take (suc n) drop-2)) 11 ≡ replic
 unfolding commandDefinitions
 drop-first = refl
 
--- 60000 bytes are read and 60001 are not, whatever they are
-record-of-60000-read : commandAt (replicate 60000 0) 0 ≡ Setup 0 0 0 0 0
-unfolding commandDefinitions
-record-of-60000-read = refl
-
-record-of-60001-refused : commandAt (replicate 60001 3) 5 ≡ Refused 11 0
-unfolding commandDefinitions
-record-of-60001-refused = refl
-
 -- a size of 0 is read as 0 (document 02, item 1)
 size-0-read-as-0 : commandsOf (setup ++ (1 ∷ 1 ∷ 0 ∷ 0 ∷ [])) ≡ Setup 1 2 1 1 4 ∷ Take 1 0 ∷ []
 unfolding commandDefinitions
@@ -196,3 +188,21 @@ values-of-all-kinds : values (commandsOf (distinct-bytes ++ (6 ∷ [])))
     ∷ []
 unfolding values commandNumberOf refusalOffsetOf commandByte numbersOf commandDefinitions
 values-of-all-kinds = refl
+
+-- ---- the longest record takes longer than all cases above: it is computed where they hold
+unfoldable recordsHold : Unit {0}
+recordsHold =
+    whole-case also no-byte also unknown-first also unknown-later also take-first also setup-later also free-truncated also commands-of-distinct-bytes
+    also addresses-of-distinct-bytes also setup-truncated also setup-twice also free-first also free-first-truncated also take-truncated
+    also free-of-one-byte also named-calls-read also named-take-truncated also named-free-truncated also named-take-first also named-free-first
+    also names-read-as-they-are also drops-read also drop-of-255-read also drop-truncated also drop-of-0-truncated also drop-of-255-truncated
+    also drop-first also size-0-read-as-0 also values-of-all-kinds also tt
+
+-- 60000 bytes are read and 60001 are not, whatever they are
+record-of-60001-refused : commandAt (replicate 60001 3) 5 ≡ Refused 11 0
+unfolding recordsHold commandDefinitions
+record-of-60001-refused = refl
+
+record-of-60000-read : commandAt (replicate 60000 0) 0 ≡ Setup 0 0 0 0 0
+unfolding commandDefinitions
+record-of-60000-read = let before = record-of-60001-refused in refl

@@ -5,6 +5,7 @@ use mathlib.Core.Bool.{true, false}
 use mathlib.Core.List.{[], _∷_, _++_}
 use Prim.Native.Nat.{ℕ}
 use lib.ListN.{replicate}
+use Rattle.laws.proofs.Stages.{_also_}
 use Rattle.textrules.specs.Text.{letters}
 use Rattle.heap.specs.declared.Superblock.{Superblock}
 use Rattle.heap.specs.declared.State.{State}
@@ -134,21 +135,6 @@ heap-line-if-of-no-superblock-case : heapLineIf 2 11 several-superblocks ≡ []
 unfolding lineDefinitions
 heap-line-if-of-no-superblock-case = refl
 
-class-lines-case : classLines 1 27 several-superblocks ≡ letters "heap 1 class 0 superblocks 2 live 6\nheap 1 class 11 superblocks 3 live 0\n"
-unfolding lineDefinitions
-class-lines-case = refl
-
-final-lines-case : finalLines several-superblocks
-    ≡ letters "heap 0 class 9 superblocks 1 live 5\nheap 1 class 0 superblocks 2 live 6\nheap 1 class 11 superblocks 3 live 0\nheap 2 class 26 superblocks 4 live 7\nend\n"
-unfolding lineDefinitions
-final-lines-case = refl
-
--- the whole case's own: block 0 of class 0 is live in superblock 0, block 0 of class 26 in superblock 1
-final-lines-of-whole-case : finalLines (unnamedState (record { processors = 1; superblocks = 2; spare = 1; p = 1; q = 4 }) (superblock 1 0 1 0 ∷ superblock 1 26 1 0 ∷ replicate 62 unused))
-    ≡ letters "heap 1 class 0 superblocks 1 live 1\nheap 1 class 26 superblocks 1 live 1\nend\n"
-unfolding lineDefinitions
-final-lines-of-whole-case = refl
-
 -- ---- runs (document 02, item 7): the page's line, and numbers that all differ
 run-line-cases : (runLine 3 2 ≡ letters "run 3 superblocks 2\n") × (runLine 48 16 ≡ letters "run 48 superblocks 16\n")
 unfolding lineDefinitions
@@ -166,13 +152,38 @@ run-line-if-cases : (runLineIf 1 several-runs ≡ letters "run 1 superblocks 2\n
 unfolding lineDefinitions
 run-line-if-cases = (refl, refl, refl, refl)
 
--- "by first superblock", after the heaps and "before `end`"
-final-lines-with-runs-case : finalLines several-runs
-    ≡ letters "heap 0 class 9 superblocks 1 live 2\nheap 1 class 11 superblocks 1 live 1\nrun 1 superblocks 2\nrun 3 superblocks 1\nrun 61 superblocks 2\nrun 63 superblocks 1\nend\n"
-unfolding lineDefinitions
-final-lines-with-runs-case = refl
-
 -- after a stop line nothing follows
 closing-lines-cases : (closingLines true several-superblocks ≡ []) × (closingLines false several-superblocks ≡ finalLines several-superblocks)
 unfolding lineDefinitions
 closing-lines-cases = (refl, refl)
+
+-- ---- the cases so far take little. Each that follows looks at every heap and class, and is computed where they and the one before it hold
+unfoldable quickLinesHold : Unit {0}
+quickLinesHold =
+    setup-printed also take-printed also refused-take-printed also free-printed also refused-free-printed also setup-line-case also take-line-case
+    also free-line-case also stop-line-case also heap-line-case also size-0-line-case also named-take-printed also named-free-printed
+    also refused-named-take-printed also refused-named-free-printed also named-take-line-case also named-free-line-case also named-line-limit-cases
+    also drop-printed also refused-drop-printed also drop-line-case also drop-line-limit-cases also call-line-cases
+    also heap-line-if-of-nothing-live-case also heap-line-if-of-no-superblock-case also run-line-cases also run-line-if-cases also closing-lines-cases
+    also tt
+
+class-lines-case : classLines 1 27 several-superblocks ≡ letters "heap 1 class 0 superblocks 2 live 6\nheap 1 class 11 superblocks 3 live 0\n"
+unfolding quickLinesHold lineDefinitions
+class-lines-case = refl
+
+-- "by first superblock", after the heaps and "before `end`"
+final-lines-with-runs-case : finalLines several-runs
+    ≡ letters "heap 0 class 9 superblocks 1 live 2\nheap 1 class 11 superblocks 1 live 1\nrun 1 superblocks 2\nrun 3 superblocks 1\nrun 61 superblocks 2\nrun 63 superblocks 1\nend\n"
+unfolding lineDefinitions
+final-lines-with-runs-case = let before = class-lines-case in refl
+
+final-lines-case : finalLines several-superblocks
+    ≡ letters "heap 0 class 9 superblocks 1 live 5\nheap 1 class 0 superblocks 2 live 6\nheap 1 class 11 superblocks 3 live 0\nheap 2 class 26 superblocks 4 live 7\nend\n"
+unfolding lineDefinitions
+final-lines-case = let before = final-lines-with-runs-case in refl
+
+-- the whole case's own: block 0 of class 0 is live in superblock 0, block 0 of class 26 in superblock 1
+final-lines-of-whole-case : finalLines (unnamedState (record { processors = 1; superblocks = 2; spare = 1; p = 1; q = 4 }) (superblock 1 0 1 0 ∷ superblock 1 26 1 0 ∷ replicate 62 unused))
+    ≡ letters "heap 1 class 0 superblocks 1 live 1\nheap 1 class 26 superblocks 1 live 1\nend\n"
+unfolding lineDefinitions
+final-lines-of-whole-case = let before = final-lines-case in refl
