@@ -1,7 +1,6 @@
 -- `addresscheck::refusal` meets its contract. Assumes nothing.
 use borrow.Author.Needs.{needs}
 use mathlib.Core.Path.{refl}
-use native.Mathlib.Omega.{arith}
 use Rattle.addresscheck.proofs.AddressTestLaws.{address-refusal-past-table}
 use Rattle.addresscheck.proofs.refusal.Statement.{statement}
 use Rattle.addresscheck.proofs.refusal.Tie as tie
