@@ -87,13 +87,18 @@ totals-with n x m y =
       live = increased 24 1 (increased y m (increased 50 2 (increased 52 2 (noTotals .live))));
     }
 
+-- of heap 3, which is above P, alone: quick
+pub totals-above-P-cases : map (λ (t : Totals). totalsValid (with-totals t)) (totals-with 1 81 0 0 ∷ totals-with 0 0 1 81 ∷ []) ≡ false ∷ false ∷ []
+unfolding checkDefinitions superblocksKept liveKept
+totals-above-P-cases = let before = names-valid-cases in refl
+
 -- right; then wrong by one: superblocks, live blocks, of heap 1, of heap 0, of heap 3, which is above P, and of the last heap and class; by the widest numbers
 pub totals-valid-cases :
     map (λ (t : Totals). totalsValid (with-totals t))
     (totals-with 0 0 0 0 ∷ totals-with 1 50 0 0 ∷ totals-with 0 0 1 50 ∷ totals-with 1 24 0 0 ∷ totals-with 0 0 1 24 ∷ totals-with 1 81 0 0 ∷ totals-with 0 0 1 81 ∷ totals-with 1 242 0 0 ∷ totals-with 0 0 1 242 ∷ totals-with 0 0 65535 0 ∷ noTotals ∷ [])
     ≡ true ∷ replicate 10 false
 unfolding checkDefinitions superblocksKept liveKept
-totals-valid-cases = let before = names-valid-cases in refl
+totals-valid-cases = let before = totals-above-P-cases in refl
 
 -- one too few, and two that cancel out: a live block, or a superblock, in another class of the heap, or in another heap
 abbrev pub exchanged-totals : ℕ → ℕ → ℕ → ℕ → Totals

@@ -38,12 +38,12 @@ all-ranked-case = let before = ranks-not-valid-cases in refl
 otherCasesHold : Unit {0}
 otherCasesHold = all-ranked-case also tt
 
--- none ranked; one, two and three, in two orders
-pub ranks-valid-cases :
-    ranksValid (with-ranks 0 0 0 0) ∷ ranksValid (with-ranks 0 1 0 0) ∷ ranksValid (with-ranks 0 0 0 1) ∷ ranksValid (with-ranks 2 0 0 1) ∷ ranksValid (with-ranks 2 3 0 1) ∷ ranksValid (with-ranks 1 2 0 3) ∷ []
-    ≡ replicate 6 true
+-- a ranked part of a run, and two empty superblocks of the last heap and class, alone: quick
+pub refused-alone-cases :
+    ranksValid (unnamedState small-setup (ranked 1 17 1 1 ∷ withRank 2 (runPart 1) ∷ replicate 62 unused)) ≡ false
+    × emptinessInvariant (unnamedState small-setup (of 2 26 0 ∷ of 2 26 0 ∷ replicate 62 unused)) ≡ false
 unfolding otherCasesHold checkDefinitions
-ranks-valid-cases = refl
+refused-alone-cases = (refl, refl)
 
 -- "no rank": superblocks 0 and 1 are ranked, and the run of two behind them is not; its first, or its last, of the next rank
 pub ranks-beside-run-cases :
@@ -51,7 +51,7 @@ pub ranks-beside-run-cases :
     ((runPart 2 ∷ runPart 0 ∷ []) ∷ (withRank 3 (runPart 2) ∷ runPart 0 ∷ []) ∷ (runPart 2 ∷ withRank 3 (runPart 0) ∷ []) ∷ [])
     ≡ true ∷ false ∷ false ∷ []
 unfolding otherCasesHold checkDefinitions
-ranks-beside-run-cases = let before = ranks-valid-cases in refl
+ranks-beside-run-cases = let before = refused-alone-cases in refl
 
 -- ---- "no processor heap and class meets both conditions of the move rule": two empty superblocks of one heap and class do, for K = 1, of the first
 -- heap and class and of the last; not in heap 0, nor of two heaps, nor of two classes
@@ -64,3 +64,10 @@ pub emptiness-invariant-cases :
     ≡ false ∷ false ∷ true ∷ []
 unfolding otherCasesHold checkDefinitions
 emptiness-invariant-cases = let before = ranks-beside-run-cases in refl
+
+-- ---- ranks again: none ranked; one, two and three, in two orders
+pub ranks-valid-cases :
+    ranksValid (with-ranks 0 0 0 0) ∷ ranksValid (with-ranks 0 1 0 0) ∷ ranksValid (with-ranks 0 0 0 1) ∷ ranksValid (with-ranks 2 0 0 1) ∷ ranksValid (with-ranks 2 3 0 1) ∷ ranksValid (with-ranks 1 2 0 3) ∷ []
+    ≡ replicate 6 true
+unfolding otherCasesHold checkDefinitions
+ranks-valid-cases = let before = emptiness-invariant-cases in refl
