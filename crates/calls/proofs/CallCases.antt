@@ -1,7 +1,6 @@
 -- Whole calls behind the check: which refusal comes first, and what accepted takes, frees and drops leave; and the check before them. They are computed
 -- where the cases of the parts hold. By computation. Assumes nothing.
 use mathlib.Core.Path.{_≡_, refl}
-use mathlib.Core.Bool.{true}
 use mathlib.Core.List.{List, [], _∷_, _++_, map}
 use lib.ListN.{replicate}
 use Prim.Native.Nat.{ℕ}
@@ -12,50 +11,25 @@ use Rattle.heap.specs.Table.{unused}
 use Rattle.heap.specs.States.{withNames}
 use Rattle.heap.proofs.CaseStates.{unnamedState}
 use Rattle.heap.proofs.TableCases.{of, ranked}
-use Rattle.calls.specs.declared.Outcome.the-variants.{Address, Moves, Refused}
+use Rattle.calls.specs.declared.Outcome.the-variants.{Address, Moves}
 use Rattle.calls.specs.Answers.{After, refused, checked}
 use Rattle.calls.specs.Take.{takeUnchecked}
-use Rattle.calls.specs.Free.{isLiveAt}
 use Rattle.calls.specs.Drop.{dropMoves}
 use Rattle.calls.specs.Calls.{Call, Take, Free, NamedTake, NamedFree, Drop, callUnchecked}
 use Rattle.calls.proofs.CallDefinitions.{uncheckedCallDefinitions, callDefinitions}
 use Rattle.calls.proofs.CheckFirst.{checked-past-check}
-use Rattle.calls.proofs.RuleCases.{setup-with, after-with, after-check}
-use Rattle.calls.proofs.PairStates.{pair-state, ranked-pair-state, pairOrder, state-before, order-before}
-use Rattle.calls.proofs.NamedCases.{two-names, named-state}
+use Rattle.calls.proofs.RuleCases.{setup-with, after-with, after-check, named-unchecked}
+use Rattle.calls.proofs.PairStates.{pair-state, ranked-pair-state, pairOrder, state-before, order-before, two-names, named-state}
 use Rattle.calls.proofs.DropCases.{page-state, page}
 use Rattle.calls.proofs.LongBlockCases.{before-run, with-run, run-gone, used-places, names-7-and-8}
 use Rattle.calls.proofs.PartsHold.{partsHold}
-
-abbrev pub named-unchecked : Call → After
-named-unchecked = callUnchecked named-state order-before
-
--- ---- outcomes alone, which take little: 2 before 3, 14, 15 and 16; 3 before 17; 17, and 4; a take of 2048 from heap 1's own superblock; 14 before 3;
--- 15 for a name that is not held and for 1024; 16
-pub outcome-cases :
-    map (λ (c : Call). named-unchecked c .answer .outcome)
-    (Take 0 65536 ∷ NamedTake 3 5 2049 ∷ NamedFree 0 9 ∷ Drop 0 [] ∷ Take 1 65536 ∷ Take 1 2049 ∷ Take 1 0 ∷ Take 1 2048
-    ∷ NamedTake 1 1024 65536 ∷ NamedFree 1 9 ∷ NamedFree 1 1024 ∷ Drop 1 [] ∷ [])
-    ≡ map Refused (2 ∷ 2 ∷ 2 ∷ 2 ∷ 3 ∷ 17 ∷ 4 ∷ []) ++ Address 4096 ∷ map Refused (14 ∷ 15 ∷ 15 ∷ 16 ∷ [])
-unfolding partsHold uncheckedCallDefinitions
-outcome-cases = refl
-
--- a refused drop of the block of name 5, twice: it is live still, and no place is written
-pub refused-drop-keeps-cases :
-    isLiveAt (named-unchecked (Drop 1 (0 ∷ 0 ∷ [])) .answer .state) 0 ≡ true × named-unchecked (Drop 1 (0 ∷ 0 ∷ [])) .order ≡ order-before
-unfolding partsHold uncheckedCallDefinitions
-refused-drop-keeps-cases = (refl, refl)
-
--- each that follows takes longer, and is computed where they and the one before it hold
-unfoldable outcomesHold : Unit {0}
-outcomesHold = outcome-cases also refused-drop-keeps-cases also tt
 
 -- ---- drops, on the same state: 2 before 16, and before a bad address; 16; refused with the first bad address's number, nothing freed, no place written, no
 -- name let go
 pub refused-drop-cases :
     map named-unchecked (Drop 0 [] ∷ Drop 3 (8192 ∷ []) ∷ Drop 1 [] ∷ Drop 1 (0 ∷ 0 ∷ []) ∷ Drop 1 (0 ∷ 8192 ∷ []) ∷ Drop 2 (2049 ∷ 0 ∷ []) ∷ [])
     ≡ refused 2 named-state order-before ∷ refused 2 named-state order-before ∷ refused 16 named-state order-before ∷ refused 7 named-state order-before ∷ refused 5 named-state order-before ∷ refused 6 named-state order-before ∷ []
-unfolding outcomesHold uncheckedCallDefinitions
+unfolding partsHold uncheckedCallDefinitions
 refused-drop-cases = refl
 
 -- ---- a named free: 2 before 15; 15 for a name that is not held and for 1024; a free of name 5's block lets it go and keeps name 1022,
@@ -66,7 +40,7 @@ pub named-free-cases :
     ∷ after-with (Moves 0) (withNames (ranked-pair-state 0 1 2 2) (withName noNames 1022 257)) (pairOrder 1 0 0 67)
     ∷ after-with (Moves 0) (withNames (ranked-pair-state 0 1 2 2) (withName noNames 1022 257)) (pairOrder 1 0 0 67)
     ∷ after-with (Moves 0) (withNames (pair-state 1 0) (withName noNames 5 0)) (pairOrder 1 66 0 1) ∷ []
-unfolding outcomesHold uncheckedCallDefinitions
+unfolding partsHold uncheckedCallDefinitions
 named-free-cases = let before = refused-drop-cases in refl
 
 -- ---- plain calls
@@ -79,7 +53,7 @@ pub unchecked-call-cases :
     map unchecked (Take 0 65536 ∷ Take 1 65536 ∷ Take 1 2049 ∷ Take 1 65535 ∷ Take 1 0 ∷ Take 1 2048 ∷ Free 3 8192 ∷ Free 1 8193 ∷ Free 1 2049 ∷ Free 1 2048 ∷ Free 1 0 ∷ [])
     ≡ refused 2 state-before order-before ∷ refused 3 state-before order-before ∷ refused 17 state-before order-before ∷ refused 17 state-before order-before ∷ refused 4 state-before order-before ∷ after-with (Address 4096) (pair-state 1 3) order-before ∷ refused 2 state-before order-before ∷ refused 5 state-before order-before
     ∷ refused 6 state-before order-before ∷ refused 7 state-before order-before ∷ after-with (Moves 0) (ranked-pair-state 0 1 2 2) (pairOrder 1 0 0 67) ∷ []
-unfolding outcomesHold uncheckedCallDefinitions
+unfolding partsHold uncheckedCallDefinitions
 unchecked-call-cases = let before = named-free-cases in refl
 
 -- ---- a named take: 2 before 14, 14 before 17 for a held name, and before 3 for 1024; 3, 17, and 4 for size 0, bind none; an accepted one binds, for the
@@ -88,7 +62,7 @@ pub named-take-cases :
     map named-unchecked (NamedTake 3 5 2049 ∷ NamedTake 1 5 2049 ∷ NamedTake 1 1024 65536 ∷ NamedTake 1 1022 2048 ∷ NamedTake 1 7 65536 ∷ NamedTake 1 7 2049 ∷ NamedTake 1 7 0 ∷ NamedTake 1 0 2048 ∷ NamedTake 1 1023 2048 ∷ [])
     ≡ refused 2 named-state order-before ∷ refused 14 named-state order-before ∷ refused 14 named-state order-before ∷ refused 14 named-state order-before ∷ refused 3 named-state order-before ∷ refused 17 named-state order-before ∷ refused 4 named-state order-before
     ∷ after-with (Address 4096) (withNames (pair-state 1 3) (withName two-names 0 256)) order-before ∷ after-with (Address 4096) (withNames (pair-state 1 3) (withName two-names 1023 256)) order-before ∷ []
-unfolding outcomesHold uncheckedCallDefinitions
+unfolding partsHold uncheckedCallDefinitions
 named-take-cases = let before = unchecked-call-cases in refl
 
 -- ---- the cases so far tell which refusal comes first. What follows is computed where they hold, as they are where the cases of the parts do

@@ -16,15 +16,7 @@ use Rattle.calls.specs.Free.{blockNumberAt, blockFreed}
 use Rattle.calls.specs.Named.{isUnavailable, nameBound, boundBy, heldAddress}
 use Rattle.calls.proofs.CallDefinitions.{uncheckedCallDefinitions}
 use Rattle.calls.proofs.RuleCases.{setup-with, refusal-state, rulesHold}
-use Rattle.calls.proofs.PairStates.{pair-state}
-
--- Superblocks 0 and 1, of class 26, are heap 2's and heap 1's; block 0 of superblock 0, at 0, is live and name 5's, block 1 of superblock 1, at 6144,
--- is live and name 1022's
-abbrev pub two-names : List ℕ
-two-names = withName (withName noNames 5 0) 1022 257
-
-abbrev pub named-state : State
-named-state = withNames (pair-state 1 2) two-names
+use Rattle.calls.proofs.PairStates.{named-state}
 
 -- 14: "taken name or one above 1023"
 pub is-unavailable-cases : map (isUnavailable named-state) (5 ∷ 1022 ∷ 4 ∷ 0 ∷ 1023 ∷ 1024 ∷ 65535 ∷ []) ≡ true ∷ true ∷ false ∷ false ∷ false ∷ true ∷ true ∷ []

@@ -2,11 +2,13 @@
 use mathlib.Core.List.{List, _∷_, _++_}
 use Prim.Native.Nat.{ℕ}
 use lib.ListN.{replicate}
+use Rattle.names.specs.Names.{noNames, withName}
 use Rattle.heap.specs.declared.State.{State}
 use Rattle.heap.specs.Table.{unused}
+use Rattle.heap.specs.States.{withNames}
 use Rattle.heap.proofs.CaseStates.{unnamedState}
 use Rattle.heap.proofs.TableCases.{ranked}
-use Rattle.calls.proofs.RuleCases.{setup-with}
+use Rattle.checkrules.proofs.CheckCases.{setup-with}
 
 -- P = 2, N = 2, K = 1, p/q = 3/7: superblocks 0 and 1, of class 26 with two blocks of 2048 bytes, are heap 2's and heap 1's, with these ranks
 abbrev pub ranked-pair-state : ℕ → ℕ → ℕ → ℕ → State
@@ -26,3 +28,11 @@ state-before = pair-state 1 2
 
 abbrev pub order-before : List ℕ
 order-before = pairOrder 1 66 0 67
+
+-- Superblocks 0 and 1, of class 26, are heap 2's and heap 1's; block 0 of superblock 0, at 0, is live and name 5's, block 1 of superblock 1, at 6144,
+-- is live and name 1022's
+abbrev pub two-names : List ℕ
+two-names = withName (withName noNames 5 0) 1022 257
+
+abbrev pub named-state : State
+named-state = withNames (pair-state 1 2) two-names

@@ -19,6 +19,8 @@ use Rattle.calls.specs.Setup.{setupOf}
 use Rattle.calls.specs.Take.{otherPlaces, acquired, acquiredOrder, unrankedIfEmpty, nextBlock, addressOf, takenFrom, takenAt}
 use Rattle.calls.specs.Free.{blockOf, isUnmapped, isMisaligned, isLiveAt, markCleared, orderPushed, freedAt}
 use Rattle.calls.proofs.CallDefinitions.{uncheckedCallDefinitions, callDefinitions}
+use Rattle.calls.specs.Calls.{Call, Take, Free, NamedTake, NamedFree, Drop, callUnchecked}
+use Rattle.calls.proofs.PairStates.{order-before, named-state}
 use Rattle.calls.proofs.CheckFirst.{checked-past-check}
 use Rattle.calls.proofs.AddressRefusalLaws.{free-unchecked-by-address-refusal}
 
@@ -147,6 +149,25 @@ quickRulesHold =
     also is-unmapped-cases also is-unmapped-past-N-cases also is-misaligned-cases also block-of-cases also is-live-at-cases also address-of-cases
     also acquired-cases also taken-from-case also mark-cleared-case also order-pushed-case also taken-at-place-1-case also next-block-cases also tt
 
+-- ---- outcomes alone, which take little: 2 before 3, 14, 15 and 16; 3 before 17; 17, and 4; a take of 2048 from heap 1's own superblock; 14 before 3,
+-- and for a held name; 15 for a name that is not held and for 1024; 16; the first bad address of a drop, and a double
+abbrev pub named-unchecked : Call → After
+named-unchecked = callUnchecked named-state order-before
+
+pub outcome-cases :
+    map (λ (c : Call). named-unchecked c .answer .outcome)
+    (Take 0 65536 ∷ NamedTake 3 5 2049 ∷ NamedFree 0 9 ∷ Drop 0 [] ∷ Take 1 65536 ∷ Take 1 2049 ∷ Take 1 0 ∷ Take 1 2048
+    ∷ NamedTake 1 1024 65536 ∷ NamedTake 1 5 2048 ∷ NamedFree 1 9 ∷ NamedFree 1 1024 ∷ Drop 1 [] ∷ Drop 1 (0 ∷ 2049 ∷ 8192 ∷ []) ∷ Drop 1 (0 ∷ 0 ∷ []) ∷ [])
+    ≡ map Refused (2 ∷ 2 ∷ 2 ∷ 2 ∷ 3 ∷ 17 ∷ 4 ∷ []) ++ Address 4096 ∷ map Refused (14 ∷ 14 ∷ 15 ∷ 15 ∷ 16 ∷ 6 ∷ 7 ∷ [])
+unfolding quickRulesHold uncheckedCallDefinitions
+outcome-cases = refl
+
+-- a refused drop of the block of name 5, twice: it is live still, and no place is written
+pub refused-drop-keeps-cases :
+    isLiveAt (named-unchecked (Drop 1 (0 ∷ 0 ∷ [])) .answer .state) 0 ≡ true × named-unchecked (Drop 1 (0 ∷ 0 ∷ [])) .order ≡ order-before
+unfolding quickRulesHold uncheckedCallDefinitions
+refused-drop-keeps-cases = let before = outcome-cases in (refl, refl)
+
 -- the places that go first: heap 0's superblock of class 24 with a block live (place 2), its lowest empty one (3), the lowest unused one (4)
 abbrev pub state-offering : Superblock → Superblock → State
 state-offering a b = unnamedState (setup-with 2 3 1 3 7) (unused ∷ a ∷ b ∷ replicate 61 unused)
@@ -154,8 +175,8 @@ state-offering a b = unnamedState (setup-with 2 3 1 3 7) (unused ∷ a ∷ b ∷
 pub other-places-cases :
     map (otherPlaces 24) (state-offering (of 0 23 0) (of 0 24 1) ∷ state-offering (of 0 23 0) (of 0 24 0) ∷ state-offering (of 0 26 0) (of 0 23 0) ∷ state-offering (of 1 24 0) (of 2 24 1) ∷ [])
     ≡ At 2 ∷ At 2 ∷ At 1 ∷ At 0 ∷ []
-unfolding quickRulesHold uncheckedCallDefinitions
-other-places-cases = refl
+unfolding uncheckedCallDefinitions
+other-places-cases = let before = refused-drop-keeps-cases in refl
 
 -- a free of block 3, with the moves of its heap and class: none. The superblock is the last freed into
 pub freed-at-case :

@@ -4,6 +4,7 @@ use mathlib.Core.Bool.{Bool, true, false}
 use mathlib.Core.List.{List, [], _∷_, _++_, map}
 use Prim.Native.Nat.{ℕ, _-_, _^_}
 use lib.ListN.{length, replicate}
+use Rattle.laws.proofs.Stages.{_also_}
 use Rattle.laws.specs.Lists.{listed, increased}
 use Rattle.names.specs.Names.{noNames, withName}
 use Rattle.heap.specs.declared.Superblock.{Superblock}
@@ -11,12 +12,13 @@ use Rattle.heap.specs.declared.Setup.{Setup}
 use Rattle.heap.specs.declared.Totals.{Totals}
 use Rattle.heap.specs.declared.State.{State}
 use Rattle.heap.specs.Table.{unused, withRank}
-use Rattle.heap.specs.Totals.{noTotals}
+use Rattle.heap.specs.Totals.{noTotals, superblocksKept, liveKept}
 use Rattle.heap.specs.States.{withNames}
 use Rattle.checkrules.specs.Check.{withinLimits, superblockValid, unusedFrom, sparseIfGlobal, namesValid, totalsValid}
 use Rattle.heap.proofs.TableCases.{of, small-setup}
 use Rattle.heap.proofs.CaseStates.{unnamedState}
 use Rattle.checkrules.proofs.CheckDefinitions.{checkDefinitions}
+use Rattle.checkrules.proofs.ClauseLaws.{clausesHold}
 
 -- ---- "P 1 to 8, N 1 to 64, K 1 to 16, p 1 to q - 1, q 2 to 8": at each limit, and one past it
 abbrev pub setup-with : ℕ → ℕ → ℕ → ℕ → ℕ → Setup
@@ -27,28 +29,23 @@ pub within-limits-cases :
     map withinLimits (setup-with 1 1 1 1 2 ∷ setup-with 8 64 16 7 8 ∷ setup-with 3 9 12 2 4 ∷ []) ≡ true ∷ true ∷ true ∷ []
     × map withinLimits (setup-with 0 9 12 2 5 ∷ setup-with 9 9 12 2 5 ∷ setup-with 3 0 12 2 5 ∷ setup-with 3 65 12 2 5 ∷ setup-with 3 9 0 2 5 ∷ setup-with 3 9 17 2 5 ∷ []) ≡ replicate 6 false
     × map withinLimits (setup-with 3 9 12 0 5 ∷ setup-with 3 9 12 5 5 ∷ setup-with 3 9 12 6 5 ∷ setup-with 3 9 12 0 1 ∷ setup-with 3 9 12 1 1 ∷ setup-with 3 9 12 2 9 ∷ []) ≡ replicate 6 false
-unfolding checkDefinitions
+unfolding clausesHold checkDefinitions
 within-limits-cases = (refl, refl, refl)
 
 -- ---- one superblock. P = 2; superblock 1's places hold 4, 0, 2 and then 9s
 abbrev pub valid-as-superblock-1 : Superblock → Bool
 valid-as-superblock-1 b = superblockValid small-setup (replicate 256 7 ++ 4 ∷ 0 ∷ 2 ∷ replicate 253 9) 1 b
 
--- unused; of heap 0, 1 and 2; with all its blocks live; of class 26, with its last block live
-pub superblock-valid-cases : map valid-as-superblock-1 (unused ∷ of 0 20 10 ∷ of 1 20 10 ∷ of 2 20 10 ∷ of 2 26 3 ∷ []) ≡ replicate 5 true
-unfolding checkDefinitions
-superblock-valid-cases = refl
-
 -- owner above P; owner 255 with a class or a mark; no class 27; a mark at n; a filled place that holds a live block, or one of another superblock
 pub superblock-invalid-cases : map valid-as-superblock-1 (of 3 20 10 ∷ of 255 20 10 ∷ of 255 1 0 ∷ of 255 0 1 ∷ of 1 27 0 ∷ of 2 26 7 ∷ of 1 20 9 ∷ of 1 20 2 ∷ []) ≡ replicate 8 false
-unfolding checkDefinitions
+unfolding clausesHold checkDefinitions
 superblock-invalid-cases = refl
 
 -- "superblocks from N on unused", for N = 5: superblocks 4, 5 and 6, in use and unused
 pub unused-from-cases :
     map (λ (k : ℕ). unusedFrom 5 k (of 1 26 0)) (4 ∷ 5 ∷ 6 ∷ []) ≡ true ∷ false ∷ false ∷ []
     × map (λ (k : ℕ). unusedFrom 5 k unused) (4 ∷ 5 ∷ 63 ∷ []) ≡ true ∷ true ∷ true ∷ []
-unfolding checkDefinitions
+unfolding clausesHold checkDefinitions
 unused-from-cases = (refl, refl)
 
 -- "each superblock of heap 0 has q × live < (q - p) × n": with 3/7, of class 24, 7 × 1 < 4 × 2, and of class 18, 7 × 4 < 4 × 8 and not 7 × 5;
@@ -56,8 +53,12 @@ unused-from-cases = (refl, refl)
 pub sparse-if-global-cases :
     map (sparseIfGlobal small-setup) (of 0 24 2 ∷ of 0 24 3 ∷ of 0 18 15 ∷ of 0 18 31 ∷ of 1 24 3 ∷ of 0 24 0 ∷ []) ≡ true ∷ false ∷ true ∷ false ∷ true ∷ true ∷ []
     × map (sparseIfGlobal (setup-with 2 5 1 4 8)) (of 0 24 1 ∷ of 0 24 0 ∷ []) ≡ false ∷ true ∷ []
-unfolding checkDefinitions
+unfolding clausesHold checkDefinitions
 sparse-if-global-cases = (refl, refl)
+
+-- the cases so far take little. Each that follows takes longer, and is computed where they and the one before it hold
+unfoldable quickChecksHold : Unit {0}
+quickChecksHold = within-limits-cases also superblock-invalid-cases also unused-from-cases also sparse-if-global-cases also tt
 
 -- ---- "each held name points at a live block, no two at one". Superblock 1, of class 20, has blocks 1 and 3 live, superblock 63 its block 255
 abbrev pub state-with-names : List ℕ → State
@@ -71,7 +72,7 @@ pub names-valid-cases :
     ∷ withName noNames 0 258 ∷ withName noNames 1023 3 ∷ withName noNames 7 16385 ∷ withName noNames 7 65534
     ∷ withName (withName noNames 0 257) 1023 257 ∷ withName (withName noNames 7 257) 8 257 ∷ [])
     ≡ true ∷ true ∷ false ∷ false ∷ false ∷ false ∷ false ∷ false ∷ []
-unfolding checkDefinitions
+unfolding quickChecksHold checkDefinitions
 names-valid-cases = refl
 
 -- ---- "equal to the recount": the totals of three superblocks, heap 1's of class 23 with two live blocks and of class 25, full, and heap 0's of class 24 with one
@@ -86,13 +87,18 @@ totals-with n x m y =
       live = increased 24 1 (increased y m (increased 50 2 (increased 52 2 (noTotals .live))));
     }
 
+-- of heap 3, which is above P, alone: quick
+pub totals-above-P-cases : map (λ (t : Totals). totalsValid (with-totals t)) (totals-with 1 81 0 0 ∷ totals-with 0 0 1 81 ∷ []) ≡ false ∷ false ∷ []
+unfolding checkDefinitions superblocksKept liveKept
+totals-above-P-cases = let before = names-valid-cases in refl
+
 -- right; then wrong by one: superblocks, live blocks, of heap 1, of heap 0, of heap 3, which is above P, and of the last heap and class; by the widest numbers
 pub totals-valid-cases :
     map (λ (t : Totals). totalsValid (with-totals t))
     (totals-with 0 0 0 0 ∷ totals-with 1 50 0 0 ∷ totals-with 0 0 1 50 ∷ totals-with 1 24 0 0 ∷ totals-with 0 0 1 24 ∷ totals-with 1 81 0 0 ∷ totals-with 0 0 1 81 ∷ totals-with 1 242 0 0 ∷ totals-with 0 0 1 242 ∷ totals-with 0 0 65535 0 ∷ noTotals ∷ [])
     ≡ true ∷ replicate 10 false
-unfolding checkDefinitions
-totals-valid-cases = refl
+unfolding checkDefinitions superblocksKept liveKept
+totals-valid-cases = let before = totals-above-P-cases in refl
 
 -- one too few, and two that cancel out: a live block, or a superblock, in another class of the heap, or in another heap
 abbrev pub exchanged-totals : ℕ → ℕ → ℕ → ℕ → Totals
@@ -106,4 +112,12 @@ pub totals-cancel-cases :
     map (λ (t : Totals). totalsValid (with-totals t)) (exchanged-totals 1 1 2 2 ∷ exchanged-totals 0 1 2 2 ∷ exchanged-totals 1 1 2 1 ∷ exchanged-totals 2 0 2 2 ∷ exchanged-totals 1 1 1 3 ∷ [])
     ≡ true ∷ replicate 4 false
 unfolding checkDefinitions
-totals-cancel-cases = refl
+totals-cancel-cases = let before = totals-valid-cases in refl
+
+-- ---- one superblock again: unused; of heap 0, 1 and 2; with all its blocks live; of class 26, with its last block live
+pub superblock-valid-cases : map valid-as-superblock-1 (unused ∷ of 0 20 10 ∷ of 1 20 10 ∷ of 2 20 10 ∷ of 2 26 3 ∷ []) ≡ replicate 5 true
+unfolding checkDefinitions
+superblock-valid-cases = let before = totals-cancel-cases in refl
+
+unfoldable pub checksHold : Unit {0}
+checksHold = superblock-valid-cases also tt

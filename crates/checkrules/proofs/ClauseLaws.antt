@@ -2,6 +2,7 @@
 use mathlib.Core.List.{List}
 use Prim.Native.Nat.{ℕ}
 use lib.Dec.{T}
+use Rattle.laws.proofs.Stages.{_also_}
 use Rattle.laws.specs.Sums.{allBelow}
 use Rattle.laws.proofs.TestLaws.{both-left, both-right, both-make}
 use Rattle.heap.specs.declared.State.{State}
@@ -19,9 +20,22 @@ pub record RestClauses (s : State) (order : List ℕ) : Type 0 where
   pub ranks : T (ranksValid s)
   pub runs : T (runsValid s)
 
+pub rest-of-clauses : (s : State) (order : List ℕ) → RestClauses s order → T (restValid s order)
+unfolding restValid
+rest-of-clauses s order h =
+    both-make (allBelow (λ k. superblockValid (s .setup) order k (superblockAt s k)) 64) _ (h .superblocks)
+    (both-make (allBelow (λ k. unusedFrom (s .setup .superblocks) k (superblockAt s k)) 64) _ (h .past-unused)
+    (both-make (emptinessInvariant s) _ (h .processor-heaps)
+    (both-make (allBelow (λ k. sparseIfGlobal (s .setup) (superblockAt s k)) 64) _ (h .global-heap)
+    (both-make (namesValid s) _ (h .names)
+    (both-make (totalsValid s) _ (h .totals)
+    (both-make (ranksValid s) (runsValid s) (h .ranks) (h .runs)))))))
+
+-- looked at where the other way holds: a refused law is dear
 pub clauses-of-rest : (s : State) (order : List ℕ) → T (restValid s order) → RestClauses s order
 unfolding restValid
 clauses-of-rest s order t =
+    let before = rest-of-clauses in
     let a = both-right (allBelow (λ k. superblockValid (s .setup) order k (superblockAt s k)) 64) _ t in
     let b = both-right (allBelow (λ k. unusedFrom (s .setup .superblocks) k (superblockAt s k)) 64) _ a in
     let c = both-right (emptinessInvariant s) _ b in
@@ -39,17 +53,6 @@ clauses-of-rest s order t =
       runs = both-right (ranksValid s) (runsValid s) f;
     }
 
-pub rest-of-clauses : (s : State) (order : List ℕ) → RestClauses s order → T (restValid s order)
-unfolding restValid
-rest-of-clauses s order h =
-    both-make (allBelow (λ k. superblockValid (s .setup) order k (superblockAt s k)) 64) _ (h .superblocks)
-    (both-make (allBelow (λ k. unusedFrom (s .setup .superblocks) k (superblockAt s k)) 64) _ (h .past-unused)
-    (both-make (emptinessInvariant s) _ (h .processor-heaps)
-    (both-make (allBelow (λ k. sparseIfGlobal (s .setup) (superblockAt s k)) 64) _ (h .global-heap)
-    (both-make (namesValid s) _ (h .names)
-    (both-make (totalsValid s) _ (h .totals)
-    (both-make (ranksValid s) (runsValid s) (h .ranks) (h .runs)))))))
-
 -- the whole check asks the setup numbers too
 pub limits-of-passes : (s : State) (order : List ℕ) → T (passes s order) → T (withinLimits (s .setup))
 unfolding passes
@@ -62,3 +65,7 @@ rest-of-passes s order t = both-right (withinLimits (s .setup)) _ t
 pub passes-of-limits-and-rest : (s : State) (order : List ℕ) → T (withinLimits (s .setup)) → T (restValid s order) → T (passes s order)
 unfolding passes
 passes-of-limits-and-rest s order a b = both-make (withinLimits (s .setup)) _ a b
+
+-- what the computed cases unfold, which are skipped where a law is refused
+unfoldable pub clausesHold : Unit {0}
+clausesHold = clauses-of-rest also rest-of-clauses also limits-of-passes also rest-of-passes also passes-of-limits-and-rest also tt

@@ -14,9 +14,7 @@ use Rattle.checkrules.specs.Check.{emptinessInvariant, ranksValid}
 use Rattle.heap.proofs.TableCases.{of, ranked, small-setup}
 use Rattle.heap.proofs.CaseStates.{unnamedState}
 use Rattle.checkrules.proofs.CheckDefinitions.{checkDefinitions}
-use Rattle.checkrules.proofs.ClauseLaws.{clauses-of-rest, rest-of-clauses, limits-of-passes, rest-of-passes, passes-of-limits-and-rest}
-use Rattle.checkrules.proofs.CheckCases.{within-limits-cases, superblock-valid-cases, superblock-invalid-cases, unused-from-cases, sparse-if-global-cases, names-valid-cases, totals-valid-cases, totals-cancel-cases}
-use Rattle.checkrules.proofs.RunCheckCases.{is-part-of-run-cases, run-parts-valid-cases, run-part-unused-from-cases, whole-runs-cases, runs-not-whole-cases, rest-of-run-cases, runs-valid-cases}
+use Rattle.checkrules.proofs.RunCheckCases.{runChecksHold}
 
 -- ---- "the ranked ones carry 1 (latest) upwards, each once without a gap, the rest 0, unused ones too": superblocks 0, 1 and 63 of heaps 1, 0 and 2, and superblock 2, which is unused
 abbrev pub with-ranks : ℕ → ℕ → ℕ → ℕ → State
@@ -27,30 +25,25 @@ pub ranks-not-valid-cases :
     ranksValid (with-ranks 0 2 0 0) ∷ ranksValid (with-ranks 1 0 0 3) ∷ ranksValid (with-ranks 1 1 0 0) ∷ ranksValid (with-ranks 1 1 0 2) ∷ ranksValid (with-ranks 2 2 0 1)
     ∷ ranksValid (with-ranks 0 0 1 0) ∷ ranksValid (with-ranks 1 2 3 0) ∷ ranksValid (with-ranks 0 0 0 65) ∷ ranksValid (with-ranks 1 2 0 255) ∷ []
     ≡ replicate 9 false
-unfolding checkDefinitions
+unfolding runChecksHold checkDefinitions
 ranks-not-valid-cases = refl
 
 -- all 64 ranked
 pub all-ranked-case : ranksValid (unnamedState small-setup (listed (λ k. ranked 1 26 1 (64 - k)) 64)) ≡ true
 unfolding checkDefinitions listed
-all-ranked-case = refl
+all-ranked-case = let before = ranks-not-valid-cases in refl
 
 -- ---- tables that are looked at to their end. They are computed only where the cases above and those of the other clauses hold: a declaration that cites a
 -- refused one is skipped, which makes an edit of a definition cheap
 otherCasesHold : Unit {0}
-otherCasesHold =
-    clauses-of-rest also rest-of-clauses also limits-of-passes also rest-of-passes also passes-of-limits-and-rest also within-limits-cases
-    also superblock-valid-cases also superblock-invalid-cases also unused-from-cases also sparse-if-global-cases also names-valid-cases
-    also totals-valid-cases also totals-cancel-cases also is-part-of-run-cases also run-parts-valid-cases also run-part-unused-from-cases
-    also whole-runs-cases also runs-not-whole-cases also rest-of-run-cases also runs-valid-cases also ranks-not-valid-cases also all-ranked-case
-    also tt
+otherCasesHold = all-ranked-case also tt
 
--- none ranked; one, two and three, in two orders
-pub ranks-valid-cases :
-    ranksValid (with-ranks 0 0 0 0) ∷ ranksValid (with-ranks 0 1 0 0) ∷ ranksValid (with-ranks 0 0 0 1) ∷ ranksValid (with-ranks 2 0 0 1) ∷ ranksValid (with-ranks 2 3 0 1) ∷ ranksValid (with-ranks 1 2 0 3) ∷ []
-    ≡ replicate 6 true
+-- a ranked part of a run, and two empty superblocks of the last heap and class, alone: quick
+pub refused-alone-cases :
+    ranksValid (unnamedState small-setup (ranked 1 17 1 1 ∷ withRank 2 (runPart 1) ∷ replicate 62 unused)) ≡ false
+    × emptinessInvariant (unnamedState small-setup (of 2 26 0 ∷ of 2 26 0 ∷ replicate 62 unused)) ≡ false
 unfolding otherCasesHold checkDefinitions
-ranks-valid-cases = refl
+refused-alone-cases = (refl, refl)
 
 -- "no rank": superblocks 0 and 1 are ranked, and the run of two behind them is not; its first, or its last, of the next rank
 pub ranks-beside-run-cases :
@@ -58,7 +51,7 @@ pub ranks-beside-run-cases :
     ((runPart 2 ∷ runPart 0 ∷ []) ∷ (withRank 3 (runPart 2) ∷ runPart 0 ∷ []) ∷ (runPart 2 ∷ withRank 3 (runPart 0) ∷ []) ∷ [])
     ≡ true ∷ false ∷ false ∷ []
 unfolding otherCasesHold checkDefinitions
-ranks-beside-run-cases = refl
+ranks-beside-run-cases = let before = refused-alone-cases in refl
 
 -- ---- "no processor heap and class meets both conditions of the move rule": two empty superblocks of one heap and class do, for K = 1, of the first
 -- heap and class and of the last; not in heap 0, nor of two heaps, nor of two classes
@@ -70,4 +63,11 @@ pub emptiness-invariant-cases :
     ((of 1 0 0 ∷ of 1 0 0 ∷ []) ∷ (of 2 26 0 ∷ of 2 26 0 ∷ []) ∷ (of 0 26 0 ∷ of 0 26 0 ∷ of 1 26 0 ∷ of 2 26 0 ∷ of 1 25 0 ∷ []) ∷ [])
     ≡ false ∷ false ∷ true ∷ []
 unfolding otherCasesHold checkDefinitions
-emptiness-invariant-cases = refl
+emptiness-invariant-cases = let before = ranks-beside-run-cases in refl
+
+-- ---- ranks again: none ranked; one, two and three, in two orders
+pub ranks-valid-cases :
+    ranksValid (with-ranks 0 0 0 0) ∷ ranksValid (with-ranks 0 1 0 0) ∷ ranksValid (with-ranks 0 0 0 1) ∷ ranksValid (with-ranks 2 0 0 1) ∷ ranksValid (with-ranks 2 3 0 1) ∷ ranksValid (with-ranks 1 2 0 3) ∷ []
+    ≡ replicate 6 true
+unfolding otherCasesHold checkDefinitions
+ranks-valid-cases = let before = emptiness-invariant-cases in refl

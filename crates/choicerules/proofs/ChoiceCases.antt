@@ -3,6 +3,7 @@ use mathlib.Core.Path.{_≡_, refl}
 use mathlib.Core.List.{[], _∷_, _++_, map}
 use Prim.Native.Nat.{ℕ}
 use lib.ListN.{replicate}
+use Rattle.laws.proofs.Stages.{_also_}
 use Rattle.laws.specs.Sums.{sumBelow}
 use Rattle.classes.specs.Classes.{counts, blocksOf}
 use Rattle.marks.specs.Marks.{bit, markBit, liveCount}
@@ -21,26 +22,6 @@ abbrev pub choice-state : ℕ → State
 choice-state n =
     unnamedState (record { processors = 2; superblocks = n; spare = 1; p = 3; q = 7 }) (of 2 16 1023 ∷ of 1 16 15 ∷ of 1 16 1023 ∷ of 0 18 4 ∷ of 1 16 63 ∷ of 1 16 126 ∷ of 1 17 0 ∷ of 0 17 0 ∷ of 0 16 0 ∷ of 0 16 0 ∷ unused
     ∷ of 1 16 3 ∷ of 1 16 6 ∷ unused ∷ replicate 49 unused ++ of 2 17 7 ∷ [])
-
--- "class c with a free block, most live first, the lower number among equals"; in heap 0 "one with nothing live counts as well"; the last superblock is seen
-pub fullest-cases :
-    fullest 1 16 (choice-state 64) ∷ fullest 2 16 (choice-state 64) ∷ fullest 0 16 (choice-state 64) ∷ fullest 0 17 (choice-state 64) ∷ fullest 1 17 (choice-state 64) ∷ fullest 2 17 (choice-state 64) ∷ fullest 1 18 (choice-state 64) ∷ []
-    ≡ At 4 ∷ Nothing ∷ At 8 ∷ At 7 ∷ At 6 ∷ At 63 ∷ Nothing ∷ []
-unfolding fullest chosenBelow prefer fullerOrMoreRecent moreLive isMoreRecent isRanked hasFree belongs blocksOf counts liveCount sumBelow markBit bit
-fullest-cases = refl
-
--- of class 16 heap 1 has, with 4 live, unranked ones and ones of ranks 3 and 2, with 2 live one of rank 1, and full ones, of rank 4 and unranked; heap 2 has
--- unranked ones; heap 0 has, with 1 live, one unranked and one of rank 5
-abbrev pub ranked-choice-state : State
-ranked-choice-state =
-    unnamedState (record { processors = 2; superblocks = 64; spare = 1; p = 3; q = 7 })
-    (of 1 16 15 ∷ ranked 1 16 30 3 ∷ ranked 1 16 60 2 ∷ ranked 1 16 3 1 ∷ ranked 1 16 1023 4 ∷ of 1 16 15 ∷ of 2 16 3 ∷ of 2 16 12 ∷ of 0 16 1 ∷ ranked 0 16 2 5 ∷ replicate 54 unused)
-
--- "Among equally full superblocks in places 1 and 2 of a take, the one freed into most recently since it was last renewed comes first. Those not freed into since
--- then follow, lower number first."
-pub fullest-of-equals-cases : fullest 1 16 ranked-choice-state ∷ fullest 2 16 ranked-choice-state ∷ fullest 0 16 ranked-choice-state ∷ [] ≡ At 2 ∷ At 6 ∷ At 9 ∷ []
-unfolding fullest chosenBelow prefer fullerOrMoreRecent moreLive isMoreRecent isRanked hasFree belongs blocksOf counts liveCount sumBelow markBit bit
-fullest-of-equals-cases = refl
 
 -- "heap i's class-c superblock with the fewest live, the lower number among equals"; a full one too
 pub emptiest-cases :
@@ -71,3 +52,30 @@ lowest-unused-cases = refl
 -- the first that is found
 pub or-else-cases : orElse (At 5) (At 3) ∷ orElse Nothing (At 3) ∷ orElse (At 5) Nothing ∷ orElse Nothing Nothing ∷ [] ≡ At 5 ∷ At 3 ∷ At 5 ∷ Nothing ∷ []
 or-else-cases = refl
+
+-- ---- the cases so far take little. Each that follows takes longer, and is computed where they and the one before it hold
+unfoldable quickChoicesHold : Unit {0}
+quickChoicesHold = emptiest-cases also emptiest-by-number-case also lowest-empty-cases also lowest-unused-cases also or-else-cases also tt
+
+-- of class 16 heap 1 has, with 4 live, unranked ones and ones of ranks 3 and 2, with 2 live one of rank 1, and full ones, of rank 4 and unranked; heap 2 has
+-- unranked ones; heap 0 has, with 1 live, one unranked and one of rank 5
+abbrev pub ranked-choice-state : State
+ranked-choice-state =
+    unnamedState (record { processors = 2; superblocks = 64; spare = 1; p = 3; q = 7 })
+    (of 1 16 15 ∷ ranked 1 16 30 3 ∷ ranked 1 16 60 2 ∷ ranked 1 16 3 1 ∷ ranked 1 16 1023 4 ∷ of 1 16 15 ∷ of 2 16 3 ∷ of 2 16 12 ∷ of 0 16 1 ∷ ranked 0 16 2 5 ∷ replicate 54 unused)
+
+-- "Among equally full superblocks in places 1 and 2 of a take, the one freed into most recently since it was last renewed comes first. Those not freed into since
+-- then follow, lower number first."
+pub fullest-of-equals-cases : fullest 1 16 ranked-choice-state ∷ fullest 2 16 ranked-choice-state ∷ fullest 0 16 ranked-choice-state ∷ [] ≡ At 2 ∷ At 6 ∷ At 9 ∷ []
+unfolding quickChoicesHold fullest chosenBelow prefer fullerOrMoreRecent moreLive isMoreRecent isRanked hasFree belongs blocksOf counts liveCount sumBelow markBit bit
+fullest-of-equals-cases = refl
+
+-- "class c with a free block, most live first, the lower number among equals"; in heap 0 "one with nothing live counts as well"; the last superblock is seen
+pub fullest-cases :
+    fullest 1 16 (choice-state 64) ∷ fullest 2 16 (choice-state 64) ∷ fullest 0 16 (choice-state 64) ∷ fullest 0 17 (choice-state 64) ∷ fullest 1 17 (choice-state 64) ∷ fullest 2 17 (choice-state 64) ∷ fullest 1 18 (choice-state 64) ∷ []
+    ≡ At 4 ∷ Nothing ∷ At 8 ∷ At 7 ∷ At 6 ∷ At 63 ∷ Nothing ∷ []
+unfolding fullest chosenBelow prefer fullerOrMoreRecent moreLive isMoreRecent isRanked hasFree belongs blocksOf counts liveCount sumBelow markBit bit
+fullest-cases = let before = fullest-of-equals-cases in refl
+
+unfoldable pub choicesHold : Unit {0}
+choicesHold = fullest-cases also tt

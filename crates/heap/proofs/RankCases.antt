@@ -4,13 +4,14 @@ use mathlib.Core.Bool.{true, false}
 use mathlib.Core.List.{List, [], _∷_, _++_, map}
 use Prim.Native.Nat.{ℕ}
 use lib.ListN.{replicate, take}
+use Rattle.laws.proofs.Stages.{_also_}
 use Rattle.laws.specs.Lists.{listed}
 use Rattle.heap.specs.declared.Superblock.{Superblock}
 use Rattle.heap.specs.declared.State.{State}
 use Rattle.heap.specs.Table.{unused}
 use Rattle.heap.specs.Ranks.{isRanked, isMoreRecent, rankAfterFree, rankAfterRenewal, rankedLatest, unranked}
 use Rattle.heap.proofs.CaseStates.{unnamedState}
-use Rattle.heap.proofs.TableCases.{ranked, small-setup}
+use Rattle.heap.proofs.TableCases.{ranked, small-setup, tableHolds}
 
 -- ranks 2, 0, 4, 1, 3, 0 in heaps 1, 1, 0, 2, 1, 0; the rest unused
 abbrev pub ranked-state : State
@@ -23,26 +24,30 @@ ranksOf s = map (λ (b : Superblock). b .rank) (s .table)
 pub is-more-recent-cases :
     map (λ (r : ℕ). isMoreRecent (ranked 1 17 1 2) (ranked 1 17 1 r)) (0 ∷ 1 ∷ 2 ∷ 3 ∷ []) ++ map (λ (r : ℕ). isMoreRecent (ranked 1 17 1 0) (ranked 1 17 1 r)) (0 ∷ 1 ∷ [])
     ≡ true ∷ false ∷ false ∷ true ∷ false ∷ false ∷ []
-unfolding isMoreRecent isRanked
+unfolding tableHolds isMoreRecent isRanked
 is-more-recent-cases = refl
 
 -- a free into the latest, one in between, the last, and an unranked one: it goes to the front and those that were ahead of it go one back
 pub ranked-latest-cases :
     map (λ (k : ℕ). take 7 (ranksOf (rankedLatest k ranked-state))) (3 ∷ 4 ∷ 2 ∷ 5 ∷ [])
     ≡ (2 ∷ 0 ∷ 4 ∷ 1 ∷ 3 ∷ 0 ∷ 0 ∷ []) ∷ (3 ∷ 0 ∷ 4 ∷ 2 ∷ 1 ∷ 0 ∷ 0 ∷ []) ∷ (3 ∷ 0 ∷ 1 ∷ 2 ∷ 4 ∷ 0 ∷ 0 ∷ []) ∷ (3 ∷ 0 ∷ 5 ∷ 2 ∷ 4 ∷ 1 ∷ 0 ∷ []) ∷ []
-unfolding rankedLatest listed rankAfterFree isMoreRecent isRanked
+unfolding tableHolds rankedLatest listed rankAfterFree isMoreRecent isRanked
 ranked-latest-cases = refl
 
 -- the latest, one in between, the last, and an unranked one leave the ranking: those that were behind it go one ahead
 pub unranked-cases :
     map (λ (k : ℕ). take 7 (ranksOf (unranked k ranked-state))) (3 ∷ 0 ∷ 2 ∷ 1 ∷ [])
     ≡ (1 ∷ 0 ∷ 3 ∷ 0 ∷ 2 ∷ 0 ∷ 0 ∷ []) ∷ (0 ∷ 0 ∷ 3 ∷ 1 ∷ 2 ∷ 0 ∷ 0 ∷ []) ∷ (2 ∷ 0 ∷ 0 ∷ 1 ∷ 3 ∷ 0 ∷ 0 ∷ []) ∷ (2 ∷ 0 ∷ 4 ∷ 1 ∷ 3 ∷ 0 ∷ 0 ∷ []) ∷ []
-unfolding unranked listed rankAfterRenewal isMoreRecent isRanked
+unfolding tableHolds unranked listed rankAfterRenewal isMoreRecent isRanked
 unranked-cases = refl
 
 -- superblock 63 is ranked as the others are, and nothing but ranks changes
 pub last-superblock-ranked-case :
     rankedLatest 63 (unnamedState small-setup (ranked 1 17 5 1 ∷ replicate 62 unused ++ ranked 2 16 3 0 ∷ []))
     ≡ record { setup = small-setup; table = ranked 1 17 5 2 ∷ replicate 62 unused ++ ranked 2 16 3 1 ∷ []; names = unnamedState small-setup [] .names; totals = unnamedState small-setup (ranked 1 17 5 1 ∷ replicate 62 unused ++ ranked 2 16 3 0 ∷ []) .totals }
-unfolding rankedLatest listed rankAfterFree isMoreRecent isRanked
+unfolding tableHolds rankedLatest listed rankAfterFree isMoreRecent isRanked
 last-superblock-ranked-case = refl
+
+unfoldable pub ranksHold : Unit {0}
+ranksHold =
+    is-more-recent-cases also ranked-latest-cases also unranked-cases also last-superblock-ranked-case also tt

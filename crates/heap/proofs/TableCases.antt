@@ -4,6 +4,7 @@ use mathlib.Core.Bool.{true, false}
 use mathlib.Core.List.{List, [], _∷_, _++_, map}
 use Prim.Native.Nat.{ℕ, _+_, _-_, _^_}
 use lib.ListN.{replicate}
+use Rattle.laws.proofs.Stages.{_also_}
 use Rattle.laws.specs.Sums.{sumBelow}
 use Rattle.classes.specs.Classes.{counts, blocksOf}
 use Rattle.marks.specs.Marks.{bit, markBit, isMarked, withMark, withoutMark, liveCount}
@@ -52,7 +53,7 @@ pub new-state-case :
       names = replicate 1024 65535;
       totals = record { superblocks = replicate 243 0; live = replicate 243 0 };
     }
-new-state-case = refl
+new-state-case = let before = no-state-case in refl
 
 -- one superblock changed: its owner, block 70 live, block 2 no longer live, its rank, and nothing else
 pub superblock-change-cases :
@@ -71,10 +72,22 @@ pub is-live-block-cases :
 unfolding isLiveBlock liveBlocks startsRun isOfRun isMarked withMark markBit bit
 is-live-block-cases = refl
 
+-- the cases so far take little. Each that follows takes longer, and is computed where they and the one before it hold
+unfoldable quickTableHolds : Unit {0}
+quickTableHolds = is-unused-cases also no-state-case also new-state-case also superblock-change-cases also is-live-block-cases also tt
+
 -- ---- counts: superblocks 0 to 6 and 63 are in use; heap 1 has three of class 16, with 3, 0 and 7 blocks live
 abbrev pub counted-state : State
 counted-state =
     unnamedState small-setup (of 1 16 7 ∷ of 2 16 31 ∷ of 0 16 0 ∷ of 1 17 15 ∷ unused ∷ of 1 16 0 ∷ of 2 17 511 ∷ replicate 56 unused ++ of 1 16 127 ∷ [])
+
+-- superblocks 0 and 63 have other owners; superblock 3 other marks, and 5 another class; 4 has come into use
+pub owners-changed-cases :
+    map (ownersChanged counted-state)
+    (counted-state ∷ withSuperblock (withSuperblock counted-state 63 (of 2 16 127)) 0 (of 0 16 7) ∷ withSuperblock (withSuperblock counted-state 3 (of 1 17 1)) 5 (of 1 3 0) ∷ withSuperblock counted-state 4 (of 1 0 0) ∷ [])
+    ≡ 0 ∷ 2 ∷ 0 ∷ 1 ∷ []
+unfolding quickTableHolds ownersChanged sumBelow
+owners-changed-cases = refl
 
 -- heap and class: superblocks, blocks, live blocks
 abbrev pub counts-by-heap : List (ℕ × ℕ × ℕ × ℕ × ℕ)
@@ -82,7 +95,7 @@ counts-by-heap = (1, 16, 3, 30, 10) ∷ (2, 16, 1, 10, 5) ∷ (0, 16, 1, 10, 0) 
 
 pub counts-by-heap-cases : map (λ (r : ℕ × ℕ × ℕ × ℕ × ℕ). (r .0, r .1, superblocksOf (r .0) (r .1) counted-state, blocksIn (r .0) (r .1) counted-state, liveOf (r .0) (r .1) counted-state)) counts-by-heap ≡ counts-by-heap
 unfolding superblocksOf blocksIn liveOf total oneIfBelongs liveIfBelongs belongs blocksOf counts liveCount sumBelow markBit bit
-counts-by-heap-cases = refl
+counts-by-heap-cases = let before = owners-changed-cases in refl
 
 -- a class: "the superblocks of this class that any heap owns .., empty ones too", and their live blocks; an unused superblock is of no class
 abbrev pub counts-by-class : List (ℕ × ℕ × ℕ)
@@ -90,12 +103,8 @@ counts-by-class = (16, 5, 15) ∷ (17, 2, 13) ∷ (0, 0, 0) ∷ []
 
 pub counts-by-class-cases : map (λ (r : ℕ × ℕ × ℕ). (r .0, superblocksOfClass (r .0) counted-state, liveOfClass (r .0) counted-state)) counts-by-class ≡ counts-by-class
 unfolding superblocksOfClass liveOfClass total isOwnedOfClass isOfHeap liveCount sumBelow markBit bit
-counts-by-class-cases = refl
+counts-by-class-cases = let before = counts-by-heap-cases in refl
 
--- superblocks 0 and 63 have other owners; superblock 3 other marks, and 5 another class; 4 has come into use
-pub owners-changed-cases :
-    map (ownersChanged counted-state)
-    (counted-state ∷ withSuperblock (withSuperblock counted-state 63 (of 2 16 127)) 0 (of 0 16 7) ∷ withSuperblock (withSuperblock counted-state 3 (of 1 17 1)) 5 (of 1 3 0) ∷ withSuperblock counted-state 4 (of 1 0 0) ∷ [])
-    ≡ 0 ∷ 2 ∷ 0 ∷ 1 ∷ []
-unfolding ownersChanged sumBelow
-owners-changed-cases = refl
+-- what the cases of ranks and runs unfold
+unfoldable pub tableHolds : Unit {0}
+tableHolds = counts-by-class-cases also tt

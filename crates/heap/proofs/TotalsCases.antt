@@ -1,8 +1,10 @@
 -- The totals of each heap and class, in cases that tell the recount from near misses, by computation. Assumes nothing.
 use mathlib.Core.Path.{_≡_, refl}
+use mathlib.Core.Bool.{true, false}
 use mathlib.Core.List.{List, [], _∷_, _++_, map}
 use Prim.Native.Nat.{ℕ, _+_}
 use lib.ListN.{getD, replicate}
+use Rattle.laws.proofs.Stages.{_also_}
 use Rattle.laws.specs.Sums.{sumBelow}
 use Rattle.laws.specs.Lists.{increased}
 use Rattle.marks.specs.Marks.{bit, markBit, liveCount}
@@ -12,6 +14,17 @@ use Rattle.heap.specs.Totals.{superblocksKept, liveKept, isCounted, with
 use Rattle.heap.specs.States.{withSuperblock, withNames}
 use Rattle.heap.proofs.CaseStates.{unnamedState}
 use Rattle.heap.proofs.TableCases.{of, small-setup}
+use Rattle.heap.proofs.RankCases.{ranksHold}
+use Rattle.heap.proofs.RunCases.{runsHold}
+
+-- Totals take longer to compute than all other cases of the crate, which come first.
+unfoldable othersHold : Unit {0}
+othersHold = ranksHold also runsHold also tt
+
+-- of heaps 0 to 8 and classes 0 to 26
+pub is-counted-cases : map isCounted (of 0 24 2 ∷ of 8 26 0 ∷ of 1 0 5 ∷ of 9 3 1 ∷ of 254 0 1 ∷ of 1 27 1 ∷ unused ∷ []) ≡ true ∷ true ∷ true ∷ false ∷ false ∷ false ∷ false ∷ []
+unfolding othersHold isCounted
+is-counted-cases = refl
 
 -- Heap 1 has two superblocks of class 23, with two live blocks and none, heap 0 one of class 24 with one, heap 8 one of class 26 with two. Of no heap or
 -- no class are an unused one, one with owner 9, one with owner 254 and one with class 27.
@@ -26,11 +39,11 @@ totals-seen s =
 
 pub recounted-cases : totals-seen counted-state ≡ (2, 2) ∷ (1, 1) ∷ (1, 2) ∷ (0, 0) ∷ (0, 0) ∷ (0, 0) ∷ (0, 0) ∷ (4, 5) ∷ []
 unfolding superblocksKept liveKept recounted countedBelow withCounted isCounted increased liveCount sumBelow markBit bit
-recounted-cases = refl
+recounted-cases = let before = is-counted-cases in refl
 
 -- superblock 0 passes to heap 0 and class 24 with one live block: heap 1's are one fewer, heap 0's one more; then superblock 63 is unused, and other names change none
 pub totals-after-changes :
     totals-seen (withSuperblock counted-state 0 (of 0 24 1)) ∷ totals-seen (withNames (withSuperblock counted-state 63 unused) []) ∷ []
     ≡ ((1, 0) ∷ (2, 2) ∷ (1, 2) ∷ (0, 0) ∷ (0, 0) ∷ (0, 0) ∷ (0, 0) ∷ (4, 4) ∷ []) ∷ ((2, 2) ∷ (1, 1) ∷ (0, 0) ∷ (0, 0) ∷ (0, 0) ∷ (0, 0) ∷ (0, 0) ∷ (3, 3) ∷ []) ∷ []
 unfolding superblocksKept liveKept recounted countedBelow withCounted isCounted increased liveCount sumBelow markBit bit
-totals-after-changes = refl
+totals-after-changes = let before = recounted-cases in refl

@@ -5,6 +5,7 @@ use mathlib.Core.Bool.{true, false}
 use mathlib.Core.List.{List, [], _∷_, _++_, map}
 use Prim.Native.Nat.{ℕ, _-_, _^_}
 use lib.ListN.{length, take, replicate}
+use Rattle.laws.proofs.Stages.{_also_}
 use Rattle.laws.specs.Sums.{sumBelow}
 use Rattle.classes.specs.Classes.{sizes, counts, sizeOf, blocksOf}
 use Rattle.marks.specs.Marks.{bit, markBit, liveCount}
@@ -97,40 +98,40 @@ result-of k =
 abbrev pub expected-of : MoveCase → ℕ × List ℕ
 expected-of k = (k .moves, k .owners)
 
+-- the two conditions on their own. With K = 2, p/q = 3/7, n = 5, a = 40: 22 + 10 < 40 and 154 < 160, and 161 is not below; with K = 6 the first decides
+pub both-conditions-cases :
+    map (bothConditions 2 3 7 5 40) (22 ∷ 23 ∷ 0 ∷ []) ≡ true ∷ false ∷ true ∷ [] × map (bothConditions 6 3 7 5 40) (9 ∷ 10 ∷ []) ≡ true ∷ false ∷ []
+unfolding bothConditions
+both-conditions-cases = (refl, refl)
+
+-- 7 × 20 is 4 × 35
+pub second-condition-equal-case : bothConditions 2 3 7 5 35 20 ≡ false
+unfolding bothConditions
+second-condition-equal-case = refl
+
+-- "If the owner is heap 0 the call ends": heap 0's four empty superblocks would meet both conditions
+abbrev pub all-global : State
+all-global = stateOfCase (record { spare = 1; p = 1; q = 4; class = 16; table = map (superblock-with 0 16) (0 ∷ 0 ∷ 0 ∷ 0 ∷ []); moves = 0; owners = [] })
+
+pub invariant-restored-in-global-case : invariantRestored 0 16 all-global ≡ record { moves = 0; state = all-global }
+unfolding invariantRestored
+invariant-restored-in-global-case = refl
+
 -- in blocks, not in bytes
 pub full-with-tails-stays : result-of full-with-tails ≡ expected-of full-with-tails
 unfolding excessTransferred transfersUpTo mustMove bothConditions transferred foundTransferred emptiest chosenBelow prefer fewerLive belongs total oneIfBelongs liveIfBelongs superblocksOf blocksIn liveOf
     sumBelow sizes counts sizeOf blocksOf bit markBit liveCount
 full-with-tails-stays = refl
 
+-- ---- the cases so far take little. Each that follows takes longer, and is computed where they and the one before it hold
+unfoldable quickMovesHold : Unit {0}
+quickMovesHold = both-conditions-cases also second-condition-equal-case also invariant-restored-in-global-case also full-with-tails-stays also tt
+
 -- compared before it is divided
 pub division-rounds-moves-one : result-of division-rounds ≡ expected-of division-rounds
-unfolding excessTransferred transfersUpTo mustMove bothConditions transferred foundTransferred emptiest chosenBelow prefer fewerLive belongs total oneIfBelongs liveIfBelongs superblocksOf blocksIn liveOf
+unfolding quickMovesHold excessTransferred transfersUpTo mustMove bothConditions transferred foundTransferred emptiest chosenBelow prefer fewerLive belongs total oneIfBelongs liveIfBelongs superblocksOf blocksIn liveOf
     sumBelow sizes counts sizeOf blocksOf bit markBit liveCount
 division-rounds-moves-one = refl
-
--- two moves in one free
-pub marked-case-moves-two : result-of marked-case ≡ expected-of marked-case
-unfolding excessTransferred transfersUpTo mustMove bothConditions transferred foundTransferred emptiest chosenBelow prefer fewerLive belongs total oneIfBelongs liveIfBelongs superblocksOf blocksIn liveOf
-    sumBelow sizes counts sizeOf blocksOf bit markBit liveCount
-marked-case-moves-two = refl
-
-pub move-rule-cases : map result-of cases ≡ map expected-of cases
-unfolding excessTransferred transfersUpTo mustMove bothConditions transferred foundTransferred emptiest chosenBelow prefer fewerLive belongs total oneIfBelongs liveIfBelongs superblocksOf blocksIn liveOf
-    sumBelow sizes counts sizeOf blocksOf bit markBit liveCount
-move-rule-cases = refl
-
--- one move, as in Figure 2 of document 003, is not enough: both conditions still hold after it
-pub marked-case-must-move-again : mustMove 1 16 (foundTransferred (emptiest 1 16 (stateOfCase marked-case)) (stateOfCase marked-case)) ≡ true
-unfolding mustMove bothConditions transferred foundTransferred emptiest chosenBelow prefer fewerLive belongs total oneIfBelongs liveIfBelongs superblocksOf blocksIn liveOf
-    sumBelow sizes counts sizeOf blocksOf bit markBit liveCount
-marked-case-must-move-again = refl
-
--- the two conditions on their own. With K = 2, p/q = 3/7, n = 5, a = 40: 22 + 10 < 40 and 154 < 160, and 161 is not below; with K = 6 the first decides
-pub both-conditions-cases :
-    map (bothConditions 2 3 7 5 40) (22 ∷ 23 ∷ 0 ∷ []) ≡ true ∷ false ∷ true ∷ [] × map (bothConditions 6 3 7 5 40) (9 ∷ 10 ∷ []) ≡ true ∷ false ∷ []
-unfolding bothConditions
-both-conditions-cases = (refl, refl)
 
 -- the whole state after a move: the superblock's owner is 0, its class and marks are as they were, and so is all else
 pub invariant-restored-whole-state-case :
@@ -141,12 +142,21 @@ pub invariant-restored-whole-state-case :
     }
 unfolding invariantRestored excessTransferred transfersUpTo mustMove bothConditions transferred foundTransferred emptiest chosenBelow prefer fewerLive belongs total oneIfBelongs liveIfBelongs superblocksOf blocksIn liveOf
     sumBelow sizes counts sizeOf blocksOf bit markBit liveCount
-invariant-restored-whole-state-case = refl
+invariant-restored-whole-state-case = let before = division-rounds-moves-one in refl
 
--- "If the owner is heap 0 the call ends": heap 0's four empty superblocks would meet both conditions
-abbrev pub all-global : State
-all-global = stateOfCase (record { spare = 1; p = 1; q = 4; class = 16; table = map (superblock-with 0 16) (0 ∷ 0 ∷ 0 ∷ 0 ∷ []); moves = 0; owners = [] })
+-- two moves in one free
+pub marked-case-moves-two : result-of marked-case ≡ expected-of marked-case
+unfolding excessTransferred transfersUpTo mustMove bothConditions transferred foundTransferred emptiest chosenBelow prefer fewerLive belongs total oneIfBelongs liveIfBelongs superblocksOf blocksIn liveOf
+    sumBelow sizes counts sizeOf blocksOf bit markBit liveCount
+marked-case-moves-two = let before = invariant-restored-whole-state-case in refl
 
-pub invariant-restored-in-global-case : invariantRestored 0 16 all-global ≡ record { moves = 0; state = all-global }
-unfolding invariantRestored
-invariant-restored-in-global-case = refl
+pub move-rule-cases : map result-of cases ≡ map expected-of cases
+unfolding excessTransferred transfersUpTo mustMove bothConditions transferred foundTransferred emptiest chosenBelow prefer fewerLive belongs total oneIfBelongs liveIfBelongs superblocksOf blocksIn liveOf
+    sumBelow sizes counts sizeOf blocksOf bit markBit liveCount
+move-rule-cases = let before = marked-case-moves-two in refl
+
+-- one move, as in Figure 2 of document 003, is not enough: both conditions still hold after it
+pub marked-case-must-move-again : mustMove 1 16 (foundTransferred (emptiest 1 16 (stateOfCase marked-case)) (stateOfCase marked-case)) ≡ true
+unfolding mustMove bothConditions transferred foundTransferred emptiest chosenBelow prefer fewerLive belongs total oneIfBelongs liveIfBelongs superblocksOf blocksIn liveOf
+    sumBelow sizes counts sizeOf blocksOf bit markBit liveCount
+marked-case-must-move-again = let before = move-rule-cases in refl
