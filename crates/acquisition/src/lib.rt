@@ -61,7 +61,7 @@ fn acquire_order(b: Superblock, order: &mut [u16], class: u8, k: u8)
     ensures { λ _. ⌜ now (order .exit) ≡ acquiredOrder class k b (now (order .entry)) ⌝ }
 {
     if predicates::live_in(b) == 0 {
-        let n = classes::block_count(class);
+        let n = classtable::block_count(class);
         freelistinit::renew_order(order, k, n);
     }
 }

@@ -22,7 +22,7 @@ fn is_unmapped(superblocks: u8, b: Superblock, address: u32) -> bool
 fn is_off_block(b: Superblock, address: u32) -> bool
     ensures { λ r. ⌜ TellsIn r isOffBlock b address ⌝ }
 {
-    let size = classes::block_size(b.class);
+    let size = classtable::block_size(b.class);
     if size == 0 {
         return true;
     }
@@ -30,7 +30,7 @@ fn is_off_block(b: Superblock, address: u32) -> bool
     if offset % size != 0 {
         return true;
     }
-    classes::block_count(b.class) <= offset / size
+    classtable::block_count(b.class) <= offset / size
 }
 
 // A run starts at the address: its superblock is the first of one, and the address is its first.

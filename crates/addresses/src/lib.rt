@@ -10,7 +10,7 @@ use heap::State;
 pub fn block_in(class: u8, address: u32) -> u16
     ensures { λ r. ⌜ r ≡ offsetOf address / sizeOf class ⌝ }
 {
-    let size = classes::block_size(class);
+    let size = classtable::block_size(class);
     if size == 0 {
         return 0;
     }

@@ -13,7 +13,7 @@ use heap::Superblock;
 pub fn address_of(k: u8, class: u8, j: u16) -> u32
     ensures { λ r. ⌜ r ≡ addressOf k class j ⌝ }
 {
-    let size = classes::block_size(class) as u32;
+    let size = classtable::block_size(class) as u32;
     k as u32 * 4096 + j as u32 * size
 }
 

@@ -12,7 +12,7 @@ fn pair_invariant(setup: Setup, class: u8, superblocks: u8, live: u16) -> bool
     if superblocks < 1 {
         return true;
     }
-    let n = classes::block_count(class) as u32;
+    let n = classtable::block_count(class) as u32;
     !thresholds::both_conditions(setup, n, superblocks as u32 * n, live as u32)
 }
 

@@ -14,7 +14,7 @@ fn must_move(s: State, heap: u8, class: u8) -> bool
     requires { ⌜ (heap < 9) × (class < 27) × TotalsKept s ⌝ }
     ensures { λ r. ⌜ r ≡ mustMove heap class s ⌝ }
 {
-    let n = classes::block_count(class) as u32;
+    let n = classtable::block_count(class) as u32;
     let at = heap as usize * 27 + class as usize;
     let kept = s.totals;
     let a = kept.superblocks[at] as u32 * n;

@@ -11,7 +11,7 @@ ghost use Rattle.filledplaces.specs.FilledPlaces.{placesValid, eachOnce};
 pub fn places_valid(order: &[u16], live: [u64; 4], s: u8, class: u8) -> bool
     ensures { λ r. ⌜ r ≡ placesValid (now (order .entry)) live s (blocksOf class) ⌝ }
 {
-    let n = classes::block_count(class) as usize;
+    let n = classtable::block_count(class) as usize;
     if !bitcount::no_mark_from(live, n) {
         return false;
     }

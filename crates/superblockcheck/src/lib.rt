@@ -65,7 +65,7 @@ fn sparse_if_global(setup: Setup, b: Superblock) -> bool
     if b.owner != 0 {
         return true;
     }
-    let n = classes::block_count(b.class) as u32;
+    let n = classtable::block_count(b.class) as u32;
     let live = predicates::live_in(b);
     thresholds::is_sparse(setup, live, n)
 }

@@ -35,7 +35,7 @@ pub fn class_at(s: State, k: usize) -> u8
 pub fn filled_in(b: Superblock) -> u16
     ensures { λ r. ⌜ (r ≡ blocksOf (b .class) - liveIn b) × (r ≤ 256) ⌝ }
 {
-    let n = classes::block_count(b.class) as u32;
+    let n = classtable::block_count(b.class) as u32;
     let live = predicates::live_in(b);
     if n < live {
         return 0;
