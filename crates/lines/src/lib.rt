@@ -1,8 +1,8 @@
 // The line of a setup and of a stop, written into a lent buffer, as far as they reach.
 use fields::put_byte;
 use fields::put_last_field;
-use fields::put_next_byte;
 use heap::Setup;
+use nextfields::put_next_byte;
 use text::put_text;
 ghost use mathlib.Core.Path.{_≡_};
 ghost use Rattle.textrules.specs.Text.{pasted};
