@@ -1,7 +1,7 @@
 // The lines after the last command of a record, written into a lent buffer, as far as they reach.
-use fields::put_nothing;
 use heap::State;
 use heapline::heap_line_if;
+use nextfields::put_nothing;
 use runlines::run_lines;
 use text::put_text;
 ghost use mathlib.Core.Path.{_≡_};

@@ -2,8 +2,8 @@
 use fields::put_byte;
 use fields::put_field;
 use fields::put_last_field;
-use fields::put_nothing;
 use heap::State;
+use nextfields::put_nothing;
 ghost use mathlib.Core.Path.{_≡_};
 ghost use Prim.Native.Nat.{_<_};
 ghost use Rattle.heap.specs.Totals.{TotalsKept};

@@ -1,7 +1,7 @@
 // The lines of the names that a call leaves held, written into a lent buffer, as far as they reach.
 use fields::put_last_field;
-use fields::put_nothing;
 use fields::put_short;
+use nextfields::put_nothing;
 ghost use mathlib.Core.Path.{_≡_};
 ghost use Rattle.textrules.specs.Text.{pasted};
 ghost use Rattle.answerrules.specs.AnswerLines.{nameLineIf, nameLines};

@@ -1,6 +1,6 @@
 // The lines of the order places that a call changed, written into a lent buffer, as far as they reach.
 use fields::put_last_field;
-use fields::put_nothing;
+use nextfields::put_nothing;
 use widefields::put_wide_field;
 ghost use mathlib.Core.Path.{_≡_};
 ghost use Prim.Native.Nat.{min};

@@ -1,8 +1,8 @@
 // The lines of a take, a free and a drop, written into a lent buffer, as far as they reach.
 use calls::Outcome;
 use fields::put_byte;
-use fields::put_next;
 use fields::put_short;
+use nextfields::put_next;
 use results::put_result_end;
 ghost use mathlib.Core.Path.{_≡_};
 ghost use Rattle.textrules.specs.Text.{pasted};

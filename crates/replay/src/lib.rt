@@ -185,7 +185,7 @@ fn call_step(
     let s = x.state;
     let a = engine::call_state(s, order, call, addresses);
     let outcome = a.outcome;
-    let end = lines::call_line(out, x.end, call, count, outcome);
+    let end = calllines::call_line(out, x.end, call, count, outcome);
     let t = a.state;
     next(bytes, t, x.at + call_size(call, count), end)
 }

@@ -2,7 +2,7 @@
 use calls::Outcome;
 use fields::put_byte;
 use fields::put_field;
-use fields::put_nothing;
+use nextfields::put_nothing;
 use text::put_text;
 ghost use mathlib.Core.Path.{_≡_};
 ghost use mathlib.Core.List.{_++_};

@@ -1,8 +1,8 @@
 // The lines of the long blocks' runs at the end of a record, written into a lent buffer, as far as they reach.
 use fields::put_byte;
 use fields::put_last_field;
-use fields::put_nothing;
 use heap::State;
+use nextfields::put_nothing;
 use predicates::starts_run;
 ghost use mathlib.Core.Path.{_≡_};
 ghost use Prim.Native.Nat.{_<_};

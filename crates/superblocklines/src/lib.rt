@@ -1,8 +1,8 @@
 // The lines of the superblocks that a call leaves, written into a lent buffer, as far as they reach.
 use fields::put_byte;
 use fields::put_last_field;
-use fields::put_nothing;
 use heap::Superblock;
+use nextfields::put_nothing;
 use predicates::is_unused;
 use widefields::put_wide_field;
 ghost use mathlib.Core.Path.{_≡_};

@@ -1,8 +1,8 @@
 // The lines of the totals that a call leaves, written into a lent buffer, as far as they reach.
 use fields::put_byte;
 use fields::put_last_field;
-use fields::put_nothing;
 use heap::Totals;
+use nextfields::put_nothing;
 ghost use mathlib.Core.Path.{_≡_};
 ghost use lib.Dec.{eqb};
 ghost use Rattle.laws.specs.Sums.{both};

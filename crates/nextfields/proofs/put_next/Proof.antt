@@ -1,10 +1,10 @@
--- `fields::put_next` meets its contract: the word is a space. Assumes nothing.
+-- `nextfields::put_next` meets its contract: the word is a space. Assumes nothing.
 use mathlib.Core.Path.{refl}
 use Rattle.textrules.specs.Text.{letters}
 use Rattle.fields.proofs.FieldLaws.{field-put}
 use borrow.Author.Needs.{needs}
-use Rattle.fields.proofs.put_next.Statement.{statement}
-use Rattle.fields.proofs.put_next.Tie as tie
+use Rattle.nextfields.proofs.put_next.Statement.{statement}
+use Rattle.nextfields.proofs.put_next.Tie as tie
 
 slice-aggregate-put-field : tie.Need-slice-aggregate-put-field
 slice-aggregate-put-field c = search needs

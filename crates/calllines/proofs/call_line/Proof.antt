@@ -1,8 +1,8 @@
--- `lines::call_line` meets its contract. Assumes nothing.
+-- `calllines::call_line` meets its contract. Assumes nothing.
 use borrow.Author.Needs.{needs}
-use Rattle.lines.proofs.CallLineLaws.{call-line-of-take, call-line-of-free, call-line-of-named-take, call-line-of-named-free, call-line-of-drop}
-use Rattle.lines.proofs.call_line.Statement.{statement}
-use Rattle.lines.proofs.call_line.Tie as tie
+use Rattle.calllines.proofs.CallLineLaws.{call-line-of-take, call-line-of-free, call-line-of-named-take, call-line-of-named-free, call-line-of-drop}
+use Rattle.calllines.proofs.call_line.Statement.{statement}
+use Rattle.calllines.proofs.call_line.Tie as tie
 
 enum-known-call : tie.Need-enum-known-call
 enum-known-call c = search needs

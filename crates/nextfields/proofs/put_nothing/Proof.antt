@@ -1,10 +1,10 @@
--- `fields::put_nothing` meets its contract: the text has no byte. Assumes nothing.
+-- `nextfields::put_nothing` meets its contract: the text has no byte. Assumes nothing.
 use mathlib.Core.Path.{refl}
 use mathlib.Core.List.{[]}
 use Rattle.fields.proofs.FieldLaws.{word-put}
 use borrow.Author.Needs.{needs}
-use Rattle.fields.proofs.put_nothing.Statement.{statement}
-use Rattle.fields.proofs.put_nothing.Tie as tie
+use Rattle.nextfields.proofs.put_nothing.Statement.{statement}
+use Rattle.nextfields.proofs.put_nothing.Tie as tie
 
 slice-aggregate-put-text : tie.Need-slice-aggregate-put-text
 slice-aggregate-put-text c = search needs

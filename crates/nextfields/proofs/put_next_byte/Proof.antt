@@ -1,7 +1,7 @@
--- `fields::put_next_byte` meets its contract: the space and the same number. Assumes nothing.
+-- `nextfields::put_next_byte` meets its contract: the space and the same number. Assumes nothing.
 use borrow.Author.Needs.{needs}
-use Rattle.fields.proofs.put_next_byte.Statement.{statement}
-use Rattle.fields.proofs.put_next_byte.Tie as tie
+use Rattle.nextfields.proofs.put_next_byte.Statement.{statement}
+use Rattle.nextfields.proofs.put_next_byte.Tie as tie
 
 put-next-requires : tie.Need-put-next-requires
 put-next-requires c κs = search needs
