@@ -25,14 +25,11 @@ use Rattle.calls.specs.Answers.{After, numberOf, checked}
 use Rattle.calls.specs.Take.{takeOf}
 use Rattle.calls.specs.Calls.{Call, Take, Free, NamedTake, NamedFree, Drop, callOf}
 use Rattle.bound.specs.Ledger.{Name, named, unnamed, Entry, ledgerAfter, entriesOf}
-use Rattle.bound.specs.Claim.{Step, Linked, Bounded, OwnerChanges, peakWith, Claims}
-use Rattle.bound.proofs.LedgerDefinitions.{ledgerDefinitions}
+use Rattle.bound.specs.Claim.{Step, Linked, Bounded, freesRun, OwnerChanges, peakWith, Claims}
+use Rattle.bound.proofs.LedgerDefinitions.{entry, ledgerDefinitions}
 use Rattle.bound.proofs.HistoryCases.{historyHolds}
 
 -- ---- the ledger: blocks of sizes 1100, 384 and 1280, so of classes 23, 16 and 23; the second was taken by name 7, the third by name 9
-abbrev pub entry : ℕ → ℕ → Name → Entry
-entry a size name = record { address = a; size = size; name = name }
-
 abbrev pub three-entries : List Entry
 three-entries = entry 4096 1100 unnamed ∷ entry 768 384 (named 7) ∷ entry 9472 1280 (named 9) ∷ []
 
@@ -138,52 +135,69 @@ pub Refused-not-Moves : {m r : ℕ} → Refused r ≡ Moves m → ⊥
 Refused-not-Moves {m} {r} e = let z : _≡_ {A = ℕ} 0 1 = cc in omega arith
 
 -- q = 7: a free may change 7 owners, and not 8
-pub eight-owner-changes-fail : OwnerChanges 7 8 8 (Free 2 9) (Moves 8) → ⊥
+pub eight-owner-changes-fail : OwnerChanges 7 8 8 false (Free 2 9) (Moves 8) → ⊥
 unfolding OwnerChanges
 eight-owner-changes-fail k = not-le-by-test (k .0) refl
 
 -- as many as it reports: not one more, and not one fewer
-pub unreported-owner-change-fails : OwnerChanges 7 5 5 (Free 2 9) (Moves 4) → ⊥
+pub unreported-owner-change-fails : OwnerChanges 7 5 5 false (Free 2 9) (Moves 4) → ⊥
 unfolding OwnerChanges
 unreported-owner-change-fails k = let z = k .1 4 refl in omega arith
 
-pub reported-move-not-made-fails : OwnerChanges 7 5 5 (Free 2 9) (Moves 6) → ⊥
+pub reported-move-not-made-fails : OwnerChanges 7 5 5 false (Free 2 9) (Moves 6) → ⊥
 unfolding OwnerChanges
 reported-move-not-made-fails k = let z = k .1 6 refl in omega arith
 
+-- where no run is freed, all whose owners change pass between heaps: by address, by name and in a drop
+pub owner-change-beside-moves-fails :
+    (OwnerChanges 7 3 2 false (Free 2 9) (Moves 2) → ⊥) × (OwnerChanges 7 3 2 false (NamedFree 2 5) (Moves 2) → ⊥) × (OwnerChanges 7 3 2 false (Drop 2 (9 ∷ 25 ∷ [])) (Moves 2) → ⊥)
+unfolding OwnerChanges
+owner-change-beside-moves-fails = (λ k. let z = k .3 refl in omega arith, λ k. let z = k .3 refl in omega arith, λ k. let z = k .3 refl in omega arith)
+
+-- a run is freed where the ledger has a size above 2048 at the address, by the name, or at one of a drop's addresses
+abbrev pub entries-with-runs : List Entry
+entries-with-runs = entry 4096 2049 (named 3) ∷ entry 768 2048 (named 7) ∷ entry 20480 65535 unnamed ∷ []
+
+pub frees-run-cases :
+    map (freesRun entries-with-runs) (Free 2 4096 ∷ Free 2 768 ∷ Free 2 20480 ∷ Free 4096 9 ∷ NamedFree 2 3 ∷ NamedFree 2 7 ∷ NamedFree 3 768 ∷ []) ≡ true ∷ false ∷ true ∷ false ∷ true ∷ false ∷ false ∷ []
+    × map (freesRun entries-with-runs) (Drop 1 (768 ∷ 4096 ∷ []) ∷ Drop 1 (4096 ∷ 768 ∷ []) ∷ Drop 1 (768 ∷ 9 ∷ []) ∷ Drop 4096 [] ∷ []) ≡ true ∷ true ∷ false ∷ false ∷ []
+    × map (freesRun entries-with-runs) (Take 2 4096 ∷ NamedTake 2 3 4096 ∷ []) ≡ false ∷ false ∷ []
+unfolding freesRun ledgerDefinitions
+frees-run-cases = (refl, refl, refl)
+
 -- a refused call changes none
-pub refused-free-owner-change-fails : OwnerChanges 7 1 1 (Free 2 9) (Refused 5) → ⊥
+pub refused-free-owner-change-fails : OwnerChanges 7 1 1 false (Free 2 9) (Refused 5) → ⊥
 unfolding OwnerChanges
 refused-free-owner-change-fails k = let z = k .2 5 refl in omega arith
 
-pub refused-named-call-owner-change-fails : (OwnerChanges 7 1 1 (NamedTake 2 3 9) (Refused 14) → ⊥) × (OwnerChanges 7 1 1 (NamedFree 2 3) (Refused 15) → ⊥)
+pub refused-named-call-owner-change-fails : (OwnerChanges 7 1 1 false (NamedTake 2 3 9) (Refused 14) → ⊥) × (OwnerChanges 7 1 1 false (NamedFree 2 3) (Refused 15) → ⊥)
 unfolding OwnerChanges
 refused-named-call-owner-change-fails = (λ k. let z = k 14 refl in omega arith, λ k. let z = k .2 15 refl in omega arith)
 
 -- and a named free is held to what a free is
-pub named-free-owner-changes-fail : (OwnerChanges 7 8 8 (NamedFree 2 3) (Moves 8) → ⊥) × (OwnerChanges 7 5 5 (NamedFree 2 3) (Moves 4) → ⊥)
+pub named-free-owner-changes-fail : (OwnerChanges 7 8 8 false (NamedFree 2 3) (Moves 8) → ⊥) × (OwnerChanges 7 5 5 false (NamedFree 2 3) (Moves 4) → ⊥)
 unfolding OwnerChanges
 named-free-owner-changes-fail = (λ k. not-le-by-test (k .0) refl, λ k. let z = k .1 4 refl in omega arith)
 
-pub refused-take-owner-change-fails : OwnerChanges 7 1 1 (Take 2 9) (Refused 4) → ⊥
+pub refused-take-owner-change-fails : OwnerChanges 7 1 1 false (Take 2 9) (Refused 4) → ⊥
 unfolding OwnerChanges
 refused-take-owner-change-fails k = let z = k 4 refl in omega arith
 
 -- a drop of two addresses may change 14 owners, and not 15; it is held to what it reports, and a refused one to none
 pub drop-owner-changes-fail :
-    (OwnerChanges 7 15 15 (Drop 2 (9 ∷ 25 ∷ [])) (Moves 15) → ⊥) × (OwnerChanges 7 5 5 (Drop 2 (9 ∷ 25 ∷ [])) (Moves 4) → ⊥) × (OwnerChanges 7 5 5 (Drop 2 (9 ∷ 25 ∷ [])) (Moves 6) → ⊥) × (OwnerChanges 7 1 1 (Drop 2 (9 ∷ 25 ∷ [])) (Refused 7) → ⊥)
+    (OwnerChanges 7 15 15 false (Drop 2 (9 ∷ 25 ∷ [])) (Moves 15) → ⊥) × (OwnerChanges 7 5 5 false (Drop 2 (9 ∷ 25 ∷ [])) (Moves 4) → ⊥) × (OwnerChanges 7 5 5 false (Drop 2 (9 ∷ 25 ∷ [])) (Moves 6) → ⊥) × (OwnerChanges 7 1 1 false (Drop 2 (9 ∷ 25 ∷ [])) (Refused 7) → ⊥)
 unfolding OwnerChanges
 drop-owner-changes-fail = (λ k. not-le-by-test (k .0) refl, λ k. let z = k .1 4 refl in omega arith, λ k. let z = k .1 6 refl in omega arith, λ k. let z = k .2 7 refl in omega arith)
 
 -- those that pass between heaps count, and not all whose owners change: a free of a run of three changes three owners, and may report none of them, nor one; a
 -- refused one may change no owner, though none passes between heaps (document 02, item 7)
 pub run-counted-in-moves-fails :
-    (OwnerChanges 7 3 0 (Free 2 4096) (Moves 3) → ⊥) × (OwnerChanges 7 3 0 (Free 2 4096) (Moves 1) → ⊥) × (OwnerChanges 7 3 0 (NamedFree 2 5) (Moves 3) → ⊥) × (OwnerChanges 7 4 1 (Drop 2 (9 ∷ 4096 ∷ [])) (Moves 4) → ⊥)
+    (OwnerChanges 7 3 0 true (Free 2 4096) (Moves 3) → ⊥) × (OwnerChanges 7 3 0 true (Free 2 4096) (Moves 1) → ⊥) × (OwnerChanges 7 3 0 true (NamedFree 2 5) (Moves 3) → ⊥) × (OwnerChanges 7 4 1 true (Drop 2 (9 ∷ 4096 ∷ [])) (Moves 4) → ⊥)
 unfolding OwnerChanges
 run-counted-in-moves-fails = (λ k. let z = k .1 3 refl in omega arith, λ k. let z = k .1 1 refl in omega arith, λ k. let z = k .1 3 refl in omega arith, λ k. let z = k .1 4 refl in omega arith)
 
 pub refused-call-with-run-changed-fails :
-    (OwnerChanges 7 3 0 (Free 2 4096) (Refused 6) → ⊥) × (OwnerChanges 7 3 0 (Take 2 9000) (Refused 17) → ⊥) × (OwnerChanges 7 3 0 (NamedTake 2 5 9000) (Refused 17) → ⊥) × (OwnerChanges 7 3 0 (Drop 2 (9 ∷ 4096 ∷ [])) (Refused 6) → ⊥)
+    (OwnerChanges 7 3 0 true (Free 2 4096) (Refused 6) → ⊥) × (OwnerChanges 7 3 0 true (Take 2 9000) (Refused 17) → ⊥) × (OwnerChanges 7 3 0 true (NamedTake 2 5 9000) (Refused 17) → ⊥) × (OwnerChanges 7 3 0 true (Drop 2 (9 ∷ 4096 ∷ [])) (Refused 6) → ⊥)
 unfolding OwnerChanges
 refused-call-with-run-changed-fails = (λ k. let z = k .2 6 refl in omega arith, λ k. let z = k 17 refl in omega arith, λ k. let z = k 17 refl in omega arith, λ k. let z = k .2 6 refl in omega arith)
 
@@ -237,9 +251,19 @@ run-in-state = unnamedState u (of 2 24 1 ∷ runPart 3 ∷ runPart 0 ∷ runPart
 abbrev pub run-freed-state : State
 run-freed-state = unnamedState u (of 2 24 1 ∷ replicate 63 unused)
 
-pub claim-fails-of-run-reported : (m : ℕ) → 0 < m → Claims u (after-with Ready run-in-state) [] (λ c. 0) (step-with (Free 1 4096) (Moves m) run-freed-state ∷ []) → ⊥
+abbrev pub run-entry : List Entry
+run-entry = entry 4096 12000 unnamed ∷ []
+
+pub claim-fails-of-run-reported : (m : ℕ) → 0 < m → Claims u (after-with Ready run-in-state) run-entry (λ c. 0) (step-with (Free 1 4096) (Moves m) run-freed-state ∷ []) → ⊥
 unfolding Claims OwnerChanges ownersChanged passedBetweenHeaps isOfHeap sumBelow
 claim-fails-of-run-reported m l k = let z = k .1 .1 m refl in omega arith
+
+-- whether a run is freed is told by the ledger: where it has a block of 2048 bytes at the address, or none, the owners may not change
+pub claim-fails-of-run-not-in-ledger :
+    (Claims u (after-with Ready run-in-state) (entry 4096 2048 unnamed ∷ []) (λ c. 1) (step-with (Free 1 4096) (Moves 0) run-freed-state ∷ []) → ⊥)
+    × (Claims u (after-with Ready run-in-state) (entry 8192 8192 unnamed ∷ []) (λ c. 0) (step-with (Free 1 4096) (Moves 0) run-freed-state ∷ []) → ⊥)
+unfolding Claims OwnerChanges ownersChanged passedBetweenHeaps isOfHeap sumBelow freesRun ledgerDefinitions
+claim-fails-of-run-not-in-ledger = (λ k. let z = k .1 .3 refl in omega arith, λ k. let z = k .1 .3 refl in omega arith)
 
 -- "Each gets the state that the one before it returned and the storage as that one left it": here a state whose numbers fail the check, so that each call
 -- is refused with 13; no call of the list may leave another state, storage or outcome
@@ -259,25 +283,28 @@ linked-fails-of-other-outcome k = let z : _≡_ {A = ℕ} 2 13 = ap (λ (x : Aft
 
 -- ---- what the claim holds of, at the limit
 -- a free that changed 7 owners, and reports them
-pub seven-owner-changes-hold : OwnerChanges 7 7 7 (Free 2 9) (Moves 7)
+pub seven-owner-changes-hold : OwnerChanges 7 7 7 false (Free 2 9) (Moves 7)
 unfolding OwnerChanges
-seven-owner-changes-hold = (omega arith, λ m e. Moves-injective e, λ r e. absurd (Moves-not-Refused e))
+seven-owner-changes-hold = (omega arith, λ m e. Moves-injective e, λ r e. absurd (Moves-not-Refused e), λ e. refl)
 
 -- a drop of two addresses that changed 14
-pub fourteen-owner-changes-of-drop-hold : OwnerChanges 7 14 14 (Drop 2 (9 ∷ 25 ∷ [])) (Moves 14)
+pub fourteen-owner-changes-of-drop-hold : OwnerChanges 7 14 14 false (Drop 2 (9 ∷ 25 ∷ [])) (Moves 14)
 unfolding OwnerChanges
-fourteen-owner-changes-of-drop-hold = (omega arith, λ m e. Moves-injective e, λ r e. absurd (Moves-not-Refused e))
+fourteen-owner-changes-of-drop-hold = (omega arith, λ m e. Moves-injective e, λ r e. absurd (Moves-not-Refused e), λ e. refl)
 
 -- frees of runs, by address, by name and in a drop: more than q owners change, none or two superblocks pass between heaps, and so many are reported
-pub free-of-run-holds : OwnerChanges 7 16 0 (Free 2 4096) (Moves 0) × OwnerChanges 7 16 0 (NamedFree 2 5) (Moves 0) × OwnerChanges 7 18 2 (Drop 2 (9 ∷ 4096 ∷ [])) (Moves 2)
+pub free-of-run-holds : OwnerChanges 7 16 0 true (Free 2 4096) (Moves 0) × OwnerChanges 7 16 0 true (NamedFree 2 5) (Moves 0) × OwnerChanges 7 18 2 true (Drop 2 (9 ∷ 4096 ∷ [])) (Moves 2)
 unfolding OwnerChanges
-free-of-run-holds =
-    ((omega arith, λ m e. Moves-injective e, λ r e. absurd (Moves-not-Refused e)), (omega arith, λ m e. Moves-injective e, λ r e. absurd (Moves-not-Refused e)), (omega arith, λ m e. Moves-injective e, λ r e. absurd (Moves-not-Refused e)))
+free-of-run-holds = (
+  (omega arith, λ m e. Moves-injective e, λ r e. absurd (Moves-not-Refused e), λ e. absurd (true-not-false true refl e)),
+  (omega arith, λ m e. Moves-injective e, λ r e. absurd (Moves-not-Refused e), λ e. absurd (true-not-false true refl e)),
+  (omega arith, λ m e. Moves-injective e, λ r e. absurd (Moves-not-Refused e), λ e. absurd (true-not-false true refl e)),
+)
 
 -- refused calls that changed none
-pub refused-without-owner-change-holds : OwnerChanges 7 0 0 (Free 2 9) (Refused 5) × OwnerChanges 7 0 0 (Take 2 9) (Refused 4)
+pub refused-without-owner-change-holds : OwnerChanges 7 0 0 false (Free 2 9) (Refused 5) × OwnerChanges 7 0 0 false (Take 2 9) (Refused 4)
 unfolding OwnerChanges
-refused-without-owner-change-holds = ((omega arith, λ m e. absurd (Refused-not-Moves e), λ r e. refl), λ r e. refl)
+refused-without-owner-change-holds = ((omega arith, λ m e. absurd (Refused-not-Moves e), λ r e. refl, λ e. refl), λ r e. refl)
 
 -- two calls, each refused with 13
 pub linked-holds-of-refused-calls : Linked (after-refused-13 (4 ∷ [])) (record { call = Take 1 16; after = after-refused-13 (4 ∷ []) } ∷ record { call = Take 2 9; after = after-refused-13 (4 ∷ []) } ∷ [])
@@ -292,7 +319,7 @@ quickClaimsHold =
     also bound-of-other-class-exceeded also bound-of-class-0-exceeded also bound-of-class-26-exceeded also eight-owner-changes-fail
     also unreported-owner-change-fails also reported-move-not-made-fails also refused-free-owner-change-fails
     also refused-named-call-owner-change-fails also named-free-owner-changes-fail also refused-take-owner-change-fails also drop-owner-changes-fail
-    also run-counted-in-moves-fails also refused-call-with-run-changed-fails also claim-fails-of-refused-take also claim-fails-of-other-class-take
+    also owner-change-beside-moves-fails also frees-run-cases also claim-fails-of-run-not-in-ledger also run-counted-in-moves-fails also refused-call-with-run-changed-fails also claim-fails-of-refused-take also claim-fails-of-other-class-take
     also claim-fails-after-last-call also claim-fails-of-eight-moves also claim-fails-of-refused-free-move also claim-fails-of-run-reported
     also linked-fails-of-other-storage also linked-fails-of-other-outcome also seven-owner-changes-hold also fourteen-owner-changes-of-drop-hold
     also free-of-run-holds also refused-without-owner-change-holds also linked-holds-of-refused-calls also tt
@@ -305,20 +332,20 @@ bound-holds-at-limit = each-class-le-by-test _ _ refl
 -- a free that passes seven superblocks to heap 0
 pub claim-holds-of-seven-moves : Claims u (after-with Ready (all-in-heap-2 7)) [] (λ c. 0) (step-with (Free 1 16) (Moves 7) (all-in-heap-0 7) ∷ [])
 unfolding Claims OwnerChanges Bounded ownersChanged passedBetweenHeaps superblocksOfClass total isOwnedOfClass isOfHeap sumBelow allBelow blocksOf counts ledgerDefinitions
-claim-holds-of-seven-moves = let before = bound-holds-at-limit in (each-class-le-by-test _ _ refl, (omega arith, λ m e. Moves-injective e, λ r e. absurd (Moves-not-Refused e)), each-class-le-by-test _ _ refl)
+claim-holds-of-seven-moves = let before = bound-holds-at-limit in (each-class-le-by-test _ _ refl, (omega arith, λ m e. Moves-injective e, λ r e. absurd (Moves-not-Refused e), λ e. refl), each-class-le-by-test _ _ refl)
 
 -- a take that makes a twelfth block live, and so comes to seventeen superblocks; when that block is freed M is 12 still
 pub claim-holds-of-take-and-free : Claims u (after-with Ready (state-of-class 23 5)) eleven-entries (λ c. 11) take-and-free
 unfolding Claims OwnerChanges Bounded ownersChanged passedBetweenHeaps superblocksOfClass total isOwnedOfClass isOfHeap sumBelow allBelow blocksOf counts ledgerDefinitions
-claim-holds-of-take-and-free = let before = claim-holds-of-seven-moves in (each-class-le-by-test _ _ refl, λ r e. absurd (address-refused e), (each-class-le-by-test _ _ refl, (omega arith, λ m e. Moves-injective e, λ r e. absurd (Moves-not-Refused e)), each-class-le-by-test _ _ refl))
+claim-holds-of-take-and-free = let before = claim-holds-of-seven-moves in (each-class-le-by-test _ _ refl, λ r e. absurd (address-refused e), (each-class-le-by-test _ _ refl, (omega arith, λ m e. Moves-injective e, λ r e. absurd (Moves-not-Refused e), λ e. refl), each-class-le-by-test _ _ refl))
   where
     address-refused : {a r : ℕ} → Address a ≡ Refused r → ⊥
     address-refused {a} {r} e = let z : _≡_ {A = ℕ} 0 1 = cc in omega arith
 
 -- the free of the run that reports none
-pub claim-holds-of-run-freed : Claims u (after-with Ready run-in-state) [] (λ c. 0) (step-with (Free 1 4096) (Moves 0) run-freed-state ∷ [])
-unfolding Claims OwnerChanges Bounded ownersChanged passedBetweenHeaps superblocksOfClass total isOwnedOfClass isOfHeap sumBelow allBelow blocksOf counts ledgerDefinitions
-claim-holds-of-run-freed = let before = claim-holds-of-take-and-free in (each-class-le-by-test _ _ refl, (omega arith, λ m e. Moves-injective e, λ r e. absurd (Moves-not-Refused e)), each-class-le-by-test _ _ refl)
+pub claim-holds-of-run-freed : Claims u (after-with Ready run-in-state) run-entry (λ c. 0) (step-with (Free 1 4096) (Moves 0) run-freed-state ∷ [])
+unfolding Claims OwnerChanges Bounded ownersChanged passedBetweenHeaps superblocksOfClass total isOwnedOfClass isOfHeap sumBelow allBelow blocksOf counts freesRun ledgerDefinitions
+claim-holds-of-run-freed = let before = claim-holds-of-take-and-free in (each-class-le-by-test _ _ refl, (omega arith, λ m e. Moves-injective e, λ r e. absurd (Moves-not-Refused e), λ e. absurd (true-not-false true refl e)), each-class-le-by-test _ _ refl)
 
 -- with nothing live, P × K = 10 superblocks, of class 0 and of class 26
 pub bound-holds-of-spare : Bounded u (only-of-class 0 10) (λ c. 0) × Bounded u (only-of-class 26 10) (λ c. 0)

@@ -6,25 +6,32 @@ use native.Mathlib.Omega.{arith}
 use lib.ListN.{replicate}
 use Rattle.laws.proofs.Stages.{_also_}
 use Rattle.heap.specs.declared.State.{State}
-use Rattle.heap.specs.Table.{unused, isOfRun, runPart}
-use Rattle.heap.specs.States.{withNames}
+use Rattle.heap.specs.Table.{unused}
 use Rattle.heap.proofs.CaseStates.{unnamedState}
 use Rattle.heap.proofs.TableCases.{of, ranked, small-setup}
 use Rattle.calls.specs.Calls.{Call, Take, Free, NamedTake, NamedFree, Drop}
 use Rattle.calls.specs.declared.Outcome.the-variants.{Ready, Address, Moves, Refused}
 use Rattle.calls.proofs.CallDefinitions.{uncheckedCallDefinitions}
-use Rattle.bound.specs.History.{Event, freedInto, renewed, joinedRun, neither, eventOfFree, eventOfTaken, eventOfTake, eventsAfter, eventsAfterDrop, eventsAgo, notSinceRenewal, oneEventMore, lastFreeAfter, lastFree, RankedByLastFree}
+use Rattle.bound.specs.Ledger.{Entry, named, unnamed, isAt, hasName}
+use Rattle.bound.proofs.LedgerDefinitions.{entry, ledgerDefinitions}
+use Rattle.bound.specs.History.{Event, freedInto, renewed, joinedRun, neither, eventOfBlock, eventOfFree, eventOfTaken, eventOfTake, eventsAfter, eventsAfterDrop, eventsAgo, notSinceRenewal, oneEventMore, lastFreeAfter, lastFree, RankedByLastFree}
 
--- Superblocks 0 to 4: heap 1's, empty; heap 0's, empty; heap 0's, with a block live; an unused one; and heap 2's, empty. Name 7 is of block 2 of superblock 2.
+-- Superblocks 0 to 4: heap 1's, empty; heap 0's, empty; heap 0's, with a block live; an unused one; and heap 2's, empty.
 abbrev pub history-state : State
-history-state = withNames (unnamedState small-setup (of 1 20 0 ∷ of 0 23 0 ∷ of 0 20 4 ∷ unused ∷ of 2 20 0 ∷ replicate 59 unused)) (replicate 7 65535 ++ 514 ∷ replicate 1016 65535)
+history-state = unnamedState small-setup (of 1 20 0 ∷ of 0 23 0 ∷ of 0 20 4 ∷ unused ∷ of 2 20 0 ∷ replicate 59 unused)
 
--- an accepted free, with moves and without, frees into the superblock that covers the address; another outcome is none
+-- A ledger, which need not be what calls on that state made: blocks in superblocks 1, 2 and 3, the last of the longest size that a class holds, and a long block from 4 on.
+abbrev pub history-entries : List Entry
+history-entries = entry 8191 700 unnamed ∷ entry 8192 700 (named 7) ∷ entry 12288 2048 unnamed ∷ entry 16384 2049 (named 3) ∷ entry 12 700 unnamed ∷ []
+
+-- an accepted free, with moves and without, frees into the superblock that covers the address of its block; another outcome is none. The ledger tells a run: the state has
+-- none; and an address or a name that it does not have tells nothing
 pub event-of-free-cases :
-    eventOfFree history-state 8191 (Moves 0) ∷ eventOfFree history-state 8192 (Moves 3) ∷ map (eventOfFree history-state 8192) (Refused 7 ∷ Ready ∷ Address 4096 ∷ [])
-    ≡ freedInto 1 ∷ freedInto 2 ∷ neither ∷ neither ∷ neither ∷ []
-unfolding eventOfFree isOfRun
-event-of-free-cases = refl
+    map (λ (a : ℕ). eventOfFree (isAt a) history-entries (Moves 0)) (8191 ∷ 8192 ∷ 12288 ∷ 16384 ∷ 4096 ∷ []) ≡ freedInto 1 ∷ freedInto 2 ∷ freedInto 3 ∷ neither ∷ neither ∷ []
+    × map (λ (m : ℕ). eventOfFree (hasName m) history-entries (Moves 3)) (7 ∷ 3 ∷ 5 ∷ 8192 ∷ []) ≡ freedInto 2 ∷ neither ∷ neither ∷ neither ∷ []
+    × map (eventOfFree (isAt 8192) history-entries) (Refused 7 ∷ Ready ∷ Address 4096 ∷ Moves 1 ∷ []) ≡ neither ∷ neither ∷ neither ∷ freedInto 2 ∷ []
+unfolding eventOfFree eventOfBlock ledgerDefinitions
+event-of-free-cases = (refl, refl, refl)
 
 -- processor 1 took from each of 0 to 3: "A superblock with nothing live is renewed .. when it comes from place 2, 3 or 4; from place 1 it is not"
 pub event-of-take-cases :
@@ -41,30 +48,27 @@ pub event-of-long-take-cases :
 unfolding eventOfTake eventOfTaken uncheckedCallDefinitions
 event-of-long-take-cases = refl
 
--- superblocks 1 and 2 are a run, which name 3 holds: its free, by address, by name and in a drop, is none into them, and that of a block of superblock 0 is one
-abbrev pub history-state-with-run : State
-history-state-with-run = withNames (unnamedState small-setup (of 1 20 1 ∷ runPart 2 ∷ runPart 0 ∷ replicate 61 unused)) (replicate 3 65535 ++ 256 ∷ replicate 1020 65535)
-
+-- the free of the long block, by address, by name and in a drop, is none into its superblocks
 pub events-of-run-cases :
-    map (λ (call : Call). eventsAfter (freedInto 9 ∷ []) history-state-with-run call (Moves 0)) (Free 1 4096 ∷ NamedFree 1 3 ∷ Drop 1 (4096 ∷ 0 ∷ []) ∷ [])
-    ++ map (λ (call : Call). eventsAfter (freedInto 9 ∷ []) history-state-with-run call (Address 12288)) (Take 1 8192 ∷ NamedTake 1 5 8193 ∷ [])
-    ≡ (neither ∷ freedInto 9 ∷ []) ∷ (neither ∷ freedInto 9 ∷ []) ∷ (freedInto 0 ∷ neither ∷ freedInto 9 ∷ []) ∷ (joinedRun 3 2 ∷ freedInto 9 ∷ []) ∷ (joinedRun 3 3 ∷ freedInto 9 ∷ []) ∷ []
-unfolding eventsAfter eventsAfterDrop eventOfTake eventOfTaken eventOfFree uncheckedCallDefinitions
+    map (λ (call : Call). eventsAfter (freedInto 9 ∷ []) history-entries history-state call (Moves 0)) (Free 1 16384 ∷ NamedFree 1 3 ∷ Drop 1 (16384 ∷ 8191 ∷ []) ∷ [])
+    ++ map (λ (call : Call). eventsAfter (freedInto 9 ∷ []) history-entries history-state call (Address 12288)) (Take 1 8192 ∷ NamedTake 1 5 8193 ∷ [])
+    ≡ (neither ∷ freedInto 9 ∷ []) ∷ (neither ∷ freedInto 9 ∷ []) ∷ (freedInto 1 ∷ neither ∷ freedInto 9 ∷ []) ∷ (joinedRun 3 2 ∷ freedInto 9 ∷ []) ∷ (joinedRun 3 3 ∷ freedInto 9 ∷ []) ∷ []
+unfolding eventsAfter eventsAfterDrop eventOfTake eventOfTaken eventOfFree eventOfBlock uncheckedCallDefinitions ledgerDefinitions
 events-of-run-cases = refl
 
--- each kind of call, before which superblock 9 was freed into; a named free is of the address that its name held
+-- each kind of call, before which superblock 9 was freed into; a named free is of the block that was taken by its name
 pub events-after-cases :
-    map (λ (call : Call). eventsAfter (freedInto 9 ∷ []) history-state call (Address 4096)) (Take 1 2000 ∷ NamedTake 2 9 700 ∷ []) ++ (eventsAfter (freedInto 9 ∷ []) history-state (Take 2 700) (Address 16384) ∷ [])
-    ++ map (λ (call : Call). eventsAfter (freedInto 9 ∷ []) history-state call (Moves 0)) (Free 1 12289 ∷ NamedFree 1 7 ∷ []) ++ (eventsAfter (freedInto 9 ∷ []) history-state (NamedFree 1 7) (Refused 15) ∷ [])
+    map (λ (call : Call). eventsAfter (freedInto 9 ∷ []) history-entries history-state call (Address 4096)) (Take 1 2000 ∷ NamedTake 2 9 700 ∷ []) ++ (eventsAfter (freedInto 9 ∷ []) [] history-state (Take 2 700) (Address 16384) ∷ [])
+    ++ map (λ (call : Call). eventsAfter (freedInto 9 ∷ []) history-entries history-state call (Moves 0)) (Free 1 12288 ∷ NamedFree 1 7 ∷ []) ++ (eventsAfter (freedInto 9 ∷ []) history-entries history-state (NamedFree 1 7) (Refused 15) ∷ [])
     ≡ (renewed 1 ∷ freedInto 9 ∷ []) ∷ (renewed 1 ∷ freedInto 9 ∷ []) ∷ (neither ∷ freedInto 9 ∷ []) ∷ (freedInto 3 ∷ freedInto 9 ∷ []) ∷ (freedInto 2 ∷ freedInto 9 ∷ []) ∷ (neither ∷ freedInto 9 ∷ []) ∷ []
-unfolding eventsAfter eventOfTake eventOfTaken eventOfFree uncheckedCallDefinitions
+unfolding eventsAfter eventOfTake eventOfTaken eventOfFree eventOfBlock uncheckedCallDefinitions ledgerDefinitions
 events-after-cases = refl
 
 -- an accepted drop frees into the superblock of each address, the last address's latest; a refused one into none
 pub events-after-drop-cases :
-    eventsAfter (freedInto 9 ∷ []) history-state (Drop 1 (4096 ∷ 8191 ∷ 12288 ∷ 0 ∷ [])) (Moves 2) ∷ eventsAfter (freedInto 9 ∷ []) history-state (Drop 1 (4096 ∷ 12288 ∷ [])) (Refused 7) ∷ []
-    ≡ (freedInto 0 ∷ freedInto 3 ∷ freedInto 1 ∷ freedInto 1 ∷ freedInto 9 ∷ []) ∷ (neither ∷ neither ∷ freedInto 9 ∷ []) ∷ []
-unfolding eventsAfter eventsAfterDrop eventOfFree isOfRun
+    eventsAfter (freedInto 9 ∷ []) history-entries history-state (Drop 1 (8191 ∷ 8192 ∷ 12288 ∷ 12 ∷ [])) (Moves 2) ∷ eventsAfter (freedInto 9 ∷ []) history-entries history-state (Drop 1 (8191 ∷ 12288 ∷ [])) (Refused 7) ∷ []
+    ≡ (freedInto 0 ∷ freedInto 3 ∷ freedInto 2 ∷ freedInto 1 ∷ freedInto 9 ∷ []) ∷ (neither ∷ neither ∷ freedInto 9 ∷ []) ∷ []
+unfolding eventsAfter eventsAfterDrop eventOfFree eventOfBlock ledgerDefinitions
 events-after-drop-cases = refl
 
 -- The latest first: 5 was freed into, then 3, another call, 4 twice, 5 again, 4 was renewed, another call. Of 3, 4, 5 and 6, which was never freed into.

@@ -3,7 +3,7 @@ use Prim.Native.Nat.{ℕ, _+_}
 use mathlib.Core.Bool.{Bool, false}
 use mathlib.Core.List.{List, [], _∷_}
 use lib.Dec.{eqb}
-use Rattle.laws.specs.Sums.{pick, either, one}
+use Rattle.laws.specs.Sums.{pick, both, either, one}
 use Rattle.classes.specs.Classes.{classOf}
 use Rattle.calls.specs.Calls.{Call, Take, Free, NamedTake, NamedFree, Drop}
 use Rattle.calls.specs.declared.Outcome.{Outcome}
@@ -73,3 +73,18 @@ ledgerAfter ledger (Drop processor addresses) outcome = afterFree (isAtOneOf add
 unfoldable pub entriesOf : ℕ → List Entry → ℕ
 entriesOf c [] = 0
 entriesOf c (e ∷ ledger) = one (eqb (classOfEntry e) c) + entriesOf c ledger
+
+-- how often the ledger has a block of class c at address a
+unfoldable pub entriesAt : List Entry → ℕ → ℕ → ℕ
+entriesAt [] a c = 0
+entriesAt (e ∷ ledger) a c = one (both (isAt a e) (eqb (classOfEntry e) c)) + entriesAt ledger a c
+
+-- some entry passes the test
+unfoldable pub someEntry : (Entry → Bool) → List Entry → Bool
+someEntry test [] = false
+someEntry test (e ∷ ledger) = either (test e) (someEntry test ledger)
+
+-- what is so of each entry
+unfoldable pub EachEntry : (Entry → Type 0) → List Entry → Type 0
+EachEntry P [] = Unit {0}
+EachEntry P (e ∷ ledger) = P e × EachEntry P ledger

@@ -28,7 +28,7 @@ use Rattle.calls.specs.Named.{isUnavailable, namedTakeOf, heldAddress, namedFre
 use Rattle.calls.specs.Drop.{allFreed, isTouched, dropMoves, dropOf}
 use Rattle.calls.specs.Calls.{Call, Take, Free, NamedTake, NamedFree, Drop, callOf}
 use Rattle.calllaws.proofs.CallEffects.{Passed, TakeAccepted, LongTakeAccepted, FreeAccepted, LongFreeAccepted, NamedTakeAccepted, NamedLongTakeAccepted, NamedFreeAccepted, NamedLongFreeAccepted, TakeEffect, FreeEffect, LongTakeEffect, LongFreeEffect}
-use Rattle.bound.specs.Ledger.{Name, named, unnamed, Entry, isAt, isAtOneOf, hasName, removed, afterTake, afterFree, ledgerAfter, entriesOf}
+use Rattle.bound.specs.Ledger.{Name, named, unnamed, Entry, isAt, isAtOneOf, hasName, removed, afterTake, afterFree, ledgerAfter, entriesOf, EachEntry, entriesAt}
 use Rattle.bound.specs.Claim.{Step, Bounded, RefusedOwnerChanges, FreeOwnerChanges, OwnerChanges, OwnersChangeRightly, peakWith}
 use Rattle.calllaws.proofs.TakeLaws.{take-refused-or-accepted, taken-block, take-address, take-effect, take-names, take-shape, take-passed}
 use Rattle.calllaws.proofs.RunTakenLaws.{long-take-address, long-take-effect, long-take-names, long-take-shape, long-take-passed}
@@ -38,12 +38,11 @@ use Rattle.calllaws.proofs.TransferredLaws.{passed-after-no-frees}
 use Rattle.calllaws.proofs.DropLaws.{DropAccepted, DropEffect, drop-refused-or-accepted, drop-frees, drop-transfers, dropped-shape, drop-outcome, drop-state-is, drop-effect, drop-shape, drop-passed}
 use Rattle.calllaws.proofs.NamedCallLaws.{facts-of-available, named-take-refused-or-accepted, named-taken-block, named-take-address, named-take-effect, named-take-names, named-take-shape, named-take-passed, named-free-refused-or-accepted}
 use Rattle.calllaws.proofs.NamedLongTakeLaws.{named-long-take-address, named-long-take-effect, named-long-take-names, named-long-take-shape, named-long-take-passed}
-use Rattle.boundlaws.proofs.LedgerLaws.{entriesAt}
 use Rattle.boundlaws.proofs.LongAtLaws.{longAt}
 use Rattle.boundlaws.proofs.LiveAtLaws.{liveAt, OneMoreLive, live-at-before-is-zero, long-at-before-is-zero, one-more-live-of-take, one-more-live-of-free}
 use Rattle.boundlaws.proofs.OneMoreLongLaws.{OneMoreLong, long-at-before-run-is-zero, one-more-long-of-take, one-more-long-of-free}
 use Rattle.boundlaws.proofs.LedgerRuns.{LongAgrees, long-take-entry-is-run}
-use Rattle.boundlaws.proofs.LedgerNames.{EachEntry, each-entry-map, each-entry-cons, EntryAgrees, BlockTaken, block-taken-of-take, block-taken-of-long-take, plain-take-keeps-agreement, plain-take-entry-agrees, named-take-keeps-agreement, named-take-entry-agrees, no-entry-at}
+use Rattle.boundlaws.proofs.LedgerNames.{each-entry-map, each-entry-cons, EntryAgrees, BlockTaken, block-taken-of-take, block-taken-of-long-take, plain-take-keeps-agreement, plain-take-entry-agrees, named-take-keeps-agreement, named-take-entry-agrees, no-entry-at}
 use Rattle.boundlaws.proofs.LedgerNames.{block-let-go-of-free, block-let-go-of-long-free, agreement-after-free, agreement-of-same-names-and-classes, removed-by-name-is-removed-by-address}
 use Rattle.boundlaws.proofs.ListedLaws.{Listed, listed-added, listed-removed, live-at-run-is-zero, listed-long-added, listed-long-removed, Agreement, all-freed-agreement, transfers-class, transfers-runs, listed-after-transfers}
 use Rattle.boundlaws.proofs.BoundLaws.{bound-of-none-in-global}

@@ -15,9 +15,9 @@ use Rattle.calls.specs.Calls.{Call, Take, Free, NamedTake, NamedFree, Drop, cal
 use Rattle.calls.proofs.CallDefinitions.{callDefinitions}
 use Rattle.calls.proofs.RuleCases.{setup-with}
 use Rattle.bound.specs.Ledger.{Entry, ledgerAfter, entriesOf}
-use Rattle.bound.specs.Claim.{Step, Claims}
+use Rattle.bound.specs.Claim.{Step, Claims, stepsBy}
 use Rattle.bound.proofs.LedgerDefinitions.{ledgerDefinitions}
-use Rattle.boundlaws.proofs.CallListLaws.{stepsBy, steps-are-unchecked, demand-3-calls}
+use Rattle.boundlaws.proofs.CallListLaws.{steps-are-unchecked, demand-3-calls}
 
 -- What one call of a list answered, how many owners it changed, how many of the superblocks passed between heaps where it was a free or a drop, and after it,
 -- for some classes, the ledger's live blocks and the superblocks that any heap owns.

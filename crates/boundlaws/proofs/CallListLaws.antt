@@ -11,7 +11,7 @@ use Rattle.calls.specs.Calls.{Call, callOf, callUnchecked}
 use Rattle.calls.proofs.CheckFirst.{call-of-checks-first}
 use Rattle.calllaws.proofs.CallEffects.{Passed}
 use Rattle.bound.specs.Ledger.{Entry, ledgerAfter}
-use Rattle.bound.specs.Claim.{Step, Linked, Claims, peakWith}
+use Rattle.bound.specs.Claim.{Step, Linked, Claims, peakWith, stepsBy}
 use Rattle.calllaws.proofs.CheckedLaws.{checked-is-next-of-passed}
 use Rattle.boundlaws.proofs.CallInvariantLaws.{ListInvariant, after-call}
 use Rattle.boundlaws.proofs.Demand3.{list-invariant-after-setup, demand-3}
@@ -19,13 +19,6 @@ use Rattle.boundlaws.proofs.Demand3.{list-invariant-after-setup, demand
 -- a call is the one behind the check, where the state passes
 pub call-of-is-unchecked : (s : State) (order : List ℕ) (call : Call) → Passed s order → callOf s order call ≡ callUnchecked s order call
 call-of-is-unchecked s order call p = call-of-checks-first s order call ∙ checked-is-next-of-passed s order (callUnchecked s order call) p
-
--- the calls of a list with what each left: "Each gets the state that the one before it returned and the storage as that one left it"
-unfoldable pub stepsBy : (State → List ℕ → Call → After) → After → List Call → List Step
-stepsBy f before [] = []
-stepsBy f before (call ∷ calls) =
-    let after = f (before .answer .state) (before .order) call in
-    record { call = call; after = after } ∷ stepsBy f after calls
 
 -- any calls make such a list
 pub steps-linked : (before : After) (calls : List Call) → Linked before (stepsBy callOf before calls)

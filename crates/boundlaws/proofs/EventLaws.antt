@@ -18,9 +18,10 @@ use Rattle.heap.specs.Ranks.{rankAfterFree, rankAfterRenewal}
 use Rattle.heaplaws.proofs.StateFacts.{RanksSound}
 use Rattle.heaplaws.proofs.RankLaws.{rank-in-new-state, rank-after-free-of-superblock, rank-after-renewal-of-superblock, ranked-of-ranked-after-free, ranked-after-free-of-ranked}
 use Rattle.heaplaws.proofs.RankLaws.{ranked-of-ranked-after-renewal, ranked-after-renewal-of-ranked, order-kept-by-free, order-kept-by-renewal, latest-after-free}
-use Rattle.calllaws.proofs.CallEffects.{InRun, RunUnranked}
+use Rattle.calllaws.proofs.CallEffects.{RunUnranked}
 use Rattle.bound.specs.History.{Event, freedInto, renewed, joinedRun, neither, LastFree, eventsAgo, notSinceRenewal, oneEventMore, lastFreeAfter, lastFree, RankedByLastFree}
 use Rattle.boundlaws.proofs.OneMoreLongLaws.{in-run-or-not}
+use Rattle.heap.specs.Runs.{InRun}
 
 -- ---- one event more
 -- what was freed into so many events ago was freed into since it was last renewed

@@ -10,13 +10,8 @@ use Rattle.laws.specs.Sums.{both, one}
 use Rattle.classes.proofs.ClassLaws.{class-of-size-0}
 use Rattle.calls.specs.Calls.{Take}
 use Rattle.calls.specs.declared.Outcome.the-variants.{Address}
-use Rattle.bound.specs.Ledger.{unnamed, Entry, classOfEntry, isAt, removed, afterTake, ledgerAfter, entriesOf}
+use Rattle.bound.specs.Ledger.{unnamed, Entry, classOfEntry, isAt, removed, afterTake, ledgerAfter, entriesOf, entriesAt}
 use Rattle.bound.specs.Claim.{peakWith}
-
--- how often the ledger has a block of class c at address a
-unfoldable pub entriesAt : List Entry → ℕ → ℕ → ℕ
-entriesAt [] a c = 0
-entriesAt (e ∷ ledger) a c = one (both (isAt a e) (eqb (classOfEntry e) c)) + entriesAt ledger a c
 
 -- ---- one entry added
 pub entries-at-empty : (a c : ℕ) → entriesAt [] a c ≡ 0

@@ -31,21 +31,18 @@ use Rattle.heaplaws.proofs.RunsKeptLaws.{owner-of-run}
 use Rattle.heaplaws.proofs.RunChoiceLaws.{facts-of-is-available}
 use Rattle.calls.specs.Take.{addressOf}
 use Rattle.calls.specs.Named.{heldAddress}
-use Rattle.calllaws.proofs.CallEffects.{Passed, TakeEffect, FreeEffect, InRun, LongTakeEffect, LongFreeEffect}
+use Rattle.calllaws.proofs.CallEffects.{Passed, TakeEffect, FreeEffect, LongTakeEffect, LongFreeEffect}
 use Rattle.calllaws.proofs.AddressLaws.{address-superblock, address-offset}
 use Rattle.calllaws.proofs.NamesKeptLaws.{live-block-in-table}
 use Rattle.calllaws.proofs.NamedCallLaws.{held-block-is-live, held-address-block}
 use Rattle.calllaws.proofs.RunTakenLaws.{live-of-available, available-outside-run}
-use Rattle.bound.specs.Ledger.{named, unnamed, Entry, classOfEntry, isAt, isCalled, hasName, removed}
-use Rattle.boundlaws.proofs.LedgerLaws.{entriesAt}
+use Rattle.bound.specs.Ledger.{named, unnamed, Entry, classOfEntry, isAt, isCalled, hasName, removed, EachEntry, entriesAt}
 use Rattle.boundlaws.proofs.OneMoreLongLaws.{in-run-or-not}
 use Rattle.boundlaws.proofs.LedgerRuns.{LongAgrees, long-agrees-of-kept, long-agrees-after-long-take, long-agrees-after-long-free}
+use Rattle.heap.specs.Runs.{InRun}
+use Rattle.bound.specs.NamesClaim.{holdsAddress}
 
 -- ---- what is so of each entry
-unfoldable pub EachEntry : (Entry → Type 0) → List Entry → Type 0
-EachEntry P [] = Unit {0}
-EachEntry P (e ∷ ledger) = P e × EachEntry P ledger
-
 pub each-entry-map : (P Q R : Entry → Type 0) (ledger : List Entry) → ((e : Entry) → P e → Q e → R e) → EachEntry P ledger → EachEntry Q ledger → EachEntry R ledger
 unfolding EachEntry
 each-entry-map P Q R [] f h g = tt
@@ -75,10 +72,6 @@ removed-cong f g [] h = refl
 removed-cong f g (e ∷ ledger) h = ap₂ (λ (t : Bool) (l : List Entry). pick t l (e ∷ l)) (h .0) (removed-cong f g ledger (h .1))
 
 -- ---- the state's name of a block
--- name m is held, and by the block at address a
-unfoldable pub holdsAddress : State → ℕ → ℕ → Bool
-holdsAddress s m a = both (isHeld (s .names) m) (eqb a (heldAddress s m))
-
 -- a block of the ledger that no class holds is a run of the state, and each has just the name that the state has for it
 pub record EntryAgrees (s : State) (e : Entry) : Type 0 where
   pub long : 2048 < e .size → LongAgrees s e

@@ -13,9 +13,10 @@ use Rattle.heap.specs.declared.State.{State}
 use Rattle.heap.specs.Table.{superblockAt, startsRun}
 use Rattle.heaplaws.proofs.StateFacts.{RunsKept}
 use Rattle.heaplaws.proofs.RunsKeptLaws.{starts-run-same}
-use Rattle.calllaws.proofs.CallEffects.{InRun, LongTakeEffect, LongFreeEffect}
+use Rattle.calllaws.proofs.CallEffects.{LongTakeEffect, LongFreeEffect}
 use Rattle.bound.specs.Ledger.{Name, Entry}
 use Rattle.boundlaws.proofs.OneMoreLongLaws.{OneMoreLong, in-run-or-not, starts-no-run-of-available, starts-no-run-of-0, starts-run-with-rank, one-more-long-of-take}
+use Rattle.heap.specs.Runs.{InRun}
 
 -- "The block's address is the start of the run", which has "as many [superblocks] as size / 4096 rounded up"
 pub record LongAgrees (s : State) (e : Entry) : Type 0 where

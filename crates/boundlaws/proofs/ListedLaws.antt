@@ -26,12 +26,12 @@ use Rattle.calllaws.proofs.RunFreedLaws.{freed-run-address, long-block-freed-ef
 use Rattle.calllaws.proofs.AddressFreedLaws.{address-freed}
 use Rattle.calllaws.proofs.AllFreedLaws.{first-refusal-of-cons}
 use Rattle.calllaws.proofs.DropTransfersLaws.{Transfers}
-use Rattle.bound.specs.Ledger.{Entry, classOfEntry, isAt, isAtOneOf, removed, entriesOf}
-use Rattle.boundlaws.proofs.LedgerLaws.{entriesAt, entries-at-added, entries-of-added, entries-at-removed, entries-at-others-removed, entries-of-removed}
+use Rattle.bound.specs.Ledger.{Entry, classOfEntry, isAt, isAtOneOf, removed, entriesOf, EachEntry, entriesAt}
+use Rattle.boundlaws.proofs.LedgerLaws.{entries-at-added, entries-of-added, entries-at-removed, entries-at-others-removed, entries-of-removed}
 use Rattle.boundlaws.proofs.LongAtLaws.{longAt, long-at-of-kept}
 use Rattle.boundlaws.proofs.LiveAtLaws.{liveFor, liveAt, live-at-same, live-at-none, OneMoreLive, live-at-before-is-zero, long-at-before-is-zero, live-at-one-more, one-more-live-of-free}
 use Rattle.boundlaws.proofs.OneMoreLongLaws.{OneMoreLong, long-at-before-run-is-zero, long-at-one-more, one-more-long-of-free}
-use Rattle.boundlaws.proofs.LedgerNames.{EachEntry, EntryAgrees, block-let-go-of-free, block-let-go-of-long-free, agreement-after-free}
+use Rattle.boundlaws.proofs.LedgerNames.{EntryAgrees, block-let-go-of-free, block-let-go-of-long-free, agreement-after-free}
 
 pub record Listed (s : State) (ledger : List Entry) : Type 0 where
   -- each block once, and nothing else

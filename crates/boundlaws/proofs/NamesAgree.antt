@@ -23,24 +23,14 @@ use Rattle.calls.specs.Named.{heldAddress}
 use Rattle.calllaws.proofs.NamesKeptLaws.{live-block-in-table}
 use Rattle.calllaws.proofs.MarkClearedLaws.{LiveBlock}
 use Rattle.calllaws.proofs.NamedCallLaws.{held-block-is-live, held-block-is-run, held-address-of-run, live-class-lt-27}
-use Rattle.bound.specs.Ledger.{Entry, classOfEntry, isAt, hasName, ledgerAfter}
-use Rattle.bound.specs.Claim.{Step, Linked, peakWith}
-use Rattle.boundlaws.proofs.LedgerLaws.{entriesAt}
+use Rattle.bound.specs.Ledger.{Entry, classOfEntry, isAt, hasName, ledgerAfter, someEntry, EachEntry, entriesAt}
+use Rattle.bound.specs.Claim.{Step, Linked, peakWith, lastAfter}
 use Rattle.boundlaws.proofs.LongAtLaws.{longAt, long-at-start}
 use Rattle.boundlaws.proofs.LiveAtLaws.{liveAt, live-for-owned, live-at-of-address}
-use Rattle.boundlaws.proofs.LedgerNames.{EachEntry, each-entry-map, holdsAddress, EntryAgrees}
+use Rattle.boundlaws.proofs.LedgerNames.{each-entry-map, EntryAgrees}
 use Rattle.boundlaws.proofs.CallInvariantLaws.{ListInvariant, AfterCall, after-step}
 use Rattle.boundlaws.proofs.Demand3.{list-invariant-after-setup}
-
--- some entry passes the test
-unfoldable pub someEntry : (Entry → Bool) → List Entry → Bool
-someEntry test [] = false
-someEntry test (e ∷ ledger) = either (test e) (someEntry test ledger)
-
--- each block of the ledger has just the name that the state has for it, and each name that the state holds is in the ledger, with its block's address
-pub record NamesAgree (s : State) (ledger : List Entry) : Type 0 where
-  pub entries : EachEntry (λ e. (m : ℕ) → hasName m e ≡ holdsAddress s m (e .address)) ledger
-  pub held : (m : ℕ) → T (isHeld (s .names) m) → T (someEntry (λ e. both (hasName m e) (isAt (heldAddress s m) e)) ledger)
+use Rattle.bound.specs.NamesClaim.{NamesAgree, holdsAddress}
 
 -- ---- a held name's block is in the ledger
 module _ (s : State) (m : ℕ) (held : T (isHeld (s .names) m)) (c : ℕ) where
@@ -87,16 +77,6 @@ names-agree-of-list-invariant u s order ledger peak g =
         entry-of-count s m held c ledger (g .names) (omega (arith, g .listed .blocks (heldAddress s m) c known))
 
 -- ---- along a list of calls
--- the ledger after the calls of a list
-unfoldable pub ledgerOf : List Entry → List Step → List Entry
-ledgerOf ledger [] = ledger
-ledgerOf ledger (step ∷ steps) = ledgerOf (ledgerAfter ledger (step .call) (step .after .answer .outcome)) steps
-
--- what the last of them left
-unfoldable pub lastAfter : After → List Step → After
-lastAfter before [] = before
-lastAfter before (step ∷ steps) = lastAfter (step .after) steps
-
 names-agree-from : (u : Setup) (before : After) (ledger : List Entry) (peak : ℕ → ℕ) (steps : List Step) → ListInvariant u (before .answer .state) (before .order) ledger peak → Linked before steps
     → NamesAgree (lastAfter before steps .answer .state) (ledgerOf ledger steps)
 unfolding Linked ledgerOf lastAfter

@@ -18,10 +18,11 @@ use Rattle.choicerules.specs.Runs.{isAvailable}
 use Rattle.heaplaws.proofs.RunLaws.{side-of-range, outside-not-inside}
 use Rattle.heaplaws.proofs.RunsKeptLaws.{owner-of-run}
 use Rattle.heaplaws.proofs.RunChoiceLaws.{facts-of-is-available}
-use Rattle.calllaws.proofs.CallEffects.{InRun, LongTakeEffect, LongFreeEffect}
+use Rattle.calllaws.proofs.CallEffects.{LongTakeEffect, LongFreeEffect}
 use Rattle.calllaws.proofs.RunTakenLaws.{live-of-available, available-outside-run}
 use Rattle.boundlaws.proofs.LongAtLaws.{longAt, long-at-same, long-at-start, long-at-none, long-at-inside}
 use Rattle.boundlaws.proofs.LiveAtLaws.{liveFor, live-for-unowned, live-for-clear, live-for-unused}
+use Rattle.heap.specs.Runs.{InRun}
 
 -- a superblock is one of the n from k on, or not
 pub in-run-or-not : (k n m : ℕ) → Dec (InRun k n m)

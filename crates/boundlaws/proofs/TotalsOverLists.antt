@@ -6,20 +6,16 @@ use Prim.Native.Nat.{ℕ, suc, _+_, _<_}
 use Rattle.laws.specs.Sums.{sumBelow}
 use Rattle.heap.specs.declared.Setup.{Setup}
 use Rattle.heap.specs.declared.State.{State}
-use Rattle.heap.specs.Totals.{liveKept, TotalsKept}
+use Rattle.heap.specs.Totals.{liveKept, TotalsKept, TotalsCounted}
 use Rattle.calls.specs.declared.Outcome.the-variants.{Ready}
 use Rattle.calls.specs.Answers.{After}
 use Rattle.calls.specs.Setup.{setupOf}
-use Rattle.calllaws.proofs.TotalsKeptLaws.{TotalsCounted, totals-counted-of-kept, call-keeps-totals, new-or-refused-setup-totals-kept, live-totals-are-live-of-class}
+use Rattle.calllaws.proofs.TotalsKeptLaws.{totals-counted-of-kept, call-keeps-totals, new-or-refused-setup-totals-kept, live-totals-are-live-of-class}
 use Rattle.bound.specs.Ledger.{Entry, ledgerAfter, entriesOf}
 use Rattle.bound.specs.Claim.{Step, Linked, peakWith}
 use Rattle.boundlaws.proofs.CallInvariantLaws.{ListInvariant, after-step}
 use Rattle.boundlaws.proofs.Demand3.{list-invariant-after-setup}
-
--- the totals of each heap and class are the recount before the list and after each of its calls, accepted or refused
-unfoldable pub TotalsCountedOver : After → List Step → Type 0
-TotalsCountedOver before [] = TotalsCounted (before .answer .state)
-TotalsCountedOver before (step ∷ steps) = TotalsCounted (before .answer .state) × TotalsCountedOver (step .after) steps
+use Rattle.bound.specs.TotalsClaim.{TotalsCountedOver, LiveTotalsAgree, LiveTotalsAgreeOver}
 
 totals-counted-from : (before : After) (steps : List Step) → TotalsKept (before .answer .state) → Linked before steps → TotalsCountedOver before steps
 unfolding Linked TotalsCountedOver
@@ -36,16 +32,6 @@ totals-kept-over-list u order start e steps linked =
     totals-counted-from start steps (subst (λ (x : After). TotalsKept (x .answer .state)) (sym e) (new-or-refused-setup-totals-kept u order)) linked
 
 -- ---- from the calls and their answers alone
--- the live totals of each class, over heap 0 and the P processor heaps, are the ledger's live blocks of the class
-abbrev pub LiveTotalsAgree : Setup → State → List Entry → Type 0
-LiveTotalsAgree u s ledger = (c : ℕ) → c < 27 → liveKept 0 c s + sumBelow (λ i. liveKept (suc i) c s) (u .processors) ≡ entriesOf c ledger
-
--- before the list and after each of its calls, with the ledger kept from the calls and their answers
-unfoldable pub LiveTotalsAgreeOver : Setup → After → List Entry → List Step → Type 0
-LiveTotalsAgreeOver u before ledger [] = LiveTotalsAgree u (before .answer .state) ledger
-LiveTotalsAgreeOver u before ledger (step ∷ steps) =
-    LiveTotalsAgree u (before .answer .state) ledger × LiveTotalsAgreeOver u (step .after) (ledgerAfter ledger (step .call) (step .after .answer .outcome)) steps
-
 live-totals-agree-of-list-invariant : (u : Setup) (s : State) (order : List ℕ) (ledger : List Entry) (peak : ℕ → ℕ) → ListInvariant u s order ledger peak → LiveTotalsAgree u s ledger
 live-totals-agree-of-list-invariant u s order ledger peak g c l =
     subst (λ (v : Setup). liveKept 0 c s + sumBelow (λ i. liveKept (suc i) c s) (v .processors) ≡ entriesOf c ledger) (g .setup)

@@ -16,7 +16,7 @@ use Rattle.marks.specs.Marks.{markBit}
 use Rattle.heap.specs.declared.Superblock.{Superblock}
 use Rattle.heap.specs.declared.State.{State}
 use Rattle.heap.specs.Table.{superblockAt, isOfRun}
-use Rattle.heaplaws.proofs.StateFacts.{Shape, Unused, RunAt, SoundWith}
+use Rattle.heaplaws.proofs.StateFacts.{Shape, Unused, SoundWith}
 use Rattle.heaplaws.proofs.StateCheckLaws.{unused-is-unused}
 use Rattle.heaplaws.proofs.RunLaws.{Outside, side-of-range, outside-not-inside, runs-apart, run-at-of-same, run-below-superblocks}
 use Rattle.heaplaws.proofs.RunsKeptLaws.{of-run-of-owner, owner-of-run, live-blocks-outside-run}
@@ -24,7 +24,7 @@ use Rattle.calls.specs.declared.Outcome.the-variants.{Refused}
 use Rattle.calls.specs.Answers.{refused}
 use Rattle.calls.specs.Free.{superblockIndex, offsetOf, superblockHolding, blockOf, isInRun, addressRefusal, orderPushed, smallBlockFreed, longBlockFreed, blockFreed}
 use Rattle.calls.specs.Drop.{allFreed, firstAddressRefusal, dropOf}
-use Rattle.calllaws.proofs.CallEffects.{Passed, PassedAfterFrees, FreeEffect, InRun, LongFreeEffect}
+use Rattle.calllaws.proofs.CallEffects.{Passed, PassedAfterFrees, FreeEffect, LongFreeEffect}
 use Rattle.calllaws.proofs.TransferredLaws.{passed-after-no-frees}
 use Rattle.calllaws.proofs.BlockFreedLaws.{small-block-freed-effect, small-block-freed-owner, small-block-freed-passed}
 use Rattle.calllaws.proofs.RunFreedLaws.{freed-run-address, long-block-freed-effect, long-block-freed-passed}
@@ -34,6 +34,7 @@ use Rattle.calllaws.proofs.DropLaws.{drop-refused-or-accepted}
 use Rattle.calllaws.proofs.RefusalConditions.{IsProcessor, OnBlock, on-block-of-class, on-run-start}
 use Rattle.calllaws.proofs.DropRefusalConditions.{BlockStarts, address-refusal-iff-condition, inner-address-iff-refused-6, no-refusal-iff-each-meets-none, drop-refused-5, drop-refused-7}
 use Rattle.calllaws.proofs.AddressReadsLaws.{SameReads, same-reads-refl, outside-run-of-refused-7, refused-5-in-other, refused-7-of-cleared-mark, refusal-in-other}
+use Rattle.heap.specs.Runs.{RunAt, InRun}
 
 -- the block of a class that starts at an address
 block-lt-256-of-start : (mark : ℕ) (s : State) (a : ℕ) → BlockStarts mark s a → isInRun s a ≡ false → blockOf s a < 256

@@ -19,12 +19,13 @@ use Rattle.choicerules.specs.Choice.{fullest}
 use Rattle.choicerules.specs.Runs.{isAvailable, lowestRun}
 use Rattle.checkrules.specs.Check.{namesValid, runsValid}
 use Rattle.moverules.specs.Moves.{mustMove}
-use Rattle.heaplaws.proofs.StateFacts.{SoundWith, InvariantBeforeFrees, RanksSound, RunsKept, RunAt}
+use Rattle.heaplaws.proofs.StateFacts.{SoundWith, InvariantBeforeFrees, RanksSound, RunsKept}
 use Rattle.heap.specs.Totals.{TotalsKept}
 use Rattle.calls.specs.Runs.{longTakenFrom}
 use Rattle.calls.specs.Take.{otherPlaces, takenFrom, takenFromOther, takeOf}
 use Rattle.calls.specs.Free.{isUnmapped, isInRun, isMisaligned, isLiveAt, smallFreedAt, longFreedAt, freeOf}
 use Rattle.calls.specs.Named.{isUnavailable, withNameBound, namedTakeOf, heldAddress, namedFreeOf}
+use Rattle.heap.specs.Runs.{RunAt, InRun}
 
 -- the state passes the check, with this of the processor heaps and classes, and its places are lent
 pub record PassedWith (Invariant : ℕ → ℕ → State → Type 0) (s : State) (order : List ℕ) : Type 0 where
@@ -154,10 +155,6 @@ pub record FreeEffect (c k j moves : ℕ) (s t : State) : Type 0 where
   pub live-of-class : liveOfClass c s ≡ suc (liveOfClass c t)
   pub live-of-others : (d : ℕ) → (d ≡ c → ⊥) → liveOfClass d t ≡ liveOfClass d s
   pub runs : RunsKept s t
-
--- superblock m is one of the n from k on
-abbrev pub InRun : ℕ → ℕ → ℕ → Type 0
-InRun k n m = (k ≤ m) × (m < k + n)
 
 -- A long block takes the run of n superblocks from k on (document 02, item 7). Names and ranks are told apart.
 pub record LongTakeEffect (k n : ℕ) (s t : State) : Type 0 where

@@ -31,7 +31,7 @@ use Rattle.calls.specs.DropLoops.{classesRestored, heapsRestored}
 use Rattle.calls.proofs.TouchedPairLaws.{drop-moves-by-heaps}
 use Rattle.calls.specs.Drop.{allFreed, allPushed, firstAddressRefusal, isTouched, thenRestored, dropMoves, droppedAll, dropUnchecked, dropOf}
 use Rattle.calls.proofs.AddressRefusalLaws.{mapped-of-no-refusal, aligned-of-no-refusal, live-of-no-refusal, free-unchecked-by-address-refusal}
-use Rattle.calllaws.proofs.CallEffects.{Passed, PassedAfterFrees, AddressAccepted, FreeAccepted, LongFreeAccepted, FreeEffect, InRun, LongFreeEffect}
+use Rattle.calllaws.proofs.CallEffects.{Passed, PassedAfterFrees, AddressAccepted, FreeAccepted, LongFreeAccepted, FreeEffect, LongFreeEffect}
 use Rattle.calllaws.proofs.CheckedLaws.{bounds-of-is-processor, passed-of-passes}
 use Rattle.calllaws.proofs.AddressLaws.{mapped-below-64, mapped-is-owned, block-at-address-same}
 use Rattle.calllaws.proofs.TransferredLaws.{oneMoreFreed, passed-after-no-frees}
@@ -41,6 +41,7 @@ use Rattle.calllaws.proofs.AddressFreedLaws.{block-freed-outside-run, o
 use Rattle.calllaws.proofs.FreeLaws.{free-outcome, free-effect, free-shape, free-passed, long-free-outcome, long-free-effect, long-free-shape, long-free-passed}
 use Rattle.calllaws.proofs.RefusalOrder.{free-is-unchecked}
 use Rattle.calllaws.proofs.AddressReadsLaws.{SameReads, same-reads-refl, SamePlaces, same-places-refl, same-places-sym, same-places-trans, SameMarks, refusal-in-other}
+use Rattle.heap.specs.Runs.{InRun}
 
 -- ---- the check before a drop is that before a free
 -- what holds of the two refusals of the check, and of what follows it on a state that passes, holds of the two calls

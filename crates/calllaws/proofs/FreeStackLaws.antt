@@ -49,7 +49,7 @@ use Rattle.calls.specs.Drop.{allFreed, allPushed, firstAddressRefusal, isTouche
 use Rattle.calls.specs.Named.{isUnavailable, withNameBound, namedTakeOf, heldAddress, namedFreeOf}
 use Rattle.calls.specs.Calls.{Call, Take, Free, NamedTake, NamedFree, Drop, callOf}
 use Rattle.calllaws.proofs.NamedCallLaws.{named-take-refused-or-accepted, named-take-state, named-take-order, named-take-shape, named-free-refused-or-accepted}
-use Rattle.calllaws.proofs.CallEffects.{PassedAfterFrees, InRun, LongFreeEffect, TakeAccepted, LongTakeAccepted, FreeAccepted, LongFreeAccepted, NamedTakeAccepted, NamedLongTakeAccepted, NamedFreeAccepted, NamedLongFreeAccepted}
+use Rattle.calllaws.proofs.CallEffects.{PassedAfterFrees, LongFreeEffect, TakeAccepted, LongTakeAccepted, FreeAccepted, LongFreeAccepted, NamedTakeAccepted, NamedLongTakeAccepted, NamedFreeAccepted, NamedLongFreeAccepted}
 use Rattle.calllaws.proofs.TakeSourceLaws.{lastBlockOf, takenWith, taken-from-is-taken-with, taken-from-other-is-taken-with}
 use Rattle.calllaws.proofs.TakeLaws.{take-refused-or-accepted, take-effect, take-shape, take-passed}
 use Rattle.calllaws.proofs.RunTakenLaws.{long-take-order, long-take-effect, long-take-shape}
@@ -64,6 +64,7 @@ use Rattle.calllaws.proofs.AllFreedLaws.{first-refusal-of-cons}
 use Rattle.calllaws.proofs.DropMoveLaws.{heaps-restored-keep}
 use Rattle.calllaws.proofs.DropLaws.{DropAccepted, drop-refused-or-accepted, drop-effect, drop-shape}
 use Rattle.calllaws.proofs.OrderWriteLaws.{NoneIn, freed-superblock-below-superblocks, filled-lt-256}
+use Rattle.heap.specs.Runs.{InRun}
 
 -- ---- the stack of a superblock
 -- v (m - 1), v (m - 2), .., v 0

@@ -24,7 +24,8 @@ use Rattle.choicerules.specs.Runs.{isAvailable}
 use Rattle.checkrules.specs.Check.{namesValid}
 use Rattle.heaplaws.proofs.RunChoiceLaws.{facts-of-is-available}
 use Rattle.heaplaws.proofs.RunsKeptLaws.{live-blocks-outside-run, starts-run-same, outside-run-of-owner}
-use Rattle.calllaws.proofs.CallEffects.{TakeEffect, FreeEffect, InRun, LongTakeEffect}
+use Rattle.calllaws.proofs.CallEffects.{TakeEffect, FreeEffect, LongTakeEffect}
+use Rattle.heap.specs.Runs.{InRun}
 
 -- ---- a live block by its number
 module _ (s : State) (b : ℕ) where

@@ -14,12 +14,13 @@ use Rattle.heap.specs.declared.State.{State}
 use Rattle.heap.specs.Table.{unused, runPart, superblockAt, withRank, isOfRun}
 use Rattle.heap.specs.Totals.{TotalsKept}
 use Rattle.heap.specs.Ranks.{rankAfterRenewal, unranked}
-use Rattle.heaplaws.proofs.StateFacts.{RunAt, RunsSound}
+use Rattle.heaplaws.proofs.StateFacts.{RunsSound}
 use Rattle.heaplaws.proofs.CountLaws.{superblock-at-replaced, superblock-at-others}
 use Rattle.heaplaws.proofs.RerankedLaws.{superblock-at-reranked}
 use Rattle.heaplaws.proofs.RunLaws.{runs-sound-of-run-taken, runs-sound-of-run-freed}
 use Rattle.calls.specs.Runs.{joinedToRun, runTaken, madeUnused, runFreed}
 use Rattle.calllaws.proofs.EachOfRunLaws.{EachMade, each-of-run-keeps, each-of-run-made}
+use Rattle.heap.specs.Runs.{RunAt}
 
 -- what a state keeps besides, when superblocks of its table change
 pub record RestKept (s t : State) : Type 0 where

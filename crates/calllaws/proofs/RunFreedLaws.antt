@@ -26,7 +26,7 @@ use Rattle.heap.specs.Table.{blank, unused, superblockAt, liveIn, isOfRun, star
 use Rattle.heap.specs.Counts.{total, belongs, isOwnedOfClass, oneIfBelongs, liveIfBelongs, superblocksOf, liveOf, superblocksOfClass, liveOfClass}
 use Rattle.heap.specs.Totals.{TotalsKept}
 use Rattle.checkrules.specs.Check.{namesValid, runsValid}
-use Rattle.heaplaws.proofs.StateFacts.{Shape, WithinLimits, Unused, Unowned, Owned, Sparse, RanksSound, RunAt, RunsSound, InvariantBeforeFrees, SoundAfterFrees}
+use Rattle.heaplaws.proofs.StateFacts.{Shape, WithinLimits, Unused, Unowned, Owned, Sparse, RanksSound, RunsSound, InvariantBeforeFrees, SoundAfterFrees}
 use Rattle.heaplaws.proofs.StateCheckLaws.{unowned-of-unused, unused-is-unused}
 use Rattle.heaplaws.proofs.CountLaws.{not-belongs-of-other-owner}
 use Rattle.heaplaws.proofs.TotalsLaws.{length-recounted-superblocks, length-recounted-live}
@@ -37,13 +37,14 @@ use Rattle.heaplaws.proofs.PassedBetweenHeapsLaws.{none-passed-between-heaps}
 use Rattle.calls.specs.Runs.{runFreed}
 use Rattle.calls.specs.Free.{superblockIndex, offsetOf, superblockHolding, blockOf, isInRun, isRunStart, isMisaligned, addressRefusal, blockNumberAt, longBlockFreed}
 use Rattle.calls.proofs.AddressRefusalLaws.{mapped-of-no-refusal, aligned-of-no-refusal}
-use Rattle.calllaws.proofs.CallEffects.{PassedAfterFrees, InRun, LongFreeEffect, RanksKept}
+use Rattle.calllaws.proofs.CallEffects.{PassedAfterFrees, LongFreeEffect, RanksKept}
 use Rattle.calllaws.proofs.EachOfRunLaws.{EachMade}
 use Rattle.calllaws.proofs.RunEffectLaws.{RestKept, run-freed-made, run-freed-keeps-rest, run-freed-runs-sound}
 use Rattle.calllaws.proofs.AddressLaws.{mapped-below-64, block-of-offset-0}
 use Rattle.calllaws.proofs.NamesKeptLaws.{mark-of-live-block, live-block-of-mark, names-valid-of-others-kept}
 use Rattle.calllaws.proofs.SuperblockLaws.{unowned-of-no-class}
 use Rattle.calllaws.proofs.TransferredLaws.{invariant-before-frees-cong}
+use Rattle.heap.specs.Runs.{RunAt, InRun}
 
 -- nothing is live in an unused superblock
 none-live-in-unused : (j : ℕ) → markBit (liveBlocks unused) j ≡ 0

@@ -36,11 +36,12 @@ use Rattle.calls.specs.declared.Outcome.the-variants.{Address}
 use Rattle.calls.specs.Answers.{After}
 use Rattle.calls.specs.Runs.{joinedToRun, runTaken, longTakenFrom}
 use Rattle.calls.specs.Take.{takeOf}
-use Rattle.calllaws.proofs.CallEffects.{Passed, LongTakeAccepted, InRun, LongTakeEffect, RunUnranked}
+use Rattle.calllaws.proofs.CallEffects.{Passed, LongTakeAccepted, LongTakeEffect, RunUnranked}
 use Rattle.calllaws.proofs.NamesKeptLaws.{names-valid-after-long-take}
 use Rattle.calllaws.proofs.EachOfRunLaws.{each-of-run-by-steps}
 use Rattle.calllaws.proofs.RunEffectLaws.{run-taken-made, run-taken-keeps-rest, run-taken-runs-sound}
 use Rattle.calllaws.proofs.VacatedLaws.{Vacates, move-rule-goes-by-counts, vacated-shape, vacated-superblocks-of-class, vacated-live-of-class, vacated-sound, vacated-ranks-sound}
+use Rattle.heap.specs.Runs.{InRun}
 
 -- ---- a superblock that is "unused or empty in heap 0"
 module _ (b : Superblock) (available : Available b) where

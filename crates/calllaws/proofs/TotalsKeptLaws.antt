@@ -21,7 +21,7 @@ use Rattle.heap.specs.declared.Found.{Found}
 use Rattle.heap.specs.declared.Found.the-variants.{At, Nothing}
 use Rattle.heap.specs.Table.{superblockAt}
 use Rattle.heap.specs.Counts.{superblocksOf, liveOf, superblocksOfClass, liveOfClass}
-use Rattle.heap.specs.Totals.{heapCount, totalCount, totalIndex, superblocksKept, liveKept, TotalsKept}
+use Rattle.heap.specs.Totals.{heapCount, totalCount, totalIndex, superblocksKept, liveKept, TotalsKept, TotalsCounted}
 use Rattle.heap.specs.States.{noState, newState}
 use Rattle.choicerules.specs.Choice.{fullest}
 use Rattle.choicerules.specs.Runs.{lowestRun}
@@ -49,10 +49,6 @@ use Rattle.heaplaws.proofs.MovesKeepLaws.{totals-kept-of-invariant-restored}
 use Rattle.calllaws.proofs.DropMoveLaws.{heaps-restored-keep, then-restored-keeps-totals}
 use Rattle.calllaws.proofs.AcceptedCallLaws.{call-passes-if-accepted}
 use Rattle.calllaws.proofs.RefusalConditions.{address-not-refused, moves-not-refused, rest-fails, check-fails-refused-13}
-
--- "equal to the recount": the totals kept of each heap and class are its superblocks and its live blocks
-abbrev pub TotalsCounted : State → Type 0
-TotalsCounted s = (h c : ℕ) → h < heapCount → c < 27 → (superblocksKept h c s ≡ superblocksOf h c s) × (liveKept h c s ≡ liveOf h c s)
 
 pub totals-counted-of-kept : (s : State) → TotalsKept s → TotalsCounted s
 totals-counted-of-kept s kept h c lh lc = (superblocks-kept-are-counted s h c lh lc kept, live-kept-is-counted s h c lh lc kept)

@@ -20,7 +20,8 @@ use Rattle.heap.specs.declared.State.{State}
 use Rattle.heap.specs.Table.{blank, superblockAt, isOfRun}
 use Rattle.heap.specs.States.{newState}
 use Rattle.checkrules.specs.Check.{within, runsWhole, runsValid}
-use Rattle.heaplaws.proofs.StateFacts.{RunAt, RunsSound}
+use Rattle.heaplaws.proofs.StateFacts.{RunsSound}
+use Rattle.heap.specs.Runs.{RunAt}
 
 -- ---- the check's clause, read over a list
 -- superblock k of a list follows the first of a run

@@ -17,6 +17,7 @@ use Rattle.heap.specs.Counts.{belongs, superblocksOf, blocksIn, liveOf, superbl
 use Rattle.heap.specs.Totals.{TotalsKept}
 use Rattle.moverules.specs.Moves.{mustMove}
 use Rattle.checkrules.specs.Check.{rankedCount}
+use Rattle.heap.specs.Runs.{RunAt}
 
 -- a way to compare superblocks, by which some are preferred and the others equal
 pub record StrictWeakOrder (preferred : Superblock → Superblock → Bool) : Type 0 where
@@ -108,15 +109,6 @@ pub record RanksSound (s : State) : Type 0 where
   pub distinct : (k m : ℕ) → k < 64 → m < 64 → 0 < superblockAt s k .rank → superblockAt s k .rank ≡ superblockAt s m .rank → k ≡ m
   -- "the rest 0, unused ones too", and those of a run: "no rank" (item 7)
   pub unowned-unranked : (k : ℕ) → k < 64 → Unowned (superblockAt s k) → superblockAt s k .rank ≡ 0
-
--- superblock k is the first of a run of n superblocks: "The first carries the run's length, every other superblock 0"; "runs are whole and at most 16 long"
-pub record RunAt (s : State) (k n : ℕ) : Type 0 where
-  pub length-is : superblockAt s k .run ≡ n
-  pub some : 1 ≤ n
-  pub at-most-16 : n ≤ 16
-  pub in-table : k + n ≤ 64
-  pub of-run : (m : ℕ) → k ≤ m → m < k + n → isOfRun (superblockAt s m) ≡ true
-  pub others-carry-0 : (m : ℕ) → k < m → m < k + n → superblockAt s m .run ≡ 0
 
 -- the runs' part of the check (document 02, item 7)
 pub record RunsSound (s : State) : Type 0 where

@@ -11,7 +11,7 @@ use Rattle.commands.specs.Record.{commandAt}
 use Rattle.commandlaws.proofs.RefusalTable.{drop-iff-drop-at}
 use Rattle.textrules.specs.Text.{letters}
 use Rattle.linerules.specs.Lines.{field, result, dropLine}
-use Rattle.keylaws.proofs.KeyClaims.{callsIn}
+use Rattle.keyrules.specs.KeyClaim.{callsIn}
 
 module _ (r : List ℕ) (at i count first : ℕ) (e : commandAt r at ≡ command.Drop i count first) where
   -- "`drop 1 count 3 moved 1`": a drop prints the processor and the count as in the record, whatever came of it

@@ -18,14 +18,13 @@ use Rattle.calls.specs.declared.Outcome.the-variants.{Ready, Refused}
 use Rattle.calls.specs.Answers.{After, refused, numberOf}
 use Rattle.calls.specs.Setup.{acceptedSetup, setupOf}
 use Rattle.calls.specs.Calls.{Call, callOf}
-use Rattle.bound.specs.Claim.{Step, Linked, Claims}
+use Rattle.bound.specs.Claim.{Step, Linked, Claims, lastAfter, stepsBy}
 use Rattle.boundlaws.proofs.Demand3.{demand-3}
-use Rattle.boundlaws.proofs.NamesAgree.{lastAfter}
-use Rattle.boundlaws.proofs.TotalsOverLists.{TotalsCountedOver, totals-kept-over-list, LiveTotalsAgreeOver, live-totals-agree-with-ledger}
+use Rattle.boundlaws.proofs.TotalsOverLists.{totals-kept-over-list, live-totals-agree-with-ledger}
 use Rattle.bound.specs.History.{RankedByLastFreeOver}
 use Rattle.boundlaws.proofs.RanksOverLists.{ranked-by-last-free-over-list}
-use Rattle.boundlaws.proofs.LongBlocksOverLists.{LongBlocksAgreeOver, long-blocks-agree-with-ledger}
-use Rattle.boundlaws.proofs.CallListLaws.{stepsBy, steps-linked}
+use Rattle.boundlaws.proofs.LongBlocksOverLists.{long-blocks-agree-with-ledger}
+use Rattle.boundlaws.proofs.CallListLaws.{steps-linked}
 use Rattle.littleendian.proofs.FoursLaws.{length-of-fours-at}
 use Rattle.commands.specs.declared.Command.{Command}
 use Rattle.commands.specs.declared.Command.the-variants as command
@@ -33,46 +32,12 @@ use Rattle.commands.specs.Record.{addressesIn, commandAt, sizeOfCommand, isRefu
 use Rattle.commandlaws.proofs.CommandLaws.{remaining, commands-of-is-commands-at-0, commands-setup, commands-refused, setup-first-and-inside, take-later-and-inside, free-later-and-inside, named-take-later-and-inside, named-free-later-and-inside, drop-later-and-inside}
 use Rattle.linerules.specs.Lines.{setupLine, takeLine, freeLine, namedTakeLine, namedFreeLine, dropLine, stopLine, finalLines}
 use Rattle.keyrules.specs.Key.{beforeFirst, setupText, textOf, orderAfter, keyOf, storageOf}
+use Rattle.bound.specs.LongBlocksClaim.{LongBlocksAgreeOver}
+use Rattle.bound.specs.TotalsClaim.{TotalsCountedOver, LiveTotalsAgreeOver}
+use Rattle.keyrules.specs.KeyClaim.{callsIn, stepsIn, lineOf, stepLines, endingLines, KeyClaims}
 
 -- ---- the calls of a record
--- the takes, frees and drops among commands of record r, up to their end or stop; a setup among them is passed over
-unfoldable pub callsIn : List ℕ → List Command → List Call
-callsIn r [] = []
-callsIn r (command.Setup processors superblocks spare p q ∷ commands) = callsIn r commands
-callsIn r (command.Take processor size ∷ commands) = call.Take processor size ∷ callsIn r commands
-callsIn r (command.Free processor address ∷ commands) = call.Free processor address ∷ callsIn r commands
-callsIn r (command.NamedTake processor name size ∷ commands) = call.NamedTake processor name size ∷ callsIn r commands
-callsIn r (command.NamedFree processor name ∷ commands) = call.NamedFree processor name ∷ callsIn r commands
-callsIn r (command.Drop processor count first ∷ commands) = call.Drop processor (addressesIn r first count) ∷ callsIn r commands
-callsIn r (command.Refused number offset ∷ commands) = []
-
--- those calls with what each left, one after the other
-unfoldable pub stepsIn : List ℕ → After → List Command → List Step
-stepsIn r before commands = stepsBy callOf before (callsIn r commands)
-
 -- ---- what is printed of them
-unfoldable pub lineOf : Call → Outcome → List ℕ
-lineOf (call.Take processor size) outcome = takeLine processor size outcome
-lineOf (call.Free processor address) outcome = freeLine processor address outcome
-lineOf (call.NamedTake processor name size) outcome = namedTakeLine processor name size outcome
-lineOf (call.NamedFree processor name) outcome = namedFreeLine processor name outcome
-lineOf (call.Drop processor addresses) outcome = dropLine processor (length addresses) outcome
-
-unfoldable pub stepLines : List Step → List ℕ
-stepLines [] = []
-stepLines (step ∷ steps) = lineOf (step .call) (step .after .answer .outcome) ++ stepLines steps
-
--- the stop line, or the final lines of the last state
-unfoldable pub endingLines : After → List Command → List ℕ
-endingLines last [] = finalLines (last .answer .state)
-endingLines last (command.Setup processors superblocks spare p q ∷ commands) = endingLines last commands
-endingLines last (command.Take processor size ∷ commands) = endingLines last commands
-endingLines last (command.Free processor address ∷ commands) = endingLines last commands
-endingLines last (command.NamedTake processor name size ∷ commands) = endingLines last commands
-endingLines last (command.NamedFree processor name ∷ commands) = endingLines last commands
-endingLines last (command.Drop processor count first ∷ commands) = endingLines last commands
-endingLines last (command.Refused number offset ∷ commands) = stopLine number offset
-
 -- ---- a setup comes first, and only there
 NoSetup : List Command → Type 0
 NoSetup [] = Unit {0}
@@ -167,17 +132,6 @@ order-after-is-last-order r before (command.Drop processor count first ∷ comma
 order-after-is-last-order r before (command.Refused number offset ∷ commands) n = refl
 
 -- ---- the theorem
--- a record that starts with the accepted setup u: the calls after it are a list as in demand 3 from what the setup left, the claim
--- holds of it, and the key prints the setup, these calls with their outcomes, and the stop line or the last state
-pub record KeyClaims (r order : List ℕ) (u : Setup) (commands : List Command) : Type 0 where
-  pub starts : commandsOf r ≡ command.Setup (u .processors) (u .superblocks) (u .spare) (u .p) (u .q) ∷ commands
-  pub ready : setupOf u order .answer .outcome ≡ Ready
-  pub linked : Linked (setupOf u order) (stepsIn r (setupOf u order) commands)
-  pub claims : Claims u (setupOf u order) [] (λ c. 0) (stepsIn r (setupOf u order) commands)
-  pub printed : keyOf r order
-      ≡ setupLine u ++ (stepLines (stepsIn r (setupOf u order) commands) ++ endingLines (lastAfter (setupOf u order) (stepsIn r (setupOf u order) commands)) commands)
-  pub storage : storageOf r order ≡ lastAfter (setupOf u order) (stepsIn r (setupOf u order) commands) .order
-
 module _ (r order : List ℕ) (u : Setup) (commands : List Command) (e : commandsOf r ≡ command.Setup (u .processors) (u .superblocks) (u .spare) (u .p) (u .q) ∷ commands) where
   pub key-claims-of-accepted-setup : setupOf u order .answer .outcome ≡ Ready → KeyClaims r order u commands
   unfolding tailOf keyOf storageOf textOf orderAfter setupText numberOf stepsIn

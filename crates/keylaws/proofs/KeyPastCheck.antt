@@ -8,9 +8,8 @@ use Rattle.calls.specs.declared.Outcome.the-variants.{Ready}
 use Rattle.calls.specs.Setup.{setupOf}
 use Rattle.calls.specs.Calls.{callUnchecked}
 use Rattle.calls.proofs.CallDefinitions.{callDefinitions}
-use Rattle.bound.specs.Claim.{Step}
-use Rattle.boundlaws.proofs.NamesAgree.{lastAfter}
-use Rattle.boundlaws.proofs.CallListLaws.{stepsBy, steps-are-unchecked}
+use Rattle.bound.specs.Claim.{Step, lastAfter, stepsBy}
+use Rattle.boundlaws.proofs.CallListLaws.{steps-are-unchecked}
 use Rattle.commands.specs.declared.Command.{Command}
 use Rattle.commands.specs.declared.Command.the-variants as command
 use Rattle.commands.specs.Record.{commandsOf}
@@ -18,7 +17,8 @@ use Rattle.commands.proofs.CommandDefinitions.{commandDefinitions}
 use Rattle.linerules.specs.Lines.{setupLine}
 use Rattle.linerules.proofs.LineDefinitions.{lineDefinitions}
 use Rattle.keyrules.specs.Key.{keyOf, storageOf}
-use Rattle.keylaws.proofs.KeyClaims.{callsIn, stepsIn, lineOf, stepLines, endingLines, key-claims-of-accepted-setup}
+use Rattle.keylaws.proofs.KeyClaims.{key-claims-of-accepted-setup}
+use Rattle.keyrules.specs.KeyClaim.{callsIn, stepsIn, lineOf, stepLines, endingLines}
 
 module _ (r order : List ℕ) (u : Setup) (commands : List Command) where
   -- the calls of the record, each behind the check

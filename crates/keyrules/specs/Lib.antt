@@ -1,1 +1,2 @@
 pub mod Key
+pub mod KeyClaim

@@ -10,12 +10,13 @@ use Rattle.heaplaws.proofs.RunLaws.{runs-sound-of-valid}
 use Rattle.calls.specs.Calls.{Call}
 use Rattle.calls.specs.declared.Outcome.the-variants.{Ready, Refused}
 use Rattle.calllaws.proofs.CallRunLaws.{call-refused-13-of-wrong-runs}
-use Rattle.boundlaws.proofs.LongBlocksOverLists.{LongBlocksAgreeOver, long-blocks-agree-with-ledger}
+use Rattle.boundlaws.proofs.LongBlocksOverLists.{long-blocks-agree-with-ledger}
 use Rattle.rowrules.specs.declared.Control.{Control}
 use Rattle.rowrules.specs.Row.{RowAfter, stateOf, asRowAfter, rowRefused, rowSetup, rowCall}
 use Rattle.rowrules.specs.RowClaim.{RowStep, RowLinked, asAfter, stepOf}
 use Rattle.rowlaws.proofs.RowLaws.{call-on-64-is-call-of, row-call-refused, accepted-row-call-passes}
 use Rattle.rowlaws.proofs.RowDemand3.{row-list-is-call-list}
+use Rattle.bound.specs.LongBlocksClaim.{LongBlocksAgreeOver}
 
 module _ (control : Control) (row : List Superblock) (order : List ℕ) (call : Call) where
   -- a refused call keeps all run lengths: the row's records are as they were

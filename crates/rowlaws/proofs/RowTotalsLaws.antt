@@ -6,17 +6,18 @@ use Prim.Native.Nat.{ℕ, _*_, _≤_}
 use lib.ListN.{length}
 use Rattle.heap.specs.declared.Superblock.{Superblock}
 use Rattle.heap.specs.declared.Setup.{Setup}
-use Rattle.heap.specs.Totals.{recounted, noTotals}
+use Rattle.heap.specs.Totals.{recounted, noTotals, TotalsCounted}
 use Rattle.heaplaws.proofs.StateFacts.{WithinLimits}
 use Rattle.calls.specs.Calls.{Call}
 use Rattle.calls.specs.declared.Outcome.the-variants.{Ready, Refused}
-use Rattle.calllaws.proofs.TotalsKeptLaws.{TotalsCounted, totals-counted-of-kept, call-keeps-totals, call-refused-13-of-wrong-total}
-use Rattle.boundlaws.proofs.TotalsOverLists.{TotalsCountedOver, totals-kept-over-list, LiveTotalsAgreeOver, live-totals-agree-with-ledger}
+use Rattle.calllaws.proofs.TotalsKeptLaws.{totals-counted-of-kept, call-keeps-totals, call-refused-13-of-wrong-total}
+use Rattle.boundlaws.proofs.TotalsOverLists.{totals-kept-over-list, live-totals-agree-with-ledger}
 use Rattle.rowrules.specs.declared.Control.{Control}
 use Rattle.rowrules.specs.Row.{RowAfter, stateOf, asRowAfter, rowRefused, rowSetup, rowCall}
 use Rattle.rowrules.specs.RowClaim.{RowStep, RowLinked, asAfter, stepOf}
 use Rattle.rowlaws.proofs.RowLaws.{call-on-64-is-call-of, row-setup-refused-or-accepted, row-call-refused-or-accepted, row-call-refused}
 use Rattle.rowlaws.proofs.RowDemand3.{row-list-is-call-list}
+use Rattle.bound.specs.TotalsClaim.{TotalsCountedOver, LiveTotalsAgreeOver}
 
 -- "a new or refused setup has them at 0"
 pub row-setup-totals-are-0 : (u : Setup) (row : List Superblock) (order : List ℕ) → rowSetup u row order .control .totals ≡ noTotals
