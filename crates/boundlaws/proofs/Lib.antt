@@ -6,6 +6,7 @@ pub mod LedgerRuns
 pub mod LedgerNames
 pub mod BoundLaws
 pub mod ListedLaws
+pub mod FreesRunLaws
 pub mod CallInvariantLaws
 pub mod Demand3
 pub mod NamesAgree
