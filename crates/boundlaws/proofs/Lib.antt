@@ -9,6 +9,7 @@ pub mod ListedLaws
 pub mod FreesRunLaws
 pub mod CallInvariantLaws
 pub mod Demand3
+pub mod AlongLaws
 pub mod NamesAgree
 pub mod TotalsOverLists
 pub mod LongBlocksOverLists

@@ -23,14 +23,14 @@ use Rattle.calls.specs.Named.{heldAddress}
 use Rattle.calllaws.proofs.NamesKeptLaws.{live-block-in-table}
 use Rattle.calllaws.proofs.MarkClearedLaws.{LiveBlock}
 use Rattle.calllaws.proofs.NamedCallLaws.{held-block-is-live, held-block-is-run, held-address-of-run, live-class-lt-27}
-use Rattle.bound.specs.Ledger.{Entry, classOfEntry, isAt, hasName, ledgerAfter, someEntry, EachEntry, entriesAt}
-use Rattle.bound.specs.Claim.{Step, Linked, peakWith, lastAfter}
+use Rattle.bound.specs.Ledger.{Entry, classOfEntry, isAt, hasName, someEntry, EachEntry, entriesAt}
+use Rattle.bound.specs.Claim.{Step, Linked}
+use Rattle.bound.specs.NamesClaim.{NamesAgree, NamesAgreeOver, holdsAddress}
 use Rattle.boundlaws.proofs.LongAtLaws.{longAt, long-at-start}
 use Rattle.boundlaws.proofs.LiveAtLaws.{liveAt, live-for-owned, live-at-of-address}
 use Rattle.boundlaws.proofs.LedgerNames.{each-entry-map, EntryAgrees}
-use Rattle.boundlaws.proofs.CallInvariantLaws.{ListInvariant, AfterCall, after-step}
-use Rattle.boundlaws.proofs.Demand3.{list-invariant-after-setup}
-use Rattle.bound.specs.NamesClaim.{NamesAgree, holdsAddress}
+use Rattle.boundlaws.proofs.CallInvariantLaws.{ListInvariant}
+use Rattle.boundlaws.proofs.AlongLaws.{along-of-list-invariant}
 
 -- ---- a held name's block is in the ledger
 module _ (s : State) (m : ℕ) (held : T (isHeld (s .names) m)) (c : ℕ) where
@@ -77,18 +77,8 @@ names-agree-of-list-invariant u s order ledger peak g =
         entry-of-count s m held c ledger (g .names) (omega (arith, g .listed .blocks (heldAddress s m) c known))
 
 -- ---- along a list of calls
-names-agree-from : (u : Setup) (before : After) (ledger : List Entry) (peak : ℕ → ℕ) (steps : List Step) → ListInvariant u (before .answer .state) (before .order) ledger peak → Linked before steps
-    → NamesAgree (lastAfter before steps .answer .state) (ledgerOf ledger steps)
-unfolding Linked ledgerOf lastAfter
-names-agree-from u before ledger peak [] g linked = names-agree-of-list-invariant u (before .answer .state) (before .order) ledger peak g
-names-agree-from u before ledger peak (step ∷ steps) g linked =
-    names-agree-from u (step .after) (ledgerAfter ledger (step .call) (step .after .answer .outcome)) (peakWith peak (ledgerAfter ledger (step .call) (step .after .answer .outcome))) steps (n .invariant) (linked .1)
-  where
-    n : AfterCall u (before .answer .state) ledger peak (step .call) (step .after)
-    n = after-step u (before .answer .state) (before .order) ledger peak g step (linked .0)
-
--- After every accepted setup and every list of calls after it: the ledger's names and the state's agree.
-pub ledger-and-state-names-agree : (u : Setup) (order : List ℕ) (start : After) → start ≡ setupOf u order → start .answer .outcome ≡ Ready → (steps : List Step) → Linked start steps
-    → NamesAgree (lastAfter start steps .answer .state) (ledgerOf [] steps)
-ledger-and-state-names-agree u order start e ready steps linked =
-    names-agree-from u start [] (λ c. 0) steps (list-invariant-after-setup u order start e ready) linked
+-- For every accepted setup, whatever stood in the storage before, and every list of takes and frees after it, plain and named, and of drops: the ledger's
+-- names and the state's agree before the list and after each of its calls.
+pub ledger-and-state-names-agree : (u : Setup) (order : List ℕ) (start : After) → start ≡ setupOf u order → start .answer .outcome ≡ Ready
+    → (steps : List Step) → Linked start steps → NamesAgreeOver start [] steps
+ledger-and-state-names-agree u = along-of-list-invariant u NamesAgree (names-agree-of-list-invariant u)
