@@ -81,7 +81,7 @@ holds-address-of-held : (s : State) (m a : ℕ) → isHeld (s .names) m ≡ true
 unfolding holdsAddress
 holds-address-of-held s m a e = rw e
 
-holds-address-of-not-held : (s : State) (m a : ℕ) → isHeld (s .names) m ≡ false → holdsAddress s m a ≡ false
+pub holds-address-of-not-held : (s : State) (m a : ℕ) → isHeld (s .names) m ≡ false → holdsAddress s m a ≡ false
 unfolding holdsAddress
 holds-address-of-not-held s m a e = rw e
 

@@ -11,6 +11,7 @@ pub mod CallInvariantLaws
 pub mod Demand3
 pub mod AlongLaws
 pub mod NamesAgree
+pub mod NamesHold
 pub mod TotalsOverLists
 pub mod LongBlocksOverLists
 pub mod CallListLaws
