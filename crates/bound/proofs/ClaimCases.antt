@@ -28,6 +28,7 @@ use Rattle.bound.specs.Ledger.{Name, named, unnamed, Entry, ledgerAfter,
 use Rattle.bound.specs.Claim.{Step, Linked, Bounded, freesRun, OwnerChanges, peakWith, Claims}
 use Rattle.bound.proofs.LedgerDefinitions.{entry, ledgerDefinitions}
 use Rattle.bound.proofs.HistoryCases.{historyHolds}
+use Rattle.bound.proofs.NamesCases.{namesCasesHold}
 
 -- ---- the ledger: blocks of sizes 1100, 384 and 1280, so of classes 23, 16 and 23; the second was taken by name 7, the third by name 9
 abbrev pub three-entries : List Entry
@@ -311,10 +312,10 @@ pub linked-holds-of-refused-calls : Linked (after-refused-13 (4 ∷ [])) (record
 unfolding Linked callOf takeOf checked withinLimits numberOf
 linked-holds-of-refused-calls = (refl, (refl, tt))
 
--- the cases so far take little. Each that follows takes longer, and is computed where they, those of the history and the one before it hold
+-- the cases so far take little. Each that follows takes longer, and is computed where they, those of the history and of names and the one before it hold
 unfoldable quickClaimsHold : Unit {0}
 quickClaimsHold =
-    historyHolds also entries-of-cases also ledger-after-take-cases also entries-of-size-0-case also ledger-after-free-cases
+    historyHolds also namesCasesHold also entries-of-cases also ledger-after-take-cases also entries-of-size-0-case also ledger-after-free-cases
     also ledger-after-named-free-cases also ledger-after-drop-cases also long-entry-cases also peak-with-cases also bound-exceeded
     also bound-of-other-class-exceeded also bound-of-class-0-exceeded also bound-of-class-26-exceeded also eight-owner-changes-fail
     also unreported-owner-change-fails also reported-move-not-made-fails also refused-free-owner-change-fails

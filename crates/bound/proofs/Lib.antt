@@ -1,3 +1,4 @@
 pub mod LedgerDefinitions
+pub mod NamesCases
 pub mod ClaimCases
 pub mod HistoryCases

@@ -1,6 +1,6 @@
 -- What holds after the setup and after each call of a list: the state passes, the ledger lists its live blocks, and the bound holds. Assumes nothing.
 use mathlib.Core.Path.{_≡_, refl, sym, ap, _∙_, subst}
-use mathlib.Core.Bool.{false}
+use mathlib.Core.Bool.{Bool, false}
 use mathlib.Core.Logic.{_⊎_, inl, ⊎-elim}
 use mathlib.Core.List.{List, _∷_}
 use Prim.Native.Nat.{ℕ, _+_, _-_, _*_, _≤_, _<_}
@@ -9,8 +9,9 @@ use native.Mathlib.Decide.{ℕ-discrete, decLt}
 use native.Mathlib.Omega.{arith}
 use lib.ListN.{length}
 use lib.Dec.{T}
+use Rattle.laws.specs.Sums.{both}
 use Rattle.laws.proofs.Inequalities.{le-of-not-below}
-use Rattle.classes.specs.Classes.{blocksOf, classOf, runLength}
+use Rattle.classes.specs.Classes.{blocksOf, classOf, isLong, runLength}
 use Rattle.classes.proofs.ClassLaws.{class-of-too-large}
 use Rattle.names.specs.Names.{blockNumber, isHeld, withName}
 use Rattle.heap.specs.declared.Setup.{Setup}
@@ -28,8 +29,9 @@ use Rattle.calls.specs.Named.{isUnavailable, namedTakeOf, heldAddress, namedFre
 use Rattle.calls.specs.Drop.{allFreed, isTouched, dropMoves, dropOf}
 use Rattle.calls.specs.Calls.{Call, Take, Free, NamedTake, NamedFree, Drop, callOf}
 use Rattle.calllaws.proofs.CallEffects.{Passed, TakeAccepted, LongTakeAccepted, FreeAccepted, LongFreeAccepted, NamedTakeAccepted, NamedLongTakeAccepted, NamedFreeAccepted, NamedLongFreeAccepted, TakeEffect, FreeEffect, LongTakeEffect, LongFreeEffect}
-use Rattle.bound.specs.Ledger.{Name, named, unnamed, Entry, isAt, isAtOneOf, hasName, removed, afterTake, afterFree, ledgerAfter, entriesOf, EachEntry, entriesAt}
-use Rattle.bound.specs.Claim.{Step, Bounded, RefusedOwnerChanges, FreeOwnerChanges, OwnerChanges, OwnersChangeRightly, peakWith}
+use Rattle.bound.specs.Ledger.{Name, named, unnamed, Entry, isAt, isAtOneOf, hasName, removed, afterTake, afterFree, ledgerAfter, entriesOf}
+use Rattle.bound.specs.Ledger.{someEntry, EachEntry, entriesAt}
+use Rattle.bound.specs.Claim.{Step, Bounded, freesRun, RefusedOwnerChanges, FreeOwnerChanges, OwnerChanges, OwnersChangeRightly, peakWith}
 use Rattle.calllaws.proofs.TakeLaws.{take-refused-or-accepted, taken-block, take-address, take-effect, take-names, take-shape, take-passed}
 use Rattle.calllaws.proofs.RunTakenLaws.{long-take-address, long-take-effect, long-take-names, long-take-shape, long-take-passed}
 use Rattle.calllaws.proofs.FreeLaws.{free-refused-or-accepted, free-passed-between-heaps, moves, free-outcome, free-address, free-effect, free-names, free-shape, free-passed}
@@ -43,8 +45,10 @@ use Rattle.boundlaws.proofs.LiveAtLaws.{liveAt, OneMoreLive, live-at-be
 use Rattle.boundlaws.proofs.OneMoreLongLaws.{OneMoreLong, long-at-before-run-is-zero, one-more-long-of-take, one-more-long-of-free}
 use Rattle.boundlaws.proofs.LedgerRuns.{LongAgrees, long-take-entry-is-run}
 use Rattle.boundlaws.proofs.LedgerNames.{each-entry-map, each-entry-cons, EntryAgrees, BlockTaken, block-taken-of-take, block-taken-of-long-take, plain-take-keeps-agreement, plain-take-entry-agrees, named-take-keeps-agreement, named-take-entry-agrees, no-entry-at}
-use Rattle.boundlaws.proofs.LedgerNames.{block-let-go-of-free, block-let-go-of-long-free, agreement-after-free, agreement-of-same-names-and-classes, removed-by-name-is-removed-by-address}
+use Rattle.boundlaws.proofs.LedgerNames.{block-let-go-of-free, block-let-go-of-long-free, agreement-after-free, agreement-of-same-names-and-classes}
+use Rattle.boundlaws.proofs.LedgerNames.{name-is-at-address, removed-by-name-is-removed-by-address}
 use Rattle.boundlaws.proofs.ListedLaws.{Listed, listed-added, listed-removed, live-at-run-is-zero, listed-long-added, listed-long-removed, Agreement, all-freed-agreement, transfers-class, transfers-runs, listed-after-transfers}
+use Rattle.boundlaws.proofs.FreesRunLaws.{some-entry-cong, longWhere, run-start-is-long, drop-changes-passed-owners}
 use Rattle.boundlaws.proofs.BoundLaws.{bound-of-none-in-global}
 
 -- ---- after the setup or a call
@@ -92,7 +96,7 @@ list-invariant-next u s t order after-call ledger new peak g e passed shape list
 -- ---- a call
 -- what a call leaves, and the owners that it changed
 pub record AfterCall (u : Setup) (s : State) (ledger : List Entry) (peak : ℕ → ℕ) (call : Call) (after : After) : Type 0 where
-  pub owner-changes : OwnersChangeRightly (u .q) s (after .answer .state) call (after .answer .outcome)
+  pub owner-changes : OwnersChangeRightly (u .q) ledger s (after .answer .state) call (after .answer .outcome)
   pub invariant : ListInvariant u (after .answer .state) (after .order) (ledgerAfter ledger call (after .answer .outcome)) (peakWith peak (ledgerAfter ledger call (after .answer .outcome)))
 
 -- outcomes of different kinds differ, and so do different numbers of moves
@@ -128,6 +132,7 @@ record Freed (s : State) (ledger : List Entry) (a moves : ℕ) (after : After) :
   listed : Listed (after .answer .state) (removed (isAt a) ledger)
   names : EachEntry (EntryAgrees (after .answer .state)) (removed (isAt a) ledger)
   passed-between-heaps : passedBetweenHeaps s (after .answer .state) ≡ moves
+  changed : someEntry (longWhere (isAt a)) ledger ≡ false → ownersChanged s (after .answer .state) ≡ moves
   moves-le-q : moves ≤ s .setup .q
   owned : (d : ℕ) → superblocksOfClass d (after .answer .state) ≡ superblocksOfClass d s
 
@@ -147,20 +152,23 @@ module _ (u : Setup) (s : State) (order : List ℕ) (ledger : List Entry) (peak 
   refused-changes-no-owner : (r : ℕ) → RefusedOwnerChanges (ownersChanged s s) (Refused r)
   refused-changes-no-owner r m e = owners-changed-self s
 
-  refused-free-changes-no-owner : (most r : ℕ) → FreeOwnerChanges most (ownersChanged s s) (passedBetweenHeaps s s) (Refused r)
-  refused-free-changes-no-owner most r = (
-    omega (arith, none-passed-between-heaps s s (λ k l. inl refl)),
-    λ m e. absurd (Refused-and-Moves-differ (Refused r) r m refl e),
-    refused-changes-no-owner r,
-  )
+  refused-free-changes-no-owner : (most r : ℕ) (run : Bool) → FreeOwnerChanges most (ownersChanged s s) (passedBetweenHeaps s s) run (Refused r)
+  refused-free-changes-no-owner most r run =
+      let none = none-passed-between-heaps s s (λ k l. inl refl) in (
+        omega arith,
+        λ m e. absurd (Refused-and-Moves-differ (Refused r) r m refl e),
+        refused-changes-no-owner r,
+        λ e. owners-changed-self s ∙ sym none,
+      )
 
   after-refused-call : (r : ℕ) (call : Call) → AfterCall u s ledger peak call (refused r s order)
   unfolding OwnerChanges ledgerAfter afterTake afterFree
   after-refused-call r (Take i size) = record { owner-changes = refused-changes-no-owner r; invariant = list-invariant-after-refusal }
-  after-refused-call r (Free i a) = record { owner-changes = refused-free-changes-no-owner (u .q) r; invariant = list-invariant-after-refusal }
+  after-refused-call r (Free i a) = record { owner-changes = refused-free-changes-no-owner (u .q) r _; invariant = list-invariant-after-refusal }
   after-refused-call r (NamedTake i m size) = record { owner-changes = refused-changes-no-owner r; invariant = list-invariant-after-refusal }
-  after-refused-call r (NamedFree i m) = record { owner-changes = refused-free-changes-no-owner (u .q) r; invariant = list-invariant-after-refusal }
-  after-refused-call r (Drop i addresses) = record { owner-changes = refused-free-changes-no-owner (u .q * length addresses) r; invariant = list-invariant-after-refusal }
+  after-refused-call r (NamedFree i m) = record { owner-changes = refused-free-changes-no-owner (u .q) r _; invariant = list-invariant-after-refusal }
+  after-refused-call r (Drop i addresses) =
+      record { owner-changes = refused-free-changes-no-owner (u .q * length addresses) r _; invariant = list-invariant-after-refusal }
 
   numbers : WithinLimits (s .setup)
   numbers = g .passed .sound .numbers
@@ -296,6 +304,7 @@ module _ (u : Setup) (s : State) (order : List ℕ) (ledger : List Entry) (peak 
             (agreement-after-free (addressOf (superblockIndex a) c (blockOf s a)) (superblockIndex a) (blockOf s a) s (freeOf s order i a .answer .state) (g .shape .length-is) (g .passed .names)
             (block-let-go-of-free c (superblockIndex a) (blockOf s a) (moves s order i a (g .shape) acc) s (freeOf s order i a .answer .state) effect) (free-names s order i a (g .shape) acc) ledger (g .names));
         passed-between-heaps = free-passed-between-heaps c (superblockIndex a) (blockOf s a) (moves s order i a (g .shape) acc) s (freeOf s order i a .answer .state) effect;
+        changed = λ none. effect .changed;
         moves-le-q = effect .moves-le-q;
         owned = effect .owned;
       }
@@ -327,6 +336,9 @@ module _ (u : Setup) (s : State) (order : List ℕ) (ledger : List Entry) (peak 
             (agreement-after-free (superblockIndex a * 4096) (superblockIndex a) 0 s (freeOf s order i a .answer .state) (g .shape .length-is) (g .passed .names)
             (block-let-go-of-long-free (superblockIndex a) (superblockHolding s a .run) s (freeOf s order i a .answer .state) order (g .passed .sound) effect) (long-free-names s order i a (g .shape) acc) ledger (g .names));
         passed-between-heaps = effect .passed-between-heaps;
+        changed = λ none.
+            absurd (run-start-is-long s ledger a (superblockIndex a) (superblockHolding s a .run) (g .listed) (effect .run-before)
+            (long-free-address s order i a (g .shape) acc) none);
         moves-le-q = omega arith;
         owned = effect .owned;
       }
@@ -335,11 +347,13 @@ module _ (u : Setup) (s : State) (order : List ℕ) (ledger : List Entry) (peak 
       effect = long-free-effect s order i a (g .shape) acc
 
   module _ (a moves : ℕ) (after : After) (freed : Freed s ledger a moves after) where
-    freed-changes-owners : FreeOwnerChanges (u .q) (ownersChanged s (after .answer .state)) (passedBetweenHeaps s (after .answer .state)) (after .answer .outcome)
-    freed-changes-owners = (
+    freed-changes-owners : (run : Bool) → (run ≡ false → someEntry (longWhere (isAt a)) ledger ≡ false)
+        → FreeOwnerChanges (u .q) (ownersChanged s (after .answer .state)) (passedBetweenHeaps s (after .answer .state)) run (after .answer .outcome)
+    freed-changes-owners run none = (
       omega (arith, freed .passed-between-heaps, freed .moves-le-q, ap (λ (v : Setup). v .q) (g .setup)),
       λ m e. freed .passed-between-heaps ∙ Moves-equal (after .answer .outcome) moves m (freed .outcome) e,
       λ r e. absurd (Refused-and-Moves-differ (after .answer .outcome) r moves e (freed .outcome)),
+      λ e. freed .changed (none e) ∙ sym (freed .passed-between-heaps),
     )
 
     abbrev without-freed : List Entry
@@ -350,15 +364,19 @@ module _ (u : Setup) (s : State) (order : List ℕ) (ledger : List Entry) (peak 
         list-invariant-next u s (after .answer .state) order (after .order) ledger without-freed peak g (freed .setup) (freed .passed) (freed .shape) (freed .listed) (freed .names) (λ c l. inl (le-of-eq (freed .owned c)))
 
     after-plain-free : (i : ℕ) → AfterCall u s ledger peak (Free i a) after
-    unfolding OwnerChanges ledgerAfter afterFree
-    after-plain-free i = record { owner-changes = freed-changes-owners; invariant = rw (freed .outcome) list-invariant-after-free }
+    unfolding OwnerChanges freesRun ledgerAfter afterFree
+    after-plain-free i = record { owner-changes = freed-changes-owners _ (λ e. e); invariant = rw (freed .outcome) list-invariant-after-free }
 
     -- by a name that holds the address
     after-named-free : (i m : ℕ) → T (isHeld (s .names) m) → heldAddress s m ≡ a → AfterCall u s ledger peak (NamedFree i m) after
-    unfolding OwnerChanges ledgerAfter afterFree
+    unfolding OwnerChanges freesRun ledgerAfter afterFree
     after-named-free i m held e =
         let same : removed (hasName m) ledger ≡ without-freed = removed-by-name-is-removed-by-address s ledger m (g .names) held ∙ ap (λ (b : ℕ). removed (isAt b) ledger) e in
-        record { owner-changes = freed-changes-owners; invariant = rw (freed .outcome, same) list-invariant-after-free }
+        let run : freesRun ledger (NamedFree i m) ≡ someEntry (longWhere (isAt a)) ledger =
+        some-entry-cong (longWhere (hasName m)) (longWhere (isAt a)) ledger
+        (each-entry-map (EntryAgrees s) (EntryAgrees s) (λ x. longWhere (hasName m) x ≡ longWhere (isAt a) x) ledger
+        (λ x h _. ap (λ (t : Bool). both t (isLong (x .size))) (name-is-at-address s m x h held ∙ ap (λ (b : ℕ). isAt b x) e)) (g .names) (g .names)) in
+        record { owner-changes = freed-changes-owners _ (λ none. sym run ∙ none); invariant = rw (freed .outcome, same) list-invariant-after-free }
 
   after-accepted-free : (i a : ℕ) → FreeAccepted s order i a → AfterCall u s ledger peak (Free i a) (freeOf s order i a)
   after-accepted-free i a acc = after-plain-free a (moves s order i a (g .shape) acc) (freeOf s order i a) (freed-of-free i a acc) i
@@ -390,12 +408,19 @@ module _ (u : Setup) (s : State) (order : List ℕ) (ledger : List Entry) (peak 
     effect-of-drop : DropEffect addresses (dropMoves s addresses .moves) s (dropped .answer .state)
     effect-of-drop = drop-effect s order i addresses (g .shape) acc
 
-    drop-changes-owners : FreeOwnerChanges (u .q * length addresses) (ownersChanged s (dropped .answer .state)) (passedBetweenHeaps s (dropped .answer .state)) (dropped .answer .outcome)
+    drop-changes-owners :
+        FreeOwnerChanges (u .q * length addresses) (ownersChanged s (dropped .answer .state)) (passedBetweenHeaps s (dropped .answer .state))
+        (freesRun ledger (Drop i addresses)) (dropped .answer .outcome)
+    unfolding freesRun
     drop-changes-owners =
         let answered = drop-outcome s order i addresses (g .shape) acc in (
           subst (λ (v : Setup). passedBetweenHeaps s (dropped .answer .state) ≤ v .q * length addresses) (g .setup) (le-trans (le-of-eq (effect-of-drop .passed-between-heaps)) (effect-of-drop .moves-bound)),
           λ m e. effect-of-drop .passed-between-heaps ∙ Moves-equal (dropped .answer .outcome) (dropMoves s addresses .moves) m answered e,
           λ r e. absurd (Refused-and-Moves-differ (dropped .answer .outcome) r (dropMoves s addresses .moves) e answered),
+          λ none.
+              subst (λ (t : State). ownersChanged s t ≡ passedBetweenHeaps s t) (sym (drop-state-is s order i addresses (g .shape) acc))
+              (drop-changes-passed-owners s order addresses ledger (g .shape) (acc .passed) (acc .no-refusal)
+              (record { listed = g .listed; names = g .names }) none),
         )
 
     -- the frees, and the moves after them

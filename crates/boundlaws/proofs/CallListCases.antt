@@ -1,7 +1,9 @@
 -- Lists of calls that the claim speaks of, computed. Assumes nothing.
-use mathlib.Core.Path.{_≡_, refl, ap, _∙_}
+use mathlib.Core.Path.{_≡_, refl, ap, _∙_, subst}
+use mathlib.Core.Bool.{true, false}
 use mathlib.Core.List.{List, [], _∷_, _++_, map}
-use Prim.Native.Nat.{ℕ, _*_}
+use Prim.Native.Nat.{ℕ, _+_, _*_, _≤_}
+use native.Mathlib.Omega.{arith}
 use lib.ListN.{getD, replicate, drop}
 use Rattle.heap.specs.declared.Setup.{Setup}
 use Rattle.heap.specs.declared.State.{State}
@@ -10,12 +12,13 @@ use Rattle.heap.specs.Counts.{isOwnedOfClass, superblocksOfClass, ownersChanged
 use Rattle.checkrules.specs.Check.{withinLimits}
 use Rattle.calls.specs.declared.Outcome.{Outcome}
 use Rattle.calls.specs.declared.Outcome.the-variants.{Ready, Address, Moves, Refused}
+use Rattle.calls.specs.Answers.{After}
 use Rattle.calls.specs.Setup.{setupOf}
 use Rattle.calls.specs.Calls.{Call, Take, Free, NamedTake, NamedFree, Drop, callOf, callUnchecked}
 use Rattle.calls.proofs.CallDefinitions.{callDefinitions}
 use Rattle.calls.proofs.RuleCases.{setup-with}
 use Rattle.bound.specs.Ledger.{Entry, ledgerAfter, entriesOf}
-use Rattle.bound.specs.Claim.{Step, Claims, stepsBy}
+use Rattle.bound.specs.Claim.{Step, Bounded, freesRun, OwnerChanges, Claims, stepsBy}
 use Rattle.bound.proofs.LedgerDefinitions.{ledgerDefinitions}
 use Rattle.boundlaws.proofs.CallListLaws.{steps-are-unchecked, demand-3-calls}
 
@@ -185,6 +188,44 @@ each-past-check (k ∷ l) e =
 pub list-cases-are-computed : map rows-of list-cases ≡ map (λ (k : ListCase). k .expected) list-cases
 list-cases-are-computed = each-past-check list-cases each-ready ∙ each-answered
 
--- ---- the claim speaks of each: here of the whole case
-pub claims-of-whole-case : Claims (whole-list .setup) (setupOf (whole-list .setup) (order-of whole-list)) [] (λ c. 0) (stepsBy callOf (setupOf (whole-list .setup) (order-of whole-list)) (whole-list .calls))
-claims-of-whole-case = demand-3-calls (whole-list .setup) (order-of whole-list) (ap (λ (o : List Outcome). getD o 0 Ready) each-ready) (whole-list .calls)
+-- ---- the claim speaks of each
+abbrev pub start-of : ListCase → After
+start-of k = setupOf (k .setup) (order-of k)
+
+abbrev pub ClaimedBy : (State → List ℕ → Call → After) → ListCase → Type 0
+ClaimedBy f k = Claims (k .setup) (start-of k) [] (λ c. 0) (stepsBy f (start-of k) (k .calls))
+
+pub claims-of-case : (k : ListCase) → outcome-of-setup k ≡ Ready → ClaimedBy callOf k
+claims-of-case k ready = demand-3-calls (k .setup) (order-of k) ready (k .calls)
+
+-- .. and of its calls behind the check, by which what it says is computed
+claimed-behind-check : (k : ListCase) → outcome-of-setup k ≡ Ready → ClaimedBy callUnchecked k
+claimed-behind-check k ready =
+    subst (Claims (k .setup) (start-of k) [] (λ c. 0)) (steps-are-unchecked (k .setup) (order-of k) ready (k .calls)) (claims-of-case k ready)
+
+whole-case-claimed : ClaimedBy callUnchecked whole-list
+whole-case-claimed = claimed-behind-check whole-list (ap (λ (o : List Outcome). getD o 0 Ready) each-ready)
+
+drop-case-claimed : ClaimedBy callUnchecked drop-list
+drop-case-claimed = claimed-behind-check drop-list (ap (λ (o : List Outcome). getD o 6 Ready) each-ready)
+
+long-case-claimed : ClaimedBy callUnchecked long-list
+long-case-claimed = claimed-behind-check long-list (ap (λ (o : List Outcome). getD o 7 Ready) each-ready)
+
+-- ---- here of the whole case
+-- the third free, the refused one before it and the refused take: q, the owners changed, those of superblocks that passed between heaps
+pub owners-of-whole-case :
+    OwnerChanges 4 1 1 false (Free 1 2048) (Moves 1) × OwnerChanges 4 0 0 false (Free 1 0) (Refused 7) × OwnerChanges 4 0 0 false (Take 1 2049) (Refused 17)
+unfolding Claims freesRun ledgerDefinitions stepsBy callDefinitions ownersChanged passedBetweenHeaps isOfHeap
+owners-of-whole-case = (whole-case-claimed .2 .2 .2 .2 .2 .1, whole-case-claimed .2 .2 .2 .2 .1, whole-case-claimed .2 .2 .2 .2 .2 .2 .2 .1)
+
+-- the bound after the last call: class 26 has three blocks for its M and one superblock left, class 0 one block and one superblock
+pub bound-of-whole-case : (3 * 2 * 1 ≤ 4 * 3 + 3 * 1 * 1 * 2) × (3 * 256 * 1 ≤ 4 * 1 + 3 * 1 * 1 * 256)
+unfolding Claims Bounded ledgerDefinitions stepsBy callDefinitions superblocksOfClass isOwnedOfClass isOfHeap
+bound-of-whole-case = (whole-case-claimed .2 .2 .2 .2 .2 .2 .2 .2 26 (omega arith), whole-case-claimed .2 .2 .2 .2 .2 .2 .2 .2 0 (omega arith))
+
+-- .. of the last drop of its list, which frees no run, and of the drop that frees one of three superblocks
+pub owners-of-drops : OwnerChanges 4 1 1 false (Drop 1 (2048 ∷ 6144 ∷ [])) (Moves 1) × OwnerChanges 4 4 1 true (Drop 1 (8192 ∷ 0 ∷ 4096 ∷ 6144 ∷ [])) (Moves 1)
+unfolding Claims freesRun ledgerDefinitions stepsBy callDefinitions ownersChanged passedBetweenHeaps isOfHeap
+owners-of-drops =
+    (drop-case-claimed .2 .2 .2 .2 .2 .2 .2 .2 .2 .2 .2 .2 .1, long-case-claimed .2 .2 .2 .2 .2 .2 .2 .2 .2 .2 .2 .2 .2 .2 .1)

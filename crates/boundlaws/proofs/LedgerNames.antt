@@ -81,7 +81,7 @@ holds-address-of-held : (s : State) (m a : ℕ) → isHeld (s .names) m ≡ true
 unfolding holdsAddress
 holds-address-of-held s m a e = rw e
 
-holds-address-of-not-held : (s : State) (m a : ℕ) → isHeld (s .names) m ≡ false → holdsAddress s m a ≡ false
+pub holds-address-of-not-held : (s : State) (m a : ℕ) → isHeld (s .names) m ≡ false → holdsAddress s m a ≡ false
 unfolding holdsAddress
 holds-address-of-not-held s m a e = rw e
 
@@ -345,9 +345,12 @@ agreement-of-same-names-and-classes s t long long-after names runs classes ledge
         holds-address-cong s t m a (ap (λ (l : List ℕ). isHeld l m) names)
         (λ q. held-address-cong s t m (ap (λ (l : List ℕ). blockNamed l m) names) (class-same (blockNamed (s .names) m / 256) (decLt (blockNamed (s .names) m / 256) 64)))
 
--- ---- an accepted named free removes by name what a free of the held address removes by address
+-- ---- a held name is just that of the entries at its address
+pub name-is-at-address : (s : State) (m : ℕ) (e : Entry) → EntryAgrees s e → T (isHeld (s .names) m) → hasName m e ≡ isAt (heldAddress s m) e
+name-is-at-address s m e h held = h .name-agrees m ∙ holds-address-of-held s m (e .address) (true-of-T _ held)
+
+-- so that an accepted named free removes by name what a free of the held address removes by address
 pub removed-by-name-is-removed-by-address : (s : State) (ledger : List Entry) (m : ℕ) → EachEntry (EntryAgrees s) ledger → T (isHeld (s .names) m) → removed (hasName m) ledger ≡ removed (isAt (heldAddress s m)) ledger
 removed-by-name-is-removed-by-address s ledger m h held =
     removed-cong (hasName m) (isAt (heldAddress s m)) ledger
-    (each-entry-map (EntryAgrees s) (EntryAgrees s) (λ e. hasName m e ≡ isAt (heldAddress s m) e) ledger
-    (λ e g _. g .name-agrees m ∙ holds-address-of-held s m (e .address) (true-of-T _ held)) h h)
+    (each-entry-map (EntryAgrees s) (EntryAgrees s) (λ e. hasName m e ≡ isAt (heldAddress s m) e) ledger (λ e g _. name-is-at-address s m e g held) h h)

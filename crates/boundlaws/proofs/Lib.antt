@@ -6,9 +6,12 @@ pub mod LedgerRuns
 pub mod LedgerNames
 pub mod BoundLaws
 pub mod ListedLaws
+pub mod FreesRunLaws
 pub mod CallInvariantLaws
 pub mod Demand3
+pub mod AlongLaws
 pub mod NamesAgree
+pub mod NamesHold
 pub mod TotalsOverLists
 pub mod LongBlocksOverLists
 pub mod CallListLaws

@@ -183,8 +183,8 @@ pub record Agreement (s : State) (ledger : List Entry) : Type 0 where
   pub names : EachEntry (EntryAgrees s) ledger
 
 -- one block freed, of a class or long
-block-freed-agreement : (freed : ℕ → ℕ → ℕ) (s : State) (order : List ℕ) (a : ℕ) (ledger : List Entry) → Shape s → PassedAfterFrees freed s order → addressRefusal s a ≡ 0 → Agreement s ledger
-    → Agreement (blockFreed s a) (removed (isAt a) ledger)
+pub block-freed-agreement : (freed : ℕ → ℕ → ℕ) (s : State) (order : List ℕ) (a : ℕ) (ledger : List Entry) → Shape s → PassedAfterFrees freed s order
+    → addressRefusal s a ≡ 0 → Agreement s ledger → Agreement (blockFreed s a) (removed (isAt a) ledger)
 unfolding blockFreed
 block-freed-agreement freed s order a ledger shape passed ok g =
     pick-elim (λ (t : State). Agreement t (removed (isAt a) ledger)) (isInRun s a) (longBlockFreed s a) (smallBlockFreed s a) long small

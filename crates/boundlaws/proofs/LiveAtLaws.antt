@@ -46,7 +46,7 @@ module _ (c : ℕ) (b : Superblock) where
   unfolding liveFor
   live-for-owned j l e = rw (owned-of-class-true c b l e)
 
-  live-for-other : (j : ℕ) → (b .class ≡ c → ⊥) → liveFor c b j ≡ 0
+  pub live-for-other : (j : ℕ) → (b .class ≡ c → ⊥) → liveFor c b j ≡ 0
   unfolding liveFor
   live-for-other j f = rw (owned-of-class-false c b f)
 

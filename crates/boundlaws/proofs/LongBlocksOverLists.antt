@@ -11,21 +11,20 @@ use Rattle.classes.specs.Classes.{runLength}
 use Rattle.heap.specs.declared.Setup.{Setup}
 use Rattle.heap.specs.declared.State.{State}
 use Rattle.heap.specs.Table.{superblockAt, isOfRun, startsRun}
+use Rattle.heap.specs.Runs.{RunAt}
 use Rattle.heaplaws.proofs.StateFacts.{RunsSound}
 use Rattle.heaplaws.proofs.RunLaws.{runs-sound-of-valid, run-of-superblock}
 use Rattle.calls.specs.declared.Outcome.the-variants.{Ready}
 use Rattle.calls.specs.Answers.{After}
 use Rattle.calls.specs.Setup.{setupOf}
-use Rattle.bound.specs.Ledger.{Entry, ledgerAfter, EachEntry, entriesAt}
-use Rattle.bound.specs.Claim.{Step, Linked, peakWith}
-use Rattle.boundlaws.proofs.LongAtLaws.{long-at-start}
-use Rattle.boundlaws.proofs.OneMoreLongLaws.{starts-run-of-length}
+use Rattle.bound.specs.Ledger.{Entry}
+use Rattle.bound.specs.Claim.{Step, Linked}
+use Rattle.bound.specs.LongBlocksClaim.{IsRun, LongBlocksAgree, LongBlocksAgreeOver}
+use Rattle.boundlaws.proofs.OneMoreLongLaws.{long-at-of-run}
 use Rattle.boundlaws.proofs.LedgerRuns.{LongAgrees}
 use Rattle.boundlaws.proofs.LedgerNames.{each-entry-map, EntryAgrees}
-use Rattle.boundlaws.proofs.CallInvariantLaws.{ListInvariant, after-step}
-use Rattle.boundlaws.proofs.Demand3.{list-invariant-after-setup}
-use Rattle.heap.specs.Runs.{RunAt, InRun}
-use Rattle.bound.specs.LongBlocksClaim.{IsRun, LongBlocksAgree, LongBlocksAgreeOver}
+use Rattle.boundlaws.proofs.CallInvariantLaws.{ListInvariant}
+use Rattle.boundlaws.proofs.AlongLaws.{along-of-list-invariant}
 
 module _ (u : Setup) (s : State) (order : List ℕ) (ledger : List Entry) (peak : ℕ → ℕ) (g : ListInvariant u s order ledger peak) where
   sound : RunsSound s
@@ -43,23 +42,11 @@ module _ (u : Setup) (s : State) (order : List ℕ) (ledger : List Entry) (peak 
   long-blocks-agree-of-list-invariant =
       record {
         entries = each-entry-map (EntryAgrees s) (EntryAgrees s) (λ e. 2048 < e .size → IsRun s e) ledger (λ e h _ large. run-of-agreement e (h .long large)) (g .names) (g .names);
-        runs = λ k n run.
-            g .listed .runs (k * 4096)
-            ∙ long-at-start s k (omega (arith, run .some, run .in-table))
-            (starts-run-of-length (superblockAt s k) (run .of-run k (omega arith) (omega (arith, run .some))) (omega (arith, run .some, run .length-is)));
+        runs = λ k n run. g .listed .runs (k * 4096) ∙ long-at-of-run s k n run;
         parts = λ m l e. let (k, run, low, high) = run-of-superblock s sound m l e in (k, run, (low, high));
       }
-
-long-blocks-agree-from : (u : Setup) (before : After) (ledger : List Entry) (peak : ℕ → ℕ) (steps : List Step) → ListInvariant u (before .answer .state) (before .order) ledger peak → Linked before steps
-    → LongBlocksAgreeOver before ledger steps
-unfolding Linked LongBlocksAgreeOver
-long-blocks-agree-from u before ledger peak [] g linked = long-blocks-agree-of-list-invariant u (before .answer .state) (before .order) ledger peak g
-long-blocks-agree-from u before ledger peak (step ∷ steps) g linked =
-    let new : List Entry = ledgerAfter ledger (step .call) (step .after .answer .outcome) in
-    let n = after-step u (before .answer .state) (before .order) ledger peak g step (linked .0) in
-    (long-blocks-agree-of-list-invariant u (before .answer .state) (before .order) ledger peak g, long-blocks-agree-from u (step .after) new (peakWith peak new) steps (n .invariant) (linked .1))
 
 -- For every accepted setup, whatever stood in the storage before, and every list of takes and frees after it, plain and named, and of drops.
 pub long-blocks-agree-with-ledger : (u : Setup) (order : List ℕ) (start : After) → start ≡ setupOf u order → start .answer .outcome ≡ Ready → (steps : List Step) → Linked start steps
     → LongBlocksAgreeOver start [] steps
-long-blocks-agree-with-ledger u order start e ready steps linked = long-blocks-agree-from u start [] (λ c. 0) steps (list-invariant-after-setup u order start e ready) linked
+long-blocks-agree-with-ledger u = along-of-list-invariant u LongBlocksAgree (long-blocks-agree-of-list-invariant u)

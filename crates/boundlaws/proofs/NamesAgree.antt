@@ -1,36 +1,38 @@
 -- Document 02, item 2: the names of the ledger, from the calls and their answers alone, and those of the state agree after every list of calls.
 -- Assumes nothing.
-use mathlib.Core.Path.{_≡_, refl, ap, ap₂, _∙_}
+use mathlib.Core.Path.{_≡_, refl, sym, ap, ap₂, _∙_}
 use mathlib.Core.Bool.{Bool, true, false}
 use mathlib.Core.List.{List, [], _∷_}
-use Prim.Native.Nat.{ℕ, _*_, _/_, _%_, _<_}
-use native.Mathlib.Decide.{ℕ-discrete}
+use Prim.Native.Nat.{ℕ, _/_, _%_, _≤_, _<_}
+use native.Mathlib.Decide.{ℕ-discrete, decLt}
 use native.Mathlib.Omega.{arith}
 use borrow.Author.Tests.{eq-eqb, ne-eqb}
-use lib.Dec.{T, eqb}
+use lib.Dec.{T, eqb, ltb}
 use Rattle.laws.specs.Sums.{both, either, one}
+use Rattle.laws.proofs.Inequalities.{le-of-not-below}
 use Rattle.laws.proofs.TestLaws.{T-of-true, true-of-T, both-make, either-left, either-right}
 use Rattle.names.specs.Names.{blockNamed, isHeld}
 use Rattle.namelaws.proofs.NameLaws.{held-facts}
 use Rattle.heap.specs.declared.Setup.{Setup}
 use Rattle.heap.specs.declared.State.{State}
-use Rattle.heap.specs.Table.{superblockAt, isOfRun}
+use Rattle.heap.specs.Table.{superblockAt, isOfRun, startsRun}
 use Rattle.heaplaws.proofs.StateCheckLaws.{names-sound-of-valid}
+use Rattle.heaplaws.proofs.RunsKeptLaws.{owner-of-run}
 use Rattle.calls.specs.declared.Outcome.the-variants.{Ready}
 use Rattle.calls.specs.Answers.{After}
 use Rattle.calls.specs.Setup.{setupOf}
 use Rattle.calls.specs.Named.{heldAddress}
 use Rattle.calllaws.proofs.NamesKeptLaws.{live-block-in-table}
 use Rattle.calllaws.proofs.MarkClearedLaws.{LiveBlock}
-use Rattle.calllaws.proofs.NamedCallLaws.{held-block-is-live, held-block-is-run, held-address-of-run, live-class-lt-27}
-use Rattle.bound.specs.Ledger.{Entry, classOfEntry, isAt, hasName, ledgerAfter, someEntry, EachEntry, entriesAt}
-use Rattle.bound.specs.Claim.{Step, Linked, peakWith, lastAfter}
-use Rattle.boundlaws.proofs.LongAtLaws.{longAt, long-at-start}
-use Rattle.boundlaws.proofs.LiveAtLaws.{liveAt, live-for-owned, live-at-of-address}
+use Rattle.calllaws.proofs.NamedCallLaws.{held-block-is-live, held-block-is-run, held-address-of-run, held-address-block, live-class-lt-27}
+use Rattle.bound.specs.Ledger.{Entry, classOfEntry, isAt, hasName, someEntry, EachEntry, entriesAt}
+use Rattle.bound.specs.Claim.{Step, Linked}
+use Rattle.bound.specs.NamesClaim.{NamesAgree, NamesAgreeOver, holdsAddress}
+use Rattle.boundlaws.proofs.LongAtLaws.{longAt, long-at-start, long-at-none}
+use Rattle.boundlaws.proofs.LiveAtLaws.{liveFor, live-for-owned, live-for-other, live-for-unowned, live-at-none, live-at-of-address}
 use Rattle.boundlaws.proofs.LedgerNames.{each-entry-map, EntryAgrees}
-use Rattle.boundlaws.proofs.CallInvariantLaws.{ListInvariant, AfterCall, after-step}
-use Rattle.boundlaws.proofs.Demand3.{list-invariant-after-setup}
-use Rattle.bound.specs.NamesClaim.{NamesAgree, holdsAddress}
+use Rattle.boundlaws.proofs.CallInvariantLaws.{ListInvariant}
+use Rattle.boundlaws.proofs.AlongLaws.{along-of-list-invariant}
 
 -- ---- a held name's block is in the ledger
 module _ (s : State) (m : ℕ) (held : T (isHeld (s .names) m)) (c : ℕ) where
@@ -49,46 +51,91 @@ module _ (s : State) (m : ℕ) (held : T (isHeld (s .names) m)) (c : ℕ) where
           let none : one (both (isAt (heldAddress s m) e) (eqb (classOfEntry e) c)) ≡ 0 = ap (λ (t : Bool). one (both t (eqb (classOfEntry e) c))) (ne-eqb (e .address) (heldAddress s m) f) in
           either-right (both (hasName m e) (isAt (heldAddress s m) e)) _ (ih (omega arith))
 
-names-agree-of-list-invariant : (u : Setup) (s : State) (order : List ℕ) (ledger : List Entry) (peak : ℕ → ℕ) → ListInvariant u s order ledger peak → NamesAgree s ledger
-unfolding heldAddress
-names-agree-of-list-invariant u s order ledger peak g =
-    record {
-      entries = each-entry-map (EntryAgrees s) (EntryAgrees s) (λ e. (m : ℕ) → hasName m e ≡ holdsAddress s m (e .address)) ledger (λ e h _. h .name-agrees) (g .names) (g .names);
-      held = λ m held. listed m held (isOfRun (superblockAt s (blockNamed (s .names) m / 256))) refl;
-    }
-  where
-    -- a long block or one of a class
-    listed : (m : ℕ) → T (isHeld (s .names) m) → (x : Bool) → isOfRun (superblockAt s (blockNamed (s .names) m / 256)) ≡ x → T (someEntry (λ e. both (hasName m e) (isAt (heldAddress s m) e)) ledger)
-    listed m held true e =
-        let k : ℕ = blockNamed (s .names) m / 256 in
-        let run = held-block-is-run s order (g .shape) (g .passed) m held e in
-        let start : heldAddress s m ≡ k * 4096 = held-address-of-run s order m (g .shape) (g .passed) held e in
-        let below : k < 64 = live-block-in-table s (blockNamed (s .names) m) (g .shape .length-is) (names-sound-of-valid s (g .passed .names) .live m (held-facts (s .names) m held .1)) in
-        let one-long : longAt s (heldAddress s m) ≡ 1 = ap (longAt s) start ∙ long-at-start s k below (run .1) in
-        entry-of-count s m held 27 ledger (g .names) (omega (arith, g .listed .runs (heldAddress s m)))
-    listed m held false e =
-        let k : ℕ = blockNamed (s .names) m / 256 in
-        let j : ℕ = blockNamed (s .names) m % 256 in
-        let live : LiveBlock s order k j = held-block-is-live s order (g .shape) (g .passed) m held e in
-        let c : ℕ = superblockAt s k .class in
-        let known = live-class-lt-27 s order k j live in
-        let one-live : liveAt s (heldAddress s m) c ≡ 1 =
-        live-at-of-address s c k j known (omega (arith, live .below, g .passed .sound .numbers .superblocks-high)) (live .block) ∙ live-for-owned c (superblockAt s k) j (live .owned) refl ∙ live .marked in
-        entry-of-count s m held c ledger (g .names) (omega (arith, g .listed .blocks (heldAddress s m) c known))
+-- The ledger has the address of a held name once: in the class of its superblock, or in none where it is the start of a run.
+pub record AtHeldAddress (s : State) (ledger : List Entry) (m : ℕ) : Type 0 where
+  pub class : ℕ
+  pub once : entriesAt ledger (heldAddress s m) class ≡ 1
+  pub no-other : (d : ℕ) → d ≤ 27 → (d ≡ class → ⊥) → entriesAt ledger (heldAddress s m) d ≡ 0
+
+module _ (u : Setup) (s : State) (order : List ℕ) (ledger : List Entry) (peak : ℕ → ℕ) (g : ListInvariant u s order ledger peak) where
+  module _ (m : ℕ) (held : T (isHeld (s .names) m)) where
+    abbrev home : ℕ
+    home = blockNamed (s .names) m / 256
+
+    abbrev block : ℕ
+    block = blockNamed (s .names) m % 256
+
+    home-below : home < 64
+    home-below =
+        live-block-in-table s (blockNamed (s .names) m) (g .shape .length-is)
+        (names-sound-of-valid s (g .passed .names) .live m (held-facts (s .names) m held .1))
+
+    at-home : heldAddress s m / 4096 ≡ home
+    at-home = held-address-block s order m (g .shape) (g .passed) held .0
+
+    -- no live block of class d is there, where its superblock has none
+    none-of-class : (d : ℕ) → d < 27 → ((b : ℕ) → liveFor d (superblockAt s home) b ≡ 0) → entriesAt ledger (heldAddress s m) d ≡ 0
+    none-of-class d l none =
+        g .listed .blocks (heldAddress s m) d l ∙ live-at-none s (heldAddress s m) d l (λ b h. ap (λ (k : ℕ). liveFor d (superblockAt s k) b) at-home ∙ none b)
+
+    in-run : isOfRun (superblockAt s home) ≡ true → AtHeldAddress s ledger m
+    in-run e =
+        record {
+          class = 27;
+          once =
+              g .listed .runs (heldAddress s m) ∙ ap (longAt s) (held-address-of-run s order m (g .shape) (g .passed) held e)
+              ∙ long-at-start s home home-below (held-block-is-run s order (g .shape) (g .passed) m held e .1);
+          no-other = λ d l other.
+              none-of-class d (omega arith) (λ b. live-for-unowned d (superblockAt s home) b (omega (arith, owner-of-run (superblockAt s home) e)));
+        }
+
+    in-class : isOfRun (superblockAt s home) ≡ false → AtHeldAddress s ledger m
+    unfolding heldAddress startsRun
+    in-class e =
+        record {
+          class = c;
+          once =
+              g .listed .blocks (heldAddress s m) c known ∙ live-at-of-address s c home block known home-below (live .block)
+              ∙ live-for-owned c (superblockAt s home) block (live .owned) refl ∙ live .marked;
+          no-other = λ d l other. other-class d l other (decLt d 27);
+        }
+      where
+        live : LiveBlock s order home block
+        live = held-block-is-live s order (g .shape) (g .passed) m held e
+
+        c : ℕ
+        c = superblockAt s home .class
+
+        known : superblockAt s home .class < 27
+        known = live-class-lt-27 s order home block live
+
+        other-class : (d : ℕ) → d ≤ 27 → (d ≡ superblockAt s home .class → ⊥) → Dec (d < 27) → entriesAt ledger (heldAddress s m) d ≡ 0
+        other-class d l other (yes h) = none-of-class d h (λ b. live-for-other d (superblockAt s home) b (λ q. other (sym q)))
+        other-class d l other (no f) =
+            let last : d ≡ 27 = omega (arith, le-of-not-below f) in
+            ap (entriesAt ledger (heldAddress s m)) last ∙ g .listed .runs (heldAddress s m)
+            ∙ long-at-none s (heldAddress s m)
+            (ap (λ (k : ℕ). startsRun (superblockAt s k)) at-home ∙ ap (λ (x : Bool). both x (ltb 0 (superblockAt s home .run))) e)
+
+    pub at-held-address : AtHeldAddress s ledger m
+    at-held-address = go (isOfRun (superblockAt s home)) refl
+      where
+        go : (x : Bool) → isOfRun (superblockAt s home) ≡ x → AtHeldAddress s ledger m
+        go true e = in-run e
+        go false e = in-class e
+
+  names-agree-of-list-invariant : NamesAgree s ledger
+  names-agree-of-list-invariant =
+      record {
+        entries =
+            each-entry-map (EntryAgrees s) (EntryAgrees s) (λ e. (m : ℕ) → hasName m e ≡ holdsAddress s m (e .address)) ledger
+            (λ e h _. h .name-agrees) (g .names) (g .names);
+        held = λ m held. let at = at-held-address m held in entry-of-count s m held (at .class) ledger (g .names) (omega (arith, at .once));
+      }
 
 -- ---- along a list of calls
-names-agree-from : (u : Setup) (before : After) (ledger : List Entry) (peak : ℕ → ℕ) (steps : List Step) → ListInvariant u (before .answer .state) (before .order) ledger peak → Linked before steps
-    → NamesAgree (lastAfter before steps .answer .state) (ledgerOf ledger steps)
-unfolding Linked ledgerOf lastAfter
-names-agree-from u before ledger peak [] g linked = names-agree-of-list-invariant u (before .answer .state) (before .order) ledger peak g
-names-agree-from u before ledger peak (step ∷ steps) g linked =
-    names-agree-from u (step .after) (ledgerAfter ledger (step .call) (step .after .answer .outcome)) (peakWith peak (ledgerAfter ledger (step .call) (step .after .answer .outcome))) steps (n .invariant) (linked .1)
-  where
-    n : AfterCall u (before .answer .state) ledger peak (step .call) (step .after)
-    n = after-step u (before .answer .state) (before .order) ledger peak g step (linked .0)
-
--- After every accepted setup and every list of calls after it: the ledger's names and the state's agree.
-pub ledger-and-state-names-agree : (u : Setup) (order : List ℕ) (start : After) → start ≡ setupOf u order → start .answer .outcome ≡ Ready → (steps : List Step) → Linked start steps
-    → NamesAgree (lastAfter start steps .answer .state) (ledgerOf [] steps)
-ledger-and-state-names-agree u order start e ready steps linked =
-    names-agree-from u start [] (λ c. 0) steps (list-invariant-after-setup u order start e ready) linked
+-- For every accepted setup, whatever stood in the storage before, and every list of takes and frees after it, plain and named, and of drops: the ledger's
+-- names and the state's agree before the list and after each of its calls.
+pub ledger-and-state-names-agree : (u : Setup) (order : List ℕ) (start : After) → start ≡ setupOf u order → start .answer .outcome ≡ Ready
+    → (steps : List Step) → Linked start steps → NamesAgreeOver start [] steps
+ledger-and-state-names-agree u = along-of-list-invariant u NamesAgree (names-agree-of-list-invariant u)

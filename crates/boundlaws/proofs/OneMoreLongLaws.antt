@@ -22,7 +22,7 @@ use Rattle.calllaws.proofs.CallEffects.{LongTakeEffect, LongFreeEffect}
 use Rattle.calllaws.proofs.RunTakenLaws.{live-of-available, available-outside-run}
 use Rattle.boundlaws.proofs.LongAtLaws.{longAt, long-at-same, long-at-start, long-at-none, long-at-inside}
 use Rattle.boundlaws.proofs.LiveAtLaws.{liveFor, live-for-unowned, live-for-clear, live-for-unused}
-use Rattle.heap.specs.Runs.{InRun}
+use Rattle.heap.specs.Runs.{RunAt, InRun}
 
 -- a superblock is one of the n from k on, or not
 pub in-run-or-not : (k n m : ℕ) → Dec (InRun k n m)
@@ -74,6 +74,12 @@ starts-no-run-of-0 b e = ap (λ (n : ℕ). both (isOfRun b) (ltb 0 n)) e ∙ bot
 pub starts-run-of-length : (b : Superblock) → isOfRun b ≡ true → 0 < b .run → startsRun b ≡ true
 unfolding startsRun
 starts-run-of-length b e l = ap₂ both e (lt-ltb 0 (b .run) l)
+
+-- a long block starts at the address of a run's first superblock
+pub long-at-of-run : (s : State) (k n : ℕ) → RunAt s k n → longAt s (k * 4096) ≡ 1
+long-at-of-run s k n run =
+    long-at-start s k (omega (arith, run .some, run .in-table))
+    (starts-run-of-length (superblockAt s k) (run .of-run k (omega arith) (omega (arith, run .some))) (omega (arith, run .some, run .length-is)))
 
 -- ranks have no part in it
 pub starts-run-with-rank : (r : ℕ) (b : Superblock) → startsRun (withRank r b) ≡ startsRun b

@@ -24,6 +24,8 @@ use Rattle.boundlaws.proofs.TotalsOverLists.{totals-kept-over-list, live-totals
 use Rattle.bound.specs.History.{RankedByLastFreeOver}
 use Rattle.boundlaws.proofs.RanksOverLists.{ranked-by-last-free-over-list}
 use Rattle.boundlaws.proofs.LongBlocksOverLists.{long-blocks-agree-with-ledger}
+use Rattle.boundlaws.proofs.NamesAgree.{ledger-and-state-names-agree}
+use Rattle.boundlaws.proofs.NamesHold.{names-hold-over-list, name-refusals-over-list}
 use Rattle.boundlaws.proofs.CallListLaws.{steps-linked}
 use Rattle.littleendian.proofs.FoursLaws.{length-of-fours-at}
 use Rattle.commands.specs.declared.Command.{Command}
@@ -34,10 +36,9 @@ use Rattle.linerules.specs.Lines.{setupLine, takeLine, freeLine, namedTakeLine,
 use Rattle.keyrules.specs.Key.{beforeFirst, setupText, textOf, orderAfter, keyOf, storageOf}
 use Rattle.bound.specs.LongBlocksClaim.{LongBlocksAgreeOver}
 use Rattle.bound.specs.TotalsClaim.{TotalsCountedOver, LiveTotalsAgreeOver}
+use Rattle.bound.specs.NamesClaim.{NamesAgreeOver, NamesHoldOver, NameRefusalsOver}
 use Rattle.keyrules.specs.KeyClaim.{callsIn, stepsIn, lineOf, stepLines, endingLines, KeyClaims}
 
--- ---- the calls of a record
--- ---- what is printed of them
 -- ---- a setup comes first, and only there
 NoSetup : List Command → Type 0
 NoSetup [] = Unit {0}
@@ -148,38 +149,55 @@ module _ (r order : List ℕ) (u : Setup) (commands : List Command) (e : command
         storage = ap (orderAfter r (beforeFirst order)) e ∙ ap (λ (o : Outcome). pick (eqb (numberOf o) 0) (orderAfter r after commands) (after .order)) ready ∙ order-after-is-last-order r after commands n;
       }
 
-  -- a refused setup prints its stop line alone
-  key-of-refused-setup : (number : ℕ) → setupOf u order .answer .outcome ≡ Refused (suc number) → keyOf r order ≡ stopLine (suc number) 0
-  unfolding keyOf textOf setupText numberOf
-  key-of-refused-setup number refused =
-      ap (textOf r (beforeFirst order)) e
-      ∙ ap (λ (o : Outcome). setupText u o (textOf r (setupOf u order) commands)) refused
-      ∙ ap (λ (t : Bool). pick t (setupLine u ++ textOf r (setupOf u order) commands) (stopLine (suc number) 0)) (ne-eqb (suc number) 0 (λ (z : suc number ≡ 0). omega arith))
+  -- a refused setup prints its stop line alone, and leaves the storage as it was
+  module _ (number : ℕ) (is : setupOf u order ≡ refused (suc number) noState order) where
+    not-ready : eqb (suc number) 0 ≡ false
+    not-ready = ne-eqb (suc number) 0 (λ (z : suc number ≡ 0). omega arith)
+
+    key-of-refused-setup : keyOf r order ≡ stopLine (suc number) 0
+    unfolding keyOf textOf setupText numberOf
+    key-of-refused-setup =
+        ap (textOf r (beforeFirst order)) e
+        ∙ ap (λ (x : After). setupText u (x .answer .outcome) (textOf r x commands)) is
+        ∙ ap (λ (t : Bool). pick t (setupLine u ++ textOf r (refused (suc number) noState order) commands) (stopLine (suc number) 0)) not-ready
+
+    storage-of-refused-setup : storageOf r order ≡ order
+    unfolding storageOf orderAfter numberOf
+    storage-of-refused-setup =
+        ap (orderAfter r (beforeFirst order)) e
+        ∙ ap (λ (x : After). pick (eqb (numberOf (x .answer .outcome)) 0) (orderAfter r x commands) (x .order)) is
+        ∙ ap (λ (t : Bool). pick t (orderAfter r (refused (suc number) noState order) commands) order) not-ready
 
 -- a setup is accepted, or refused with 1 or 12
-setup-ready-or-refused : (u : Setup) (order : List ℕ) → (setupOf u order .answer .outcome ≡ Ready) ⊎ ((number : ℕ) × (setupOf u order .answer .outcome ≡ Refused (suc number)))
+setup-ready-or-refused : (u : Setup) (order : List ℕ)
+    → (setupOf u order .answer .outcome ≡ Ready) ⊎ ((number : ℕ) × (setupOf u order ≡ refused (suc number) noState order))
 unfolding setupOf
 setup-ready-or-refused u order = go (withinLimits u) (leb (u .superblocks * 256) (length order))
   where
     go : (a b : Bool) → (pick a (pick b (acceptedSetup u order) (refused 12 noState order)) (refused 1 noState order) .answer .outcome ≡ Ready)
-        ⊎ ((number : ℕ) × (pick a (pick b (acceptedSetup u order) (refused 12 noState order)) (refused 1 noState order) .answer .outcome ≡ Refused (suc number)))
+        ⊎ ((number : ℕ) × (pick a (pick b (acceptedSetup u order) (refused 12 noState order)) (refused 1 noState order) ≡ refused (suc number) noState order))
     go true true = inl refl
     go true false = inr (11, refl)
     go false b = inr (0, refl)
 
--- every record's key: the claim holds of its calls, or the key is a stop line alone and no call is run
+-- every record's key: the claim holds of its calls, or the key is a stop line alone and no call is run, so that the storage is as it was
 pub key-demand-3 : (r order : List ℕ)
-    → ((u : Setup) × (commands : List Command) × KeyClaims r order u commands) ⊎ ((number : ℕ) × (offset : ℕ) × (keyOf r order ≡ stopLine number offset))
-unfolding keyOf textOf
+    → ((u : Setup) × (commands : List Command) × KeyClaims r order u commands)
+    ⊎ ((number : ℕ) × (offset : ℕ) × (keyOf r order ≡ stopLine number offset) × (storageOf r order ≡ order))
+unfolding keyOf textOf storageOf orderAfter
 key-demand-3 r order = go (commandAt r 0) refl
   where
     Every : Type 0
-    Every = ((u : Setup) × (commands : List Command) × KeyClaims r order u commands) ⊎ ((number : ℕ) × (offset : ℕ) × (keyOf r order ≡ stopLine number offset))
+    Every =
+        ((u : Setup) × (commands : List Command) × KeyClaims r order u commands)
+        ⊎ ((number : ℕ) × (offset : ℕ) × (keyOf r order ≡ stopLine number offset) × (storageOf r order ≡ order))
 
     first : (u : Setup) → commandsOf r ≡ command.Setup (u .processors) (u .superblocks) (u .spare) (u .p) (u .q) ∷ remaining r 6 → Every
     first u e =
         ⊎-elim {C = Every} (λ ready. inl (u, remaining r 6, key-claims-of-accepted-setup r order u (remaining r 6) e ready))
-        (λ d. inr (suc (d .0), 0, key-of-refused-setup r order u (remaining r 6) e (d .0) (d .1)))
+        (λ d.
+        let (n, is) = d in
+        inr (suc n, 0, key-of-refused-setup r order u (remaining r 6) e n is, storage-of-refused-setup r order u (remaining r 6) e n is))
         (setup-ready-or-refused u order)
 
     go : (c : Command) → c ≡ commandAt r 0 → Every
@@ -192,7 +210,8 @@ key-demand-3 r order = go (commandAt r 0) refl
     go (command.NamedFree processor name) e = let inside-record = named-free-later-and-inside r 0 (command.NamedFree processor name) e processor name refl in absurd (omega arith)
     go (command.Drop processor count first) e = let inside-record = drop-later-and-inside r 0 (command.Drop processor count first) e processor count first refl in absurd (omega arith)
     go (command.Refused number offset) e =
-        inr (number, offset, ap (textOf r (beforeFirst order)) (commands-of-is-commands-at-0 r ∙ commands-refused r 0 (command.Refused number offset) number offset e refl))
+        let stops = commands-of-is-commands-at-0 r ∙ commands-refused r 0 (command.Refused number offset) number offset e refl in
+        inr (number, offset, ap (textOf r (beforeFirst order)) stops, ap (orderAfter r (beforeFirst order)) stops)
 
 -- Document 02, item 3: the totals are the recount after such a record's setup and after each of its calls
 pub key-totals-kept : (r order : List ℕ) (u : Setup) (commands : List Command) → KeyClaims r order u commands → TotalsCountedOver (setupOf u order) (stepsIn r (setupOf u order) commands)
@@ -213,3 +232,16 @@ key-ranked-by-last-free r order u commands h = ranked-by-last-free-over-list u o
 pub key-long-blocks-agree-with-ledger : (r order : List ℕ) (u : Setup) (commands : List Command) → KeyClaims r order u commands
     → LongBlocksAgreeOver (setupOf u order) [] (stepsIn r (setupOf u order) commands)
 key-long-blocks-agree-with-ledger r order u commands h = long-blocks-agree-with-ledger u order (setupOf u order) refl (h .ready) (stepsIn r (setupOf u order) commands) (h .linked)
+
+-- Document 02, item 2: after its setup and after each of its calls the names of that ledger and those of the state agree ..
+module _ (r order : List ℕ) (u : Setup) (commands : List Command) (h : KeyClaims r order u commands) where
+  pub key-names-agree : NamesAgreeOver (setupOf u order) [] (stepsIn r (setupOf u order) commands)
+  key-names-agree = ledger-and-state-names-agree u order (setupOf u order) refl (h .ready) (stepsIn r (setupOf u order) commands) (h .linked)
+
+  -- .. the state holds just the names of the ledger, which has each once ..
+  pub key-names-hold : NamesHoldOver (setupOf u order) [] (stepsIn r (setupOf u order) commands)
+  key-names-hold = names-hold-over-list u order (setupOf u order) refl (h .ready) (stepsIn r (setupOf u order) commands) (h .linked)
+
+  -- .. and each of its named takes is refused 14, and each named free 15, exactly where the ledger says so
+  pub key-name-refusals : NameRefusalsOver u [] (stepsIn r (setupOf u order) commands)
+  key-name-refusals = name-refusals-over-list u order (setupOf u order) refl (h .ready) (stepsIn r (setupOf u order) commands) (h .linked)

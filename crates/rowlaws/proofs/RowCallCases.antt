@@ -1,9 +1,9 @@
 -- Cases of whole calls on a lent row of 64 records that pass the check: refusals, a take, a free, and lists of them; and of rows that do not pass it. Assumes
 -- nothing.
-use mathlib.Core.Path.{_≡_, refl, sym, ap, _∙_}
-use mathlib.Core.Bool.{Bool, true}
+use mathlib.Core.Path.{_≡_, refl, sym, ap, _∙_, subst}
+use mathlib.Core.Bool.{Bool, true, false}
 use mathlib.Core.List.{List, [], _∷_, _++_, map}
-use Prim.Native.Nat.{ℕ}
+use Prim.Native.Nat.{ℕ, _+_, _*_, _≤_}
 use native.Mathlib.Omega.{arith}
 use lib.ListN.{getD, replicate}
 use lib.Dec.{T}
@@ -12,21 +12,30 @@ use Rattle.laws.proofs.TestLaws.{both-make}
 use Rattle.heap.specs.declared.Superblock.{Superblock}
 use Rattle.heap.specs.declared.Totals.{Totals}
 use Rattle.heap.specs.declared.State.{State}
-use Rattle.heap.specs.Table.{withRank, superblockAt}
-use Rattle.checkrules.specs.Check.{unusedFrom, namesValid, totalsValid, ranksValid, runsValid, restValid}
+use Rattle.heap.specs.Table.{withRank, superblockAt, isOfHeap}
+use Rattle.heap.specs.Counts.{isOwnedOfClass, superblocksOfClass, ownersChanged, passedBetweenHeaps}
+use Rattle.checkrules.specs.Check.{withinLimits, unusedFrom, namesValid, totalsValid, ranksValid, runsValid, restValid}
 use Rattle.checkrules.proofs.CheckDefinitions.{checkDefinitions}
 use Rattle.checkrules.proofs.ClauseLaws.{clauses-of-rest}
 use Rattle.heaplaws.proofs.UsedPartLaws.{usedPartDefinitions}
-use Rattle.calls.specs.Calls.{Call, Take, Free, NamedTake, NamedFree, Drop}
-use Rattle.calls.specs.declared.Outcome.the-variants.{Ready, Address, Moves}
-use Rattle.calls.specs.Answers.{valuesOf}
-use Rattle.calls.proofs.CallDefinitions.{uncheckedCallDefinitions}
+use Rattle.calls.specs.Calls.{Call, Take, Free, NamedTake, NamedFree, Drop, callOf, callUnchecked}
+use Rattle.calls.specs.declared.Outcome.the-variants.{Ready, Address, Moves, Refused}
+use Rattle.calls.specs.Answers.{After, valuesOf}
+use Rattle.calls.specs.Setup.{setupOf}
+use Rattle.calls.proofs.CallDefinitions.{uncheckedCallDefinitions, callDefinitions}
+use Rattle.bound.specs.Claim.{Bounded, freesRun, OwnerChanges, Claims, stepsBy}
+use Rattle.bound.proofs.LedgerDefinitions.{ledgerDefinitions}
+use Rattle.boundlaws.proofs.CallListLaws.{steps-are-unchecked}
+use Rattle.boundlaws.proofs.CallListCases.{whole-list}
 use Rattle.rowrules.specs.declared.Control.{Control}
-use Rattle.rowrules.specs.Row.{RowAfter, rowCall}
-use Rattle.rowrules.specs.RowClaim.{RowStep, RowLinked}
-use Rattle.rowrules.proofs.RowCases.{CallCase, call-refused-case, row-after, control-with, example-setup, name-6-held, no-name-held, example-totals, zero-totals, unused-superblock, storage-of-258}
+use Rattle.rowrules.specs.Row.{RowAfter, setupOn, rowSetup, rowCall}
+use Rattle.rowrules.specs.RowClaim.{RowStep, RowLinked, RowClaims, asAfter}
+use Rattle.rowrules.proofs.RowCases.{CallCase, call-refused-case, row-after, control-with, example-setup, name-6-held, no-name-held, example-totals}
+use Rattle.rowrules.proofs.RowCases.{zero-totals, unused-superblock, invalid-superblock, storage-of-258}
 use Rattle.rowlaws.proofs.RowCaseLaws.{row-call-of, row-passes, row-call-behind-check, row-call-past-check, row-calls-past-check}
 use Rattle.rowlaws.proofs.RowCaseLaws.{refused-by, row-calls-refused}
+use Rattle.rowlaws.proofs.RowLaws.{row-setup-ready}
+use Rattle.rowlaws.proofs.RowDemand3.{row-demand-3, rowSteps, row-steps-linked, row-steps-are-steps}
 
 -- superblock 0 with its first 2048 bytes live, and then, freed into, with nothing live
 abbrev pub first-block-live : Superblock
@@ -241,3 +250,43 @@ same-take-twice-not-linked linked =
     let second = linked .1 .0 ∙ row-call-past-check second-take refl second-take-passes in
     let z : _≡_ {A = ℕ} 0 2048 = ap (λ (l : List ℕ). getD l 0 0) (ap (λ (x : RowAfter). valuesOf (x .outcome)) second ∙ second-take-address) in
     absurd (omega (arith, z))
+
+-- ---- the claim speaks of a list on a row: document 01's whole case, on 64 records and order places in which anything stood
+abbrev records-before : List Superblock
+records-before = replicate 64 invalid-superblock
+
+abbrev places-before : List ℕ
+places-before = replicate 512 7
+
+abbrev pub row-start : RowAfter
+row-start = rowSetup (whole-list .setup) records-before places-before
+
+row-start-ready : row-start .outcome ≡ Ready
+unfolding setupOn withinLimits
+row-start-ready = refl
+
+pub claims-of-row-list : RowClaims (whole-list .setup) row-start [] (λ c. 0) (rowSteps row-start (whole-list .calls))
+claims-of-row-list =
+    row-demand-3 (whole-list .setup) records-before places-before row-start refl row-start-ready (rowSteps row-start (whole-list .calls))
+    (row-steps-linked row-start (whole-list .calls))
+
+-- .. and of the calls behind the check, by which what it says is computed
+abbrev state-start : After
+state-start = setupOf (whole-list .setup) places-before
+
+row-list-claimed : Claims (whole-list .setup) state-start [] (λ c. 0) (stepsBy callUnchecked state-start (whole-list .calls))
+row-list-claimed =
+    let starts = row-setup-ready (whole-list .setup) records-before places-before row-start-ready in
+    let ready : state-start .answer .outcome ≡ Ready = ap (λ (x : After). x .answer .outcome) (sym (starts .1)) ∙ row-start-ready in
+    subst (Claims (whole-list .setup) state-start [] (λ c. 0)) (steps-are-unchecked (whole-list .setup) places-before ready (whole-list .calls))
+    (subst (λ (x : After). Claims (whole-list .setup) x [] (λ c. 0) (stepsBy callOf x (whole-list .calls))) (starts .1)
+    (subst (Claims (whole-list .setup) (asAfter row-start) [] (λ c. 0)) (row-steps-are-steps row-start (whole-list .calls) (starts .2)) claims-of-row-list))
+
+-- the free that moves a superblock, and the last call, a take that is refused; the bound after it, of class 26
+pub owners-of-row-list : OwnerChanges 4 1 1 false (Free 1 2048) (Moves 1) × OwnerChanges 4 0 0 false (Take 1 2049) (Refused 17)
+unfolding Claims freesRun ledgerDefinitions stepsBy callDefinitions ownersChanged passedBetweenHeaps isOfHeap
+owners-of-row-list = (row-list-claimed .2 .2 .2 .2 .2 .1, row-list-claimed .2 .2 .2 .2 .2 .2 .2 .1)
+
+pub bound-of-row-list : 3 * 2 * 1 ≤ 4 * 3 + 3 * 1 * 1 * 2
+unfolding Claims Bounded ledgerDefinitions stepsBy callDefinitions superblocksOfClass isOwnedOfClass isOfHeap
+bound-of-row-list = row-list-claimed .2 .2 .2 .2 .2 .2 .2 .2 26 (omega arith)

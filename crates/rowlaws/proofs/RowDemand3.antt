@@ -6,11 +6,12 @@ use lib.ListN.{length}
 use Rattle.heap.specs.declared.Superblock.{Superblock}
 use Rattle.heap.specs.declared.Setup.{Setup}
 use Rattle.calls.specs.declared.Outcome.the-variants.{Ready}
-use Rattle.calls.specs.Calls.{Call}
+use Rattle.calls.specs.Answers.{After}
+use Rattle.calls.specs.Calls.{Call, callOf}
 use Rattle.calls.specs.Setup.{setupOf}
-use Rattle.bound.specs.Claim.{Linked}
+use Rattle.bound.specs.Claim.{Step, Linked, stepsBy}
 use Rattle.boundlaws.proofs.Demand3.{demand-3}
-use Rattle.rowrules.specs.Row.{RowAfter, rowSetup, rowCall}
+use Rattle.rowrules.specs.Row.{RowAfter, stateOf, rowSetup, rowCall}
 use Rattle.rowrules.specs.RowClaim.{RowStep, RowLinked, RowClaims, asAfter, stepOf}
 use Rattle.rowlaws.proofs.RowLaws.{call-on-64-is-call-of, length-of-row-call, row-setup-ready}
 
@@ -47,3 +48,16 @@ pub row-steps-linked : (before : RowAfter) (calls : List Call) → RowLinked bef
 unfolding rowSteps RowLinked
 row-steps-linked before [] = tt
 row-steps-linked before (call ∷ calls) = (refl, row-steps-linked (rowCall (before .control) (before .row) (before .order) call) calls)
+
+-- on a row of 64 records they are the steps that the calls make on its state
+pub row-steps-are-steps : (before : RowAfter) (calls : List Call) → length (before .row) ≡ 64
+    → map stepOf (rowSteps before calls) ≡ stepsBy callOf (asAfter before) calls
+unfolding rowSteps stepsBy
+row-steps-are-steps before [] long = refl
+row-steps-are-steps before (call ∷ calls) long =
+    let after : RowAfter = rowCall (before .control) (before .row) (before .order) call in
+    let is : asAfter after ≡ callOf (stateOf (before .control) (before .row)) (before .order) call =
+    ap asAfter (call-on-64-is-call-of (length (before .row)) (before .control) (before .row) (before .order) call long) in
+    ap (λ (l : List Step). stepOf (record { call = call; after = after }) ∷ l)
+    (row-steps-are-steps after calls (length-of-row-call (before .control) (before .row) (before .order) call ∙ long))
+    ∙ ap (λ (x : After). let step : Step = record { call = call; after = x } in step ∷ stepsBy callOf x calls) is

@@ -2,22 +2,30 @@
 use mathlib.Core.Path.{_≡_, sym, ap, _∙_}
 use mathlib.Core.Bool.{true, false}
 use mathlib.Core.Logic.{⊎-elim}
-use mathlib.Core.List.{List}
+use mathlib.Core.List.{List, [], map}
 use Prim.Native.Nat.{ℕ}
 use lib.ListN.{length}
-use Rattle.names.specs.Names.{isHeld}
+use lib.Dec.{T}
+use Rattle.names.specs.Names.{blockNamed, isHeld}
 use Rattle.namelaws.proofs.NameLaws.{not-held-of-no-names}
 use Rattle.heap.specs.declared.Superblock.{Superblock}
 use Rattle.heap.specs.declared.Setup.{Setup}
-use Rattle.calls.specs.declared.Outcome.the-variants.{Refused}
+use Rattle.heaplaws.proofs.StateFacts.{Shape}
+use Rattle.calls.specs.declared.Outcome.the-variants.{Ready, Refused}
 use Rattle.calls.specs.Answers.{isProcessor}
 use Rattle.calls.specs.Named.{isUnavailable, withNameBound, heldAddress}
 use Rattle.calls.specs.Calls.{Call, Take, Free, NamedTake, NamedFree, callOf}
 use Rattle.calllaws.proofs.CallEffects.{Passed}
 use Rattle.calllaws.proofs.NamedCallLaws.{named-take-is-plain-take, named-free-is-free-of-held-address}
+use Rattle.calllaws.proofs.NameLifetime.{FreesBlockOf, held-name-kept-until-freed, name-let-go-when-freed}
+use Rattle.bound.specs.NamesClaim.{NamesAgreeOver, NamesHoldOver, NameRefusalsOver}
+use Rattle.boundlaws.proofs.NamesAgree.{ledger-and-state-names-agree}
+use Rattle.boundlaws.proofs.NamesHold.{names-hold-over-list, name-refusals-over-list}
 use Rattle.rowrules.specs.declared.Control.{Control}
 use Rattle.rowrules.specs.Row.{RowAfter, stateOf, asRowAfter, rowSetup, rowCall}
+use Rattle.rowrules.specs.RowClaim.{RowStep, RowLinked, asAfter, stepOf}
 use Rattle.rowlaws.proofs.RowLaws.{call-on-64-is-call-of, row-setup-refused-or-accepted, row-call-refused}
+use Rattle.rowlaws.proofs.RowDemand3.{row-list-is-call-list}
 
 -- "A new or refused setup holds no names"
 pub row-setup-holds-no-names : (u : Setup) (row : List Superblock) (order : List ℕ) (m : ℕ) → isHeld (rowSetup u row order .control .names) m ≡ false
@@ -46,3 +54,39 @@ module _ (control : Control) (row : List Superblock) (order : List ℕ) (i m : �
   row-named-free-is-free-of-held-address held =
       row-call-is-call-of (NamedFree i m) ∙ ap asRowAfter (named-free-is-free-of-held-address (stateOf control row) order i m passed p held)
       ∙ sym (row-call-is-call-of (Free i (heldAddress (stateOf control row) m)))
+
+-- "A name holds from its take until its block is freed by either command", by one call on a row of 64 records: it keeps its block through every call that
+-- does not free it, and is let go by one that does
+module _ (control : Control) (row : List Superblock) (order : List ℕ) (shape : Shape (stateOf control row)) (m : ℕ) (call : Call) where
+  pub row-held-name-kept-until-freed : T (isHeld (control .names) m) → (FreesBlockOf (stateOf control row) order m call → ⊥)
+      → blockNamed (rowCall control row order call .control .names) m ≡ blockNamed (control .names) m
+  row-held-name-kept-until-freed held other =
+      ap (λ (x : RowAfter). blockNamed (x .control .names) m) (call-on-64-is-call-of (length row) control row order call (shape .length-is))
+      ∙ held-name-kept-until-freed (stateOf control row) order shape m call held other
+
+  pub row-name-let-go-when-freed : FreesBlockOf (stateOf control row) order m call → isHeld (rowCall control row order call .control .names) m ≡ false
+  row-name-let-go-when-freed frees =
+      ap (λ (x : RowAfter). isHeld (x .control .names) m) (call-on-64-is-call-of (length row) control row order call (shape .length-is))
+      ∙ name-let-go-when-freed (stateOf control row) order shape m call frees
+
+-- For every accepted setup on a lent row, whatever stood in row and storage before, and every list of takes and frees on that row after it, plain and
+-- named, and of drops: before the list and after each of its calls the names of the ledger, from the calls and their answers alone, and those of the
+-- control agree ..
+module _ (u : Setup) (row : List Superblock) (order : List ℕ) (start : RowAfter) (e : start ≡ rowSetup u row order) (ready : start .outcome ≡ Ready)
+    (steps : List RowStep) (linked : RowLinked start steps) where
+  pub row-names-agree-over-list : NamesAgreeOver (asAfter start) [] (map stepOf steps)
+  row-names-agree-over-list =
+      let list = row-list-is-call-list u row order start e ready steps linked in
+      ledger-and-state-names-agree u order (asAfter start) (list .0) ready (map stepOf steps) (list .1)
+
+  -- .. the names held are just those of the ledger, which has each once ..
+  pub row-names-hold-over-list : NamesHoldOver (asAfter start) [] (map stepOf steps)
+  row-names-hold-over-list =
+      let list = row-list-is-call-list u row order start e ready steps linked in
+      names-hold-over-list u order (asAfter start) (list .0) ready (map stepOf steps) (list .1)
+
+  -- .. and each named take is refused 14, and each named free 15, exactly where the ledger says so
+  pub row-name-refusals-over-list : NameRefusalsOver u [] (map stepOf steps)
+  row-name-refusals-over-list =
+      let list = row-list-is-call-list u row order start e ready steps linked in
+      name-refusals-over-list u order (asAfter start) (list .0) ready (map stepOf steps) (list .1)
