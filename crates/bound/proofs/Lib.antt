@@ -1,3 +1,4 @@
 pub mod LedgerDefinitions
 pub mod ClaimCases
 pub mod HistoryCases
+pub mod HistoryListCases
