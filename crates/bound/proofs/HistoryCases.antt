@@ -1,20 +1,31 @@
 -- The history of frees and renewals in cases that tell its definitions from near misses, by computation. Assumes nothing.
 use mathlib.Core.Path.{_≡_, refl}
 use mathlib.Core.List.{List, [], _∷_, _++_, map}
-use Prim.Native.Nat.{ℕ, _<_}
+use Prim.Native.Nat.{ℕ, suc, _<_}
 use native.Mathlib.Omega.{arith}
 use lib.ListN.{replicate}
 use Rattle.laws.proofs.Stages.{_also_}
+use Rattle.heap.specs.declared.Superblock.{Superblock}
 use Rattle.heap.specs.declared.State.{State}
-use Rattle.heap.specs.Table.{unused}
+use Rattle.heap.specs.Table.{unused, runPart, superblockAt}
 use Rattle.heap.proofs.CaseStates.{unnamedState}
 use Rattle.heap.proofs.TableCases.{of, ranked, small-setup}
 use Rattle.calls.specs.Calls.{Call, Take, Free, NamedTake, NamedFree, Drop}
+use Rattle.calls.specs.Answers.{After}
+use Rattle.calls.specs.declared.Outcome.{Outcome}
 use Rattle.calls.specs.declared.Outcome.the-variants.{Ready, Address, Moves, Refused}
 use Rattle.calls.proofs.CallDefinitions.{uncheckedCallDefinitions}
 use Rattle.bound.specs.Ledger.{Entry, named, unnamed, isAt, hasName}
+use Rattle.bound.specs.Claim.{Step}
+use Rattle.bound.specs.History.{Event, freedInto, renewed, joinedRun, neither, eventOfBlock, eventOfFree, eventOfTaken, eventOfTake, eventsAfter, eventsAfterDrop}
+use Rattle.bound.specs.History.{eventsAgo, notSinceRenewal, oneEventMore, lastFreeAfter, lastFree, RankedByLastFree, FreedLater, OffersLastFreed}
+use Rattle.bound.specs.History.{AlongHistory, RankedByLastFreeOver, OffersLastFreedOver}
 use Rattle.bound.proofs.LedgerDefinitions.{entry, ledgerDefinitions}
-use Rattle.bound.specs.History.{Event, freedInto, renewed, joinedRun, neither, eventOfBlock, eventOfFree, eventOfTaken, eventOfTake, eventsAfter, eventsAfterDrop, eventsAgo, notSinceRenewal, oneEventMore, lastFreeAfter, lastFree, RankedByLastFree}
+
+-- what a case of a history unfolds, listed once
+unfoldable pub historyDefinitions : Unit {0}
+unfolding AlongHistory eventsAfter eventsAfterDrop eventOfTake eventOfTaken eventOfFree eventOfBlock lastFree lastFreeAfter oneEventMore FreedLater
+historyDefinitions = tt
 
 -- Superblocks 0 to 4: heap 1's, empty; heap 0's, empty; heap 0's, with a block live; an unused one; and heap 2's, empty.
 abbrev pub history-state : State
@@ -105,9 +116,170 @@ pub renewed-with-rank-refused : RankedByLastFree (with-ranks-of-0-and-1 1 0) (re
 unfolding lastFree lastFreeAfter
 renewed-with-rank-refused h = let e : _≡_ {A = ℕ} 1 0 = h .unranked-iff 0 (omega arith) .1 refl in omega arith
 
--- what the dear cases of the claim unfold
+-- ---- the later freed into of two: fewer events ago, or the only one that was at all
+pub freed-later-cases : FreedLater (eventsAgo 3) (eventsAgo 4) × FreedLater (eventsAgo 9) notSinceRenewal
+unfolding FreedLater
+freed-later-cases = (omega arith, tt)
+
+pub not-freed-later-cases :
+    (FreedLater (eventsAgo 4) (eventsAgo 4) → ⊥) × (FreedLater (eventsAgo 5) (eventsAgo 4) → ⊥) × (FreedLater notSinceRenewal (eventsAgo 0) → ⊥)
+    × (FreedLater notSinceRenewal notSinceRenewal → ⊥)
+unfolding FreedLater
+not-freed-later-cases = (λ l. omega arith, λ l. omega arith, λ h. h, λ h. h)
+
+-- ---- what places 1 and 2 offer (document 02, item 4). Superblocks 0 and 1 are heap h's, with one live block each and these ranks; the others are full
+abbrev pub full : Superblock
+full = of 2 26 3
+
+abbrev pub of-heap-with-ranks : ℕ → ℕ → ℕ → State
+of-heap-with-ranks h a b = unnamedState small-setup (ranked h 20 1 a ∷ ranked h 20 1 b ∷ replicate 62 full)
+
+-- refused: 0 is offered, and 1 was freed into later, or alone, or 0 was renewed since
+pub later-freed-passed-over-refused :
+    (OffersLastFreed (of-heap-with-ranks 1 1 2) (freedInto 1 ∷ freedInto 0 ∷ []) → ⊥) × (OffersLastFreed (of-heap-with-ranks 1 1 2) (freedInto 1 ∷ []) → ⊥)
+    × (OffersLastFreed (of-heap-with-ranks 0 1 2) (renewed 0 ∷ freedInto 0 ∷ freedInto 1 ∷ []) → ⊥)
+unfolding historyDefinitions uncheckedCallDefinitions
+later-freed-passed-over-refused = (
+  λ h. h .none-freed-later 1 20 0 1 refl (omega arith, tt, refl) (omega arith),
+  λ h. h .none-freed-later 1 20 0 1 refl (omega arith, tt, refl) tt,
+  λ h. h .none-freed-later 0 20 0 1 refl (omega arith, tt, refl) tt,
+)
+
+-- 1 is offered, and neither was freed into, or 1 was renewed since
+pub higher-number-offered-refused :
+    (OffersLastFreed (of-heap-with-ranks 1 0 1) [] → ⊥) × (OffersLastFreed (of-heap-with-ranks 1 0 1) (neither ∷ []) → ⊥)
+    × (OffersLastFreed (of-heap-with-ranks 0 0 1) (renewed 1 ∷ freedInto 1 ∷ []) → ⊥)
+unfolding historyDefinitions uncheckedCallDefinitions
+higher-number-offered-refused = (
+  λ h. let l = h .lowest-of-not-freed 1 20 1 0 refl (omega arith, tt, refl) refl in omega arith,
+  λ h. let l = h .lowest-of-not-freed 1 20 1 0 refl (omega arith, tt, refl) refl in omega arith,
+  λ h. let l = h .lowest-of-not-freed 0 20 1 0 refl (omega arith, tt, refl) refl in omega arith,
+)
+
+-- ---- along lists of calls. Superblock 0 is heap 1's and empty, superblock 1 has a block live; these are their ranks
+abbrev pub empty-0-with-ranks : ℕ → ℕ → State
+empty-0-with-ranks a b = unnamedState small-setup (ranked 1 20 0 a ∷ ranked 1 20 1 b ∷ replicate 62 full)
+
+abbrev pub left : Outcome → State → After
+left outcome s = record { answer = record { outcome = outcome; state = s }; order = [] }
+
+abbrev pub did : Call → Outcome → State → Step
+did call outcome s = record { call = call; after = left outcome s }
+
+-- a block in each of superblocks 0 and 1; and a long one from 1 on, by name 3
+abbrev pub blocks-in-0-and-1 : List Entry
+blocks-in-0-and-1 = entry 0 700 unnamed ∷ entry 4096 700 (named 3) ∷ []
+
+abbrev pub run-from-1 : List Entry
+run-from-1 = entry 0 700 unnamed ∷ entry 4096 2049 (named 3) ∷ []
+
+freed-without-rank : (k x : ℕ) (s : State) (events : List Event) → k < 64 → superblockAt s k .rank ≡ 0 → lastFree k events ≡ eventsAgo x
+    → RankedByLastFree s events → ⊥
+freed-without-rank k x s events l z e claim =
+    let none : lastFree k events ≡ notSinceRenewal = claim .unranked-iff k l .0 z in
+    let w : _≡_ {A = ℕ} 0 1 = cc in
+    omega arith
+
+ranked-without-free : (k r : ℕ) (s : State) (events : List Event) → k < 64 → superblockAt s k .rank ≡ suc r → lastFree k events ≡ notSinceRenewal
+    → RankedByLastFree s events → ⊥
+ranked-without-free k r s events l e none claim = let z = claim .unranked-iff k l .1 none in omega arith
+
+-- the claim about ranks is refused of the state before a list, without calls and with one,
+pub ranked-before-list-refused :
+    (RankedByLastFreeOver (left Ready (empty-0-with-ranks 1 0)) [] [] [] → ⊥)
+    × (RankedByLastFreeOver (left Ready (empty-0-with-ranks 1 0)) [] [] (did (Take 1 2049) (Refused 17) (empty-0-with-ranks 0 0) ∷ []) → ⊥)
+unfolding historyDefinitions
+ranked-before-list-refused = (ranked-without-free 0 0 _ _ (omega arith) refl refl, λ h. ranked-without-free 0 0 _ _ (omega arith) refl refl (h .0))
+
+-- after the first call, though it holds after the second, which renews what the first freed into,
+pub unranked-after-first-call-refused :
+    RankedByLastFreeOver (left Ready (empty-0-with-ranks 0 0)) blocks-in-0-and-1 []
+    (did (Free 1 0) (Moves 0) (empty-0-with-ranks 0 0) ∷ did (Take 2 700) (Address 0) (empty-0-with-ranks 0 0) ∷ []) → ⊥
+unfolding historyDefinitions ledgerDefinitions
+unranked-after-first-call-refused h = freed-without-rank 0 0 _ _ (omega arith) refl refl (h .1 .0)
+
+-- and after the last,
+pub unranked-after-last-call-refused :
+    RankedByLastFreeOver (left Ready (empty-0-with-ranks 0 0)) blocks-in-0-and-1 []
+    (did (Take 1 2049) (Refused 17) (empty-0-with-ranks 0 0) ∷ did (Free 1 0) (Moves 0) (empty-0-with-ranks 0 0) ∷ []) → ⊥
+unfolding historyDefinitions ledgerDefinitions
+unranked-after-last-call-refused h = freed-without-rank 0 0 _ _ (omega arith) refl refl (h .1 .1)
+
+-- where the earlier free is first, of two calls and of a drop,
+pub earlier-free-first-refused :
+    (RankedByLastFreeOver (left Ready (empty-0-with-ranks 0 0)) blocks-in-0-and-1 []
+    (did (Free 1 0) (Moves 0) (empty-0-with-ranks 1 0) ∷ did (NamedFree 1 3) (Moves 0) (empty-0-with-ranks 1 2) ∷ []) → ⊥)
+    × (RankedByLastFreeOver (left Ready (empty-0-with-ranks 0 0)) blocks-in-0-and-1 []
+    (did (Drop 1 (0 ∷ 4096 ∷ [])) (Moves 0) (empty-0-with-ranks 1 2) ∷ []) → ⊥)
+unfolding historyDefinitions ledgerDefinitions
+earlier-free-first-refused = (
+  λ h. let l : _<_ 2 1 = h .1 .1 .later-first 1 0 0 1 (omega arith) (omega arith) refl refl (omega arith) in omega arith,
+  λ h. let l : _<_ 2 1 = h .1 .later-first 1 0 0 1 (omega arith) (omega arith) refl refl (omega arith) in omega arith,
+)
+
+-- where the rank outlasts a renewal, or a long block that takes the superblock,
+pub rank-kept-refused :
+    (RankedByLastFreeOver (left Ready (empty-0-with-ranks 1 0)) [] (freedInto 0 ∷ []) (did (Take 2 700) (Address 0) (empty-0-with-ranks 1 0) ∷ []) → ⊥)
+    × (RankedByLastFreeOver (left Ready (empty-0-with-ranks 1 0)) [] (freedInto 0 ∷ [])
+    (did (NamedTake 1 7 2049) (Address 0) (empty-0-with-ranks 1 0) ∷ []) → ⊥)
+unfolding historyDefinitions uncheckedCallDefinitions
+rank-kept-refused = (λ h. ranked-without-free 0 0 _ _ (omega arith) refl refl (h .1), λ h. ranked-without-free 0 0 _ _ (omega arith) refl refl (h .1))
+
+-- where a run that was freed is ranked, by address, by name, in a drop, and one that a call of the list took,
+pub freed-run-ranked-refused :
+    (RankedByLastFreeOver (left Ready (empty-0-with-ranks 0 0)) run-from-1 [] (did (Free 1 4096) (Moves 0) (empty-0-with-ranks 0 1) ∷ []) → ⊥)
+    × (RankedByLastFreeOver (left Ready (empty-0-with-ranks 0 0)) run-from-1 [] (did (NamedFree 1 3) (Moves 0) (empty-0-with-ranks 0 1) ∷ []) → ⊥)
+    × (RankedByLastFreeOver (left Ready (empty-0-with-ranks 0 0)) run-from-1 [] (did (Drop 1 (4096 ∷ [])) (Moves 0) (empty-0-with-ranks 0 1) ∷ []) → ⊥)
+    × (RankedByLastFreeOver (left Ready (empty-0-with-ranks 0 0)) [] []
+    (did (Take 1 2049) (Address 4096) (empty-0-with-ranks 0 0) ∷ did (Free 1 4096) (Moves 0) (empty-0-with-ranks 0 1) ∷ []) → ⊥)
+unfolding historyDefinitions uncheckedCallDefinitions ledgerDefinitions
+freed-run-ranked-refused = (
+  λ h. ranked-without-free 1 0 _ _ (omega arith) refl refl (h .1),
+  λ h. ranked-without-free 1 0 _ _ (omega arith) refl refl (h .1),
+  λ h. ranked-without-free 1 0 _ _ (omega arith) refl refl (h .1),
+  λ h. ranked-without-free 1 0 _ _ (omega arith) refl refl (h .1 .1),
+)
+
+-- and where a block of a class that was freed leaves no rank: the ledger has it, though the state has a run there; and a call of the list took it
+pub freed-block-unranked-refused :
+    (RankedByLastFreeOver (left Ready (unnamedState small-setup (of 1 20 1 ∷ runPart 1 ∷ replicate 62 unused))) blocks-in-0-and-1 []
+    (did (Free 1 4096) (Moves 0) (empty-0-with-ranks 0 0) ∷ []) → ⊥)
+    × (RankedByLastFreeOver (left Ready (empty-0-with-ranks 0 0)) [] []
+    (did (Take 1 700) (Address 4096) (empty-0-with-ranks 0 0) ∷ did (Free 1 4096) (Moves 0) (empty-0-with-ranks 0 0) ∷ []) → ⊥)
+unfolding historyDefinitions uncheckedCallDefinitions ledgerDefinitions
+freed-block-unranked-refused = (
+  λ h. freed-without-rank 1 0 _ _ (omega arith) refl refl (h .1),
+  λ h. freed-without-rank 1 0 _ _ (omega arith) refl refl (h .1 .1),
+)
+
+-- the claim about what is offered is refused of the state before a list, without calls and with one,
+pub offered-before-list-refused :
+    (OffersLastFreedOver (left Ready (of-heap-with-ranks 1 0 1)) [] [] [] → ⊥)
+    × (OffersLastFreedOver (left Ready (of-heap-with-ranks 1 0 1)) [] [] (did (Take 1 2049) (Refused 17) (of-heap-with-ranks 1 0 0) ∷ []) → ⊥)
+unfolding AlongHistory
+offered-before-list-refused = (λ h. higher-number-offered-refused .0 h, λ h. higher-number-offered-refused .0 (h .0))
+
+-- after the first call, though the second makes it right, and after the last,
+pub offered-after-call-refused :
+    (OffersLastFreedOver (left Ready (of-heap-with-ranks 1 0 0)) blocks-in-0-and-1 []
+    (did (Free 1 4096) (Moves 0) (of-heap-with-ranks 1 1 2) ∷ did (Free 1 0) (Moves 0) (of-heap-with-ranks 1 1 2) ∷ []) → ⊥)
+    × (OffersLastFreedOver (left Ready (of-heap-with-ranks 1 0 0)) blocks-in-0-and-1 []
+    (did (Free 1 0) (Moves 0) (of-heap-with-ranks 1 1 0) ∷ did (Free 1 4096) (Moves 0) (of-heap-with-ranks 1 1 2) ∷ []) → ⊥)
+unfolding historyDefinitions ledgerDefinitions
+offered-after-call-refused = (λ h. later-freed-passed-over-refused .1 (h .1 .0), λ h. later-freed-passed-over-refused .0 (h .1 .1))
+
+-- and where the higher number is offered after the free of a run
+pub run-offered-refused :
+    OffersLastFreedOver (left Ready (of-heap-with-ranks 1 0 0)) run-from-1 [] (did (Free 1 4096) (Moves 0) (of-heap-with-ranks 1 0 1) ∷ []) → ⊥
+unfolding historyDefinitions ledgerDefinitions
+run-offered-refused h = higher-number-offered-refused .1 (h .1)
+
+-- what the dear cases of the claims unfold
 unfoldable pub historyHolds : Unit {0}
 historyHolds =
     event-of-free-cases also event-of-take-cases also event-of-long-take-cases also events-of-run-cases also events-after-cases
     also events-after-drop-cases also last-free-cases also freed-after-renewal-case also joined-run-cases also earliest-first-refused
-    also freed-without-rank-refused also renewed-with-rank-refused also tt
+    also freed-without-rank-refused also renewed-with-rank-refused also freed-later-cases also not-freed-later-cases
+    also later-freed-passed-over-refused also higher-number-offered-refused also ranked-before-list-refused also unranked-after-first-call-refused
+    also unranked-after-last-call-refused also earlier-free-first-refused also rank-kept-refused also freed-run-ranked-refused
+    also freed-block-unranked-refused also offered-before-list-refused also offered-after-call-refused also run-offered-refused also tt

@@ -1,6 +1,6 @@
 -- Where the ranks of a state go by the last frees, so do those after one more free, renewal, long block taken or other call. Assumes nothing.
 use mathlib.Core.Path.{_≡_, refl, sym, ap, ap₂, _∙_}
-use mathlib.Core.Logic.{_↔_}
+use mathlib.Core.Logic.{_↔_, inl, inr}
 use mathlib.Core.List.{List, [], _∷_}
 use Prim.Native.Nat.{ℕ, zero, suc, _+_, _<_}
 use native.Mathlib.Nat.{pos-of-ne-zero}
@@ -9,17 +9,21 @@ use native.Mathlib.Omega.{arith}
 use borrow.Author.Tests.{eq-eqb, ne-eqb, le-leb, lt-ltb, leb-true, ltb-true}
 use lib.Dec.{leb, ltb}
 use Rattle.laws.specs.Sums.{both}
+use Rattle.laws.proofs.Inequalities.{le-of-not-below}
 use Rattle.laws.proofs.TestLaws.{true-of-T, false-of-not-T, both-left, both-right, pick-true, pick-false}
 use Rattle.heap.specs.declared.Setup.{Setup}
 use Rattle.heap.specs.declared.State.{State}
+use Rattle.heap.specs.declared.Found.the-variants.{At}
 use Rattle.heap.specs.Table.{superblockAt}
 use Rattle.heap.specs.States.{newState}
 use Rattle.heap.specs.Ranks.{rankAfterFree, rankAfterRenewal}
+use Rattle.choicerules.specs.Choice.{fullest}
 use Rattle.heaplaws.proofs.StateFacts.{RanksSound}
+use Rattle.heaplaws.proofs.ChoiceLaws.{MoreRecent, best-of-fullest, fullest-is-most-recent-among-equals, fullest-is-lowest-among-unranked}
 use Rattle.heaplaws.proofs.RankLaws.{rank-in-new-state, rank-after-free-of-superblock, rank-after-renewal-of-superblock, ranked-of-ranked-after-free, ranked-after-free-of-ranked}
 use Rattle.heaplaws.proofs.RankLaws.{ranked-of-ranked-after-renewal, ranked-after-renewal-of-ranked, order-kept-by-free, order-kept-by-renewal, latest-after-free}
 use Rattle.calllaws.proofs.CallEffects.{RunUnranked}
-use Rattle.bound.specs.History.{Event, freedInto, renewed, joinedRun, neither, LastFree, eventsAgo, notSinceRenewal, oneEventMore, lastFreeAfter, lastFree, RankedByLastFree}
+use Rattle.bound.specs.History.{Event, freedInto, renewed, joinedRun, neither, LastFree, eventsAgo, notSinceRenewal, oneEventMore, lastFreeAfter, lastFree, RankedByLastFree, EquallyFull, FreedLater, OffersLastFreed}
 use Rattle.boundlaws.proofs.OneMoreLongLaws.{in-run-or-not}
 use Rattle.heap.specs.Runs.{InRun}
 
@@ -196,3 +200,37 @@ ranked-by-last-free-of-new-state u =
       unranked-iff = λ k l. (λ e. refl, λ e. rank-in-new-state u k l);
       later-first = λ k m x y lk lm e f h. absurd (not-both-of-last-free _ x e refl);
     }
+
+-- ---- what places 1 and 2 of a take offer
+module _ (s : State) (events : List Event) (ranked : RankedByLastFree s events) where
+  ranked-of-freed : (m x : ℕ) → m < 64 → lastFree m events ≡ eventsAgo x → 0 < superblockAt s m .rank
+  ranked-of-freed m x l e = pos-of-ne-zero (λ z. not-both-of-last-free _ x e (ranked .unranked-iff m l .0 z))
+
+  -- the later freed into is the more recent by its rank
+  more-recent-of-freed-later : (m k : ℕ) → m < 64 → k < 64 → FreedLater (lastFree m events) (lastFree k events)
+      → MoreRecent (superblockAt s m) (superblockAt s k)
+  unfolding FreedLater
+  more-recent-of-freed-later m k lm lk later = go (lastFree m events) (lastFree k events) refl refl later
+    where
+      go : (a b : LastFree) → lastFree m events ≡ a → lastFree k events ≡ b → FreedLater a b → MoreRecent (superblockAt s m) (superblockAt s k)
+      go (eventsAgo x) (eventsAgo y) e f h = (ranked-of-freed m x lm e, inr (ranked .later-first m k x y lm lk e f h))
+      go (eventsAgo x) notSinceRenewal e f h = (ranked-of-freed m x lm e, inl (ranked .unranked-iff k lk .1 f))
+      go notSinceRenewal b e f h = absurd h
+
+  -- "Among equally full superblocks in places 1 and 2 of a take, the one freed into most recently since it was last renewed comes first .. Those not
+  -- freed into since then follow, lower number first" (document 02, item 4): what is offered by rank is offered by last free
+  pub offers-last-freed-of-ranked : OffersLastFreed s events
+  offers-last-freed-of-ranked =
+      record { none-freed-later = none-later; lowest-of-not-freed = λ h c k m e equal none. le-of-not-below (not-lower h c k m e equal none) }
+    where
+      none-later : (h c k m : ℕ) → fullest h c s ≡ At k → EquallyFull h c k m s → FreedLater (lastFree m events) (lastFree k events) → ⊥
+      none-later h c k m e (l, free, same) later =
+          fullest-is-most-recent-among-equals h c s k m e l free same (more-recent-of-freed-later m k l (best-of-fullest h c s k e .below) later)
+
+      not-lower : (h c k m : ℕ) → fullest h c s ≡ At k → EquallyFull h c k m s → lastFree k events ≡ notSinceRenewal → m < k → ⊥
+      not-lower h c k m e (l, free, same) none lower =
+          go (ranked .unranked-iff k (best-of-fullest h c s k e .below) .1 none) (ℕ-discrete (superblockAt s m .rank) 0)
+        where
+          go : superblockAt s k .rank ≡ 0 → Dec (superblockAt s m .rank ≡ 0) → ⊥
+          go unranked (yes z) = fullest-is-lowest-among-unranked h c s k m e lower free same z unranked
+          go unranked (no f) = fullest-is-most-recent-among-equals h c s k m e l free same (pos-of-ne-zero f, inl unranked)

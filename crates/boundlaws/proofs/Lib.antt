@@ -17,4 +17,5 @@ pub mod LongBlocksOverLists
 pub mod CallListLaws
 pub mod CallListCases
 pub mod EventLaws
+pub mod LedgerEventLaws
 pub mod RanksOverLists

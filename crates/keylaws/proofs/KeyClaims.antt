@@ -21,8 +21,8 @@ use Rattle.calls.specs.Calls.{Call, callOf}
 use Rattle.bound.specs.Claim.{Step, Linked, Claims, lastAfter, stepsBy}
 use Rattle.boundlaws.proofs.Demand3.{demand-3}
 use Rattle.boundlaws.proofs.TotalsOverLists.{totals-kept-over-list, live-totals-agree-with-ledger}
-use Rattle.bound.specs.History.{RankedByLastFreeOver}
-use Rattle.boundlaws.proofs.RanksOverLists.{ranked-by-last-free-over-list}
+use Rattle.bound.specs.History.{RankedByLastFreeOver, OffersLastFreedOver}
+use Rattle.boundlaws.proofs.RanksOverLists.{ranked-by-last-free-over-list, offers-last-freed-over-list}
 use Rattle.boundlaws.proofs.LongBlocksOverLists.{long-blocks-agree-with-ledger}
 use Rattle.boundlaws.proofs.NamesAgree.{ledger-and-state-names-agree}
 use Rattle.boundlaws.proofs.NamesHold.{names-hold-over-list, name-refusals-over-list}
@@ -225,8 +225,15 @@ key-live-totals-agree-with-ledger r order u commands h = live-totals-agree-with-
 -- Document 02, item 4: after its setup and after each of its calls the ranked superblocks are those freed into since they were last renewed, in the order of their last
 -- frees, the latest first
 pub key-ranked-by-last-free : (r order : List ℕ) (u : Setup) (commands : List Command) → KeyClaims r order u commands
-    → RankedByLastFreeOver (setupOf u order) [] (stepsIn r (setupOf u order) commands)
+    → RankedByLastFreeOver (setupOf u order) [] [] (stepsIn r (setupOf u order) commands)
 key-ranked-by-last-free r order u commands h = ranked-by-last-free-over-list u order (setupOf u order) refl (h .ready) (stepsIn r (setupOf u order) commands) (h .linked)
+
+-- .. and of equally full superblocks, places 1 and 2 of a take offer the one freed into most recently since it was last renewed, and where none was, the
+-- lowest
+pub key-offers-last-freed : (r order : List ℕ) (u : Setup) (commands : List Command) → KeyClaims r order u commands
+    → OffersLastFreedOver (setupOf u order) [] [] (stepsIn r (setupOf u order) commands)
+key-offers-last-freed r order u commands h =
+    offers-last-freed-over-list u order (setupOf u order) refl (h .ready) (stepsIn r (setupOf u order) commands) (h .linked)
 
 -- Document 02, item 7: after its setup and after each of its calls the long blocks of that ledger are the runs of the state, by start and length
 pub key-long-blocks-agree-with-ledger : (r order : List ℕ) (u : Setup) (commands : List Command) → KeyClaims r order u commands

@@ -9,8 +9,8 @@ use Rattle.heaplaws.proofs.StateFacts.{WithinLimits, RanksSound}
 use Rattle.calls.specs.Calls.{Call}
 use Rattle.calls.specs.declared.Outcome.the-variants.{Ready, Refused}
 use Rattle.calllaws.proofs.CallRankLaws.{call-refused-13-of-wrong-ranking}
-use Rattle.bound.specs.History.{RankedByLastFreeOver}
-use Rattle.boundlaws.proofs.RanksOverLists.{ranked-by-last-free-over-list}
+use Rattle.bound.specs.History.{RankedByLastFreeOver, OffersLastFreedOver}
+use Rattle.boundlaws.proofs.RanksOverLists.{ranked-by-last-free-over-list, offers-last-freed-over-list}
 use Rattle.rowrules.specs.declared.Control.{Control}
 use Rattle.rowrules.specs.Row.{RowAfter, stateOf, asRowAfter, rowRefused, rowSetup, rowCall}
 use Rattle.rowrules.specs.RowClaim.{RowStep, RowLinked, asAfter, stepOf}
@@ -31,6 +31,14 @@ module _ (control : Control) (row : List Superblock) (order : List ℕ) (call : 
 -- For every accepted setup on a lent row, whatever stood in row and storage before, and every list of takes and frees on that row after it, plain and named, and of drops: the row's
 -- ranked superblocks are those freed into since they were last renewed, in the order of their last frees, the latest first.
 pub row-ranked-by-last-free-over-list : (u : Setup) (row : List Superblock) (order : List ℕ) (start : RowAfter) → start ≡ rowSetup u row order → start .outcome ≡ Ready
-    → (steps : List RowStep) → RowLinked start steps → RankedByLastFreeOver (asAfter start) [] (map stepOf steps)
+    → (steps : List RowStep) → RowLinked start steps → RankedByLastFreeOver (asAfter start) [] [] (map stepOf steps)
 row-ranked-by-last-free-over-list u row order start e ready steps linked =
     let list = row-list-is-call-list u row order start e ready steps linked in ranked-by-last-free-over-list u order (asAfter start) (list .0) ready (map stepOf steps) (list .1)
+
+-- .. and of equally full superblocks of the row, places 1 and 2 of a take offer the one freed into most recently since it was last renewed, and where none
+-- was, the lowest
+pub row-offers-last-freed-over-list : (u : Setup) (row : List Superblock) (order : List ℕ) (start : RowAfter) → start ≡ rowSetup u row order
+    → start .outcome ≡ Ready → (steps : List RowStep) → RowLinked start steps → OffersLastFreedOver (asAfter start) [] [] (map stepOf steps)
+row-offers-last-freed-over-list u row order start e ready steps linked =
+    let list = row-list-is-call-list u row order start e ready steps linked in
+    offers-last-freed-over-list u order (asAfter start) (list .0) ready (map stepOf steps) (list .1)
