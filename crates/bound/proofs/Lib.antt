@@ -1,3 +1,9 @@
 pub mod LedgerDefinitions
-pub mod ClaimCases
+pub mod CaseSteps
+pub mod AlongCases
+pub mod TotalsClaimCases
+pub mod NamesClaimCases
+pub mod LongBlocksClaimCases
 pub mod HistoryCases
+pub mod ClaimCases
+pub mod ClaimsHold
