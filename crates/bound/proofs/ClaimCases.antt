@@ -19,16 +19,21 @@ use Rattle.heap.specs.Counts.{total, isOwnedOfClass, superblocksOfClass, owners
 use Rattle.heap.proofs.CaseStates.{unnamedState}
 use Rattle.heap.proofs.TableCases.{of}
 use Rattle.checkrules.specs.Check.{withinLimits}
-use Rattle.calls.specs.declared.Outcome.{Outcome}
 use Rattle.calls.specs.declared.Outcome.the-variants.{Ready, Address, Moves, Refused}
 use Rattle.calls.specs.Answers.{After, numberOf, checked}
 use Rattle.calls.specs.Take.{takeOf}
+use Rattle.calls.specs.Free.{freeOf}
 use Rattle.calls.specs.Calls.{Call, Take, Free, NamedTake, NamedFree, Drop, callOf}
 use Rattle.bound.specs.Ledger.{Name, named, unnamed, Entry, ledgerAfter, entriesOf}
 use Rattle.bound.specs.Claim.{Step, Linked, Bounded, freesRun, OwnerChanges, peakWith, Claims}
 use Rattle.bound.proofs.LedgerDefinitions.{entry, ledgerDefinitions}
+use Rattle.bound.proofs.CaseSteps.{after-with, step-with}
+use Rattle.bound.proofs.AlongCases.{alongHolds}
+use Rattle.bound.proofs.TotalsClaimCases.{totalsClaimHolds}
+use Rattle.bound.proofs.NamesClaimCases.{namesClaimHolds}
+use Rattle.bound.proofs.NamesHoldCases.{namesHoldCasesHold}
+use Rattle.bound.proofs.LongBlocksClaimCases.{longBlocksClaimHolds}
 use Rattle.bound.proofs.HistoryCases.{historyHolds}
-use Rattle.bound.proofs.NamesCases.{namesCasesHold}
 
 -- ---- the ledger: blocks of sizes 1100, 384 and 1280, so of classes 23, 16 and 23; the second was taken by name 7, the third by name 9
 abbrev pub three-entries : List Entry
@@ -203,12 +208,6 @@ unfolding OwnerChanges
 refused-call-with-run-changed-fails = (λ k. let z = k .2 6 refl in omega arith, λ k. let z = k 17 refl in omega arith, λ k. let z = k 17 refl in omega arith, λ k. let z = k .2 6 refl in omega arith)
 
 -- ---- lists of calls
-abbrev pub after-with : Outcome → State → After
-after-with outcome s = record { answer = record { outcome = outcome; state = s }; order = [] }
-
-abbrev pub step-with : Call → Outcome → State → Step
-step-with call outcome s = record { call = call; after = after-with outcome s }
-
 -- eleven blocks of class 23 are live, and never were more; sixteen superblocks are within 7 × 11 + 120 = 197, seventeen are not.
 abbrev pub eleven-entries : List Entry
 eleven-entries = replicate 11 (entry 9472 1280 unnamed)
@@ -282,6 +281,23 @@ pub linked-fails-of-other-outcome : Linked (after-refused-13 (4 ∷ [])) (record
 unfolding Linked callOf takeOf checked withinLimits numberOf
 linked-fails-of-other-outcome k = let z : _≡_ {A = ℕ} 2 13 = ap (λ (x : After). numberOf (x .answer .outcome)) (k .0) in omega arith
 
+-- the state of the second call, or of the third, is another than the one before it left
+abbrev pub state-out-of-limits-with : ℕ → State
+state-out-of-limits-with k = unnamedState (record { processors = 2; superblocks = 20; spare = k; p = 7; q = 3 }) []
+
+abbrev pub refused-13-with : ℕ → Call → Step
+refused-13-with k call =
+    record { call = call; after = record { answer = record { outcome = Refused 13; state = state-out-of-limits-with k }; order = 4 ∷ [] } }
+
+pub linked-fails-of-other-state :
+    (Linked (after-refused-13 (4 ∷ [])) (refused-13-with 5 (Take 1 16) ∷ refused-13-with 6 (Free 2 9) ∷ refused-13-with 6 (Take 2 9) ∷ []) → ⊥)
+    × (Linked (after-refused-13 (4 ∷ [])) (refused-13-with 5 (Take 1 16) ∷ refused-13-with 5 (Free 2 9) ∷ refused-13-with 6 (Take 2 9) ∷ []) → ⊥)
+unfolding Linked callOf takeOf freeOf checked withinLimits numberOf
+linked-fails-of-other-state = (
+  λ k. let z : _≡_ {A = ℕ} 6 5 = ap (λ (x : After). x .answer .state .setup .spare) (k .1 .0) in omega arith,
+  λ k. let z : _≡_ {A = ℕ} 6 5 = ap (λ (x : After). x .answer .state .setup .spare) (k .1 .1 .0) in omega arith,
+)
+
 -- ---- what the claim holds of, at the limit
 -- a free that changed 7 owners, and reports them
 pub seven-owner-changes-hold : OwnerChanges 7 7 7 false (Free 2 9) (Moves 7)
@@ -312,17 +328,18 @@ pub linked-holds-of-refused-calls : Linked (after-refused-13 (4 ∷ [])) (record
 unfolding Linked callOf takeOf checked withinLimits numberOf
 linked-holds-of-refused-calls = (refl, (refl, tt))
 
--- the cases so far take little. Each that follows takes longer, and is computed where they, those of the history and of names and the one before it hold
-unfoldable quickClaimsHold : Unit {0}
+-- the cases so far take little. Each that follows takes longer, and is computed where they, those of the other claims and the one before it hold
+unfoldable pub quickClaimsHold : Unit {0}
 quickClaimsHold =
-    historyHolds also namesCasesHold also entries-of-cases also ledger-after-take-cases also entries-of-size-0-case also ledger-after-free-cases
+    historyHolds also alongHolds also totalsClaimHolds also namesClaimHolds also namesHoldCasesHold also longBlocksClaimHolds also entries-of-cases
+    also ledger-after-take-cases also entries-of-size-0-case also ledger-after-free-cases
     also ledger-after-named-free-cases also ledger-after-drop-cases also long-entry-cases also peak-with-cases also bound-exceeded
     also bound-of-other-class-exceeded also bound-of-class-0-exceeded also bound-of-class-26-exceeded also eight-owner-changes-fail
     also unreported-owner-change-fails also reported-move-not-made-fails also refused-free-owner-change-fails
     also refused-named-call-owner-change-fails also named-free-owner-changes-fail also refused-take-owner-change-fails also drop-owner-changes-fail
     also owner-change-beside-moves-fails also frees-run-cases also claim-fails-of-run-not-in-ledger also run-counted-in-moves-fails also refused-call-with-run-changed-fails also claim-fails-of-refused-take also claim-fails-of-other-class-take
     also claim-fails-after-last-call also claim-fails-of-eight-moves also claim-fails-of-refused-free-move also claim-fails-of-run-reported
-    also linked-fails-of-other-storage also linked-fails-of-other-outcome also seven-owner-changes-hold also fourteen-owner-changes-of-drop-hold
+    also linked-fails-of-other-storage also linked-fails-of-other-outcome also linked-fails-of-other-state also seven-owner-changes-hold also fourteen-owner-changes-of-drop-hold
     also free-of-run-holds also refused-without-owner-change-holds also linked-holds-of-refused-calls also tt
 
 -- class 23 with 17 superblocks: (q - p) × n × A and the bound are both 204

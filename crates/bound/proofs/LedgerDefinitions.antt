@@ -1,7 +1,11 @@
--- Entries of computed cases, and the definitions of the ledger that such a case unfolds, listed once. Assumes nothing.
+-- Entries of computed cases, and the definitions of the ledger and of the claim that such a case unfolds, listed once. Assumes nothing.
 use Prim.Native.Nat.{ℕ}
-use Rattle.classes.specs.Classes.{sizes, firstAtLeast, classOf, isLong}
+use Rattle.laws.specs.Sums.{sumBelow, allBelow}
+use Rattle.classes.specs.Classes.{sizes, counts, blocksOf, firstAtLeast, classOf, isLong}
+use Rattle.heap.specs.Table.{isOfHeap}
+use Rattle.heap.specs.Counts.{total, isOwnedOfClass, superblocksOfClass, ownersChanged, passedBetweenHeaps}
 use Rattle.bound.specs.Ledger.{Name, Entry, isAtOneOf, isCalled, removed, afterTake, afterFree, ledgerAfter, entriesOf, entriesAt, someEntry, EachEntry}
+use Rattle.bound.specs.Claim.{Bounded, freesRun, OwnerChanges, Claims}
 
 abbrev pub entry : ℕ → ℕ → Name → Entry
 entry a size name = record { address = a; size = size; name = name }
@@ -9,3 +13,9 @@ entry a size name = record { address = a; size = size; name = name }
 unfoldable pub ledgerDefinitions : Unit {0}
 unfolding ledgerAfter afterTake afterFree removed isAtOneOf isCalled entriesOf entriesAt someEntry EachEntry classOf firstAtLeast sizes isLong
 ledgerDefinitions = tt
+
+-- for lists of calls elsewhere: on a lent row, in a record
+unfoldable pub claimDefinitions : Unit {0}
+unfolding Claims Bounded OwnerChanges freesRun ownersChanged passedBetweenHeaps superblocksOfClass total isOwnedOfClass isOfHeap sumBelow allBelow
+    blocksOf counts ledgerDefinitions
+claimDefinitions = tt

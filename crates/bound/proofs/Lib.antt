@@ -1,5 +1,11 @@
 pub mod LedgerDefinitions
-pub mod NamesCases
-pub mod ClaimCases
+pub mod CaseSteps
+pub mod AlongCases
+pub mod TotalsClaimCases
+pub mod NamesClaimCases
+pub mod NamesHoldCases
+pub mod LongBlocksClaimCases
 pub mod HistoryCases
 pub mod HistoryListCases
+pub mod ClaimCases
+pub mod ClaimsHold

@@ -1,25 +1,31 @@
 -- The totals of each heap and class, in cases that tell the recount from near misses, by computation. Assumes nothing.
 use mathlib.Core.Path.{_≡_, refl}
-use mathlib.Core.Bool.{true, false}
+use mathlib.Core.Bool.{Bool, true, false}
 use mathlib.Core.List.{List, [], _∷_, _++_, map}
 use Prim.Native.Nat.{ℕ, _+_}
 use lib.ListN.{getD, replicate}
+use lib.Dec.{eqb, eqb→eq}
 use Rattle.laws.proofs.Stages.{_also_}
-use Rattle.laws.specs.Sums.{sumBelow}
+use Rattle.laws.specs.Sums.{both, sumBelow, allBelow}
+use Rattle.laws.proofs.TestLaws.{T-of-true, both-left, both-right}
+use Rattle.laws.proofs.SumLaws.{all-at}
 use Rattle.laws.specs.Lists.{increased}
 use Rattle.marks.specs.Marks.{bit, markBit, liveCount}
 use Rattle.heap.specs.declared.State.{State}
 use Rattle.heap.specs.Table.{unused}
-use Rattle.heap.specs.Totals.{superblocksKept, liveKept, isCounted, withCounted, countedBelow, recounted}
+use Rattle.heap.specs.Totals.{superblocksKept, liveKept, isCounted, withCounted, countedBelow, recounted, TotalsCounted}
+use Rattle.heap.specs.Counts.{superblocksOf, liveOf}
 use Rattle.heap.specs.States.{withSuperblock, withNames}
 use Rattle.heap.proofs.CaseStates.{unnamedState}
 use Rattle.heap.proofs.TableCases.{of, small-setup}
 use Rattle.heap.proofs.RankCases.{ranksHold}
 use Rattle.heap.proofs.RunCases.{runsHold}
+use Rattle.heap.proofs.RunAtCases.{runAtHold}
+use Rattle.heap.proofs.TotalsCountedCases.{state-counted, countedDefinitions, countedHold}
 
 -- Totals take longer to compute than all other cases of the crate, which come first.
 unfoldable othersHold : Unit {0}
-othersHold = ranksHold also runsHold also tt
+othersHold = ranksHold also runsHold also runAtHold also countedHold also tt
 
 -- of heaps 0 to 8 and classes 0 to 26
 pub is-counted-cases : map isCounted (of 0 24 2 ∷ of 8 26 0 ∷ of 1 0 5 ∷ of 9 3 1 ∷ of 254 0 1 ∷ of 1 27 1 ∷ unused ∷ []) ≡ true ∷ true ∷ true ∷ false ∷ false ∷ false ∷ false ∷ []
@@ -47,3 +53,19 @@ pub totals-after-changes :
     ≡ ((1, 0) ∷ (2, 2) ∷ (1, 2) ∷ (0, 0) ∷ (0, 0) ∷ (0, 0) ∷ (0, 0) ∷ (4, 4) ∷ []) ∷ ((2, 2) ∷ (1, 1) ∷ (0, 0) ∷ (0, 0) ∷ (0, 0) ∷ (0, 0) ∷ (0, 0) ∷ (3, 3) ∷ []) ∷ []
 unfolding superblocksKept liveKept recounted countedBelow withCounted isCounted increased liveCount sumBelow markBit bit
 totals-after-changes = let before = recounted-cases in refl
+
+-- totals that are right, by the tests of each of 9 heaps and 27 classes
+abbrev isRightAt : State → ℕ → ℕ → Bool
+isRightAt s h c = both (eqb (superblocksKept h c s) (superblocksOf h c s)) (eqb (liveKept h c s) (liveOf h c s))
+
+totals-counted-by-test : (s : State) → allBelow (λ h. allBelow (isRightAt s h) 27) 9 ≡ true → TotalsCounted s
+unfolding othersHold
+totals-counted-by-test s e h c l m =
+    let t = all-at (isRightAt s h) 27 (all-at (λ g. allBelow (isRightAt s g) 27) 9 (T-of-true _ e) h l) c m in
+    let superblocks = eqb (superblocksKept h c s) (superblocksOf h c s) in
+    let live = eqb (liveKept h c s) (liveOf h c s) in
+    (eqb→eq (superblocksKept h c s) _ (both-left superblocks live t), eqb→eq (liveKept h c s) _ (both-right superblocks live t))
+
+pub totals-counted-holds : TotalsCounted state-counted
+unfolding countedDefinitions allBelow
+totals-counted-holds = let before = totals-after-changes in totals-counted-by-test state-counted refl

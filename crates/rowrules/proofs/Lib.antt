@@ -1,3 +1,4 @@
 pub mod RowCases
 pub mod LoadStoreCases
 pub mod RecordsAfterCases
+pub mod RowClaimCases

@@ -13,14 +13,13 @@ use Rattle.heap.specs.Table.{unused}
 use Rattle.heap.specs.States.{withNames}
 use Rattle.heap.proofs.CaseStates.{unnamedState}
 use Rattle.heap.proofs.TableCases.{of}
-use Rattle.calls.specs.declared.Outcome.{Outcome}
 use Rattle.calls.specs.declared.Outcome.the-variants.{Ready, Address, Moves, Refused}
-use Rattle.calls.specs.Answers.{After}
-use Rattle.calls.specs.Calls.{Call, Free, NamedTake, NamedFree}
+use Rattle.calls.specs.Calls.{Free, NamedTake, NamedFree}
 use Rattle.bound.specs.Ledger.{Entry, named, unnamed}
-use Rattle.bound.specs.Claim.{Step, Along}
+use Rattle.bound.specs.Claim.{Along}
 use Rattle.bound.specs.NamesClaim.{entriesNamed, NamesHold, NamesHoldOver, NameRefusals, NameRefusalsOver}
 use Rattle.bound.proofs.LedgerDefinitions.{entry, ledgerDefinitions}
+use Rattle.bound.proofs.CaseSteps.{after-with, step-with}
 
 -- P = 2; block 2 of superblock 0, of class 20, has name 7, or no name has a block
 abbrev setup-of-2 : Setup
@@ -49,19 +48,13 @@ unfolding entriesNamed isHeld isName blockNamed ledgerDefinitions
 names-hold-fails = (λ h. let z = h 7 in omega arith, λ h. let z = h 7 in omega arith, λ h. let z = h 7 in omega arith)
 
 -- ---- lists
-abbrev after-of : Outcome → State → After
-after-of outcome s = record { answer = record { outcome = outcome; state = s }; order = [] }
-
-abbrev step-of : Call → Outcome → State → Step
-step-of call outcome s = record { call = call; after = after-of outcome s }
-
 -- a name that is held before the list; one that is not held after its take; one that is held still after a free of its block, by address or by the name
 pub names-hold-over-fails :
-    (NamesHoldOver (after-of Ready name-7-held) [] (step-of (NamedTake 1 7 700) (Address 1536) name-7-held ∷ []) → ⊥)
-    × (NamesHoldOver (after-of Ready not-named) [] (step-of (NamedTake 1 7 700) (Address 1536) not-named ∷ []) → ⊥)
-    × (NamesHoldOver (after-of Ready name-7-held) (name-7 ∷ []) (step-of (Free 1 1536) (Moves 0) name-7-held ∷ []) → ⊥)
-    × (NamesHoldOver (after-of Ready not-named) []
-    (step-of (NamedTake 1 7 700) (Address 1536) name-7-held ∷ step-of (NamedFree 1 7) (Moves 0) name-7-held ∷ []) → ⊥)
+    (NamesHoldOver (after-with Ready name-7-held) [] (step-with (NamedTake 1 7 700) (Address 1536) name-7-held ∷ []) → ⊥)
+    × (NamesHoldOver (after-with Ready not-named) [] (step-with (NamedTake 1 7 700) (Address 1536) not-named ∷ []) → ⊥)
+    × (NamesHoldOver (after-with Ready name-7-held) (name-7 ∷ []) (step-with (Free 1 1536) (Moves 0) name-7-held ∷ []) → ⊥)
+    × (NamesHoldOver (after-with Ready not-named) []
+    (step-with (NamedTake 1 7 700) (Address 1536) name-7-held ∷ step-with (NamedFree 1 7) (Moves 0) name-7-held ∷ []) → ⊥)
 unfolding Along entriesNamed isHeld isName blockNamed ledgerDefinitions
 names-hold-over-fails = (
   λ h. let z = h .0 7 in omega arith,
@@ -112,8 +105,8 @@ named-free-refusals-fail = (
 
 -- by the ledger before each call, to the last: a name that is taken twice, and one refused 14 after a free of its block by address
 pub name-refusals-over-fails :
-    (NameRefusalsOver setup-of-2 [] (step-of (NamedTake 1 7 700) (Address 1536) name-7-held ∷ step-of (NamedTake 1 7 700) (Address 2304) name-7-held ∷ []) → ⊥)
-    × (NameRefusalsOver setup-of-2 (name-7 ∷ []) (step-of (Free 1 1536) (Moves 0) not-named ∷ step-of (NamedTake 1 7 700) (Refused 14) not-named ∷ []) → ⊥)
+    (NameRefusalsOver setup-of-2 [] (step-with (NamedTake 1 7 700) (Address 1536) name-7-held ∷ step-with (NamedTake 1 7 700) (Address 2304) name-7-held ∷ []) → ⊥)
+    × (NameRefusalsOver setup-of-2 (name-7 ∷ []) (step-with (Free 1 1536) (Moves 0) not-named ∷ step-with (NamedTake 1 7 700) (Refused 14) not-named ∷ []) → ⊥)
 unfolding NameRefusalsOver NameRefusals entriesNamed ledgerDefinitions
 name-refusals-over-fails = (
   λ h. Address-not-Refused (h .1 .0 .1 (omega arith, omega arith, inr (omega arith))),
@@ -121,7 +114,7 @@ name-refusals-over-fails = (
 )
 
 -- what the dear cases of the claim unfold
-unfoldable pub namesCasesHold : Unit {0}
-namesCasesHold =
+unfoldable pub namesHoldCasesHold : Unit {0}
+namesHoldCasesHold =
     entries-named-cases also names-hold-fails also names-hold-over-fails also taken-name-fails also free-name-fails
     also named-free-refusals-fail also name-refusals-over-fails also tt
