@@ -1,9 +1,9 @@
--- "An accepted call yields a state that passes", and what an answer that is equal to the rules' tells. Assumes nothing.
-use mathlib.Core.Path.{_≡_, refl, sym, ap, _∙_}
+-- "An accepted call yields a state that passes", and the moves that a call reports are "at most q". Assumes nothing.
+use mathlib.Core.Path.{_≡_, refl, sym, ap, _∙_, subst}
 use mathlib.Core.Bool.{Bool, true, false, not}
 use mathlib.Core.Logic.{_⊎_, inl, inr, ⊎-elim}
 use mathlib.Core.List.{List}
-use Prim.Native.Nat.{ℕ, _*_}
+use Prim.Native.Nat.{ℕ, _*_, zero-le}
 use native.Mathlib.Omega.{arith}
 use lib.ListN.{length}
 use borrow.Author.Tests.{eqb-false}
@@ -27,22 +27,24 @@ use Rattle.heaplaws.proofs.RunLaws.{runs-valid-of-sound, new-state-runs-sound}
 use Rattle.heaplaws.proofs.RankLaws.{ranks-valid-of-sound, new-state-ranks-sound}
 use Rattle.heaplaws.proofs.TotalsLaws.{new-state-totals-kept}
 use Rattle.calls.specs.declared.Outcome.the-variants.{Address, Moves, Refused}
-use Rattle.calls.specs.Answers.{After, numberOf, PassesIfAccepted, refused, checked, isProcessor}
+use Rattle.calls.specs.Answers.{After, numberOf, PassesIfAccepted, MovesAtMost, refused, checked, isProcessor}
 use Rattle.calls.specs.Setup.{acceptedSetup, setupOf}
 use Rattle.calls.specs.Runs.{longTakenFrom, longTakenAt}
-use Rattle.calls.specs.Take.{otherPlaces, takenFrom, takenFromOther, takenAt, takeUnchecked}
-use Rattle.calls.specs.Free.{isUnmapped, isInRun, isMisaligned, isLiveAt, smallFreedAt, longFreedAt, freedAt, freeUnchecked}
-use Rattle.calls.specs.Named.{isUnavailable, withNameBound, namedTakeUnchecked, heldAddress, namedFreeUnchecked}
-use Rattle.calls.specs.Drop.{firstAddressRefusal, droppedAll, dropUnchecked}
-use Rattle.calls.specs.Calls.{Call, Take, Free, NamedTake, NamedFree, Drop, callOf, callUnchecked}
+use Rattle.calls.specs.Take.{otherPlaces, takenFrom, takenFromOther, takenAt, takeUnchecked, takeOf}
+use Rattle.calls.specs.Free.{isUnmapped, isInRun, isMisaligned, isLiveAt, smallFreedAt, longFreedAt, freedAt, freeUnchecked, freeOf}
+use Rattle.calls.specs.Named.{isUnavailable, withNameBound, namedTakeUnchecked, namedTakeOf, heldAddress, namedFreeUnchecked, namedFreeOf}
+use Rattle.calls.specs.Drop.{firstAddressRefusal, droppedAll, dropUnchecked, dropOf}
+use Rattle.calls.specs.Calls.{Call, Take, Free, NamedTake, NamedFree, Drop, mostMoves, callOf, callUnchecked}
+use Rattle.calls.proofs.AnswerLaws.{moves-at-most-of-moves, moves-at-most-of-address, moves-at-most-of-refusal}
 use Rattle.calls.proofs.CheckFirst.{call-of-checks-first}
 use Rattle.calllaws.proofs.CallEffects.{Passed}
-use Rattle.calllaws.proofs.TakeLaws.{take-refused-or-accepted, take-passed}
-use Rattle.calllaws.proofs.RunTakenLaws.{long-take-passed}
-use Rattle.calllaws.proofs.FreeLaws.{free-refused-or-accepted, free-passed, long-free-passed}
-use Rattle.calllaws.proofs.DropLaws.{drop-refused-or-accepted, drop-passed}
-use Rattle.calllaws.proofs.NamedLongTakeLaws.{named-long-take-passed}
-use Rattle.calllaws.proofs.NamedCallLaws.{named-take-refused-or-accepted, named-take-passed, named-free-refused-or-accepted, named-free-passed, named-long-free-passed}
+use Rattle.calllaws.proofs.TakeLaws.{take-refused-or-accepted, take-address, take-passed}
+use Rattle.calllaws.proofs.RunTakenLaws.{long-take-address, long-take-passed}
+use Rattle.calllaws.proofs.FreeLaws.{free-refused-or-accepted, free-outcome, free-effect, free-passed, long-free-outcome, long-free-passed}
+use Rattle.calllaws.proofs.DropLaws.{drop-refused-or-accepted, drop-outcome, drop-effect, drop-passed}
+use Rattle.calllaws.proofs.NamedLongTakeLaws.{named-long-take-address, named-long-take-passed}
+use Rattle.calllaws.proofs.NamedCallLaws.{named-take-refused-or-accepted, named-take-address, named-take-passed}
+use Rattle.calllaws.proofs.NamedCallLaws.{named-free-refused-or-accepted, named-free-passed, named-long-free-passed}
 
 -- ---- no refusal has the number 0, which is an accepted call's
 abbrev NotRefused0 : After → Type 0
@@ -157,7 +159,59 @@ call-passes-if-accepted s order call shape = go (call-refused-or-passed s order 
     go (inl (r, e)) = refused-passes-if-accepted (callOf s order call) r s order e (call-not-refused-0 s order call)
     go (inr passed) = λ z. passes-true-of-passed _ _ passed
 
--- a setup by its two tests
+-- ---- "at most q": a refused call and a take report no moves, a free at most q, and a drop at most q for each address
+refused-moves-at-most : (most : ℕ) (x : After) (r : ℕ) (s : State) (order : List ℕ) → x ≡ refused r s order → MovesAtMost most (x .answer .outcome)
+refused-moves-at-most most x r s order e = moves-at-most-of-refusal most r (x .answer .outcome) (ap (λ (y : After). y .answer .outcome) e)
+
+module _ (s : State) (order : List ℕ) (i : ℕ) (shape : Shape s) where
+  take-moves-at-most : (most size : ℕ) → MovesAtMost most (takeOf s order i size .answer .outcome)
+  take-moves-at-most most size =
+      ⊎-elim (λ h. refused-moves-at-most most _ (h .0) s order (h .1))
+      (⊎-elim (λ h. moves-at-most-of-address most _ _ (take-address s order i size (h .0) shape (h .1)))
+      (λ h. moves-at-most-of-address most _ _ (long-take-address s order i size (h .0) shape (h .1))))
+      (take-refused-or-accepted s order i size)
+
+  named-take-moves-at-most : (most m size : ℕ) → MovesAtMost most (namedTakeOf s order i m size .answer .outcome)
+  named-take-moves-at-most most m size =
+      ⊎-elim (λ h. refused-moves-at-most most _ (h .0) s order (h .1))
+      (⊎-elim (λ h. moves-at-most-of-address most _ _ (named-take-address s order i m size (h .0) shape (h .1)))
+      (λ h. moves-at-most-of-address most _ _ (named-long-take-address s order i m size (h .0) shape (h .1))))
+      (named-take-refused-or-accepted s order i m size)
+
+  -- "no free changes the owner of more than q superblocks", and a long block's free line "has moved 0" (document 02, item 7)
+  free-moves-at-most : (a : ℕ) → MovesAtMost (s .setup .q) (freeOf s order i a .answer .outcome)
+  free-moves-at-most a =
+      ⊎-elim (λ h. refused-moves-at-most _ _ (h .0) s order (h .1))
+      (⊎-elim (λ acc. moves-at-most-of-moves _ _ _ (free-outcome s order i a shape acc) (free-effect s order i a shape acc .moves-le-q))
+      (λ acc. moves-at-most-of-moves _ 0 _ (long-free-outcome s order i a shape acc) zero-le))
+      (free-refused-or-accepted s order i a)
+
+  -- a named free reports what the free of the held address does
+  named-free-moves-at-most : (m : ℕ) → MovesAtMost (s .setup .q) (namedFreeOf s order i m .answer .outcome)
+  named-free-moves-at-most m =
+      ⊎-elim (λ h. refused-moves-at-most _ _ (h .0) s order (h .1)) (⊎-elim (λ acc. plain (acc .result-is)) (λ acc. plain (acc .result-is)))
+      (named-free-refused-or-accepted s order i m)
+    where
+      plain : namedFreeOf s order i m ≡ freeOf s order i (heldAddress s m) → MovesAtMost (s .setup .q) (namedFreeOf s order i m .answer .outcome)
+      plain e = subst (λ (x : After). MovesAtMost (s .setup .q) (x .answer .outcome)) (sym e) (free-moves-at-most (heldAddress s m))
+
+  -- "a drop moves at most q superblocks for each address" (item 5)
+  drop-moves-at-most : (addresses : List ℕ) → MovesAtMost (s .setup .q * length addresses) (dropOf s order i addresses .answer .outcome)
+  drop-moves-at-most addresses =
+      ⊎-elim (λ h. refused-moves-at-most _ _ (h .0) s order (h .1))
+      (λ acc. moves-at-most-of-moves _ _ _ (drop-outcome s order i addresses shape acc) (drop-effect s order i addresses shape acc .moves-bound))
+      (drop-refused-or-accepted s order i addresses)
+
+pub call-moves-at-most : (s : State) (order : List ℕ) (call : Call) → Shape s
+    → MovesAtMost (mostMoves (s .setup .q) call) (callOf s order call .answer .outcome)
+unfolding mostMoves callOf
+call-moves-at-most s order (Take i size) shape = take-moves-at-most s order i shape 0 size
+call-moves-at-most s order (Free i a) shape = free-moves-at-most s order i shape a
+call-moves-at-most s order (NamedTake i m size) shape = named-take-moves-at-most s order i shape 0 m size
+call-moves-at-most s order (NamedFree i m) shape = named-free-moves-at-most s order i shape m
+call-moves-at-most s order (Drop i addresses) shape = drop-moves-at-most s order i shape addresses
+
+-- ---- a setup, by its two tests
 abbrev setupByTests : Setup → List ℕ → Bool → Bool → After
 setupByTests u order a b = pick a (pick b (acceptedSetup u order) (refused 12 noState order)) (refused 1 noState order)
 

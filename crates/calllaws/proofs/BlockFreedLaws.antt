@@ -19,7 +19,7 @@ use Rattle.order.specs.Order.{withPlace}
 use Rattle.orderlaws.proofs.OrderLaws.{length-with-place}
 use Rattle.heap.specs.declared.Superblock.{Superblock}
 use Rattle.heap.specs.declared.State.{State}
-use Rattle.heap.specs.Table.{superblockAt, liveIn, liveBlocks, withoutMarkAt}
+use Rattle.heap.specs.Table.{superblockAt, liveIn, liveBlocks, withoutMarkAt, withRank}
 use Rattle.heap.specs.States.{withNames}
 use Rattle.heap.specs.Ranks.{rankAfterFree, reranked, rankedLatest}
 use Rattle.heap.specs.Counts.{superblocksOfClass, liveOfClass, ownersChanged}
@@ -39,6 +39,7 @@ use Rattle.calllaws.proofs.CallEffects.{PassedAfterFrees, FreeEffect, R
 use Rattle.calllaws.proofs.AddressLaws.{mapped-below-superblocks, mapped-is-owned, block-at-address-same}
 use Rattle.calllaws.proofs.NamesKeptLaws.{names-valid-without-block, names-valid-after-free}
 use Rattle.calllaws.proofs.TransferredLaws.{oneMoreFreed}
+use Rattle.calllaws.proofs.MarkClearedLaws.{mark-cleared-at-others}
 use Rattle.calllaws.proofs.MarkClearedLaws.{LiveBlock, ownerAt, classAt, withMarkCleared, withBlockPushed, live-block-superblock-owned, mark-cleared-shape, mark-cleared-class, mark-cleared-owner, mark-cleared-rank, unowned-of-mark-cleared-unowned, mark-cleared-runs, mark-cleared-bit, mark-cleared-other-bits, mark-cleared-owned-of, mark-cleared-live-of-class, mark-cleared-live-of-other-classes, mark-cleared-owners-changed, mark-cleared-sound}
 
 -- a live block's mark cleared changes no owner
@@ -204,6 +205,13 @@ module _ (freed : ℕ → ℕ → ℕ) (s : State) (order : List ℕ) (a : ℕ) 
   pub small-block-freed-owner : (m : ℕ) → m < 64 → superblockAt (smallBlockFreed s a) m .owner ≡ superblockAt s m .owner
   small-block-freed-owner m l =
       ap (λ (t : State). superblockAt t m .owner) small-block-freed-is ∙ mark-cleared-owner ready order k (blockOf s a) live-when-ready m l ∙ reranked-owner rank s (shape .length-is) m
+
+  -- every other superblock keeps all but its rank
+  pub small-block-freed-others : (m : ℕ) → m < 64 → (m ≡ superblockIndex a → ⊥)
+      → superblockAt (smallBlockFreed s a) m ≡ withRank (rankAfterFree (superblockIndex a) (s .table) m) (superblockAt s m)
+  small-block-freed-others m l other =
+      ap (λ (t : State). superblockAt t m) small-block-freed-is ∙ mark-cleared-at-others ready order k (blockOf s a) live-when-ready m other
+      ∙ superblock-at-reranked rank s m l
 
   -- "A name holds .. until its block is freed": the block's name is let go, and no other
   pub small-block-freed-names : smallBlockFreed s a .names ≡ withoutBlock (s .names) (blockNumber k (blockOf s a))

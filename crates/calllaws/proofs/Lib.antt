@@ -40,6 +40,7 @@ pub mod TotalsKeptLaws
 pub mod CallRankLaws
 pub mod CallRunLaws
 pub mod DropBlockLaws
+pub mod DropRunLaws
 pub mod OrderWriteLaws
 pub mod OrderReadLaws
 pub mod FreeStackLaws

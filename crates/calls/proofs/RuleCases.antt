@@ -3,6 +3,7 @@ use mathlib.Core.Path.{_≡_, refl}
 use mathlib.Core.Bool.{true, false}
 use mathlib.Core.List.{List, [], _∷_, _++_, map}
 use Prim.Native.Nat.{ℕ}
+use native.Mathlib.Omega.{arith}
 use lib.ListN.{replicate}
 use Rattle.laws.proofs.Stages.{_also_}
 use Rattle.heap.specs.declared.Superblock.{Superblock}
@@ -14,13 +15,14 @@ use Rattle.heap.proofs.CaseStates.{unnamedState}
 use Rattle.heap.proofs.TableCases.{of, ranked}
 use Rattle.calls.specs.declared.Outcome.{Outcome}
 use Rattle.calls.specs.declared.Outcome.the-variants.{Ready, Address, Moves, Refused}
-use Rattle.calls.specs.Answers.{After, numberOf, valuesOf, refused, checked, isProcessor}
+use Rattle.calls.specs.Answers.{After, numberOf, valuesOf, MovesAtMost, refused, checked, isProcessor}
 use Rattle.calls.specs.Setup.{setupOf}
 use Rattle.calls.specs.Take.{otherPlaces, acquired, acquiredOrder, unrankedIfEmpty, nextBlock, addressOf, takenFrom, takenAt}
 use Rattle.calls.specs.Free.{blockOf, isUnmapped, isMisaligned, isLiveAt, markCleared, orderPushed, freedAt}
 use Rattle.calls.proofs.CallDefinitions.{uncheckedCallDefinitions, callDefinitions}
-use Rattle.calls.specs.Calls.{Call, Take, Free, NamedTake, NamedFree, Drop, callUnchecked}
+use Rattle.calls.specs.Calls.{Call, Take, Free, NamedTake, NamedFree, Drop, mostMoves, callUnchecked}
 use Rattle.calls.proofs.PairStates.{order-before, named-state}
+use Rattle.calls.proofs.AnswerLaws.{moves-at-most-of-moves, moves-at-most-of-address, moves-at-most-of-refusal}
 use Rattle.calls.proofs.CheckFirst.{checked-past-check}
 use Rattle.calls.proofs.AddressRefusalLaws.{free-unchecked-by-address-refusal}
 
@@ -34,6 +36,22 @@ outcomes = Ready ∷ Address 9 ∷ Moves 3 ∷ Refused 7 ∷ []
 pub number-and-values-cases : map numberOf outcomes ≡ 0 ∷ 0 ∷ 0 ∷ 7 ∷ [] × map valuesOf outcomes ≡ [] ∷ (9 ∷ []) ∷ (3 ∷ []) ∷ [] ∷ []
 unfolding numberOf valuesOf
 number-and-values-cases = (refl, refl)
+
+-- ---- "at most q", where q is 7: of a free 7, plain or named, of a drop 7 for each address, of a take none. No number of a call is one of the answers
+pub most-moves-cases :
+    map (mostMoves 7) (Take 3 9 ∷ Free 3 11 ∷ NamedTake 3 5 13 ∷ NamedFree 3 5 ∷ Drop 3 [] ∷ Drop 3 (11 ∷ []) ∷ Drop 3 (11 ∷ 27 ∷ 43 ∷ []) ∷ [])
+    ≡ 0 ∷ 7 ∷ 0 ∷ 7 ∷ 0 ∷ 7 ∷ 21 ∷ []
+unfolding mostMoves
+most-moves-cases = refl
+
+-- 8 moves are not at most 7, and 7 are; an answer that reports no moves is held to nothing
+pub moves-at-most-cases : (MovesAtMost 7 (Moves 8) → ⊥) × MovesAtMost 7 (Moves 7) × MovesAtMost 0 (Address 9) × MovesAtMost 0 (Refused 7)
+moves-at-most-cases = (
+  λ h. omega (arith, h 8 refl),
+  moves-at-most-of-moves 7 7 (Moves 7) refl (omega arith),
+  moves-at-most-of-address 0 9 (Address 9) refl,
+  moves-at-most-of-refusal 0 7 (Refused 7) refl,
+)
 
 -- a state whose superblock 0 has an owner above P
 abbrev pub state-with-wrong-owner : ℕ → State
@@ -145,9 +163,10 @@ next-block-cases = refl
 -- ---- the cases so far take little. Each that follows takes longer, and is computed where they and the one before it hold
 unfoldable quickRulesHold : Unit {0}
 quickRulesHold =
-    checked-past-check also free-unchecked-by-address-refusal also number-and-values-cases also refused-case also is-processor-cases
-    also is-unmapped-cases also is-unmapped-past-N-cases also is-misaligned-cases also block-of-cases also is-live-at-cases also address-of-cases
-    also acquired-cases also taken-from-case also mark-cleared-case also order-pushed-case also taken-at-place-1-case also next-block-cases also tt
+    checked-past-check also free-unchecked-by-address-refusal also number-and-values-cases also most-moves-cases also moves-at-most-cases
+    also refused-case also is-processor-cases also is-unmapped-cases also is-unmapped-past-N-cases also is-misaligned-cases
+    also block-of-cases also is-live-at-cases also address-of-cases also acquired-cases also taken-from-case also mark-cleared-case
+    also order-pushed-case also taken-at-place-1-case also next-block-cases also tt
 
 -- ---- outcomes alone, which take little: 2 before 3, 14, 15 and 16; 3 before 17; 17, and 4; a take of 2048 from heap 1's own superblock; 14 before 3,
 -- and for a held name; 15 for a name that is not held and for 1024; 16; the first bad address of a drop, and a double

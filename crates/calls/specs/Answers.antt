@@ -1,5 +1,5 @@
 -- What a call leaves, and the refusals that all calls on a state share.
-use Prim.Native.Nat.{ℕ, _*_}
+use Prim.Native.Nat.{ℕ, _*_, _≤_}
 use mathlib.Core.Path.{_≡_}
 use mathlib.Core.Bool.{Bool, true}
 use mathlib.Core.List.{List, [], _∷_}
@@ -39,6 +39,10 @@ pub record HasNumberAndValuesOf (outcome rules : Outcome) : Type 0 where
 -- "An accepted call yields a state that passes."
 abbrev pub PassesIfAccepted : Outcome → State → List ℕ → Type 0
 PassesIfAccepted outcome s order = numberOf outcome ≡ 0 → passes s order ≡ true
+
+-- "move count in the result, .. at most q": an outcome reports no more moves than so many; one that reports none is held to nothing
+abbrev pub MovesAtMost : ℕ → Outcome → Type 0
+MovesAtMost most outcome = (m : ℕ) → outcome ≡ Moves m → m ≤ most
 
 -- "changes neither state nor storage"
 abbrev pub refused : ℕ → State → List ℕ → After

@@ -1,6 +1,7 @@
 -- A call of a list: a take or a free, plain or named, or a drop.
-use Prim.Native.Nat.{ℕ}
+use Prim.Native.Nat.{ℕ, _*_}
 use mathlib.Core.List.{List}
+use lib.ListN.{length}
 use Rattle.heap.specs.declared.State.{State}
 use Rattle.calls.specs.declared.CallHeader.{CallHeader}
 use Rattle.calls.specs.declared.CallHeader.the-variants as header
@@ -25,6 +26,15 @@ callWith (header.Free processor address) addresses = Free processor address
 callWith (header.NamedTake processor name size) addresses = NamedTake processor name size
 callWith (header.NamedFree processor name) addresses = NamedFree processor name
 callWith (header.Drop processor) addresses = Drop processor addresses
+
+-- the most superblocks that a call may move: "no free changes the owner of more than q superblocks", plain or named; "a drop moves at most q
+-- superblocks for each address" (document 02, item 5); a take moves none
+unfoldable pub mostMoves : ℕ → Call → ℕ
+mostMoves q (Take processor size) = 0
+mostMoves q (Free processor address) = q
+mostMoves q (NamedTake processor name size) = 0
+mostMoves q (NamedFree processor name) = q
+mostMoves q (Drop processor addresses) = q * length addresses
 
 -- what a call leaves
 unfoldable pub callOf : State → List ℕ → Call → After

@@ -17,26 +17,37 @@ use Rattle.calls.specs.declared.Answer.{Answer}
 use Rattle.calls.specs.declared.Outcome.the-variants.{Ready, Refused}
 use Rattle.calls.specs.declared.CallHeader.{CallHeader}
 use Rattle.calls.specs.declared.CallHeader.the-variants as header
-use Rattle.calls.specs.Answers.{After, HasNumberAndValuesOf, PassesIfAccepted, refused, checked}
+use Rattle.calls.specs.Answers.{After, HasNumberAndValuesOf, PassesIfAccepted, MovesAtMost, refused, checked}
 use Rattle.calls.specs.Setup.{acceptedSetup, setupOf}
 use Rattle.calls.specs.Take.{takeUnchecked}
 use Rattle.calls.specs.Free.{freeUnchecked}
 use Rattle.calls.specs.Named.{namedTakeUnchecked, namedFreeUnchecked}
 use Rattle.calls.specs.Drop.{dropUnchecked}
-use Rattle.calls.specs.Calls.{Call, callWith, callOf, callUnchecked}
-use Rattle.calls.proofs.AnswerLaws.{number-and-values-by-rules, passes-if-accepted-by-rules, refused-of-answer}
+use Rattle.calls.specs.Calls.{Call, callWith, mostMoves, callOf, callUnchecked}
+use Rattle.calls.proofs.AnswerLaws.{number-and-values-by-rules, passes-if-accepted-by-rules, moves-at-most-by-rules, refused-of-answer}
 use Rattle.calls.proofs.CheckFirst.{call-of-checks-first}
-use Rattle.calllaws.proofs.AcceptedCallLaws.{call-passes-if-accepted, setup-passes-if-accepted}
+use Rattle.calllaws.proofs.AcceptedCallLaws.{call-passes-if-accepted, call-moves-at-most, setup-passes-if-accepted}
 use Rattle.limits.specs.SetupRefusal.{setupRefusal}
 use Rattle.statecheck.specs.FirstRefusal.{firstRefusal}
 
 abbrev answerAndOrder : Answer → List ℕ → After
 answerAndOrder r order = record { answer = r; order = order }
 
--- ---- the three clauses of an entry's contract, from the equation
+-- ---- the clauses of an entry's contract, from the equation
 pub call-clauses : (s : State) (order : List ℕ) (call : Call) → Shape s → {r : Answer} {out : List ℕ} → answerAndOrder r out ≡ callOf s order call
-    → (answerAndOrder r out ≡ callOf s order call) × (HasNumberAndValuesOf (r .outcome) (callOf s order call .answer .outcome) × PassesIfAccepted (r .outcome) (r .state) out)
-call-clauses s order call shape {r = r} {out = out} e = (e, (number-and-values-by-rules r out (callOf s order call) e, passes-if-accepted-by-rules r out (callOf s order call) e (call-passes-if-accepted s order call shape)))
+    → (answerAndOrder r out ≡ callOf s order call)
+    × (HasNumberAndValuesOf (r .outcome) (callOf s order call .answer .outcome)
+    × (PassesIfAccepted (r .outcome) (r .state) out × MovesAtMost (mostMoves (s .setup .q) call) (r .outcome)))
+call-clauses s order call shape {r = r} {out = out} e = (
+  e,
+  (
+    number-and-values-by-rules r out (callOf s order call) e,
+    (
+      passes-if-accepted-by-rules r out (callOf s order call) e (call-passes-if-accepted s order call shape),
+      moves-at-most-by-rules r out (callOf s order call) e (mostMoves (s .setup .q) call) (call-moves-at-most s order call shape),
+    ),
+  ),
+)
 
 pub setup-clauses : (u : Setup) (order : List ℕ) {r : Answer} {out : List ℕ} → answerAndOrder r out ≡ setupOf u order
     → (answerAndOrder r out ≡ setupOf u order) × (HasNumberAndValuesOf (r .outcome) (setupOf u order .answer .outcome) × PassesIfAccepted (r .outcome) (r .state) out)

@@ -1,9 +1,9 @@
 // The engine: setup, and any call on a state by value, with lent order storage of any length. It checks the state handed in and leaves no
 // check to its caller. The calls one by one stand in `entries`.
 ghost use mathlib.Core.Path.{_≡_};
-ghost use Rattle.calls.specs.Answers.{After, HasNumberAndValuesOf, PassesIfAccepted};
+ghost use Rattle.calls.specs.Answers.{After, HasNumberAndValuesOf, PassesIfAccepted, MovesAtMost};
 ghost use Rattle.calls.specs.Setup.{setupOf};
-ghost use Rattle.calls.specs.Calls.{callOf, callWith};
+ghost use Rattle.calls.specs.Calls.{callOf, callWith, mostMoves};
 use calls::Answer;
 use calls::CallHeader;
 use calls::Outcome;
@@ -33,6 +33,7 @@ pub fn call_state(s: State, order: &mut [u16], c: CallHeader, addresses: &[u32])
     ensures { λ r. ⌜ record { answer = r; order = now (order .exit) } ≡ callOf s (now (order .entry)) (callWith c (now (addresses .entry))) ⌝ }
     ensures number_and_values { λ r. ⌜ HasNumberAndValuesOf (r .outcome) (callOf s (now (order .entry)) (callWith c (now (addresses .entry))) .answer .outcome) ⌝ }
     ensures passes { λ r. ⌜ PassesIfAccepted (r .outcome) (r .state) (now (order .exit)) ⌝ }
+    ensures moves { λ r. ⌜ MovesAtMost (mostMoves (s .setup .q) (callWith c (now (addresses .entry)))) (r .outcome) ⌝ }
 {
     let first = statecheck::first_refusal(s, order);
     if first != 0 {

@@ -1,7 +1,9 @@
 // The entries on a state: take and free, plain and of a block called by name, and drop, on a state by value and lent order storage of any
 // length. Each is the engine's one call, which checks the state handed in; none leaves a check to its caller. A setup is `engine`'s.
 ghost use mathlib.Core.Path.{_≡_};
-ghost use Rattle.calls.specs.Answers.{After, HasNumberAndValuesOf, PassesIfAccepted};
+ghost use Prim.Native.Nat.{_*_};
+ghost use lib.ListN.{length};
+ghost use Rattle.calls.specs.Answers.{After, HasNumberAndValuesOf, PassesIfAccepted, MovesAtMost};
 ghost use Rattle.calls.specs.Take.{takeOf};
 ghost use Rattle.calls.specs.Free.{freeOf};
 ghost use Rattle.calls.specs.Named.{namedTakeOf, namedFreeOf};
@@ -25,6 +27,7 @@ pub fn free(s: State, order: &mut [u16], processor: u8, address: u32) -> Answer
     ensures { λ r. ⌜ record { answer = r; order = now (order .exit) } ≡ freeOf s (now (order .entry)) processor address ⌝ }
     ensures number_and_values { λ r. ⌜ HasNumberAndValuesOf (r .outcome) (freeOf s (now (order .entry)) processor address .answer .outcome) ⌝ }
     ensures passes { λ r. ⌜ PassesIfAccepted (r .outcome) (r .state) (now (order .exit)) ⌝ }
+    ensures moves { λ r. ⌜ MovesAtMost (s .setup .q) (r .outcome) ⌝ }
 {
     call_state(s, order, CallHeader::Free { processor, address }, &[])
 }
@@ -52,6 +55,7 @@ pub fn named_free(s: State, order: &mut [u16], processor: u8, name: u16) -> Answ
     ensures { λ r. ⌜ record { answer = r; order = now (order .exit) } ≡ namedFreeOf s (now (order .entry)) processor name ⌝ }
     ensures number_and_values { λ r. ⌜ HasNumberAndValuesOf (r .outcome) (namedFreeOf s (now (order .entry)) processor name .answer .outcome) ⌝ }
     ensures passes { λ r. ⌜ PassesIfAccepted (r .outcome) (r .state) (now (order .exit)) ⌝ }
+    ensures moves { λ r. ⌜ MovesAtMost (s .setup .q) (r .outcome) ⌝ }
 {
     call_state(s, order, CallHeader::NamedFree { processor, name }, &[])
 }
@@ -61,6 +65,7 @@ pub fn drop(s: State, order: &mut [u16], processor: u8, addresses: &[u32]) -> An
     ensures { λ r. ⌜ record { answer = r; order = now (order .exit) } ≡ dropOf s (now (order .entry)) processor (now (addresses .entry)) ⌝ }
     ensures number_and_values { λ r. ⌜ HasNumberAndValuesOf (r .outcome) (dropOf s (now (order .entry)) processor (now (addresses .entry)) .answer .outcome) ⌝ }
     ensures passes { λ r. ⌜ PassesIfAccepted (r .outcome) (r .state) (now (order .exit)) ⌝ }
+    ensures moves { λ r. ⌜ MovesAtMost (s .setup .q * length (now (addresses .entry))) (r .outcome) ⌝ }
 {
     call_state(s, order, CallHeader::Drop { processor }, addresses)
 }

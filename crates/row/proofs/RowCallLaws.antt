@@ -13,11 +13,11 @@ use Rattle.heap.specs.declared.State.{State}
 use Rattle.heap.specs.States.{noState}
 use Rattle.checkrules.specs.Check.{withinLimits}
 use Rattle.calls.specs.declared.Answer.{Answer}
-use Rattle.calls.specs.Answers.{refused, numberOf, HasNumberAndValuesOf, PassesIfAccepted}
+use Rattle.calls.specs.Answers.{refused, numberOf, HasNumberAndValuesOf, PassesIfAccepted, MovesAtMost}
 use Rattle.calls.specs.Setup.{acceptedSetup, setupOf}
-use Rattle.calls.specs.Calls.{Call, callOf}
+use Rattle.calls.specs.Calls.{Call, mostMoves, callOf}
 use Rattle.limits.specs.SetupRefusal.{setupRefusal}
-use Rattle.calls.proofs.AnswerLaws.{has-number-and-values-of-equal}
+use Rattle.calls.proofs.AnswerLaws.{has-number-and-values-of-equal, moves-at-most-of-refusal}
 use Rattle.rowrules.specs.declared.Control.{Control}
 use Rattle.rowrules.specs.Row.{RowAfter, stateOf, controlOf, asRowAfter, rowRefused, rowAcceptedSetup, setupOn, callOn}
 use Rattle.tablecall.specs.declared.TableCall.{TableCall}
@@ -33,6 +33,13 @@ TableCallClauses r after x = (rowAfterCall r after ≡ x) × ((r .accepted ≡ i
 pub table-call-clauses : (r : TableCall) (after : List ℕ) (x : RowAfter) → rowAfterCall r after ≡ x → r .accepted ≡ isAccepted (r .answer .outcome) → TablePassesIfAccepted r after → TableCallClauses r after x
 table-call-clauses r after x e b p = (e, (b, (has-number-and-values-of-equal (r .answer .outcome) (x .outcome) (ap (λ (y : RowAfter). y .outcome) e), p)))
 
+-- and of a call, with its moves
+pub table-call-clauses-with-moves : (most : ℕ) (r : TableCall) (after : List ℕ) (x : RowAfter)
+    → rowAfterCall r after ≡ x → r .accepted ≡ isAccepted (r .answer .outcome) → TablePassesIfAccepted r after → MovesAtMost most (r .answer .outcome)
+    → (rowAfterCall r after ≡ x) × ((r .accepted ≡ isAccepted (r .answer .outcome))
+    × (HasNumberAndValuesOf (r .answer .outcome) (x .outcome) × (TablePassesIfAccepted r after × MovesAtMost most (r .answer .outcome))))
+table-call-clauses-with-moves most r after x e b p m = let all = table-call-clauses r after x e b p in (all .0, (all .1 .0, (all .1 .1 .0, (all .1 .1 .1, m))))
+
 pub accepted-flag-of-refused-call : (n : ℕ) (control : Control) (table : List Superblock) (r : TableCall) → r ≡ refusedCall n control table → r .accepted ≡ isAccepted (r .answer .outcome)
 accepted-flag-of-refused-call n control table r e = rw e
 
@@ -46,6 +53,18 @@ refused-call-passes-if-accepted n control table r order f e z = absurd (f (sym (
 
 pub answered-call-passes-if-accepted : (a : Answer) (r : TableCall) (after : List ℕ) → PassesIfAccepted (a .outcome) (a .state) after → r ≡ answeredCall a → TablePassesIfAccepted r after
 answered-call-passes-if-accepted a r after y e = subst (λ (x : TableCall). TablePassesIfAccepted x after) (sym e) y
+
+-- "at most q": a refusal reports no moves, and the engine's answer no more than the call may make
+pub refused-call-moves-at-most : (most n : ℕ) (control : Control) (table : List Superblock) (r : TableCall) → r ≡ refusedCall n control table
+    → MovesAtMost most (r .answer .outcome)
+refused-call-moves-at-most most n control table r e = moves-at-most-of-refusal most n (r .answer .outcome) (ap (λ (x : TableCall). x .answer .outcome) e)
+
+pub answered-call-moves-at-most : (s : State) (control : Control) (table : List Superblock) (call : Call) (a : Answer) (r : TableCall)
+    → s ≡ stateOf control table → MovesAtMost (mostMoves (s .setup .q) call) (a .outcome) → r ≡ answeredCall a
+    → MovesAtMost (mostMoves (control .setup .q) call) (r .answer .outcome)
+answered-call-moves-at-most s control table call a r k y e =
+    subst (λ (x : TableCall). MovesAtMost (mostMoves (control .setup .q) call) (x .answer .outcome)) (sym e)
+    (subst (λ (x : State). MovesAtMost (mostMoves (x .setup .q) call) (a .outcome)) k y)
 
 -- ---- a setup
 module _ (n first : ℕ) (u : Setup) (table : List Superblock) (order : List ℕ) (e : first ≡ rowFirstRefusal 1 n order u) where

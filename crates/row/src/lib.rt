@@ -1,8 +1,8 @@
 // The table of superblocks lent as a row of records and edited there. The functions on the row are thin: covered functions decide, on a table
 // by value, and these carry the records.
 ghost use mathlib.Core.Path.{_≡_};
-ghost use Rattle.calls.specs.Answers.{HasNumberAndValuesOf, PassesIfAccepted};
-ghost use Rattle.calls.specs.Calls.{callWith};
+ghost use Rattle.calls.specs.Answers.{HasNumberAndValuesOf, PassesIfAccepted, MovesAtMost};
+ghost use Rattle.calls.specs.Calls.{callWith, mostMoves};
 ghost use Rattle.rowrules.specs.Row.{stateOf, rowAfter, setupOn, callOn, rowSetup, rowCall};
 ghost use Rattle.tablecall.specs.Tables.{isAccepted, rowAfterCall};
 use calls::CallHeader;
@@ -45,6 +45,7 @@ fn call_table(
     ensures accepts { λ r. ⌜ r .accepted ≡ isAccepted (r .answer .outcome) ⌝ }
     ensures number_and_values { λ r. ⌜ HasNumberAndValuesOf (r .answer .outcome) (callOn n control table (now (order .entry)) (callWith call (now (addresses .entry))) .outcome) ⌝ }
     ensures passes { λ r. ⌜ PassesIfAccepted (r .answer .outcome) (stateOf (r .answer .control) (r .table)) (now (order .exit)) ⌝ }
+    ensures moves { λ r. ⌜ MovesAtMost (mostMoves (control .setup .q) (callWith call (now (addresses .entry)))) (r .answer .outcome) ⌝ }
 {
     let u = control.setup;
     let first = tablecall::first_refusal(13, n, order, u);
@@ -70,6 +71,7 @@ pub fn call_row(
     ensures { λ r. ⌜ rowAfter r (now (row .exit)) (now (order .exit)) ≡ rowCall control (now (row .entry)) (now (order .entry)) (callWith call (now (addresses .entry))) ⌝ }
     ensures number_and_values { λ r. ⌜ HasNumberAndValuesOf (r .outcome) (rowCall control (now (row .entry)) (now (order .entry)) (callWith call (now (addresses .entry))) .outcome) ⌝ }
     ensures passes { λ r. ⌜ PassesIfAccepted (r .outcome) (stateOf (r .control) (now (row .exit))) (now (order .exit)) ⌝ }
+    ensures moves { λ r. ⌜ MovesAtMost (mostMoves (control .setup .q) (callWith call (now (addresses .entry)))) (r .outcome) ⌝ }
 {
     let n = row.len();
     let t = rowaccess::load(row);

@@ -81,13 +81,23 @@ module _ {M : Type 1} (𝓤 : URA M) where
   three-facts-of-emp : (φ ψ χ : Type 0) → φ → ψ → χ → ent 𝓤 (emp 𝓤) (sep 𝓤 (fact 𝓤 φ) (sep 𝓤 (fact 𝓤 ψ) (fact 𝓤 χ)))
   three-facts-of-emp φ ψ χ x y z = via 𝓤 (fact 𝓤 φ) (factI 𝓤 φ (emp 𝓤) x) (sep-with-entailed-by-emp (fact 𝓤 φ) (sep 𝓤 (fact 𝓤 ψ) (fact 𝓤 χ)) (two-facts-of-emp ψ χ y z))
 
--- a goal P ∗ (⌜φ⌝ ∗ ⌜ψ⌝), or of three facts: they are shown, and P is left
+  four-facts-of-emp : (φ ψ χ ω : Type 0) → φ → ψ → χ → ω → ent 𝓤 (emp 𝓤) (sep 𝓤 (fact 𝓤 φ) (sep 𝓤 (fact 𝓤 ψ) (sep 𝓤 (fact 𝓤 χ) (fact 𝓤 ω))))
+  four-facts-of-emp φ ψ χ ω w x y z =
+      via 𝓤 (fact 𝓤 φ) (factI 𝓤 φ (emp 𝓤) w)
+      (sep-with-entailed-by-emp (fact 𝓤 φ) (sep 𝓤 (fact 𝓤 ψ) (sep 𝓤 (fact 𝓤 χ) (fact 𝓤 ω))) (three-facts-of-emp ψ χ ω x y z))
+
+-- a goal P ∗ (⌜φ⌝ ∗ ⌜ψ⌝), or of three or four facts: they are shown, and P is left
 module _ {M : Type 1} {𝓤 : URA M} {H : Heap 𝓤} {A : Atoms 𝓤} {K : Type 0} {W : Given 𝓤 H A} {Γ : List (Item 𝓤)} where
   pub goal-with-two-facts : K → {φ ψ : Type 0} {P : SProp 𝓤} → φ → ψ → Step K W Γ (prop P) Γ (prop (sep 𝓤 P (sep 𝓤 (fact 𝓤 φ) (fact 𝓤 ψ))))
   goal-with-two-facts t {φ} {ψ} {P} x y = step (λ s. record { prf = via 𝓤 P (s .prf) (sep-with-entailed-by-emp 𝓤 P (sep 𝓤 (fact 𝓤 φ) (fact 𝓤 ψ)) (two-facts-of-emp 𝓤 φ ψ x y)) })
 
   pub goal-with-three-facts : K → {φ ψ χ : Type 0} {P : SProp 𝓤} → φ → ψ → χ → Step K W Γ (prop P) Γ (prop (sep 𝓤 P (sep 𝓤 (fact 𝓤 φ) (sep 𝓤 (fact 𝓤 ψ) (fact 𝓤 χ)))))
   goal-with-three-facts t {φ} {ψ} {χ} {P} x y z = step (λ s. record { prf = via 𝓤 P (s .prf) (sep-with-entailed-by-emp 𝓤 P (sep 𝓤 (fact 𝓤 φ) (sep 𝓤 (fact 𝓤 ψ) (fact 𝓤 χ))) (three-facts-of-emp 𝓤 φ ψ χ x y z)) })
+
+  pub goal-with-four-facts : K → {φ ψ χ ω : Type 0} {P : SProp 𝓤} → φ → ψ → χ → ω
+      → Step K W Γ (prop P) Γ (prop (sep 𝓤 P (sep 𝓤 (fact 𝓤 φ) (sep 𝓤 (fact 𝓤 ψ) (sep 𝓤 (fact 𝓤 χ) (fact 𝓤 ω))))))
+  goal-with-four-facts t {φ} {ψ} {χ} {ω} {P} w x y z =
+      step (λ s. record { prf = via 𝓤 P (s .prf) (sep-with-entailed-by-emp 𝓤 P _ (four-facts-of-emp 𝓤 φ ψ χ ω w x y z)) })
 
 -- ---- a cell that holds a truth value, which is shown to be true
 pub rewrite-cell-to-true : {M : Type 1} {𝓤 : URA M} {H : Heap 𝓤} {A : Atoms 𝓤} {K : Type 0} {W : Given 𝓤 H A} {Γ : List (Item 𝓤)} {G : Goal 𝓤 H} → K → (n : ℕ) {l : ℕ} {t : Bool}

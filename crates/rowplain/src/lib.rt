@@ -2,8 +2,8 @@
 ghost use mathlib.Core.Path.{_≡_};
 ghost use Prim.Native.Nat.{_≤_, min};
 ghost use lib.ListN.{take};
-ghost use Rattle.calls.specs.Answers.{HasNumberAndValuesOf, PassesIfAccepted};
-ghost use Rattle.calls.specs.Calls.{callWith};
+ghost use Rattle.calls.specs.Answers.{HasNumberAndValuesOf, PassesIfAccepted, MovesAtMost};
+ghost use Rattle.calls.specs.Calls.{callWith, mostMoves};
 ghost use Rattle.rowrules.specs.Row.{stateOf, rowSetup, rowCall};
 ghost use Rattle.rowrules.specs.Borrowed.{RecordsAfter, recordsAfter};
 use calls::CallHeader;
@@ -34,6 +34,7 @@ fn borrow_call(
     requires { ⌜ n ≤ 65 ⌝ }
     ensures { λ r. ⌜ record { returned = r; order = now (order .exit) } ≡ recordsAfter n records (rowCall control (take n records) (now (order .entry)) (callWith call (now (addresses .entry)))) ⌝ }
     ensures passes { λ r. ⌜ PassesIfAccepted (r .answer .outcome) (stateOf (r .answer .control) (take n (r .records))) (now (order .exit)) ⌝ }
+    ensures moves { λ r. ⌜ MovesAtMost (mostMoves (control .setup .q) (callWith call (now (addresses .entry)))) (r .answer .outcome) ⌝ }
 {
     let mut t = records;
     let answer = row::call_row(&mut t[..n], order, control, call, addresses);
@@ -53,6 +54,7 @@ pub fn call_by_row(
     ensures { λ r. ⌜ record { returned = r; order = now (order .exit) } ≡ recordsAfter n records (rowCall control (take n records) (now (order .entry)) (callWith call (now (addresses .entry)))) ⌝ }
     ensures number_and_values { λ r. ⌜ HasNumberAndValuesOf (r .answer .outcome) (rowCall control (take n records) (now (order .entry)) (callWith call (now (addresses .entry))) .outcome) ⌝ }
     ensures passes { λ r. ⌜ PassesIfAccepted (r .answer .outcome) (stateOf (r .answer .control) (take n (r .records))) (now (order .exit)) ⌝ }
+    ensures moves { λ r. ⌜ MovesAtMost (mostMoves (control .setup .q) (callWith call (now (addresses .entry)))) (r .answer .outcome) ⌝ }
 {
     let m = at_most(n);
     borrow_call(m, records, order, control, call, addresses)

@@ -1,5 +1,5 @@
 -- `entries::drop` meets its contract. Assumes nothing.
-use Rattle.calls.specs.Calls.{callOf, callWith}
+use Rattle.calls.specs.Calls.{callOf, callWith, mostMoves}
 use borrow.Author.Needs.{needs}
 use Rattle.entries.proofs.drop.Statement.{statement}
 use Rattle.entries.proofs.drop.Tie as tie
@@ -11,7 +11,7 @@ same-length : tie.Need-same-length
 same-length c = search needs
 
 returns : tie.Need-returns
-unfolding callOf callWith
+unfolding callOf callWith mostMoves
 returns c = c .before .before .call-state .ensures
 
 pub drop-spec : {M : Type 1} → statement M

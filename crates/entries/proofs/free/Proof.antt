@@ -1,5 +1,5 @@
 -- `entries::free` meets its contract. Assumes nothing.
-use Rattle.calls.specs.Calls.{callOf, callWith}
+use Rattle.calls.specs.Calls.{callOf, callWith, mostMoves}
 use borrow.Author.Needs.{needs}
 use Rattle.entries.proofs.free.Statement.{statement}
 use Rattle.entries.proofs.free.Tie as tie
@@ -14,7 +14,7 @@ same-length : tie.Need-same-length
 same-length c = search needs
 
 returns : tie.Need-returns
-unfolding callOf callWith
+unfolding callOf callWith mostMoves
 returns c = c .before .before .call-state .ensures
 
 pub free-spec : {M : Type 1} → statement M

@@ -15,7 +15,7 @@ same-length c = search needs
 
 returns : tie.Need-returns
 unfolding callOf callWith
-returns c = c .before .before .call-state .ensures
+returns c = let all = c .before .before .call-state .ensures in (all .0, (all .1 .0, all .1 .1 .0))
 
 pub take-spec : {M : Type 1} → statement M
 take-spec = tie.close (tie.spec slice-aggregate-call-state call-state-requires same-length returns)

@@ -44,8 +44,8 @@ use Rattle.heap.specs.declared.Superblock.{Superblock}
 use Rattle.calls.specs.declared.CallHeader.{CallHeader}
 use Rattle.rowrules.specs.declared.Control.{Control}
 use Rattle.rowrules.specs.declared.RowAnswer.{RowAnswer}
-use Rattle.calls.specs.Answers.{HasNumberAndValuesOf, PassesIfAccepted}
-use Rattle.calls.specs.Calls.{Call, callWith}
+use Rattle.calls.specs.Answers.{HasNumberAndValuesOf, PassesIfAccepted, MovesAtMost}
+use Rattle.calls.specs.Calls.{Call, callWith, mostMoves}
 use Rattle.rowrules.specs.Row.{RowAfter, stateOf, rowAfter, callOn, rowCall}
 use Rattle.tablecall.specs.declared.TableCall.{TableCall}
 use Rattle.tablecall.specs.Tables.{isAccepted, rowAfterCall}
@@ -63,7 +63,7 @@ use Rattle.tablecall.proofs.TableCall as R
 use Rattle.tablecall.proofs.TableCall.Laws as R′
 use Rattle.row.proofs.LoadStoreContracts.{Load, Store, load-ensures-load-of, array64-typed, load-ghosts, load-precondition, answer-val, store-ghosts, store-precondition}
 use Rattle.laws.proofs.FieldArrays.{declared-array-of-field-array}
-use Rattle.rowaccess.proofs.WalkLaws.{goal-with-three-facts, KeptWhileShared, mut-slice-shared, mut-slice-restored}
+use Rattle.rowaccess.proofs.WalkLaws.{goal-with-four-facts, KeptWhileShared, mut-slice-shared, mut-slice-restored}
 use Rattle.rowaccess.proofs.load as load′
 use Rattle.rowaccess.proofs.load.Symbol as load-def
 use Rattle.rowaccess.proofs.load.Symbol.{name as #load}
@@ -104,6 +104,10 @@ module _ {M : Type 1} (𝓤 : URA M) (H : Heap 𝓤) (A : Atoms 𝓤) (W : Given
   -- the call that the header and the addresses make
   abbrev call : Call
   call = callWith header addresses
+
+  -- and the most superblocks that it may move
+  abbrev most : ℕ
+  most = mostMoves (ctl .setup .q) call
 
   abbrev Arg : Type 0
   Arg = RefT (List Superblock) × (RefT (List ℕ) × (Control × (CallHeader × (RefT (List ℕ) × Unit {0}))))
@@ -155,10 +159,11 @@ module _ {M : Type 1} (𝓤 : URA M) (H : Heap 𝓤) (A : Atoms 𝓤) (W : Given
   ContractEquation r zs ws = rowAfter r zs ws ≡ rowCall ctl ys os call
 
   exit-meets-post : (r : RowAnswer) (w : Val) (zs : List Superblock) (ws : List ℕ) → Is N.the-row r (w ∷ []) → length zs ≡ length ys → length ws ≡ length os → ContractEquation r zs ws → PassesIfAccepted (r .outcome) (stateOf (r .control) zs) ws
+      → MovesAtMost most (r .outcome)
       → ent 𝓤 (⋆ 𝓤 H A ((‵ (flft κ q) ⊛ ‵ ftrue) ∷ ‵ (finally T.the-row γ zs) ∷ Tokens ∷ ‵ (finally u16 γ₁ ws) ∷ [])) (Post w)
-  exit-meets-post r w zs ws g l l₁ e p =
+  exit-meets-post r w zs ws g l l₁ e p k =
       qed W ((‵ (flft κ q) ⊛ ‵ ftrue) ∷ ‵ (finally T.the-row γ zs) ∷ Tokens ∷ ‵ (finally u16 γ₁ ws) ∷ []) ∵
-      suffices ! _ (ends-at 𝓤 H A f.ended stayed (f.clauses 𝓤 H A mem run) W (((κ, (κ₁, (κ₂, tt))), (q, (q₁, (q₂, tt))), tt, a, vals), tt) w r (zs, (ws, (tt, (tt, (tt, tt))))) (l, (l₁, (tt, (tt, (tt, tt)))))) $ goal-with-three-facts ! e (has-number-and-values-of-equal (r .outcome) (rowCall ctl ys os call .outcome) (ap (λ (left : RowAfter). left .outcome) e)) p $
+      suffices ! _ (ends-at 𝓤 H A f.ended stayed (f.clauses 𝓤 H A mem run) W (((κ, (κ₁, (κ₂, tt))), (q, (q₁, (q₂, tt))), tt, a, vals), tt) w r (zs, (ws, (tt, (tt, (tt, tt))))) (l, (l₁, (tt, (tt, (tt, tt)))))) $ goal-with-four-facts ! e (has-number-and-values-of-equal (r .outcome) (rowCall ctl ys os call .outcome) (ap (λ (left : RowAfter). left .outcome) e)) p k $
       split ! $ move ! (0 ∷ 3 ∷ []) $ join ! $ frame ! $
       -- [true; finally zs; finally ws]
       nothing ! $ fjoin ! $ nothing ! $ fjoin ! $ nothing ! $ fjoin ! $ move ! (2 ∷ 0 ∷ []) $ fjoin ! $ move ! (1 ∷ 0 ∷ []) $ fjoin ! $ frame ! $
@@ -193,8 +198,8 @@ module _ {M : Type 1} (𝓤 : URA M) (H : Heap 𝓤) (A : Atoms 𝓤) (W : Given
         -- [`work`'s pre; the row; κ's token; local i at 3 + 2 (15 - i)]
         calls-at ! fm (Work 𝓤 H A mem run) known-work (work-ghosts t u) (and-then ! (load ! (from ! (stop !)) (look ! 21 refl)) (and-then ! (load ! (from ! (stop !)) (look ! 19 refl)) (and-then ! (load ! (from ! (stop !)) (look ! 9 refl)) (and-then ! (load ! (from ! (stop !)) (look ! 27 refl)) (and-then ! (load ! (from ! (stop !)) (look ! 25 refl)) (and-then ! (load ! (from ! (stop !)) (look ! 23 refl)) (no-more !))))))) (λ w.
         use1 W (later (some (λ (r : TableCall). (Tokens ⊛ ‵ (R.the-row .own r (w ∷ []))) ⊛ raw (ensured 𝓤 H A work.ended (work.clauses 𝓤 H A mem run) (κ₁, (κ₂, tt)) (length ys, (t, (y, (ctl, (header, (z, tt)))))) tt r)))) (id⊢ 𝓤 _) $ await ! tt $ pick ! (λ r.
-        split ! $ move ! (1 ∷ []) $ use1 W (some (λ (ws : Unit {0} × (Unit {0} × (List ℕ × (Unit {0} × (Unit {0} × (Unit {0} × Unit {0})))))). ‵ (lasts work.ended (κ₁, (κ₂, tt)) (length ys, (t, (y, (ctl, (header, (z, tt)))))) ws) ⊛ (raw (fact 𝓤 (rowAfterCall r (ws .1 .1 .0) ≡ callOn (length ys) ctl t os call)) ⊛ (raw (fact 𝓤 (r .accepted ≡ isAccepted (r .answer .outcome))) ⊛ (raw (fact 𝓤 (HasNumberAndValuesOf (r .answer .outcome) (callOn (length ys) ctl t os call .outcome))) ⊛ raw (fact 𝓤 (PassesIfAccepted (r .answer .outcome) (stateOf (r .answer .control) (r .table)) (ws .1 .1 .0)))))))) (id⊢ 𝓤 _) $ pick ! (λ ws.
-        split ! $ move ! (1 ∷ []) $ split ! $ heard ! (rowAfterCall r (ws .1 .1 .0) ≡ callOn (length ys) ctl t os call) (λ e₁. split ! $ heard ! (r .accepted ≡ isAccepted (r .answer .outcome)) (λ e₃. split ! $ drop ! $ heard ! (PassesIfAccepted (r .answer .outcome) (stateOf (r .answer .control) (r .table)) (ws .1 .1 .0)) (λ e₄.
+        split ! $ move ! (1 ∷ []) $ use1 W (some (λ (ws : Unit {0} × (Unit {0} × (List ℕ × (Unit {0} × (Unit {0} × (Unit {0} × Unit {0})))))). ‵ (lasts work.ended (κ₁, (κ₂, tt)) (length ys, (t, (y, (ctl, (header, (z, tt)))))) ws) ⊛ (raw (fact 𝓤 (rowAfterCall r (ws .1 .1 .0) ≡ callOn (length ys) ctl t os call)) ⊛ (raw (fact 𝓤 (r .accepted ≡ isAccepted (r .answer .outcome))) ⊛ (raw (fact 𝓤 (HasNumberAndValuesOf (r .answer .outcome) (callOn (length ys) ctl t os call .outcome))) ⊛ (raw (fact 𝓤 (PassesIfAccepted (r .answer .outcome) (stateOf (r .answer .control) (r .table)) (ws .1 .1 .0))) ⊛ raw (fact 𝓤 (MovesAtMost most (r .answer .outcome))))))))) (id⊢ 𝓤 _) $ pick ! (λ ws.
+        split ! $ move ! (1 ∷ []) $ split ! $ heard ! (rowAfterCall r (ws .1 .1 .0) ≡ callOn (length ys) ctl t os call) (λ e₁. split ! $ heard ! (r .accepted ≡ isAccepted (r .answer .outcome)) (λ e₃. split ! $ drop ! $ split ! $ heard ! (PassesIfAccepted (r .answer .outcome) (stateOf (r .answer .control) (r .table)) (ws .1 .1 .0)) (λ e₄. heard ! (MovesAtMost most (r .answer .outcome)) (λ e₅.
         fsplit ! $ drop ! $ fsplit ! $ drop ! $ fsplit ! $ fsplit ! $ move ! (1 ∷ []) $ feqL ! (λ l₁′.
         -- [order's last list; …; the tokens and what the result owns; the row; κ's token; local i at 5 + 2 (15 - i)]
         move ! (2 ∷ []) $ split ! $ move ! (1 ∷ []) $ peeks ! R.the-row (Is R.the-row) (shows 𝓤 H A R.the-row) r (w ∷ []) (λ g₁.
@@ -217,7 +222,7 @@ module _ {M : Type 1} (𝓤 : URA M) (H : Heap 𝓤) (A : Atoms 𝓤) (W : Given
         returns ! (look ! 34 refl) $ forget ! 4 refl $ forget ! 6 refl $ forget ! 8 refl $ forget ! 10 refl $ forget ! 12 refl $ forget ! 14 refl $ forget ! 16 refl $ forget ! 18 refl $ forget ! 20 refl $ forget ! 22 refl $ forget ! 24 refl $ forget ! 26 refl $ forget ! 28 refl $ forget ! 30 refl $ forget ! 32 refl $ forget ! 34 refl $
         move ! (34 ∷ 35 ∷ []) $ free1 ! $ move ! (32 ∷ 33 ∷ []) $ free1 ! $ move ! (30 ∷ 31 ∷ []) $ free1 ! $ move ! (28 ∷ 29 ∷ []) $ free1 ! $ move ! (26 ∷ 27 ∷ []) $ free1 ! $ move ! (24 ∷ 25 ∷ []) $ free1 ! $ move ! (22 ∷ 23 ∷ []) $ free1 ! $ move ! (20 ∷ 21 ∷ []) $ free1 ! $ move ! (18 ∷ 19 ∷ []) $ free1 ! $
         move ! (16 ∷ 17 ∷ []) $ free1 ! $ move ! (14 ∷ 15 ∷ []) $ free1 ! $ move ! (12 ∷ 13 ∷ []) $ free1 ! $ move ! (10 ∷ 11 ∷ []) $ free1 ! $ move ! (8 ∷ 9 ∷ []) $ free1 ! $ move ! (6 ∷ 7 ∷ []) $ free1 ! $ move ! (4 ∷ 5 ∷ []) $ free1 ! $ free0 ! $
-        by ! (exit-meets-post (r .answer) (answer-val r) (zs .0) (ws .1 .1 .0) (LL.owed R.the-type R′.the-laws r _ g₁ .1 .0) l′ l₁′ (stored-call-is-row-call ys t (zs .0) (ws .1 .1 .0) r e₀ e₃ e₂ ctl os call e₁) (stored-call-passes-if-accepted ys t (zs .0) (ws .1 .1 .0) r e₀ e₃ e₂ ctl os call e₁ e₄))))))))))))))))))))))))))))))))))))))
+        by ! (exit-meets-post (r .answer) (answer-val r) (zs .0) (ws .1 .1 .0) (LL.owed R.the-type R′.the-laws r _ g₁ .1 .0) l′ l₁′ (stored-call-is-row-call ys t (zs .0) (ws .1 .1 .0) r e₀ e₃ e₂ ctl os call e₁) (stored-call-passes-if-accepted ys t (zs .0) (ws .1 .1 .0) r e₀ e₃ e₂ ctl os call e₁ e₄) e₅))))))))))))))))))))))))))))))))))))))
 
 module _ {M : Type 1} (𝓤 : URA M) (H : Heap 𝓤) (A : Atoms 𝓤) (W : Given 𝓤 H A) (mem : Memory → SProp 𝓤) (run : Routine → Fun 𝓤) where
   call-row-walks : (C : Calls 𝓤 H) (Λ : Loops 𝓤 H) → FmC 𝓤 H (W .laws) C → Triple 𝓤 (C #load) (Load 𝓤 H A mem run) → Triple 𝓤 (C #work) (Work 𝓤 H A mem run) → Triple 𝓤 (C #store) (Store 𝓤 H A mem run)

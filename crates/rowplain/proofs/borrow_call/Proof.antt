@@ -48,8 +48,8 @@ use Rattle.heap.specs.declared.Superblock.{Superblock}
 use Rattle.calls.specs.declared.CallHeader.{CallHeader}
 use Rattle.rowrules.specs.declared.Control.{Control}
 use Rattle.rowrules.specs.declared.RowAnswer.{RowAnswer}
-use Rattle.calls.specs.Answers.{HasNumberAndValuesOf, PassesIfAccepted}
-use Rattle.calls.specs.Calls.{Call, callWith}
+use Rattle.calls.specs.Answers.{HasNumberAndValuesOf, PassesIfAccepted, MovesAtMost}
+use Rattle.calls.specs.Calls.{Call, callWith, mostMoves}
 use Rattle.rowrules.specs.Row.{stateOf, rowAfter, rowCall}
 use Rattle.rowrules.specs.declared.RecordsAnswer.{RecordsAnswer}
 use Rattle.rowrules.specs.Borrowed.{recordsAfter}
@@ -64,7 +64,7 @@ use Rattle.rowrules.proofs.RowAnswer.Laws as N′
 use Rattle.rowrules.proofs.RecordsAnswer as R
 use Rattle.rowrules.proofs.RecordsAnswer.Laws as R′
 use Rattle.rowplain.proofs.AtMostLaws.{passes-if-accepted-of-first-records}
-use Rattle.rowaccess.proofs.WalkLaws.{goal-with-two-facts, array-cell-to-elements, elements-to-array-cell}
+use Rattle.rowaccess.proofs.WalkLaws.{goal-with-three-facts, array-cell-to-elements, elements-to-array-cell}
 use Rattle.rowplain.proofs.RecordsAnswerLaws.{Array65, Slice, count-fits-w64, length-of-records, length-of-first-records, room-for-first-records, records-answer, machine-value, machine-value-of-records, machine-value-of-answer, records-answer-has-machine-value, array65-typed}
 use Rattle.rowplain.proofs.SplitCells.{cells-split, cells-joined}
 use Rattle.row.proofs.call_row as call-row
@@ -94,6 +94,10 @@ module _ {M : Type 1} (𝓤 : URA M) (H : Heap 𝓤) (A : Atoms 𝓤) (W : Given
   -- the call that the header and the addresses make
   abbrev call : Call
   call = callWith header addresses
+
+  -- and the most superblocks that it may move
+  abbrev most : ℕ
+  most = mostMoves (ctl .setup .q) call
 
   abbrev tv : Val
   tv = only (array-vals (LL.vals T.the-type T′.the-laws) t)
@@ -137,10 +141,11 @@ module _ {M : Type 1} (𝓤 : URA M) (H : Heap 𝓤) (A : Atoms 𝓤) (W : Given
   Slices = ‵ (MutSlice (named 0) κ u16 .own y (s ∷ [])) ⊛ ‵ (ShrSlice (named 1) κ₁ u32 .own z (s₁ ∷ []))
 
   exit-meets-post : (r : RecordsAnswer) (ws : List ℕ) → Is R.the-row r (machine-value r ∷ []) → length ws ≡ length os → record { returned = r; order = ws } ≡ recordsAfter n t (rowCall ctl first-records os call) → PassesIfAccepted (r .answer .outcome) (stateOf (r .answer .control) (take n (r .records))) ws
+      → MovesAtMost most (r .answer .outcome)
       → ent 𝓤 (⋆ 𝓤 H A (Tokens ∷ ‵ (finally u16 γ ws) ∷ [])) (Post (machine-value r))
-  exit-meets-post r ws g l e p =
+  exit-meets-post r ws g l e p k =
       qed W (Tokens ∷ ‵ (finally u16 γ ws) ∷ []) ∵
-      suffices ! _ (ends-at 𝓤 H A f.ended stayed (f.clauses 𝓤 H A at-mem run) W (((κ, (κ₁, tt)), (q, (q₁, tt)), tt, a, vals), tt) (machine-value r) r (tt, (tt, (ws, (tt, (tt, (tt, tt)))))) (tt, (tt, (l, (tt, (tt, (tt, tt))))))) $ goal-with-two-facts ! e p $ frame ! $
+      suffices ! _ (ends-at 𝓤 H A f.ended stayed (f.clauses 𝓤 H A at-mem run) W (((κ, (κ₁, tt)), (q, (q₁, tt)), tt, a, vals), tt) (machine-value r) r (tt, (tt, (ws, (tt, (tt, (tt, tt)))))) (tt, (tt, (l, (tt, (tt, (tt, tt))))))) $ goal-with-three-facts ! e p k $ frame ! $
       nothing ! $ nothing ! $ fjoin ! $ nothing ! $ fjoin ! $ nothing ! $ fjoin ! $ move ! (1 ∷ 0 ∷ []) $ fjoin ! $ nothing ! $ fjoin ! $ nothing ! $ fjoin ! $ frame ! $ owned ! R.the-row (Is R.the-row) (LL.makes R.the-type R′.the-plain 𝓤 H A) r _ g $ done !
 
   -- the row, at the local's place p
@@ -188,8 +193,8 @@ module _ {M : Type 1} (𝓤 : URA M) (H : Heap 𝓤) (A : Atoms 𝓤) (W : Given
         -- [`call_row`'s pre; the lender's part; the others; local i at 3 + 2 (13 - i), and from _6 down one less]
         calls-at ! fm (CallRow 𝓤 H A at-mem run) known (row-ghosts l₇ ν δ) (and-then ! (load ! (from ! (stop !)) (look ! 9 refl)) (and-then ! (load ! (from ! (stop !)) (look ! 5 refl)) (and-then ! (load ! (from ! (stop !)) (look ! 20 refl)) (and-then ! (load ! (from ! (stop !)) (look ! 18 refl)) (and-then ! (load ! (from ! (stop !)) (look ! 16 refl)) (no-more !)))))) (λ w.
         use1 W (later (some (λ (r : RowAnswer). ((‵ (flft (ν ∷ []) fullShare) ⊛ Tokens) ⊛ ‵ (N.the-row .own r (w ∷ []))) ⊛ raw (ensured 𝓤 H A call-row.ended (call-row.clauses 𝓤 H A at-mem run) (ν ∷ [], (κ, (κ₁, tt))) (x l₇ δ, (y, (ctl, (header, (z, tt))))) tt r)))) (id⊢ 𝓤 _) $ await ! tt $ pick ! (λ r.
-        split ! $ move ! (1 ∷ []) $ use1 W (some (λ (zs : List Superblock × (List ℕ × (Unit {0} × (Unit {0} × (Unit {0} × Unit {0}))))). ‵ (lasts call-row.ended (ν ∷ [], (κ, (κ₁, tt))) (x l₇ δ, (y, (ctl, (header, (z, tt))))) zs) ⊛ (raw (fact 𝓤 (rowAfter r (zs .0) (zs .1 .0) ≡ rowCall ctl first-records os call)) ⊛ (raw (fact 𝓤 (HasNumberAndValuesOf (r .outcome) (rowCall ctl first-records os call .outcome))) ⊛ raw (fact 𝓤 (PassesIfAccepted (r .outcome) (stateOf (r .control) (zs .0)) (zs .1 .0))))))) (id⊢ 𝓤 _) $ pick ! (λ zs.
-        split ! $ move ! (1 ∷ []) $ split ! $ heard ! (rowAfter r (zs .0) (zs .1 .0) ≡ rowCall ctl first-records os call) (λ e. split ! $ drop ! $ heard ! (PassesIfAccepted (r .outcome) (stateOf (r .control) (zs .0)) (zs .1 .0)) (λ e₁.
+        split ! $ move ! (1 ∷ []) $ use1 W (some (λ (zs : List Superblock × (List ℕ × (Unit {0} × (Unit {0} × (Unit {0} × Unit {0}))))). ‵ (lasts call-row.ended (ν ∷ [], (κ, (κ₁, tt))) (x l₇ δ, (y, (ctl, (header, (z, tt))))) zs) ⊛ (raw (fact 𝓤 (rowAfter r (zs .0) (zs .1 .0) ≡ rowCall ctl first-records os call)) ⊛ (raw (fact 𝓤 (HasNumberAndValuesOf (r .outcome) (rowCall ctl first-records os call .outcome))) ⊛ (raw (fact 𝓤 (PassesIfAccepted (r .outcome) (stateOf (r .control) (zs .0)) (zs .1 .0))) ⊛ raw (fact 𝓤 (MovesAtMost most (r .outcome)))))))) (id⊢ 𝓤 _) $ pick ! (λ zs.
+        split ! $ move ! (1 ∷ []) $ split ! $ heard ! (rowAfter r (zs .0) (zs .1 .0) ≡ rowCall ctl first-records os call) (λ e. split ! $ drop ! $ split ! $ heard ! (PassesIfAccepted (r .outcome) (stateOf (r .control) (zs .0)) (zs .1 .0)) (λ e₁. heard ! (MovesAtMost most (r .outcome)) (λ e₂.
         fsplit ! $ fsplit ! $ move ! (1 ∷ []) $ feqL ! (λ l. move ! (1 ∷ []) $ fsplit ! $ fsplit ! $ move ! (1 ∷ []) $ feqL ! (λ l₁′. move ! (1 ∷ []) $ drop ! $
         -- [order's last list; row's last list; the tokens and what the result owns; the lender's part; the others; local i at 5 + 2 (13 - i)]
         move ! (2 ∷ []) $ split ! $ move ! (1 ∷ []) $ peeks ! N.the-row (Is N.the-row) (shows 𝓤 H A N.the-row) r (w ∷ []) (λ g. land ! (from ! (stop !)) (init ! 16 refl (LL.lawful N.the-type N′.the-laws 𝓤 H A W .typed r _ g .0)) $ rewrite ! 16 (λ (u : Val). ‵ (fat fullShare N′.mir l₈ 0 u)) (ap only (machine-value-of-answer (zs .0 ++ others) r w g)) refl $
@@ -208,7 +213,7 @@ module _ {M : Type 1} (𝓤 : URA M) (H : Heap 𝓤) (A : Atoms 𝓤) (W : Given
         returns ! (look ! 28 refl) $ forget ! 0 refl $ forget ! 3 refl $ forget ! 5 refl $ forget ! 7 refl $ forget ! 9 refl $ forget ! 11 refl $ forget ! 13 refl $ forget ! 16 refl $ forget ! 18 refl $ forget ! 20 refl $ forget ! 22 refl $ forget ! 24 refl $ forget ! 26 refl $ forget ! 28 refl $
         move ! (28 ∷ 29 ∷ []) $ free1 ! $ move ! (26 ∷ 27 ∷ []) $ free1 ! $ move ! (24 ∷ 25 ∷ []) $ free1 ! $ move ! (22 ∷ 23 ∷ []) $ free1 ! $ move ! (20 ∷ 21 ∷ []) $ free1 ! $ move ! (18 ∷ 19 ∷ []) $ free1 ! $ move ! (16 ∷ 17 ∷ []) $ free1 ! $ move ! (0 ∷ 15 ∷ []) $ free1 ! $
         move ! (12 ∷ 13 ∷ []) $ free1 ! $ move ! (10 ∷ 11 ∷ []) $ free1 ! $ move ! (8 ∷ 9 ∷ []) $ free1 ! $ move ! (6 ∷ 7 ∷ []) $ free1 ! $ move ! (4 ∷ 5 ∷ []) $ free1 ! $ move ! (2 ∷ 3 ∷ []) $ free1 ! $ free0 ! $
-        by ! (exit-meets-post (records-answer (zs .0 ++ others) r) (zs .1 .0) (records-answer-has-machine-value (zs .0 ++ others) r u w g₁ g) l₁′ (ap (recordsAfter n t) e) (passes-if-accepted-of-first-records n (zs .0) others r (zs .1 .0) (l ∙ length-of-first-records n t small is) e₁))))))))))))))))))))))))))))
+        by ! (exit-meets-post (records-answer (zs .0 ++ others) r) (zs .1 .0) (records-answer-has-machine-value (zs .0 ++ others) r u w g₁ g) l₁′ (ap (recordsAfter n t) e) (passes-if-accepted-of-first-records n (zs .0) others r (zs .1 .0) (l ∙ length-of-first-records n t small is) e₁) e₂))))))))))))))))))))))))))))
 
 module _ {M : Type 1} (𝓤 : URA M) (H : Heap 𝓤) (A : Atoms 𝓤) (W : Given 𝓤 H A) (mem : Memory → SProp 𝓤) (run : Routine → Fun 𝓤) where
   borrow-call-walks : (C : Calls 𝓤 H) (Λ : Loops 𝓤 H) → FmC 𝓤 H (W .laws) C → Triple 𝓤 (C #call-row) (CallRow 𝓤 H A mem run) → Walks 𝓤 H A f.ended stayed (WpFn 𝓤 H C Λ code.function) (f.clauses 𝓤 H A mem run)

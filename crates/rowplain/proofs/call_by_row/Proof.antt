@@ -15,7 +15,17 @@ same-length : tie.Need-same-length
 same-length c = search needs
 
 returns : tie.Need-returns
-returns c = (search row-call-of-min, (search row-call-number-and-values, passes-if-accepted-of-min _ _ _ _ (c .before .before .borrow-call .ensures .1) (c .before .before .before .before .at-most .ensures .0) (search length-of-length-map)))
+returns c = (
+  search row-call-of-min,
+  (
+    search row-call-number-and-values,
+    (
+      passes-if-accepted-of-min _ _ _ _ (c .before .before .borrow-call .ensures .1 .0) (c .before .before .before .before .at-most .ensures .0)
+          (search length-of-length-map),
+      c .before .before .borrow-call .ensures .1 .1,
+    ),
+  ),
+)
 
 pub call-by-row-spec : {M : Type 1} → statement M
 call-by-row-spec = tie.close (tie.spec at-most-requires borrow-call-requires same-length returns)
