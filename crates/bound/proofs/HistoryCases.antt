@@ -20,6 +20,7 @@ use Rattle.bound.specs.Claim.{Step}
 use Rattle.bound.specs.History.{Event, freedInto, renewed, joinedRun, neither, eventOfBlock, eventOfFree, eventOfTaken, eventOfTake, eventsAfter, eventsAfterDrop}
 use Rattle.bound.specs.History.{eventsAgo, notSinceRenewal, oneEventMore, lastFreeAfter, lastFree, RankedByLastFree, FreedLater, OffersLastFreed}
 use Rattle.bound.specs.History.{AlongHistory, RankedByLastFreeOver, OffersLastFreedOver}
+use Rattle.bound.proofs.CaseSteps.{after-with, step-with}
 use Rattle.bound.proofs.LedgerDefinitions.{entry, ledgerDefinitions}
 
 -- what a case of a history unfolds, listed once
@@ -160,12 +161,6 @@ higher-number-offered-refused = (
 abbrev pub empty-0-with-ranks : ℕ → ℕ → State
 empty-0-with-ranks a b = unnamedState small-setup (ranked 1 20 0 a ∷ ranked 1 20 1 b ∷ replicate 62 full)
 
-abbrev pub left : Outcome → State → After
-left outcome s = record { answer = record { outcome = outcome; state = s }; order = [] }
-
-abbrev pub did : Call → Outcome → State → Step
-did call outcome s = record { call = call; after = left outcome s }
-
 -- a block in each of superblocks 0 and 1; and a long one from 1 on, by name 3
 abbrev pub blocks-in-0-and-1 : List Entry
 blocks-in-0-and-1 = entry 0 700 unnamed ∷ entry 4096 700 (named 3) ∷ []
@@ -186,31 +181,31 @@ ranked-without-free k r s events l e none claim = let z = claim .unranked-iff k 
 
 -- the claim about ranks is refused of the state before a list, without calls and with one,
 pub ranked-before-list-refused :
-    (RankedByLastFreeOver (left Ready (empty-0-with-ranks 1 0)) [] [] [] → ⊥)
-    × (RankedByLastFreeOver (left Ready (empty-0-with-ranks 1 0)) [] [] (did (Take 1 2049) (Refused 17) (empty-0-with-ranks 0 0) ∷ []) → ⊥)
+    (RankedByLastFreeOver (after-with Ready (empty-0-with-ranks 1 0)) [] [] [] → ⊥)
+    × (RankedByLastFreeOver (after-with Ready (empty-0-with-ranks 1 0)) [] [] (step-with (Take 1 2049) (Refused 17) (empty-0-with-ranks 0 0) ∷ []) → ⊥)
 unfolding historyDefinitions
 ranked-before-list-refused = (ranked-without-free 0 0 _ _ (omega arith) refl refl, λ h. ranked-without-free 0 0 _ _ (omega arith) refl refl (h .0))
 
 -- after the first call, though it holds after the second, which renews what the first freed into,
 pub unranked-after-first-call-refused :
-    RankedByLastFreeOver (left Ready (empty-0-with-ranks 0 0)) blocks-in-0-and-1 []
-    (did (Free 1 0) (Moves 0) (empty-0-with-ranks 0 0) ∷ did (Take 2 700) (Address 0) (empty-0-with-ranks 0 0) ∷ []) → ⊥
+    RankedByLastFreeOver (after-with Ready (empty-0-with-ranks 0 0)) blocks-in-0-and-1 []
+    (step-with (Free 1 0) (Moves 0) (empty-0-with-ranks 0 0) ∷ step-with (Take 2 700) (Address 0) (empty-0-with-ranks 0 0) ∷ []) → ⊥
 unfolding historyDefinitions ledgerDefinitions
 unranked-after-first-call-refused h = freed-without-rank 0 0 _ _ (omega arith) refl refl (h .1 .0)
 
 -- and after the last,
 pub unranked-after-last-call-refused :
-    RankedByLastFreeOver (left Ready (empty-0-with-ranks 0 0)) blocks-in-0-and-1 []
-    (did (Take 1 2049) (Refused 17) (empty-0-with-ranks 0 0) ∷ did (Free 1 0) (Moves 0) (empty-0-with-ranks 0 0) ∷ []) → ⊥
+    RankedByLastFreeOver (after-with Ready (empty-0-with-ranks 0 0)) blocks-in-0-and-1 []
+    (step-with (Take 1 2049) (Refused 17) (empty-0-with-ranks 0 0) ∷ step-with (Free 1 0) (Moves 0) (empty-0-with-ranks 0 0) ∷ []) → ⊥
 unfolding historyDefinitions ledgerDefinitions
 unranked-after-last-call-refused h = freed-without-rank 0 0 _ _ (omega arith) refl refl (h .1 .1)
 
 -- where the earlier free is first, of two calls and of a drop,
 pub earlier-free-first-refused :
-    (RankedByLastFreeOver (left Ready (empty-0-with-ranks 0 0)) blocks-in-0-and-1 []
-    (did (Free 1 0) (Moves 0) (empty-0-with-ranks 1 0) ∷ did (NamedFree 1 3) (Moves 0) (empty-0-with-ranks 1 2) ∷ []) → ⊥)
-    × (RankedByLastFreeOver (left Ready (empty-0-with-ranks 0 0)) blocks-in-0-and-1 []
-    (did (Drop 1 (0 ∷ 4096 ∷ [])) (Moves 0) (empty-0-with-ranks 1 2) ∷ []) → ⊥)
+    (RankedByLastFreeOver (after-with Ready (empty-0-with-ranks 0 0)) blocks-in-0-and-1 []
+    (step-with (Free 1 0) (Moves 0) (empty-0-with-ranks 1 0) ∷ step-with (NamedFree 1 3) (Moves 0) (empty-0-with-ranks 1 2) ∷ []) → ⊥)
+    × (RankedByLastFreeOver (after-with Ready (empty-0-with-ranks 0 0)) blocks-in-0-and-1 []
+    (step-with (Drop 1 (0 ∷ 4096 ∷ [])) (Moves 0) (empty-0-with-ranks 1 2) ∷ []) → ⊥)
 unfolding historyDefinitions ledgerDefinitions
 earlier-free-first-refused = (
   λ h. let l : _<_ 2 1 = h .1 .1 .later-first 1 0 0 1 (omega arith) (omega arith) refl refl (omega arith) in omega arith,
@@ -219,19 +214,19 @@ earlier-free-first-refused = (
 
 -- where the rank outlasts a renewal, or a long block that takes the superblock,
 pub rank-kept-refused :
-    (RankedByLastFreeOver (left Ready (empty-0-with-ranks 1 0)) [] (freedInto 0 ∷ []) (did (Take 2 700) (Address 0) (empty-0-with-ranks 1 0) ∷ []) → ⊥)
-    × (RankedByLastFreeOver (left Ready (empty-0-with-ranks 1 0)) [] (freedInto 0 ∷ [])
-    (did (NamedTake 1 7 2049) (Address 0) (empty-0-with-ranks 1 0) ∷ []) → ⊥)
+    (RankedByLastFreeOver (after-with Ready (empty-0-with-ranks 1 0)) [] (freedInto 0 ∷ []) (step-with (Take 2 700) (Address 0) (empty-0-with-ranks 1 0) ∷ []) → ⊥)
+    × (RankedByLastFreeOver (after-with Ready (empty-0-with-ranks 1 0)) [] (freedInto 0 ∷ [])
+    (step-with (NamedTake 1 7 2049) (Address 0) (empty-0-with-ranks 1 0) ∷ []) → ⊥)
 unfolding historyDefinitions uncheckedCallDefinitions
 rank-kept-refused = (λ h. ranked-without-free 0 0 _ _ (omega arith) refl refl (h .1), λ h. ranked-without-free 0 0 _ _ (omega arith) refl refl (h .1))
 
 -- where a run that was freed is ranked, by address, by name, in a drop, and one that a call of the list took,
 pub freed-run-ranked-refused :
-    (RankedByLastFreeOver (left Ready (empty-0-with-ranks 0 0)) run-from-1 [] (did (Free 1 4096) (Moves 0) (empty-0-with-ranks 0 1) ∷ []) → ⊥)
-    × (RankedByLastFreeOver (left Ready (empty-0-with-ranks 0 0)) run-from-1 [] (did (NamedFree 1 3) (Moves 0) (empty-0-with-ranks 0 1) ∷ []) → ⊥)
-    × (RankedByLastFreeOver (left Ready (empty-0-with-ranks 0 0)) run-from-1 [] (did (Drop 1 (4096 ∷ [])) (Moves 0) (empty-0-with-ranks 0 1) ∷ []) → ⊥)
-    × (RankedByLastFreeOver (left Ready (empty-0-with-ranks 0 0)) [] []
-    (did (Take 1 2049) (Address 4096) (empty-0-with-ranks 0 0) ∷ did (Free 1 4096) (Moves 0) (empty-0-with-ranks 0 1) ∷ []) → ⊥)
+    (RankedByLastFreeOver (after-with Ready (empty-0-with-ranks 0 0)) run-from-1 [] (step-with (Free 1 4096) (Moves 0) (empty-0-with-ranks 0 1) ∷ []) → ⊥)
+    × (RankedByLastFreeOver (after-with Ready (empty-0-with-ranks 0 0)) run-from-1 [] (step-with (NamedFree 1 3) (Moves 0) (empty-0-with-ranks 0 1) ∷ []) → ⊥)
+    × (RankedByLastFreeOver (after-with Ready (empty-0-with-ranks 0 0)) run-from-1 [] (step-with (Drop 1 (4096 ∷ [])) (Moves 0) (empty-0-with-ranks 0 1) ∷ []) → ⊥)
+    × (RankedByLastFreeOver (after-with Ready (empty-0-with-ranks 0 0)) [] []
+    (step-with (Take 1 2049) (Address 4096) (empty-0-with-ranks 0 0) ∷ step-with (Free 1 4096) (Moves 0) (empty-0-with-ranks 0 1) ∷ []) → ⊥)
 unfolding historyDefinitions uncheckedCallDefinitions ledgerDefinitions
 freed-run-ranked-refused = (
   λ h. ranked-without-free 1 0 _ _ (omega arith) refl refl (h .1),
@@ -242,10 +237,10 @@ freed-run-ranked-refused = (
 
 -- and where a block of a class that was freed leaves no rank: the ledger has it, though the state has a run there; and a call of the list took it
 pub freed-block-unranked-refused :
-    (RankedByLastFreeOver (left Ready (unnamedState small-setup (of 1 20 1 ∷ runPart 1 ∷ replicate 62 unused))) blocks-in-0-and-1 []
-    (did (Free 1 4096) (Moves 0) (empty-0-with-ranks 0 0) ∷ []) → ⊥)
-    × (RankedByLastFreeOver (left Ready (empty-0-with-ranks 0 0)) [] []
-    (did (Take 1 700) (Address 4096) (empty-0-with-ranks 0 0) ∷ did (Free 1 4096) (Moves 0) (empty-0-with-ranks 0 0) ∷ []) → ⊥)
+    (RankedByLastFreeOver (after-with Ready (unnamedState small-setup (of 1 20 1 ∷ runPart 1 ∷ replicate 62 unused))) blocks-in-0-and-1 []
+    (step-with (Free 1 4096) (Moves 0) (empty-0-with-ranks 0 0) ∷ []) → ⊥)
+    × (RankedByLastFreeOver (after-with Ready (empty-0-with-ranks 0 0)) [] []
+    (step-with (Take 1 700) (Address 4096) (empty-0-with-ranks 0 0) ∷ step-with (Free 1 4096) (Moves 0) (empty-0-with-ranks 0 0) ∷ []) → ⊥)
 unfolding historyDefinitions uncheckedCallDefinitions ledgerDefinitions
 freed-block-unranked-refused = (
   λ h. freed-without-rank 1 0 _ _ (omega arith) refl refl (h .1),
@@ -254,23 +249,23 @@ freed-block-unranked-refused = (
 
 -- the claim about what is offered is refused of the state before a list, without calls and with one,
 pub offered-before-list-refused :
-    (OffersLastFreedOver (left Ready (of-heap-with-ranks 1 0 1)) [] [] [] → ⊥)
-    × (OffersLastFreedOver (left Ready (of-heap-with-ranks 1 0 1)) [] [] (did (Take 1 2049) (Refused 17) (of-heap-with-ranks 1 0 0) ∷ []) → ⊥)
+    (OffersLastFreedOver (after-with Ready (of-heap-with-ranks 1 0 1)) [] [] [] → ⊥)
+    × (OffersLastFreedOver (after-with Ready (of-heap-with-ranks 1 0 1)) [] [] (step-with (Take 1 2049) (Refused 17) (of-heap-with-ranks 1 0 0) ∷ []) → ⊥)
 unfolding AlongHistory
 offered-before-list-refused = (λ h. higher-number-offered-refused .0 h, λ h. higher-number-offered-refused .0 (h .0))
 
 -- after the first call, though the second makes it right, and after the last,
 pub offered-after-call-refused :
-    (OffersLastFreedOver (left Ready (of-heap-with-ranks 1 0 0)) blocks-in-0-and-1 []
-    (did (Free 1 4096) (Moves 0) (of-heap-with-ranks 1 1 2) ∷ did (Free 1 0) (Moves 0) (of-heap-with-ranks 1 1 2) ∷ []) → ⊥)
-    × (OffersLastFreedOver (left Ready (of-heap-with-ranks 1 0 0)) blocks-in-0-and-1 []
-    (did (Free 1 0) (Moves 0) (of-heap-with-ranks 1 1 0) ∷ did (Free 1 4096) (Moves 0) (of-heap-with-ranks 1 1 2) ∷ []) → ⊥)
+    (OffersLastFreedOver (after-with Ready (of-heap-with-ranks 1 0 0)) blocks-in-0-and-1 []
+    (step-with (Free 1 4096) (Moves 0) (of-heap-with-ranks 1 1 2) ∷ step-with (Free 1 0) (Moves 0) (of-heap-with-ranks 1 1 2) ∷ []) → ⊥)
+    × (OffersLastFreedOver (after-with Ready (of-heap-with-ranks 1 0 0)) blocks-in-0-and-1 []
+    (step-with (Free 1 0) (Moves 0) (of-heap-with-ranks 1 1 0) ∷ step-with (Free 1 4096) (Moves 0) (of-heap-with-ranks 1 1 2) ∷ []) → ⊥)
 unfolding historyDefinitions ledgerDefinitions
 offered-after-call-refused = (λ h. later-freed-passed-over-refused .1 (h .1 .0), λ h. later-freed-passed-over-refused .0 (h .1 .1))
 
 -- and where the higher number is offered after the free of a run
 pub run-offered-refused :
-    OffersLastFreedOver (left Ready (of-heap-with-ranks 1 0 0)) run-from-1 [] (did (Free 1 4096) (Moves 0) (of-heap-with-ranks 1 0 1) ∷ []) → ⊥
+    OffersLastFreedOver (after-with Ready (of-heap-with-ranks 1 0 0)) run-from-1 [] (step-with (Free 1 4096) (Moves 0) (of-heap-with-ranks 1 0 1) ∷ []) → ⊥
 unfolding historyDefinitions ledgerDefinitions
 run-offered-refused h = higher-number-offered-refused .1 (h .1)
 

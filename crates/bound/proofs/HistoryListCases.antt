@@ -27,8 +27,9 @@ use Rattle.calls.proofs.CallDefinitions.{uncheckedCallDefinitions}
 use Rattle.bound.specs.Claim.{Step}
 use Rattle.bound.specs.History.{Event, LastFree, eventsAgo, notSinceRenewal, lastFree, RankedByLastFree, EquallyFull, FreedLater, OffersLastFreed}
 use Rattle.bound.specs.History.{RankedByLastFreeOver, OffersLastFreedOver}
+use Rattle.bound.proofs.CaseSteps.{after-with, step-with}
 use Rattle.bound.proofs.LedgerDefinitions.{ledgerDefinitions}
-use Rattle.bound.proofs.HistoryCases.{historyDefinitions, full, of-heap-with-ranks, empty-0-with-ranks, left, did, blocks-in-0-and-1, historyHolds}
+use Rattle.bound.proofs.HistoryCases.{historyDefinitions, full, of-heap-with-ranks, empty-0-with-ranks, blocks-in-0-and-1, historyHolds}
 
 -- ---- the last free into a superblock, and into two
 unfoldable isFreed : LastFree → Bool
@@ -185,11 +186,11 @@ historyTests = tt
 -- ---- the lists. 0 is freed into, then 1; a long block from 2 on is taken and freed; a drop is refused; 0 is renewed for heap 2
 abbrev pub frees-and-renewal : List Step
 frees-and-renewal =
-    did (Free 1 0) (Moves 0) (empty-0-with-ranks 1 0) ∷ did (NamedFree 1 3) (Moves 0) (empty-0-with-ranks 2 1)
-    ∷ did (Take 1 2049) (Address 8192) (empty-0-with-ranks 2 1) ∷ did (Free 1 8192) (Moves 0) (empty-0-with-ranks 2 1)
-    ∷ did (Drop 1 (0 ∷ [])) (Refused 7) (empty-0-with-ranks 2 1) ∷ did (Take 2 700) (Address 0) (empty-0-with-ranks 0 1) ∷ []
+    step-with (Free 1 0) (Moves 0) (empty-0-with-ranks 1 0) ∷ step-with (NamedFree 1 3) (Moves 0) (empty-0-with-ranks 2 1)
+    ∷ step-with (Take 1 2049) (Address 8192) (empty-0-with-ranks 2 1) ∷ step-with (Free 1 8192) (Moves 0) (empty-0-with-ranks 2 1)
+    ∷ step-with (Drop 1 (0 ∷ [])) (Refused 7) (empty-0-with-ranks 2 1) ∷ step-with (Take 2 700) (Address 0) (empty-0-with-ranks 0 1) ∷ []
 
-pub ranked-by-last-free-holds : RankedByLastFreeOver (left Ready (empty-0-with-ranks 0 0)) blocks-in-0-and-1 [] frees-and-renewal
+pub ranked-by-last-free-holds : RankedByLastFreeOver (after-with Ready (empty-0-with-ranks 0 0)) blocks-in-0-and-1 [] frees-and-renewal
 unfolding historyHolds historyDefinitions historyTests uncheckedCallDefinitions ledgerDefinitions
 ranked-by-last-free-holds =
     let unfreed = ranked-by-test (empty-0-with-ranks 0 0) in
@@ -211,8 +212,8 @@ free-below-2 a b h c (suc (suc k)) l t =
 
 -- 0 and 1 are equally full, and 0 is offered; then 1, which was freed into; and still 1, as 0 was freed into later and so is less full
 pub offers-last-freed-holds :
-    OffersLastFreedOver (left Ready (of-heap-with-ranks 1 0 0)) blocks-in-0-and-1 []
-    (did (Free 1 4096) (Moves 0) (of-heap-with-ranks 1 0 1) ∷ did (Free 1 0) (Moves 0) (empty-0-with-ranks 1 2) ∷ [])
+    OffersLastFreedOver (after-with Ready (of-heap-with-ranks 1 0 0)) blocks-in-0-and-1 []
+    (step-with (Free 1 4096) (Moves 0) (of-heap-with-ranks 1 0 1) ∷ step-with (Free 1 0) (Moves 0) (empty-0-with-ranks 1 2) ∷ [])
 unfolding historyHolds historyDefinitions historyTests uncheckedCallDefinitions ledgerDefinitions
 offers-last-freed-holds =
     (offers-by-test _ _ 2 (free-below-2 _ _) refl, (offers-by-test _ _ 2 (free-below-2 _ _) refl, offers-by-test _ _ 2 (free-below-2 _ _) refl))

@@ -14,7 +14,7 @@ use Rattle.heap.specs.declared.Superblock.{Superblock}
 use Rattle.heap.specs.declared.State.{State}
 use Rattle.heap.specs.Table.{blank, unused, superblockAt, isOfRun, withRank}
 use Rattle.heaplaws.proofs.StateFacts.{Shape}
-use Rattle.heaplaws.proofs.StateFacts.{RunAt}
+use Rattle.heap.specs.Runs.{InRun, RunAt}
 use Rattle.heaplaws.proofs.StateCheckLaws.{unowned-of-owner}
 use Rattle.heaplaws.proofs.ChoiceLaws.{MoreRecent}
 use Rattle.heaplaws.proofs.RankLaws.{rank-after-free-behind}
@@ -23,7 +23,6 @@ use Rattle.heaplaws.proofs.RunsKeptLaws.{owner-of-run, of-run-of-owner}
 use Rattle.calls.specs.Free.{superblockIndex, superblockHolding, isInRun, addressRefusal, orderPushed, smallBlockFreed, longBlockFreed, blockFreed}
 use Rattle.calls.specs.Drop.{allFreed, firstAddressRefusal, isTouched, dropMoves, dropOf}
 use Rattle.calllaws.proofs.CallEffects.{PassedAfterFrees, LongFreeEffect}
-use Rattle.calllaws.proofs.CallEffects.{InRun}
 use Rattle.calllaws.proofs.TransferredLaws.{passed-after-no-frees}
 use Rattle.calllaws.proofs.BlockFreedLaws.{freed-superblock-owner-le, small-block-freed-others}
 use Rattle.calllaws.proofs.RunFreedLaws.{freed-run-address, long-block-freed-effect}
