@@ -263,6 +263,13 @@ pub offered-after-call-refused :
 unfolding historyDefinitions ledgerDefinitions
 offered-after-call-refused = (λ h. later-freed-passed-over-refused .1 (h .1 .0), λ h. later-freed-passed-over-refused .0 (h .1 .1))
 
+-- where 0 is offered still after it was renewed,
+pub renewed-offered-refused :
+    OffersLastFreedOver (left Ready (empty-0-with-ranks 1 2)) [] (freedInto 0 ∷ freedInto 1 ∷ [])
+    (did (Take 2 700) (Address 0) (of-heap-with-ranks 0 1 2) ∷ []) → ⊥
+unfolding historyDefinitions uncheckedCallDefinitions
+renewed-offered-refused h = later-freed-passed-over-refused .2 (h .1)
+
 -- and where the higher number is offered after the free of a run
 pub run-offered-refused :
     OffersLastFreedOver (after-with Ready (of-heap-with-ranks 1 0 0)) run-from-1 [] (step-with (Free 1 4096) (Moves 0) (of-heap-with-ranks 1 0 1) ∷ []) → ⊥
@@ -277,4 +284,5 @@ historyHolds =
     also freed-without-rank-refused also renewed-with-rank-refused also freed-later-cases also not-freed-later-cases
     also later-freed-passed-over-refused also higher-number-offered-refused also ranked-before-list-refused also unranked-after-first-call-refused
     also unranked-after-last-call-refused also earlier-free-first-refused also rank-kept-refused also freed-run-ranked-refused
-    also freed-block-unranked-refused also offered-before-list-refused also offered-after-call-refused also run-offered-refused also tt
+    also freed-block-unranked-refused also offered-before-list-refused also offered-after-call-refused also renewed-offered-refused
+    also run-offered-refused also tt
