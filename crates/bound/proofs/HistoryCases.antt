@@ -265,8 +265,8 @@ offered-after-call-refused = (λ h. later-freed-passed-over-refused .1 (h .1 .0)
 
 -- where 0 is offered still after it was renewed,
 pub renewed-offered-refused :
-    OffersLastFreedOver (left Ready (empty-0-with-ranks 1 2)) [] (freedInto 0 ∷ freedInto 1 ∷ [])
-    (did (Take 2 700) (Address 0) (of-heap-with-ranks 0 1 2) ∷ []) → ⊥
+    OffersLastFreedOver (after-with Ready (empty-0-with-ranks 1 2)) [] (freedInto 0 ∷ freedInto 1 ∷ [])
+    (step-with (Take 2 700) (Address 0) (of-heap-with-ranks 0 1 2) ∷ []) → ⊥
 unfolding historyDefinitions uncheckedCallDefinitions
 renewed-offered-refused h = later-freed-passed-over-refused .2 (h .1)
 
