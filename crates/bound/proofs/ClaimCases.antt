@@ -2,7 +2,7 @@
 use mathlib.Core.Path.{_≡_, refl, ap}
 use mathlib.Core.Bool.{true, false}
 use mathlib.Core.List.{List, [], _∷_, _++_, map}
-use Prim.Native.Nat.{ℕ, _+_, _-_, _≤_, _<_}
+use Prim.Native.Nat.{ℕ, _-_, _≤_, _<_}
 use native.Mathlib.Omega.{arith}
 use lib.ListN.{getD, replicate}
 use lib.Dec.{leb, leb→le}
@@ -24,7 +24,7 @@ use Rattle.calls.specs.Answers.{After, numberOf, checked}
 use Rattle.calls.specs.Take.{takeOf}
 use Rattle.calls.specs.Free.{freeOf}
 use Rattle.calls.specs.Calls.{Call, Take, Free, NamedTake, NamedFree, Drop, callOf}
-use Rattle.bound.specs.Ledger.{Name, named, unnamed, Entry, ledgerAfter, entriesOf}
+use Rattle.bound.specs.Ledger.{named, unnamed, Entry, ledgerAfter, entriesOf}
 use Rattle.bound.specs.Claim.{Step, Linked, Bounded, freesRun, OwnerChanges, peakWith, Claims}
 use Rattle.bound.proofs.LedgerDefinitions.{entry, ledgerDefinitions}
 use Rattle.bound.proofs.CaseSteps.{after-with, step-with}

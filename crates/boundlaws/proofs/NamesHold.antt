@@ -2,7 +2,7 @@
 -- of the calls and their answers. Assumes nothing.
 use mathlib.Core.Path.{_≡_, refl, sym, ap, ap₂, _∙_, subst}
 use mathlib.Core.Bool.{Bool, true, false}
-use mathlib.Core.Logic.{_⊎_, inl, inr, ⊎-elim}
+use mathlib.Core.Logic.{inl, inr, ⊎-elim}
 use mathlib.Core.List.{List, [], _∷_}
 use Prim.Native.Nat.{ℕ, _+_, _≤_, _<_}
 use native.Mathlib.Decide.{ℕ-discrete}
@@ -23,7 +23,7 @@ use Rattle.calls.specs.Setup.{setupOf}
 use Rattle.calls.specs.Named.{heldAddress}
 use Rattle.calls.specs.Calls.{Call, Take, Free, NamedTake, NamedFree, Drop, callOf}
 use Rattle.calllaws.proofs.NamedRefusalConditions.{Held, named-take-refused-14, named-free-refused-15}
-use Rattle.bound.specs.Ledger.{Entry, classOfEntry, isAt, hasName, ledgerAfter, EachEntry, entriesAt}
+use Rattle.bound.specs.Ledger.{Entry, classOfEntry, isAt, ledgerAfter, EachEntry, entriesAt}
 use Rattle.bound.specs.Claim.{Step, Linked, peakWith}
 use Rattle.bound.specs.NamesClaim.{entriesNamed, NamesHold, NamesHoldOver, NameRefusals, NameRefusalsOver}
 use Rattle.boundlaws.proofs.LedgerNames.{EntryAgrees, holds-address-of-not-held, name-is-at-address}

@@ -14,11 +14,11 @@ use Rattle.heap.specs.States.{noState}
 use Rattle.checkrules.specs.Check.{withinLimits}
 use Rattle.calls.specs.Calls as call
 use Rattle.calls.specs.declared.Outcome.{Outcome}
-use Rattle.calls.specs.declared.Outcome.the-variants.{Ready, Refused}
+use Rattle.calls.specs.declared.Outcome.the-variants.{Ready}
 use Rattle.calls.specs.Answers.{After, refused, numberOf}
 use Rattle.calls.specs.Setup.{acceptedSetup, setupOf}
 use Rattle.calls.specs.Calls.{Call, callOf}
-use Rattle.bound.specs.Claim.{Step, Linked, Claims, lastAfter, stepsBy}
+use Rattle.bound.specs.Claim.{lastAfter, stepsBy}
 use Rattle.boundlaws.proofs.Demand3.{demand-3}
 use Rattle.boundlaws.proofs.TotalsOverLists.{totals-kept-over-list, live-totals-agree-with-ledger}
 use Rattle.bound.specs.History.{RankedByLastFreeOver, OffersLastFreedOver}
@@ -32,7 +32,7 @@ use Rattle.commands.specs.declared.Command.{Command}
 use Rattle.commands.specs.declared.Command.the-variants as command
 use Rattle.commands.specs.Record.{addressesIn, commandAt, sizeOfCommand, isRefused, commandsFrom, commandsOf}
 use Rattle.commandlaws.proofs.CommandLaws.{remaining, commands-of-is-commands-at-0, commands-setup, commands-refused, setup-first-and-inside, take-later-and-inside, free-later-and-inside, named-take-later-and-inside, named-free-later-and-inside, drop-later-and-inside}
-use Rattle.linerules.specs.Lines.{setupLine, takeLine, freeLine, namedTakeLine, namedFreeLine, dropLine, stopLine, finalLines}
+use Rattle.linerules.specs.Lines.{setupLine, dropLine, stopLine}
 use Rattle.keyrules.specs.Key.{beforeFirst, setupText, textOf, orderAfter, keyOf, storageOf}
 use Rattle.bound.specs.LongBlocksClaim.{LongBlocksAgreeOver}
 use Rattle.bound.specs.TotalsClaim.{TotalsCountedOver, LiveTotalsAgreeOver}
