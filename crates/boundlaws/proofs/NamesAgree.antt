@@ -1,5 +1,4 @@
--- Document 02, item 2: the names of the ledger, from the calls and their answers alone, and those of the state agree after every list of calls.
--- Assumes nothing.
+-- Document 02, item 2, over lists of calls: the names of the ledger, from the calls and their answers alone, and those of the state agree. Assumes nothing.
 use mathlib.Core.Path.{_≡_, refl, sym, ap, ap₂, _∙_}
 use mathlib.Core.Bool.{Bool, true, false}
 use mathlib.Core.List.{List, [], _∷_}
