@@ -129,6 +129,12 @@ pub other-storage-fails : KeyClaims stopped-record (places 512) other-u (command
 unfolding storageOf orderAfter numberOf stepsIn stepsBy callsIn lastAfter commandDefinitions callDefinitions
 other-storage-fails k = let z : _≡_ {A = ℕ} 7 0 = ap (λ (l : List ℕ). getD l 300 1) (k .storage) in omega arith
 
+-- the key ends as the claim has it: with the stop line, or the final lines
+pub key-ends-so : (before : After)
+    → (textOf [] before [] ≡ endingLines before []) × (textOf [] before (command.Refused 8 6 ∷ []) ≡ endingLines before (command.Refused 8 6 ∷ []))
+unfolding textOf endingLines
+key-ends-so before = (refl, refl)
+
 -- the list and the claim are those of the calls of the record, each as it is made, from what the setup left, with nothing live and M = 0
 pub claims-of-calls-of-record : (r order : List ℕ) (v : Setup) (commands : List Command) → KeyClaims r order v commands
     → Linked (setupOf v order) (stepsBy callOf (setupOf v order) (callsIn r commands))
@@ -139,7 +145,7 @@ claims-of-calls-of-record r order v commands k = (k .linked, k .claims)
 unfoldable pub keyClaimsHold : Unit {0}
 keyClaimsHold =
     calls-in-cases also steps-in-case also line-of-cases also step-lines-case also ending-lines-cases also record-starts-otherwise-fails
-    also setup-not-ready-fails also other-text-fails also other-storage-fails also claims-of-calls-of-record also tt
+    also setup-not-ready-fails also other-text-fails also other-storage-fails also key-ends-so also claims-of-calls-of-record also tt
 
 -- ---- what it holds of: the setup alone, and the setup with the unknown byte behind it
 bound-after-setup : Claims u (setupOf u (places 256)) [] (λ c. 0) []
