@@ -22,7 +22,7 @@ use Rattle.commands.specs.declared.Command.the-variants as command
 use Rattle.commands.specs.Record.{numbersOf}
 use Rattle.commands.proofs.CommandDefinitions.{commandDefinitions}
 use Rattle.textrules.specs.Text.{letters}
-use Rattle.linerules.specs.Lines.{finalLines}
+use Rattle.linerules.specs.Lines.{setupLine, finalLines}
 use Rattle.linerules.proofs.LineDefinitions.{lineDefinitions}
 use Rattle.keyrules.specs.Key.{beforeFirst, setupText, textOf, orderAfter, keyOf, storageOf}
 use Rattle.keyrules.specs.KeyClaim.{callsIn, stepsIn, lineOf, stepLines, endingLines, KeyClaims}
@@ -135,17 +135,24 @@ pub key-ends-so : (before : After)
 unfolding textOf endingLines
 key-ends-so before = (refl, refl)
 
--- the list and the claim are those of the calls of the record, each as it is made, from what the setup left, with nothing live and M = 0
+-- what follows is tried where the cases so far hold
+unfoldable fieldsFail : Unit {0}
+fieldsFail =
+    calls-in-cases also steps-in-case also line-of-cases also step-lines-case also ending-lines-cases also record-starts-otherwise-fails
+    also setup-not-ready-fails also other-text-fails also other-storage-fails also key-ends-so also tt
+
+-- the list, the claim, the text and the storage are those of the calls of the record, each as it is made, from what the setup left, with nothing
+-- live and M = 0: whatever the calls are
 pub claims-of-calls-of-record : (r order : List ℕ) (v : Setup) (commands : List Command) → KeyClaims r order v commands
-    → Linked (setupOf v order) (stepsBy callOf (setupOf v order) (callsIn r commands))
-    × Claims v (setupOf v order) [] (λ c. 0) (stepsBy callOf (setupOf v order) (callsIn r commands))
-unfolding stepsIn
-claims-of-calls-of-record r order v commands k = (k .linked, k .claims)
+    → (let steps = stepsBy callOf (setupOf v order) (callsIn r commands) in
+    Linked (setupOf v order) steps × Claims v (setupOf v order) [] (λ c. 0) steps
+    × (keyOf r order ≡ setupLine v ++ (stepLines steps ++ endingLines (lastAfter (setupOf v order) steps) commands))
+    × (storageOf r order ≡ lastAfter (setupOf v order) steps .order))
+unfolding fieldsFail stepsIn
+claims-of-calls-of-record r order v commands k = (k .linked, k .claims, k .printed, k .storage)
 
 unfoldable pub keyClaimsHold : Unit {0}
-keyClaimsHold =
-    calls-in-cases also steps-in-case also line-of-cases also step-lines-case also ending-lines-cases also record-starts-otherwise-fails
-    also setup-not-ready-fails also other-text-fails also other-storage-fails also key-ends-so also claims-of-calls-of-record also tt
+keyClaimsHold = claims-of-calls-of-record also tt
 
 -- ---- what it holds of: the setup alone, and the setup with the unknown byte behind it
 bound-after-setup : Claims u (setupOf u (places 256)) [] (λ c. 0) []
