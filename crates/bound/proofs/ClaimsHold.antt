@@ -42,7 +42,8 @@ unfolding quickClaimsHold Linked
 linked-goes-on before a steps k = k
 
 pub along-goes-on : (P : State → List Entry → Type 0) (before : After) (ledger : List Entry) (a : Step) (steps : List Step)
-    → Along P before ledger (a ∷ steps) → P (before .answer .state) ledger × Along P (a .after) (ledgerAfter ledger (a .call) (a .after .answer .outcome)) steps
+    → Along P before ledger (a ∷ steps)
+    → P (before .answer .state) ledger × Along P (a .after) (ledgerAfter ledger (a .call) (a .after .answer .outcome)) steps
 unfolding quickClaimsHold Along
 along-goes-on P before ledger a steps k = k
 
