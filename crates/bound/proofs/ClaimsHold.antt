@@ -12,6 +12,7 @@ use Rattle.laws.proofs.TestLaws.{T-of-true, not-T-of-false, true-not-false, bot
 use Rattle.laws.proofs.SumLaws.{all-at}
 use Rattle.classes.specs.Classes.{runLength}
 use Rattle.names.specs.Names.{isName, isHeld}
+use Rattle.heap.specs.declared.Setup.{Setup}
 use Rattle.heap.specs.declared.State.{State}
 use Rattle.heap.specs.Table.{superblockAt, unused, isOfRun, runPart}
 use Rattle.heap.specs.Runs.{InRun, RunAt}
@@ -20,9 +21,11 @@ use Rattle.heap.proofs.TableCases.{of}
 use Rattle.heap.proofs.TotalsCountedCases.{state-counted}
 use Rattle.heap.proofs.TotalsCases.{totals-counted-holds}
 use Rattle.heap.proofs.RunAtCases.{table-state, run-at-by-test}
+use Rattle.calls.specs.Answers.{After}
 use Rattle.calls.specs.Named.{heldAddress}
-use Rattle.bound.specs.Ledger.{Entry, named, unnamed, isAt, hasName, someEntry, entriesAt}
-use Rattle.bound.specs.Claim.{Along}
+use Rattle.calls.specs.Calls.{callOf}
+use Rattle.bound.specs.Ledger.{Entry, named, unnamed, isAt, hasName, someEntry, entriesAt, ledgerAfter}
+use Rattle.bound.specs.Claim.{Step, Linked, Along, Bounded, OwnersChangeRightly, peakWith, Claims}
 use Rattle.bound.specs.NamesClaim.{holdsAddress, NamesAgree}
 use Rattle.bound.specs.LongBlocksClaim.{LongBlocksAgree}
 use Rattle.bound.proofs.LedgerDefinitions.{entry, ledgerDefinitions}
@@ -31,6 +34,26 @@ use Rattle.bound.proofs.TotalsClaimCases.{CountedOver, state-live, Live
 use Rattle.bound.proofs.NamesClaimCases.{name-1, no-name, namesDefinitions, NamesOver}
 use Rattle.bound.proofs.LongBlocksClaimCases.{no-run}
 use Rattle.bound.proofs.ClaimCases.{quickClaimsHold}
+
+-- ---- lists of any length: what is claimed of a list is claimed of its first call, and of the calls after it from what that one left
+pub linked-goes-on : (before : After) (a : Step) (steps : List Step) → Linked before (a ∷ steps)
+    → (a .after ≡ callOf (before .answer .state) (before .order) (a .call)) × Linked (a .after) steps
+unfolding quickClaimsHold Linked
+linked-goes-on before a steps k = k
+
+pub along-goes-on : (P : State → List Entry → Type 0) (before : After) (ledger : List Entry) (a : Step) (steps : List Step)
+    → Along P before ledger (a ∷ steps)
+    → P (before .answer .state) ledger × Along P (a .after) (ledgerAfter ledger (a .call) (a .after .answer .outcome)) steps
+unfolding quickClaimsHold Along
+along-goes-on P before ledger a steps k = k
+
+pub claims-go-on : (u : Setup) (before : After) (ledger : List Entry) (peak : ℕ → ℕ) (a : Step) (steps : List Step)
+    → Claims u before ledger peak (a ∷ steps)
+    → (let then = ledgerAfter ledger (a .call) (a .after .answer .outcome) in Bounded u (before .answer .state) peak
+    × OwnersChangeRightly (u .q) ledger (before .answer .state) (a .after .answer .state) (a .call) (a .after .answer .outcome)
+    × Claims u (a .after) then (peakWith peak then) steps)
+unfolding quickClaimsHold Claims
+claims-go-on u before ledger peak a steps k = k
 
 -- ---- along a list: the claim that K is the number of live blocks of class 23, with 1, 2, 2 and 1, and of no call with 1
 pub along-holds : SpareIsLiveAlong 1 (three-calls 2 2 1) × SpareIsLiveAlong 1 []

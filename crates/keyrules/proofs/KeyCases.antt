@@ -27,6 +27,7 @@ use Rattle.calls.proofs.CallDefinitions.{callDefinitions}
 use Rattle.commands.proofs.CommandDefinitions.{commandDefinitions}
 use Rattle.linerules.proofs.LineDefinitions.{lineDefinitions}
 use Rattle.keyrules.specs.Key.{stateAndStorage, beforeFirst, setupText, textOf, orderAfter, keyOf, storageOf, room}
+use Rattle.keyrules.proofs.KeyClaimCases.{keyClaimsHold}
 
 -- what a key's case computes with
 unfoldable pub keyDefinitions : Unit {0}
@@ -107,7 +108,7 @@ storage-of-call r order s i a m size count first rest = (refl, refl, refl, refl,
 casesWithoutCheckHold : Unit {0}
 casesWithoutCheckHold =
     key-of-refused-setup-case also key-of-short-storage-case also storage-after-refused-setup also key-of-setup-only-case
-    also text-of-calls-on-no-state also room-enough also text-of-call also storage-of-call also tt
+    also text-of-calls-on-no-state also room-enough also text-of-call also storage-of-call also keyClaimsHold also tt
 
 -- an unknown byte behind a setup and an accepted take: their lines, and the stop line with the byte's own offset, as the last line
 key-stopped-by-unknown-byte : keyOf (setup ++ take ++ (6 ∷ [])) storage ≡ letters "setup 1 1 1 1 2\n" ++ letters "take 1 2048 at 0\n" ++ letters "stopped 8 at 10\n"

@@ -1,1 +1,2 @@
+pub mod KeyClaimCases
 pub mod KeyCases
