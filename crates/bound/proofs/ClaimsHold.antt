@@ -7,6 +7,7 @@ use native.Mathlib.Omega.{arith}
 use lib.ListN.{replicate}
 use lib.Dec.{T, T-not, eqb, eqb→eq}
 use borrow.Author.Tests.{ne-eqb}
+use Rattle.laws.proofs.Stages.{_also_}
 use Rattle.laws.specs.Sums.{both, either, sumBelow, allBelow}
 use Rattle.laws.proofs.TestLaws.{T-of-true, not-T-of-false, true-not-false, both-false-right, either-right-of-left-false}
 use Rattle.laws.proofs.SumLaws.{all-at}
@@ -33,18 +34,22 @@ use Rattle.bound.proofs.AlongCases.{three-calls, SpareIsLiveAlong}
 use Rattle.bound.proofs.TotalsClaimCases.{CountedOver, state-live, LiveOver}
 use Rattle.bound.proofs.NamesClaimCases.{name-1, no-name, namesDefinitions, NamesOver}
 use Rattle.bound.proofs.LongBlocksClaimCases.{no-run}
-use Rattle.bound.proofs.ClaimCases.{quickClaimsHold}
+use Rattle.bound.proofs.ClaimCases.{quickClaimsHold, bound-holds-beside-runs}
+
+-- all other cases, the last of which cites those before it
+unfoldable othersHold : Unit {0}
+othersHold = quickClaimsHold also bound-holds-beside-runs also tt
 
 -- ---- lists of any length: what is claimed of a list is claimed of its first call, and of the calls after it from what that one left
 pub linked-goes-on : (before : After) (a : Step) (steps : List Step) → Linked before (a ∷ steps)
     → (a .after ≡ callOf (before .answer .state) (before .order) (a .call)) × Linked (a .after) steps
-unfolding quickClaimsHold Linked
+unfolding othersHold Linked
 linked-goes-on before a steps k = k
 
 pub along-goes-on : (P : State → List Entry → Type 0) (before : After) (ledger : List Entry) (a : Step) (steps : List Step)
     → Along P before ledger (a ∷ steps)
     → P (before .answer .state) ledger × Along P (a .after) (ledgerAfter ledger (a .call) (a .after .answer .outcome)) steps
-unfolding quickClaimsHold Along
+unfolding othersHold Along
 along-goes-on P before ledger a steps k = k
 
 pub claims-go-on : (u : Setup) (before : After) (ledger : List Entry) (peak : ℕ → ℕ) (a : Step) (steps : List Step)
@@ -52,22 +57,22 @@ pub claims-go-on : (u : Setup) (before : After) (ledger : List Entry) (peak : �
     → (let then = ledgerAfter ledger (a .call) (a .after .answer .outcome) in Bounded u (before .answer .state) peak
     × OwnersChangeRightly (u .q) ledger (before .answer .state) (a .after .answer .state) (a .call) (a .after .answer .outcome)
     × Claims u (a .after) then (peakWith peak then) steps)
-unfolding quickClaimsHold Claims
+unfolding othersHold Claims
 claims-go-on u before ledger peak a steps k = k
 
 -- ---- along a list: the claim that K is the number of live blocks of class 23, with 1, 2, 2 and 1, and of no call with 1
 pub along-holds : SpareIsLiveAlong 1 (three-calls 2 2 1) × SpareIsLiveAlong 1 []
-unfolding quickClaimsHold Along ledgerDefinitions
+unfolding othersHold Along ledgerDefinitions
 along-holds = ((refl, (refl, (refl, refl))), refl)
 
 -- ---- totals
 pub totals-counted-over-holds : CountedOver state-counted state-counted state-counted state-counted
-unfolding quickClaimsHold Along
+unfolding othersHold Along
 totals-counted-over-holds = (totals-counted-holds, (totals-counted-holds, (totals-counted-holds, totals-counted-holds)))
 
 -- by the test of each class
 pub each-class-equal-by-test : (f g : ℕ → ℕ) → allBelow (λ c. eqb (f c) (g c)) 27 ≡ true → (c : ℕ) → c < 27 → f c ≡ g c
-unfolding quickClaimsHold
+unfolding othersHold
 each-class-equal-by-test f g e c l = eqb→eq (f c) (g c) (all-at (λ d. eqb (f d) (g d)) 27 (T-of-true _ e) c l)
 
 -- what heap 3 keeps is not looked at
@@ -78,7 +83,7 @@ live-totals-agree-holds =
 
 -- ---- names: beside the block of name 1 one without a name
 name-1-alone-is-held : (m : ℕ) → isHeld (65535 ∷ 257 ∷ []) (suc (suc m)) ≡ false
-unfolding quickClaimsHold namesDefinitions
+unfolding othersHold namesDefinitions
 name-1-alone-is-held m = both-false-right (isName (suc (suc m)))
 
 no-address-of-others : (m a : ℕ) → holdsAddress name-1 (suc (suc m)) a ≡ false
@@ -105,7 +110,7 @@ held-names-in-ledger (suc zero) t = tt
 held-names-in-ledger (suc (suc m)) t = absurd (not-T-of-false _ (name-1-alone-is-held m) t)
 
 names-of-unnamed : (m : ℕ) → hasName m (entry 4096 1800 unnamed) ≡ holdsAddress no-name m 4096
-unfolding quickClaimsHold namesDefinitions
+unfolding othersHold namesDefinitions
 names-of-unnamed m = sym (ap (λ (b : Bool). both b (eqb 4096 (heldAddress no-name m))) (both-false-right (isName m)))
 
 one-name-agrees : NamesAgree name-1 (entry 6144 2048 (named 1) ∷ entry 4096 1800 unnamed ∷ [])
@@ -124,7 +129,7 @@ names-agree-over-holds = (no-name-agrees, (one-name-agrees, (one-name-agrees, no
 runs-by-test : (s : State) (ledger : List Entry)
     → allBelow (λ k. either (eqb (superblockAt s k .run) 0) (eqb (entriesAt ledger (k * 4096) 27) 1)) 64 ≡ true
     → (k n : ℕ) → RunAt s k n → entriesAt ledger (k * 4096) 27 ≡ 1
-unfolding quickClaimsHold
+unfolding othersHold
 runs-by-test s ledger e k n r =
     let some = r .some in
     let fits = r .in-table in
@@ -154,11 +159,11 @@ abbrev pub two-blocks : List Entry
 two-blocks = entry 0 8192 unnamed ∷ entry 12288 2049 (named 3) ∷ entry 8192 2048 unnamed ∷ []
 
 run-from-0 : RunAt two-runs 0 2
-unfolding quickClaimsHold isOfRun allBelow
+unfolding othersHold isOfRun allBelow
 run-from-0 = run-at-by-test _ 0 2 refl (omega arith) (omega arith) (omega arith) refl refl
 
 run-from-3 : RunAt two-runs 3 1
-unfolding quickClaimsHold isOfRun allBelow
+unfolding othersHold isOfRun allBelow
 run-from-3 = run-at-by-test _ 3 1 refl (omega arith) (omega arith) (omega arith) refl refl
 
 parts-of-two-runs : (m : ℕ) → m < 64 → isOfRun (superblockAt two-runs m) ≡ true
