@@ -29,7 +29,8 @@ use Rattle.bound.specs.History.{Event, LastFree, eventsAgo, notSinceRene
 use Rattle.bound.specs.History.{RankedByLastFreeOver, OffersLastFreedOver}
 use Rattle.bound.proofs.CaseSteps.{after-with, step-with}
 use Rattle.bound.proofs.LedgerDefinitions.{ledgerDefinitions}
-use Rattle.bound.proofs.HistoryCases.{historyDefinitions, full, of-heap-with-ranks, empty-0-with-ranks, blocks-in-0-and-1, historyHolds}
+use Rattle.bound.proofs.ClaimCases.{quickClaimsHold}
+use Rattle.bound.proofs.HistoryCases.{historyDefinitions, full, of-heap-with-ranks, empty-0-with-ranks, blocks-in-0-and-1}
 
 -- ---- the last free into a superblock, and into two
 unfoldable isFreed : LastFree → Bool
@@ -191,7 +192,7 @@ frees-and-renewal =
     ∷ step-with (Drop 1 (0 ∷ [])) (Refused 7) (empty-0-with-ranks 2 1) ∷ step-with (Take 2 700) (Address 0) (empty-0-with-ranks 0 1) ∷ []
 
 pub ranked-by-last-free-holds : RankedByLastFreeOver (after-with Ready (empty-0-with-ranks 0 0)) blocks-in-0-and-1 [] frees-and-renewal
-unfolding historyHolds historyDefinitions historyTests uncheckedCallDefinitions ledgerDefinitions
+unfolding quickClaimsHold historyDefinitions historyTests uncheckedCallDefinitions ledgerDefinitions
 ranked-by-last-free-holds =
     let unfreed = ranked-by-test (empty-0-with-ranks 0 0) in
     let freed = ranked-by-test (empty-0-with-ranks 2 1) in
@@ -214,6 +215,6 @@ free-below-2 a b h c (suc (suc k)) l t =
 pub offers-last-freed-holds :
     OffersLastFreedOver (after-with Ready (of-heap-with-ranks 1 0 0)) blocks-in-0-and-1 []
     (step-with (Free 1 4096) (Moves 0) (of-heap-with-ranks 1 0 1) ∷ step-with (Free 1 0) (Moves 0) (empty-0-with-ranks 1 2) ∷ [])
-unfolding historyHolds historyDefinitions historyTests uncheckedCallDefinitions ledgerDefinitions
+unfolding quickClaimsHold historyDefinitions historyTests uncheckedCallDefinitions ledgerDefinitions
 offers-last-freed-holds =
     (offers-by-test _ _ 2 (free-below-2 _ _) refl, (offers-by-test _ _ 2 (free-below-2 _ _) refl, offers-by-test _ _ 2 (free-below-2 _ _) refl))

@@ -6,6 +6,6 @@ pub mod NamesClaimCases
 pub mod NamesHoldCases
 pub mod LongBlocksClaimCases
 pub mod HistoryCases
-pub mod HistoryListCases
 pub mod ClaimCases
+pub mod HistoryListCases
 pub mod ClaimsHold
