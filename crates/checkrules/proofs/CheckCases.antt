@@ -41,6 +41,12 @@ pub superblock-invalid-cases : map valid-as-superblock-1 (of 3 20 10 ∷ of 255 
 unfolding clausesHold checkDefinitions
 superblock-invalid-cases = refl
 
+-- "in an owned superblock the filled order places hold each unmarked block below n just once", in heap 0 and in the last heap as in heap 1: a filled place that holds a
+-- live block, or one of another superblock; in heap 0 a mark at n
+pub places-of-each-heap-cases : map valid-as-superblock-1 (of 0 20 9 ∷ of 0 20 2 ∷ of 0 26 7 ∷ of 2 20 9 ∷ of 2 20 2 ∷ []) ≡ replicate 5 false
+unfolding clausesHold checkDefinitions
+places-of-each-heap-cases = refl
+
 -- "superblocks from N on unused", for N = 5: superblocks 4, 5 and 6, in use and unused
 pub unused-from-cases :
     map (λ (k : ℕ). unusedFrom 5 k (of 1 26 0)) (4 ∷ 5 ∷ 6 ∷ []) ≡ true ∷ false ∷ false ∷ []
@@ -58,7 +64,7 @@ sparse-if-global-cases = (refl, refl)
 
 -- the cases so far take little. Each that follows takes longer, and is computed where they and the one before it hold
 unfoldable quickChecksHold : Unit {0}
-quickChecksHold = within-limits-cases also superblock-invalid-cases also unused-from-cases also sparse-if-global-cases also tt
+quickChecksHold = within-limits-cases also superblock-invalid-cases also places-of-each-heap-cases also unused-from-cases also sparse-if-global-cases also tt
 
 -- ---- "each held name points at a live block, no two at one". Superblock 1, of class 20, has blocks 1 and 3 live, superblock 63 its block 255
 abbrev pub state-with-names : List ℕ → State
