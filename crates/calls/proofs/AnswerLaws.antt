@@ -1,16 +1,16 @@
 -- An answer that is what the rules leave has what a contract says of it. Assumes nothing.
-use mathlib.Core.Path.{_≡_, sym, ap, subst}
+use mathlib.Core.Path.{_≡_, refl, sym, ap, subst}
 use mathlib.Core.List.{List}
 use Prim.Native.Nat.{ℕ}
 use Rattle.heap.specs.declared.State.{State}
 use Rattle.calls.specs.declared.Answer.{Answer}
 use Rattle.calls.specs.declared.Outcome.{Outcome}
 use Rattle.calls.specs.declared.Outcome.the-variants.{Refused}
-use Rattle.calls.specs.Answers.{After, numberOf, valuesOf, HasNumberAndValuesOf, PassesIfAccepted, refused}
+use Rattle.calls.specs.Answers.{After, HasNumberAndValuesOf, PassesIfAccepted, refused}
 
 -- an outcome that is the rules' has their number and values
 pub has-number-and-values-of-equal : (outcome rules : Outcome) → outcome ≡ rules → HasNumberAndValuesOf outcome rules
-has-number-and-values-of-equal outcome rules e = record { number-is = ap numberOf e; values-are = ap valuesOf e }
+has-number-and-values-of-equal outcome rules e = subst (λ (x : Outcome). HasNumberAndValuesOf outcome x) e (record { number-is = refl; values-are = refl })
 
 -- ---- an answer and an order that are what the rules leave
 module _ (r : Answer) (order : List ℕ) (rules : After) (e : _≡_ {A = After} (record { answer = r; order = order }) rules) where

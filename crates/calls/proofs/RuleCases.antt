@@ -1,10 +1,12 @@
 -- Answers, the check's order, setups and the conditions of refusals, in cases that tell them from near misses, by computation. Assumes nothing.
-use mathlib.Core.Path.{_≡_, refl}
+use mathlib.Core.Path.{_≡_, refl, ap}
 use mathlib.Core.Bool.{true, false}
 use mathlib.Core.List.{List, [], _∷_, _++_, map}
 use Prim.Native.Nat.{ℕ}
-use lib.ListN.{replicate}
+use native.Mathlib.Omega.{arith}
+use lib.ListN.{getD, length, replicate}
 use Rattle.laws.proofs.Stages.{_also_}
+use Rattle.laws.proofs.TestLaws.{true-not-false}
 use Rattle.heap.specs.declared.Superblock.{Superblock}
 use Rattle.heap.specs.declared.Setup.{Setup}
 use Rattle.heap.specs.declared.State.{State}
@@ -14,7 +16,8 @@ use Rattle.heap.proofs.CaseStates.{unnamedState}
 use Rattle.heap.proofs.TableCases.{of, ranked}
 use Rattle.calls.specs.declared.Outcome.{Outcome}
 use Rattle.calls.specs.declared.Outcome.the-variants.{Ready, Address, Moves, Refused}
-use Rattle.calls.specs.Answers.{After, numberOf, valuesOf, refused, checked, isProcessor}
+use Rattle.checkrules.specs.Check.{passes}
+use Rattle.calls.specs.Answers.{After, numberOf, valuesOf, HasNumberAndValuesOf, PassesIfAccepted, refused, checked, isProcessor}
 use Rattle.calls.specs.Setup.{setupOf}
 use Rattle.calls.specs.Take.{otherPlaces, acquired, acquiredOrder, unrankedIfEmpty, nextBlock, addressOf, takenFrom, takenAt}
 use Rattle.calls.specs.Free.{blockOf, isUnmapped, isMisaligned, isLiveAt, markCleared, orderPushed, freedAt}
@@ -38,6 +41,33 @@ number-and-values-cases = (refl, refl)
 -- a state whose superblock 0 has an owner above P
 abbrev pub state-with-wrong-owner : ℕ → State
 state-with-wrong-owner q = unnamedState (setup-with 2 5 1 3 q) (of 3 26 3 ∷ replicate 63 unused)
+
+-- an outcome has the number and the values of another only where both are the same: not of another refusal or none, another address, other moves, nor where only one of the two has a value
+pub other-number-fails :
+    (HasNumberAndValuesOf (Refused 5) (Refused 6) → ⊥) × (HasNumberAndValuesOf (Refused 4) Ready → ⊥) × (HasNumberAndValuesOf (Moves 0) (Refused 7) → ⊥)
+unfolding numberOf valuesOf
+other-number-fails = (λ h. let z = h .number-is in omega arith, λ h. let z = h .number-is in omega arith, λ h. let z = h .number-is in omega arith)
+
+pub other-values-fail :
+    (HasNumberAndValuesOf (Address 5) (Address 6) → ⊥) × (HasNumberAndValuesOf (Moves 1) (Moves 2) → ⊥) × (HasNumberAndValuesOf Ready (Moves 0) → ⊥) × (HasNumberAndValuesOf (Address 0) Ready → ⊥)
+unfolding numberOf valuesOf
+other-values-fail = (
+  λ h. let z : _≡_ {A = ℕ} 5 6 = ap (λ (l : List ℕ). getD l 0 9) (h .values-are) in omega arith,
+  λ h. let z : _≡_ {A = ℕ} 1 2 = ap (λ (l : List ℕ). getD l 0 9) (h .values-are) in omega arith,
+  λ h. let z : _≡_ {A = ℕ} 0 1 = ap (λ (l : List ℕ). length l) (h .values-are) in omega arith,
+  λ h. let z : _≡_ {A = ℕ} 1 0 = ap (λ (l : List ℕ). length l) (h .values-are) in omega arith,
+)
+
+-- "An accepted call yields a state that passes", of a setup, a take and a free alike; nothing is asked of a refused one
+pub accepted-with-failing-state-fails :
+    (PassesIfAccepted Ready (state-with-wrong-owner 7) [] → ⊥) × (PassesIfAccepted (Address 9) (state-with-wrong-owner 7) [] → ⊥) × (PassesIfAccepted (Moves 3) (state-with-wrong-owner 7) [] → ⊥)
+unfolding numberOf callDefinitions
+accepted-with-failing-state-fails =
+    (λ h. true-not-false (passes (state-with-wrong-owner 7) []) (h refl) refl, λ h. true-not-false (passes (state-with-wrong-owner 7) []) (h refl) refl, λ h. true-not-false (passes (state-with-wrong-owner 7) []) (h refl) refl)
+
+pub refused-with-failing-state-holds : PassesIfAccepted (Refused 13) (state-with-wrong-owner 7) []
+unfolding numberOf
+refused-with-failing-state-holds e = absurd (omega arith)
 
 -- a refusal: its number, the state and the storage as they were
 pub refused-case : refused 9 (state-with-wrong-owner 7) (4 ∷ 5 ∷ []) ≡ record { answer = record { outcome = Refused 9; state = state-with-wrong-owner 7 }; order = 4 ∷ 5 ∷ [] }
@@ -145,7 +175,8 @@ next-block-cases = refl
 -- ---- the cases so far take little. Each that follows takes longer, and is computed where they and the one before it hold
 unfoldable quickRulesHold : Unit {0}
 quickRulesHold =
-    checked-past-check also free-unchecked-by-address-refusal also number-and-values-cases also refused-case also is-processor-cases
+    checked-past-check also free-unchecked-by-address-refusal also number-and-values-cases also other-number-fails also other-values-fail
+    also accepted-with-failing-state-fails also refused-with-failing-state-holds also refused-case also is-processor-cases
     also is-unmapped-cases also is-unmapped-past-N-cases also is-misaligned-cases also block-of-cases also is-live-at-cases also address-of-cases
     also acquired-cases also taken-from-case also mark-cleared-case also order-pushed-case also taken-at-place-1-case also next-block-cases also tt
 
