@@ -4,22 +4,35 @@ use mathlib.Core.List.{List, [], _∷_, _++_, map}
 use Prim.Native.Nat.{ℕ}
 use native.Mathlib.Omega.{arith}
 use lib.ListN.{getD, replicate}
-use Rattle.laws.specs.Sums.{allBelow}
+use Rattle.laws.proofs.Stages.{_also_}
+use Rattle.laws.specs.Sums.{sumBelow, allBelow}
+use Rattle.classes.specs.Classes.{counts, blocksOf}
 use Rattle.order.specs.Order.{cleared}
 use Rattle.heap.specs.declared.Superblock.{Superblock}
 use Rattle.heap.specs.declared.Setup.{Setup}
 use Rattle.heap.specs.declared.Totals.{Totals}
-use Rattle.heap.specs.Table.{isUnused, isOfRun}
+use Rattle.heap.specs.declared.State.{State}
+use Rattle.heap.specs.Table.{isUnused, isOfRun, isOfHeap}
+use Rattle.heap.proofs.CaseStates.{unnamedState}
+use Rattle.heap.proofs.TableCases.{of}
+use Rattle.heap.specs.Counts.{total, isOwnedOfClass, superblocksOfClass, ownersChanged, passedBetweenHeaps}
 use Rattle.checkrules.specs.Check.{withinLimits, isPartOfRun, isUnowned, isOwned, superblockValid, restValid}
 use Rattle.calls.specs.declared.Outcome.{Outcome}
-use Rattle.calls.specs.declared.Outcome.the-variants.{Ready, Refused}
+use Rattle.calls.specs.declared.Outcome.the-variants.{Ready, Address, Moves, Refused}
 use Rattle.calls.specs.Answers.{checked}
 use Rattle.calls.specs.Take.{takeOf}
 use Rattle.calls.specs.Drop.{dropOf}
 use Rattle.calls.specs.Calls.{Call, Take, Free, NamedTake, NamedFree, Drop, callOf}
+use Rattle.calls.proofs.CallDefinitions.{callDefinitions}
+use Rattle.bound.specs.Claim.{Bounded, OwnerChanges, Claims}
+use Rattle.bound.proofs.LedgerDefinitions.{ledgerDefinitions}
+use Rattle.bound.specs.Ledger.{unnamed}
+use Rattle.bound.proofs.ClaimCases.{each-class-le-by-test, not-le-by-test}
 use Rattle.rowrules.specs.declared.Control.{Control}
 use Rattle.rowrules.specs.Row.{RowAfter, setupOn, callOn, rowSetup, rowCall}
-use Rattle.rowrules.specs.RowClaim.{RowStep, RowLinked}
+use Rattle.rowrules.specs.RowClaim.{RowStep, RowLinked, RowClaims, stepOf}
+use Rattle.rowrules.proofs.LoadStoreCases.{load-of-64, load-of-63-is-unused, load-of-65-is-unused, store-of-accepted, store-of-refused, store-of-63-keeps-row, store-of-65-keeps-row}
+use Rattle.rowrules.proofs.RecordsAfterCases.{first-two-records-replaced, all-records-replaced}
 
 -- P = 2, N = 1, K = 3, p/q = 4/5; the same with p not below q; and five zeros
 abbrev pub example-setup : Setup
@@ -64,9 +77,12 @@ ranked-superblock = record { owner = 255; class = 0; live = 0 ∷ 0 ∷ 0 ∷ 0 
 abbrev pub invalid-superblock : Superblock
 invalid-superblock = record { owner = 99; class = 33; live = 11 ∷ 12 ∷ 13 ∷ 14 ∷ []; rank = 15; run = 17 }
 
--- storage in which something stands: two places more than are needed, and one too few
+-- storage in which something stands: two places more than are needed, just as many, and one too few
 abbrev pub storage-of-258 : List ℕ
 storage-of-258 = replicate 256 7 ++ 8 ∷ 9 ∷ []
+
+abbrev pub storage-of-256 : List ℕ
+storage-of-256 = replicate 256 7
 
 abbrev pub storage-of-255 : List ℕ
 storage-of-255 = replicate 255 7
@@ -86,12 +102,13 @@ abbrev pub setup-refused-case : ℕ → Setup → List Superblock → List ℕ �
 setup-refused-case r u row order = record { setup = u; row = row; order = order; after = row-after (Refused r) (control-with zero-setup no-name-held zero-totals) row order }
 
 -- "1, 12, then 13 for a lent row that is not 64 long"; an accepted one writes all 64 records, whatever they were, and the first N × 256 places, and
--- holds no names and has totals of 0
+-- holds no names and has totals of 0; N × 256 places are enough
 abbrev pub row-setup-cases : List SetupCase
 row-setup-cases =
     setup-refused-case 1 setup-with-p-equal-q (replicate 63 invalid-superblock) storage-of-255 ∷ setup-refused-case 12 example-setup (replicate 63 invalid-superblock) storage-of-255 ∷ setup-refused-case 13 example-setup (replicate 63 invalid-superblock) storage-of-258 ∷ setup-refused-case 13 example-setup (replicate 65 invalid-superblock) storage-of-258
     ∷ setup-refused-case 1 setup-with-p-equal-q (replicate 64 invalid-superblock) storage-of-258 ∷ setup-refused-case 12 example-setup (replicate 64 invalid-superblock) storage-of-255
-    ∷ record { setup = example-setup; row = replicate 64 invalid-superblock; order = storage-of-258; after = row-after Ready (control-with example-setup no-name-held zero-totals) (replicate 64 unused-superblock) (replicate 256 0 ++ 8 ∷ 9 ∷ []) } ∷ []
+    ∷ record { setup = example-setup; row = replicate 64 invalid-superblock; order = storage-of-258; after = row-after Ready (control-with example-setup no-name-held zero-totals) (replicate 64 unused-superblock) (replicate 256 0 ++ 8 ∷ 9 ∷ []) }
+    ∷ record { setup = example-setup; row = replicate 64 invalid-superblock; order = storage-of-256; after = row-after Ready (control-with example-setup no-name-held zero-totals) (replicate 64 unused-superblock) (replicate 256 0) } ∷ []
 
 pub row-setup-cases-are-computed : map (λ (k : SetupCase). rowSetup (k .setup) (k .row) (k .order)) row-setup-cases ≡ map (λ (k : SetupCase). k .after) row-setup-cases
 unfolding setupOn withinLimits cleared
@@ -109,13 +126,14 @@ pub record CallCase : Type 0 where
 abbrev pub call-refused-case : ℕ → Control → List Superblock → List ℕ → Call → CallCase
 call-refused-case r control row order call = record { control = control; row = row; order = order; call = call; after = row-after (Refused r) control row order }
 
--- "13 for setup numbers, 12, the rest of 13", in which is the row's length
+-- "13 for setup numbers, 12, the rest of 13", in which is the row's length; N × 256 places are enough
 abbrev pub row-call-cases : List CallCase
 row-call-cases =
     call-refused-case 13 control-with-p-equal-q (replicate 63 ranked-superblock) storage-of-255 (Take 2 2048) ∷ call-refused-case 12 example-control (replicate 63 ranked-superblock) storage-of-255 (Take 2 2048) ∷ call-refused-case 13 example-control (replicate 63 ranked-superblock) storage-of-258 (Take 2 2048)
     ∷ call-refused-case 13 example-control (replicate 65 ranked-superblock) storage-of-258 (Free 2 0) ∷ call-refused-case 13 example-control (replicate 64 invalid-superblock) storage-of-258 (Take 2 2048)
     ∷ call-refused-case 12 example-control (replicate 65 ranked-superblock) storage-of-255 (NamedTake 2 10 2048) ∷ call-refused-case 13 example-control (replicate 63 ranked-superblock) storage-of-258 (NamedFree 2 6)
-    ∷ call-refused-case 12 example-control (replicate 65 ranked-superblock) storage-of-255 (Drop 0 []) ∷ call-refused-case 13 example-control (replicate 65 ranked-superblock) storage-of-258 (Drop 0 []) ∷ call-refused-case 13 example-control (replicate 64 invalid-superblock) storage-of-258 (Drop 0 []) ∷ []
+    ∷ call-refused-case 12 example-control (replicate 65 ranked-superblock) storage-of-255 (Drop 0 []) ∷ call-refused-case 13 example-control (replicate 65 ranked-superblock) storage-of-258 (Drop 0 []) ∷ call-refused-case 13 example-control (replicate 64 invalid-superblock) storage-of-258 (Drop 0 [])
+    ∷ call-refused-case 13 example-control (replicate 63 ranked-superblock) storage-of-256 (Take 2 2048) ∷ []
 
 pub row-call-cases-are-computed : map (λ (k : CallCase). rowCall (k .control) (k .row) (k .order) (k .call)) row-call-cases ≡ map (λ (k : CallCase). k .after) row-call-cases
 unfolding callOn callOf takeOf dropOf checked withinLimits restValid superblockValid isOwned isUnowned isUnused isPartOfRun isOfRun allBelow
@@ -175,3 +193,87 @@ unfolding RowLinked callOn withinLimits
 other-totals-not-linked linked =
     let z : _≡_ {A = ℕ} 0 22 = ap (λ (x : RowAfter). getD (x .control .totals .superblocks) 242 1) (linked .0) in
     absurd (omega (arith, z))
+
+-- ---- so with each call of the list, the second too, that got another row, storage, names or totals than the first left
+abbrev pub refused-with : Control → List Superblock → List ℕ → RowStep
+refused-with control row order = record { call = Free 1 0; after = row-after (Refused 13) control row order }
+
+pub second-call-not-linked :
+    (RowLinked refused-before (refused-step (Take 2 2048) example-control (replicate 63 ranked-superblock) ∷ refused-with example-control (replicate 63 unused-superblock) storage-of-258 ∷ []) → ⊥)
+    × (RowLinked refused-before (refused-step (Take 2 2048) example-control (replicate 63 ranked-superblock) ∷ refused-with example-control (replicate 63 ranked-superblock) (replicate 258 9) ∷ []) → ⊥)
+    × (RowLinked refused-before (refused-step (Take 2 2048) example-control (replicate 63 ranked-superblock) ∷ refused-with (control-with example-setup no-name-held example-totals) (replicate 63 ranked-superblock) storage-of-258 ∷ []) → ⊥)
+    × (RowLinked refused-before (refused-step (Take 2 2048) example-control (replicate 63 ranked-superblock) ∷ refused-with (control-with example-setup name-6-held zero-totals) (replicate 63 ranked-superblock) storage-of-258 ∷ []) → ⊥)
+unfolding RowLinked callOn withinLimits
+second-call-not-linked = (
+  λ linked. let z : _≡_ {A = ℕ} 0 16 = ap (λ (x : RowAfter). getD (x .row) 0 invalid-superblock .rank) (linked .1 .0) in absurd (omega (arith, z)),
+  λ linked. let z : _≡_ {A = ℕ} 9 7 = ap (λ (x : RowAfter). getD (x .order) 0 1) (linked .1 .0) in absurd (omega (arith, z)),
+  λ linked. let z : _≡_ {A = ℕ} 65535 0 = ap (λ (x : RowAfter). getD (x .control .names) 6 1) (linked .1 .0) in absurd (omega (arith, z)),
+  λ linked. let z : _≡_ {A = ℕ} 0 22 = ap (λ (x : RowAfter). getD (x .control .totals .superblocks) 242 1) (linked .1 .0) in absurd (omega (arith, z)),
+)
+
+-- ---- the claim of a list on a row. P = 2, K = 3, p/q = 4/5: heap 2 has superblock 0, of class 26, and then heap 0 has
+abbrev pub row-of-owner : ℕ → List Superblock
+row-of-owner h = record { owner = h; class = 26; live = 0 ∷ 0 ∷ 0 ∷ 0 ∷ []; rank = 0; run = 0 } ∷ replicate 63 unused-superblock
+
+abbrev pub free-step : Outcome → List Superblock → RowStep
+free-step outcome row = record { call = Free 1 16; after = row-after outcome example-control row storage-of-258 }
+
+abbrev pub row-claims-from : List Superblock → List RowStep → Type 0
+row-claims-from row steps = RowClaims example-setup (row-after Ready example-control row storage-of-258) [] (λ c. 0) steps
+
+-- owners are counted in the row, of each call: a refused free that changes one, the first or the second of the list, fails the claim, and so does one that reports two moves
+pub row-claim-fails-of-owner-change :
+    (row-claims-from (row-of-owner 2) (free-step (Refused 6) (row-of-owner 0) ∷ []) → ⊥)
+    × (row-claims-from (row-of-owner 2) (free-step (Refused 6) (row-of-owner 2) ∷ free-step (Refused 6) (row-of-owner 0) ∷ []) → ⊥)
+    × (row-claims-from (row-of-owner 2) (free-step (Moves 2) (row-of-owner 0) ∷ []) → ⊥)
+unfolding Claims OwnerChanges ownersChanged passedBetweenHeaps isOfHeap sumBelow
+row-claim-fails-of-owner-change =
+    (λ k. let z = k .1 .2 6 refl in omega arith, λ k. let z = k .2 .1 .2 6 refl in omega arith, λ k. let z = k .1 .1 2 refl in omega arith)
+
+-- and so are superblocks: with nothing live, P × K = 6 of a class, and not 7, before the first call and after the last
+pub row-claim-fails-of-superblocks :
+    (row-claims-from (replicate 7 (getD (row-of-owner 0) 0 unused-superblock) ++ replicate 57 unused-superblock) [] → ⊥)
+    × (row-claims-from (row-of-owner 0) (free-step (Refused 6) (replicate 7 (getD (row-of-owner 0) 0 unused-superblock) ++ replicate 57 unused-superblock) ∷ []) → ⊥)
+unfolding Claims Bounded superblocksOfClass total isOwnedOfClass isOfHeap sumBelow blocksOf counts ledgerDefinitions
+row-claim-fails-of-superblocks = (λ k. not-le-by-test (k 26 (omega arith)) refl, λ k. not-le-by-test (k .2 26 (omega arith)) refl)
+
+-- a take that comes to nine superblocks, where the ledger has a block of the class before it: M is 2 then, and the bound 5 × 2 + 12 for 2 × 9
+pub row-claim-holds-of-take :
+    RowClaims example-setup (row-after Ready example-control (row-of-owner 0) storage-of-258) (record { address = 4096; size = 2048; name = unnamed } ∷ []) (λ c. 0)
+    (record { call = Take 1 2048; after = row-after (Address 16) example-control (replicate 9 (getD (row-of-owner 0) 0 unused-superblock) ++ replicate 55 unused-superblock) storage-of-258 } ∷ [])
+unfolding Claims OwnerChanges Bounded superblocksOfClass total isOwnedOfClass isOfHeap sumBelow allBelow blocksOf counts ledgerDefinitions
+row-claim-holds-of-take = (each-class-le-by-test _ _ refl, λ r e. absurd (address-refused e), each-class-le-by-test _ _ refl)
+  where
+    address-refused : {a r : ℕ} → Address a ≡ Refused r → ⊥
+    address-refused {a} {r} e = let z : _≡_ {A = ℕ} 0 1 = cc in omega arith
+
+-- what a call left, its row read as a table: outcome, setup numbers, names, totals, row and storage each from its own
+pub step-of-case :
+    stepOf (record { call = Free 1 16; after = row-after (Moves 2) example-control (row-of-owner 2) storage-of-258 })
+    ≡ record {
+      call = Free 1 16;
+      after = record {
+        answer = record { outcome = Moves 2; state = record { setup = example-setup; table = row-of-owner 2; names = name-6-held; totals = example-totals } };
+        order = storage-of-258;
+      };
+    }
+step-of-case = refl
+
+-- ---- a list whose first call changes the row: P = 1, N = 1; superblock 0 of heap 1 and class 26 has block 0 live, and then block 1 too, so that the second take is
+-- refused 4. The check makes it longer than the cases above and those of loading and storing, and it is computed where they hold
+unfoldable quickRowsHold : Unit {0}
+quickRowsHold =
+    row-setup-cases-are-computed also row-call-cases-are-computed also call-on-64-is-computed also refused-calls-linked also another-row-not-linked also other-storage-not-linked
+    also other-ranks-not-linked also other-names-not-linked also other-totals-not-linked also second-call-not-linked also row-claim-fails-of-owner-change
+    also row-claim-fails-of-superblocks also row-claim-holds-of-take also step-of-case also load-of-64 also load-of-63-is-unused also load-of-65-is-unused also store-of-accepted also store-of-refused
+    also store-of-63-keeps-row also store-of-65-keeps-row also first-two-records-replaced also all-records-replaced also tt
+
+abbrev pub one-superblock-after : Outcome → ℕ → RowAfter
+one-superblock-after outcome marks =
+    let s : State = unnamedState (record { processors = 1; superblocks = 1; spare = 1; p = 3; q = 7 }) (of 1 26 marks ∷ replicate 63 unused-superblock) in
+    row-after outcome (control-with (s .setup) (s .names) (s .totals)) (s .table) (1 ∷ replicate 255 7)
+
+pub second-take-gets-row-of-first :
+    RowLinked (one-superblock-after Ready 1) (record { call = Take 1 2048; after = one-superblock-after (Address 2048) 3 } ∷ record { call = Take 1 2048; after = one-superblock-after (Refused 4) 3 } ∷ [])
+unfolding quickRowsHold RowLinked callOn callDefinitions
+second-take-gets-row-of-first = (refl, (refl, tt))
