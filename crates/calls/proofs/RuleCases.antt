@@ -222,6 +222,22 @@ pub freed-in-heap-0-case :
 unfolding uncheckedCallDefinitions
 freed-in-heap-0-case = let before = freed-at-case in refl
 
+-- a free that leaves heap 2, the last, with 4 of 10 blocks live: its emptiest superblock passes to heap 0, one move; heap 1's of the class stays
+pub freed-with-move-case :
+    freedAt (three-ranked (of 2 20 31) (of 2 20 0) (of 1 20 1)) (8 ∷ 9 ∷ []) 2304
+    ≡ after-with (Moves 1) (three-ranked (ranked 2 20 23 1) (of 0 20 0) (of 1 20 1)) (3 ∷ 9 ∷ [])
+unfolding uncheckedCallDefinitions
+freed-with-move-case = let before = freed-in-heap-0-case in refl
+
+-- heap 2 acquires heap 0's superblock 1: empty, it is renewed for class 26 and leaves the ranking, which closes its gap, and its block 0 is taken; with block 0 live it keeps its class and its rank, and block 1 is taken
+pub taken-from-other-cases :
+    takenAt 2 26 (three-ranked (ranked 1 20 31 2) (ranked 0 20 0 1) unused) (replicate 512 9) Nothing (At 1)
+    ∷ takenAt 2 26 (three-ranked (ranked 1 20 31 2) (ranked 0 26 1 1) unused) (replicate 256 9 ++ 1 ∷ 9 ∷ []) Nothing (At 1) ∷ []
+    ≡ after-with (Address 4096) (three-ranked (ranked 1 20 31 1) (of 2 26 1) unused) (replicate 256 9 ++ 1 ∷ 0 ∷ replicate 254 9)
+    ∷ after-with (Address 6144) (three-ranked (ranked 1 20 31 2) (ranked 2 26 3 1) unused) (replicate 256 9 ++ 1 ∷ 9 ∷ []) ∷ []
+unfolding uncheckedCallDefinitions
+taken-from-other-cases = let before = freed-with-move-case in refl
+
 -- ---- a setup. P = 2, N = 5, K = 1, p/q = 3/7, and 1283 order places, which all hold something
 abbrev pub used-order : ℕ → List ℕ
 used-order k = replicate 1279 61 ++ replicate k 62
@@ -252,7 +268,7 @@ pub setup-refused-cases :
     setupOf (setup-with 2 5 1 7 7) (used-order 4) ∷ setupOf (setup-with 2 5 1 7 7) (used-order 0) ∷ setupOf (setup-with 2 5 1 3 7) (used-order 0) ∷ []
     ≡ refused-setup-with 1 (used-order 4) ∷ refused-setup-with 1 (used-order 0) ∷ refused-setup-with 12 (used-order 0) ∷ []
 unfolding callDefinitions
-setup-refused-cases = let before = freed-in-heap-0-case in refl
+setup-refused-cases = let before = taken-from-other-cases in refl
 
 -- "put n - 1 - j in place j for j below n": superblock 1 with nothing live, of the class or of another, and with block 2 live
 pub acquired-order-cases :
