@@ -7,6 +7,8 @@ use Prim.Native.Nat.{ℕ}
 use lib.ListN.{replicate}
 use Rattle.laws.proofs.Stages.{_also_}
 use Rattle.textrules.specs.Text.{letters}
+use Rattle.names.specs.Names.{noNames, withName}
+use Rattle.names.proofs.NameDefinitions.{nameDefinitions}
 use Rattle.heap.specs.declared.Superblock.{Superblock}
 use Rattle.heap.specs.declared.State.{State}
 use Rattle.heap.specs.Table.{unused, runPart}
@@ -150,13 +152,13 @@ several-runs =
       setup = record { processors = 1; superblocks = 64; spare = 15; p = 3; q = 8 };
       table = superblock 1 11 1 2 ∷ runPart 2 ∷ runPart 0 ∷ runPart 1 ∷ superblock 0 9 3 1 ∷ record { owner = 255; class = 0; live = 0 ∷ 0 ∷ 0 ∷ 0 ∷ []; rank = 0; run = 4 }
           ∷ replicate 55 unused ++ runPart 2 ∷ runPart 0 ∷ runPart 1 ∷ [];
-      names = 0 ∷ 256 ∷ replicate 1021 65535 ++ 16128 ∷ [];
+      names = withName (withName (withName noNames 0 0) 1 256) 1023 16128;
       totals = noTotals;
     }
 
--- a line for the first of a run alone, and none for its others
+-- a line for the first of a run alone, though a name holds it, and none for its others
 run-line-if-cases : (runLineIf 1 several-runs ≡ letters "run 1 superblocks 2\n") × (runLineIf 2 several-runs ≡ []) × (runLineIf 5 several-runs ≡ []) × (runLineIf 4 several-runs ≡ [])
-unfolding lineDefinitions
+unfolding lineDefinitions nameDefinitions
 run-line-if-cases = (refl, refl, refl, refl)
 
 -- after a stop line nothing follows
@@ -181,7 +183,7 @@ class-lines-case = refl
 -- "by first superblock", after the heaps and "before `end`"
 final-lines-with-runs-case : finalLines several-runs
     ≡ letters "heap 0 class 9 superblocks 1 live 2\nheap 1 class 11 superblocks 1 live 1\nrun 1 superblocks 2\nrun 3 superblocks 1\nrun 61 superblocks 2\nrun 63 superblocks 1\nend\n"
-unfolding lineDefinitions
+unfolding lineDefinitions nameDefinitions
 final-lines-with-runs-case = let before = class-lines-case in refl
 
 final-lines-case : finalLines several-superblocks
