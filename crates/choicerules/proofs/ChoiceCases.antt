@@ -27,13 +27,13 @@ choice-state n =
 pub emptiest-cases :
     emptiest 1 16 (choice-state 64) ∷ emptiest 2 16 (choice-state 64) ∷ emptiest 0 16 (choice-state 64) ∷ emptiest 2 17 (choice-state 64) ∷ emptiest 2 18 (choice-state 64) ∷ emptiest 0 0 (choice-state 64) ∷ []
     ≡ At 11 ∷ At 0 ∷ At 8 ∷ At 63 ∷ Nothing ∷ Nothing ∷ []
-unfolding emptiest chosenBelow prefer fewerLive belongs liveCount sumBelow markBit bit
+unfolding emptiest chosenBelow prefer fewerLive moreLive isMoreRecent isRanked belongs liveCount sumBelow markBit bit
 emptiest-cases = refl
 
 -- "The emptiest for a move is still chosen by number": of heap 1's with 2 live, which are 1 and 2, and of heap 0's, 3 and 4, the second is ranked, or ranked ahead
 pub emptiest-by-number-case :
     map (λ (h : ℕ). emptiest h 16 (unnamedState (choice-state 64 .setup) (of 1 16 7 ∷ of 1 16 3 ∷ ranked 1 16 3 1 ∷ ranked 0 16 1 3 ∷ ranked 0 16 2 2 ∷ replicate 59 unused))) (1 ∷ 0 ∷ []) ≡ At 1 ∷ At 3 ∷ []
-unfolding emptiest chosenBelow prefer fewerLive belongs liveCount sumBelow markBit bit
+unfolding emptiest chosenBelow prefer fewerLive moreLive isMoreRecent isRanked belongs liveCount sumBelow markBit bit
 emptiest-by-number-case = refl
 
 -- "heap 0: the lowest-numbered superblock with nothing live, of any class"; another heap's empty one is none
