@@ -140,18 +140,60 @@ fn write(text: &[u8], end: usize)
     stream::write_output(b"call", &text[..end]);
 }
 
-// A setup, or a take, a free or a drop on the state that the input holds.
+fn state_in(bytes: &[u8]) -> State {
+    stateload::state_at(bytes, formlayout::table_offset(bytes))
+}
+
+// A call on the state that the input holds is the entry of its own name; a setup, which takes no state, is the engine's.
+fn answer_to(bytes: &[u8], order: &mut [u16], addresses: &[u32]) -> Answer {
+    let request = callform::call_in(bytes);
+    match request {
+        Request::Setup => {
+            let u = callform::setup_in(bytes);
+            engine::setup(u, order)
+        }
+        Request::Take { processor, size } => {
+            let s = state_in(bytes);
+            entries::take(s, order, processor, size)
+        }
+        Request::Free { processor, address } => {
+            let s = state_in(bytes);
+            entries::free(s, order, processor, address)
+        }
+        Request::NamedTake {
+            processor,
+            name,
+            size,
+        } => {
+            let s = state_in(bytes);
+            entries::named_take(s, order, processor, name, size)
+        }
+        Request::NamedFree { processor, name } => {
+            let s = state_in(bytes);
+            entries::named_free(s, order, processor, name)
+        }
+        Request::Drop {
+            processor,
+            count: _,
+        } => {
+            let s = state_in(bytes);
+            entries::drop(s, order, processor, addresses)
+        }
+    }
+}
+
+// What is asked of a row: a setup, or a take, a free or a drop.
 enum Asked {
     Setup,
-    OnState(CallHeader),
+    Call(CallHeader),
 }
 
 fn asked_in(bytes: &[u8]) -> Asked {
     let request = callform::call_in(bytes);
     match request {
         Request::Setup => Asked::Setup,
-        Request::Take { processor, size } => Asked::OnState(CallHeader::Take { processor, size }),
-        Request::Free { processor, address } => Asked::OnState(CallHeader::Free {
+        Request::Take { processor, size } => Asked::Call(CallHeader::Take { processor, size }),
+        Request::Free { processor, address } => Asked::Call(CallHeader::Free {
             processor,
             address,
         }),
@@ -159,37 +201,19 @@ fn asked_in(bytes: &[u8]) -> Asked {
             processor,
             name,
             size,
-        } => Asked::OnState(CallHeader::NamedTake {
+        } => Asked::Call(CallHeader::NamedTake {
             processor,
             name,
             size,
         }),
-        Request::NamedFree { processor, name } => Asked::OnState(CallHeader::NamedFree {
+        Request::NamedFree { processor, name } => Asked::Call(CallHeader::NamedFree {
             processor,
             name,
         }),
         Request::Drop {
             processor,
             count: _,
-        } => Asked::OnState(CallHeader::Drop { processor }),
-    }
-}
-
-fn state_in(bytes: &[u8]) -> State {
-    stateload::state_at(bytes, formlayout::table_offset(bytes))
-}
-
-fn answer_to(bytes: &[u8], order: &mut [u16], addresses: &[u32]) -> Answer {
-    let asked = asked_in(bytes);
-    match asked {
-        Asked::Setup => {
-            let u = callform::setup_in(bytes);
-            engine::setup(u, order)
-        }
-        Asked::OnState(c) => {
-            let s = state_in(bytes);
-            engine::call_state(s, order, c, addresses)
-        }
+        } => Asked::Call(CallHeader::Drop { processor }),
     }
 }
 
@@ -201,7 +225,7 @@ fn row_answer_to(n: usize, bytes: &[u8], order: &mut [u16], addresses: &[u32]) -
             let u = callform::setup_in(bytes);
             rowplain::setup_by_row(n, rowrecords::other_records(), order, u)
         }
-        Asked::OnState(c) => {
+        Asked::Call(c) => {
             let s = state_in(bytes);
             let table = s.table;
             let records = rowrecords::records_of(table);

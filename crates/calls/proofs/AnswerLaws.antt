@@ -1,5 +1,5 @@
 -- An answer that is what the rules leave has what a contract says of it. Assumes nothing.
-use mathlib.Core.Path.{_≡_, sym, ap, subst}
+use mathlib.Core.Path.{_≡_, refl, sym, ap, subst}
 use mathlib.Core.List.{List}
 use Prim.Native.Nat.{ℕ, _≤_}
 use native.Mathlib.Omega.{arith}
@@ -11,7 +11,7 @@ use Rattle.calls.specs.Answers.{After, numberOf, valuesOf, HasNumberAndV
 
 -- an outcome that is the rules' has their number and values
 pub has-number-and-values-of-equal : (outcome rules : Outcome) → outcome ≡ rules → HasNumberAndValuesOf outcome rules
-has-number-and-values-of-equal outcome rules e = record { number-is = ap numberOf e; values-are = ap valuesOf e }
+has-number-and-values-of-equal outcome rules e = subst (λ (x : Outcome). HasNumberAndValuesOf outcome x) e (record { number-is = refl; values-are = refl })
 
 -- ---- the moves that an outcome reports: as many as it says, and none where it is an address or a refusal
 module _ (most n : ℕ) (outcome : Outcome) where

@@ -10,7 +10,7 @@ use Rattle.heap.specs.declared.State.{State}
 use Rattle.heap.specs.Table.{unused}
 use Rattle.heap.specs.States.{withNames}
 use Rattle.heap.proofs.CaseStates.{unnamedState}
-use Rattle.heap.proofs.TableCases.{ranked}
+use Rattle.heap.proofs.TableCases.{of, ranked}
 use Rattle.calls.specs.declared.Outcome.the-variants.{Ready, Address, Moves, Refused}
 use Rattle.calls.specs.Free.{blockNumberAt, blockFreed}
 use Rattle.calls.specs.Named.{isUnavailable, nameBound, boundBy, heldAddress}
@@ -23,14 +23,17 @@ pub is-unavailable-cases : map (isUnavailable named-state) (5 ∷ 1022 ∷ 4 ∷
 unfolding rulesHold uncheckedCallDefinitions
 is-unavailable-cases = refl
 
--- superblock 3 of class 20, of blocks of 768 bytes, and 4 of class 1, of 24; past the table there is no block
-pub block-number-at-cases : map (blockNumberAt refusal-state) (12288 ∷ 13824 ∷ 20440 ∷ 262144 ∷ []) ≡ 768 ∷ 770 ∷ 1193 ∷ 65535 ∷ []
+-- superblock 3 of class 20, of blocks of 768 bytes, and 4 of class 1, of 24; the first and the last block of superblock 63; past the table there is no block
+pub block-number-at-cases : map (blockNumberAt refusal-state) (12288 ∷ 13824 ∷ 20440 ∷ 258048 ∷ 262143 ∷ 262144 ∷ []) ≡ 768 ∷ 770 ∷ 1193 ∷ 16128 ∷ 16383 ∷ 65535 ∷ []
 unfolding rulesHold uncheckedCallDefinitions
 block-number-at-cases = refl
 
-pub held-address-cases : map (heldAddress (withNames refusal-state (withName (withName noNames 0 770) 1023 1193))) (0 ∷ 1023 ∷ []) ≡ 13824 ∷ 20440 ∷ []
+-- and the last block of a superblock of class 0, before one of another class
+pub held-address-cases :
+    map (heldAddress (withNames refusal-state (withName (withName noNames 0 770) 1023 1193))) (0 ∷ 1023 ∷ []) ≡ 13824 ∷ 20440 ∷ []
+    × heldAddress (withNames (unnamedState (setup-with 2 2 1 3 7) (of 1 0 1 ∷ of 2 26 3 ∷ replicate 62 unused)) (withName noNames 3 255)) 3 ≡ 4080
 unfolding rulesHold uncheckedCallDefinitions
-held-address-cases = refl
+held-address-cases = (refl, refl)
 
 -- name 7 points at block 2 of superblock 3; the other names and the superblocks are as they were
 pub name-bound-case : nameBound 7 13824 (withNames refusal-state (withName noNames 8 768)) ≡ withNames refusal-state (withName (withName noNames 8 768) 7 770)

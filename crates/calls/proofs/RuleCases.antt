@@ -1,11 +1,12 @@
 -- Answers, the check's order, setups and the conditions of refusals, in cases that tell them from near misses, by computation. Assumes nothing.
-use mathlib.Core.Path.{_≡_, refl}
+use mathlib.Core.Path.{_≡_, refl, ap}
 use mathlib.Core.Bool.{true, false}
 use mathlib.Core.List.{List, [], _∷_, _++_, map}
 use Prim.Native.Nat.{ℕ}
 use native.Mathlib.Omega.{arith}
-use lib.ListN.{replicate}
+use lib.ListN.{replicate, getD, length}
 use Rattle.laws.proofs.Stages.{_also_}
+use Rattle.laws.proofs.TestLaws.{true-not-false}
 use Rattle.heap.specs.declared.Superblock.{Superblock}
 use Rattle.heap.specs.declared.Setup.{Setup}
 use Rattle.heap.specs.declared.State.{State}
@@ -15,7 +16,8 @@ use Rattle.heap.proofs.CaseStates.{unnamedState}
 use Rattle.heap.proofs.TableCases.{of, ranked}
 use Rattle.calls.specs.declared.Outcome.{Outcome}
 use Rattle.calls.specs.declared.Outcome.the-variants.{Ready, Address, Moves, Refused}
-use Rattle.calls.specs.Answers.{After, numberOf, valuesOf, MovesAtMost, refused, checked, isProcessor}
+use Rattle.calls.specs.Answers.{After, numberOf, valuesOf, MovesAtMost, refused, checked, isProcessor, HasNumberAndValuesOf, PassesIfAccepted}
+use Rattle.checkrules.specs.Check.{passes}
 use Rattle.calls.specs.Setup.{setupOf}
 use Rattle.calls.specs.Take.{otherPlaces, acquired, acquiredOrder, unrankedIfEmpty, nextBlock, addressOf, takenFrom, takenAt}
 use Rattle.calls.specs.Free.{blockOf, isUnmapped, isMisaligned, isLiveAt, markCleared, orderPushed, freedAt}
@@ -56,6 +58,33 @@ moves-at-most-cases = (
 -- a state whose superblock 0 has an owner above P
 abbrev pub state-with-wrong-owner : ℕ → State
 state-with-wrong-owner q = unnamedState (setup-with 2 5 1 3 q) (of 3 26 3 ∷ replicate 63 unused)
+
+-- an outcome has the number and the values of another only where both are the same: not of another refusal or none, another address, other moves, nor where only one of the two has a value
+pub other-number-fails :
+    (HasNumberAndValuesOf (Refused 5) (Refused 6) → ⊥) × (HasNumberAndValuesOf (Refused 4) Ready → ⊥) × (HasNumberAndValuesOf (Moves 0) (Refused 7) → ⊥)
+unfolding numberOf valuesOf
+other-number-fails = (λ h. let z = h .number-is in omega arith, λ h. let z = h .number-is in omega arith, λ h. let z = h .number-is in omega arith)
+
+pub other-values-fail :
+    (HasNumberAndValuesOf (Address 5) (Address 6) → ⊥) × (HasNumberAndValuesOf (Moves 1) (Moves 2) → ⊥) × (HasNumberAndValuesOf Ready (Moves 0) → ⊥) × (HasNumberAndValuesOf (Address 0) Ready → ⊥)
+unfolding numberOf valuesOf
+other-values-fail = (
+  λ h. let z : _≡_ {A = ℕ} 5 6 = ap (λ (l : List ℕ). getD l 0 9) (h .values-are) in omega arith,
+  λ h. let z : _≡_ {A = ℕ} 1 2 = ap (λ (l : List ℕ). getD l 0 9) (h .values-are) in omega arith,
+  λ h. let z : _≡_ {A = ℕ} 0 1 = ap (λ (l : List ℕ). length l) (h .values-are) in omega arith,
+  λ h. let z : _≡_ {A = ℕ} 1 0 = ap (λ (l : List ℕ). length l) (h .values-are) in omega arith,
+)
+
+-- "An accepted call yields a state that passes", of a setup, a take and a free alike; nothing is asked of a refused one
+pub accepted-with-failing-state-fails :
+    (PassesIfAccepted Ready (state-with-wrong-owner 7) [] → ⊥) × (PassesIfAccepted (Address 9) (state-with-wrong-owner 7) [] → ⊥) × (PassesIfAccepted (Moves 3) (state-with-wrong-owner 7) [] → ⊥)
+unfolding numberOf callDefinitions
+accepted-with-failing-state-fails =
+    (λ h. true-not-false (passes (state-with-wrong-owner 7) []) (h refl) refl, λ h. true-not-false (passes (state-with-wrong-owner 7) []) (h refl) refl, λ h. true-not-false (passes (state-with-wrong-owner 7) []) (h refl) refl)
+
+pub refused-with-failing-state-holds : PassesIfAccepted (Refused 13) (state-with-wrong-owner 7) []
+unfolding numberOf
+refused-with-failing-state-holds e = absurd (omega arith)
 
 -- a refusal: its number, the state and the storage as they were
 pub refused-case : refused 9 (state-with-wrong-owner 7) (4 ∷ 5 ∷ []) ≡ record { answer = record { outcome = Refused 9; state = state-with-wrong-owner 7 }; order = 4 ∷ 5 ∷ [] }
@@ -164,9 +193,10 @@ next-block-cases = refl
 unfoldable quickRulesHold : Unit {0}
 quickRulesHold =
     checked-past-check also free-unchecked-by-address-refusal also number-and-values-cases also most-moves-cases also moves-at-most-cases
-    also refused-case also is-processor-cases also is-unmapped-cases also is-unmapped-past-N-cases also is-misaligned-cases
-    also block-of-cases also is-live-at-cases also address-of-cases also acquired-cases also taken-from-case also mark-cleared-case
-    also order-pushed-case also taken-at-place-1-case also next-block-cases also tt
+    also other-number-fails also other-values-fail
+    also accepted-with-failing-state-fails also refused-with-failing-state-holds also refused-case also is-processor-cases
+    also is-unmapped-cases also is-unmapped-past-N-cases also is-misaligned-cases also block-of-cases also is-live-at-cases also address-of-cases
+    also acquired-cases also taken-from-case also mark-cleared-case also order-pushed-case also taken-at-place-1-case also next-block-cases also tt
 
 -- ---- outcomes alone, which take little: 2 before 3, 14, 15 and 16; 3 before 17; 17, and 4; a take of 2048 from heap 1's own superblock; 14 before 3,
 -- and for a held name; 15 for a name that is not held and for 1024; 16; the first bad address of a drop, and a double
@@ -210,6 +240,22 @@ pub freed-in-heap-0-case :
 unfolding uncheckedCallDefinitions
 freed-in-heap-0-case = let before = freed-at-case in refl
 
+-- a free that leaves heap 2, the last, with 4 of 10 blocks live: its emptiest superblock passes to heap 0, one move; heap 1's of the class stays
+pub freed-with-move-case :
+    freedAt (three-ranked (of 2 20 31) (of 2 20 0) (of 1 20 1)) (8 ∷ 9 ∷ []) 2304
+    ≡ after-with (Moves 1) (three-ranked (ranked 2 20 23 1) (of 0 20 0) (of 1 20 1)) (3 ∷ 9 ∷ [])
+unfolding uncheckedCallDefinitions
+freed-with-move-case = let before = freed-in-heap-0-case in refl
+
+-- heap 2 acquires heap 0's superblock 1: empty, it is renewed for class 26 and leaves the ranking, which closes its gap, and its block 0 is taken; with block 0 live it keeps its class and its rank, and block 1 is taken
+pub taken-from-other-cases :
+    takenAt 2 26 (three-ranked (ranked 1 20 31 2) (ranked 0 20 0 1) unused) (replicate 512 9) Nothing (At 1)
+    ∷ takenAt 2 26 (three-ranked (ranked 1 20 31 2) (ranked 0 26 1 1) unused) (replicate 256 9 ++ 1 ∷ 9 ∷ []) Nothing (At 1) ∷ []
+    ≡ after-with (Address 4096) (three-ranked (ranked 1 20 31 1) (of 2 26 1) unused) (replicate 256 9 ++ 1 ∷ 0 ∷ replicate 254 9)
+    ∷ after-with (Address 6144) (three-ranked (ranked 1 20 31 2) (ranked 2 26 3 1) unused) (replicate 256 9 ++ 1 ∷ 9 ∷ []) ∷ []
+unfolding uncheckedCallDefinitions
+taken-from-other-cases = let before = freed-with-move-case in refl
+
 -- ---- a setup. P = 2, N = 5, K = 1, p/q = 3/7, and 1283 order places, which all hold something
 abbrev pub used-order : ℕ → List ℕ
 used-order k = replicate 1279 61 ++ replicate k 62
@@ -240,7 +286,7 @@ pub setup-refused-cases :
     setupOf (setup-with 2 5 1 7 7) (used-order 4) ∷ setupOf (setup-with 2 5 1 7 7) (used-order 0) ∷ setupOf (setup-with 2 5 1 3 7) (used-order 0) ∷ []
     ≡ refused-setup-with 1 (used-order 4) ∷ refused-setup-with 1 (used-order 0) ∷ refused-setup-with 12 (used-order 0) ∷ []
 unfolding callDefinitions
-setup-refused-cases = let before = freed-in-heap-0-case in refl
+setup-refused-cases = let before = taken-from-other-cases in refl
 
 -- "put n - 1 - j in place j for j below n": superblock 1 with nothing live, of the class or of another, and with block 2 live
 pub acquired-order-cases :

@@ -5,6 +5,7 @@ use mathlib.Core.List.{List, [], _∷_, _++_}
 use Prim.Native.Nat.{ℕ}
 use lib.ListN.{replicate}
 use Rattle.names.specs.Names.{noNames, withName}
+use Rattle.heap.specs.declared.Superblock.{Superblock}
 use Rattle.heap.specs.declared.State.{State}
 use Rattle.heap.specs.Table.{unused, runPart}
 use Rattle.heap.specs.Totals.{noTotals}
@@ -53,3 +54,24 @@ pub passes-with-run-cases :
     ≡ true ∷ false ∷ false ∷ false ∷ []
 unfolding checkDefinitions
 passes-with-run-cases = refl
+
+-- ---- heap 0's superblock, and the last one: the same superblocks with a place of heap 0's that holds its live block. Then with superblock 63 in use: N = 64 and it is heap 1's and full, or heap 0's
+-- with one of its two blocks live, which pass; of an owner above P; heap 0's with a place that holds its live block, and heap 0's and full; and heap 1's and full where N = 63
+abbrev pub with-last : ℕ → Superblock → State
+with-last n b = unnamedState (setup-with 1 n 1 3 7) (of 1 23 5 ∷ of 0 24 2 ∷ of 1 25 3 ∷ replicate 60 unused ++ b ∷ [])
+
+abbrev pub order-with-last : ℕ → List ℕ
+order-with-last j = three-superblocks-order ++ replicate 15360 9 ++ j ∷ replicate 255 9
+
+pub passes-of-heap-0-and-last-cases :
+    passes three-superblocks (1 ∷ replicate 255 8 ++ 1 ∷ replicate 511 9)
+    ∷ passes (with-last 64 (of 1 26 3)) (order-with-last 5)
+    ∷ passes (with-last 64 (of 0 26 1)) (order-with-last 1)
+    ∷ passes (with-last 64 (of 2 26 3)) (order-with-last 5)
+    ∷ passes (with-last 64 (of 0 26 1)) (order-with-last 0)
+    ∷ passes (with-last 64 (of 0 26 3)) (order-with-last 5)
+    ∷ passes (with-last 63 (of 1 26 3)) (order-with-last 5)
+    ∷ []
+    ≡ false ∷ true ∷ true ∷ false ∷ false ∷ false ∷ false ∷ []
+unfolding checkDefinitions
+passes-of-heap-0-and-last-cases = refl

@@ -41,6 +41,19 @@ pub superblock-invalid-cases : map valid-as-superblock-1 (of 3 20 10 ∷ of 255 
 unfolding clausesHold checkDefinitions
 superblock-invalid-cases = refl
 
+-- "in an owned superblock the filled order places hold each unmarked block below n just once", in heap 0 and in the last heap as in heap 1: a filled place that holds a
+-- live block, or one of another superblock; in heap 0 a mark at n
+pub places-of-each-heap-cases : map valid-as-superblock-1 (of 0 20 9 ∷ of 0 20 2 ∷ of 0 26 7 ∷ of 2 20 9 ∷ of 2 20 2 ∷ []) ≡ replicate 5 false
+unfolding clausesHold checkDefinitions
+places-of-each-heap-cases = refl
+
+-- each has its own places: of class 26 with block 0 live, or block 1, as superblock 0, whose first place holds 1, and as superblock 1, whose first holds 0
+pub places-of-own-superblock-cases :
+    map (λ (k : ℕ). superblockValid small-setup (1 ∷ replicate 255 7 ++ 0 ∷ replicate 255 7) k (of 1 26 1)) (0 ∷ 1 ∷ []) ≡ true ∷ false ∷ []
+    × map (λ (k : ℕ). superblockValid small-setup (1 ∷ replicate 255 7 ++ 0 ∷ replicate 255 7) k (of 1 26 2)) (0 ∷ 1 ∷ []) ≡ false ∷ true ∷ []
+unfolding clausesHold checkDefinitions
+places-of-own-superblock-cases = (refl, refl)
+
 -- "superblocks from N on unused", for N = 5: superblocks 4, 5 and 6, in use and unused
 pub unused-from-cases :
     map (λ (k : ℕ). unusedFrom 5 k (of 1 26 0)) (4 ∷ 5 ∷ 6 ∷ []) ≡ true ∷ false ∷ false ∷ []
@@ -58,17 +71,19 @@ sparse-if-global-cases = (refl, refl)
 
 -- the cases so far take little. Each that follows takes longer, and is computed where they and the one before it hold
 unfoldable quickChecksHold : Unit {0}
-quickChecksHold = within-limits-cases also superblock-invalid-cases also unused-from-cases also sparse-if-global-cases also tt
+quickChecksHold =
+    within-limits-cases also superblock-invalid-cases also places-of-each-heap-cases also places-of-own-superblock-cases also unused-from-cases
+    also sparse-if-global-cases also tt
 
--- ---- "each held name points at a live block, no two at one". Superblock 1, of class 20, has blocks 1 and 3 live, superblock 63 its block 255
+-- ---- "each held name points at a live block, no two at one". Superblock 1, of heap 2 and class 20, has blocks 1 and 3 live, superblock 2, of heap 0 and class 17, block 0, superblock 63 its block 255
 abbrev pub state-with-names : List ℕ → State
-state-with-names names = withNames (unnamedState small-setup (unused ∷ of 2 20 10 ∷ replicate 61 unused ++ record { owner = 1; class = 0; live = 0 ∷ 0 ∷ 0 ∷ 2 ^ 63 ∷ []; rank = 0; run = 0 } ∷ [])) names
+state-with-names names = withNames (unnamedState small-setup (unused ∷ of 2 20 10 ∷ of 0 17 1 ∷ replicate 60 unused ++ record { owner = 1; class = 0; live = 0 ∷ 0 ∷ 0 ∷ 2 ^ 63 ∷ []; rank = 0; run = 0 } ∷ [])) names
 
 -- no names; each live block named, by the first name and the last too; a name at block 2 of superblock 1, at block 3 of superblock 0, at block 1 of
 -- superblock 64, at the last number that is a block's; two names at block 1 of superblock 1, the first and the last, and two neighbours
 pub names-valid-cases :
     map (λ (l : List ℕ). namesValid (state-with-names l))
-    (noNames ∷ withName (withName (withName noNames 0 257) 1023 259) 512 16383
+    (noNames ∷ withName (withName (withName (withName noNames 0 257) 1023 259) 512 16383) 513 512
     ∷ withName noNames 0 258 ∷ withName noNames 1023 3 ∷ withName noNames 7 16385 ∷ withName noNames 7 65534
     ∷ withName (withName noNames 0 257) 1023 257 ∷ withName (withName noNames 7 257) 8 257 ∷ [])
     ≡ true ∷ true ∷ false ∷ false ∷ false ∷ false ∷ false ∷ false ∷ []

@@ -28,10 +28,16 @@ pub ranks-not-valid-cases :
 unfolding runChecksHold checkDefinitions
 ranks-not-valid-cases = refl
 
+-- the last superblock ranked though it is unused, or of a run, behind one that is in order
+pub last-superblock-ranked-cases :
+    map (λ (b : Superblock). ranksValid (unnamedState small-setup (ranked 1 17 1 1 ∷ replicate 62 unused ++ withRank 2 b ∷ []))) (unused ∷ runPart 1 ∷ []) ≡ false ∷ false ∷ []
+unfolding runChecksHold checkDefinitions
+last-superblock-ranked-cases = refl
+
 -- all 64 ranked
 pub all-ranked-case : ranksValid (unnamedState small-setup (listed (λ k. ranked 1 26 1 (64 - k)) 64)) ≡ true
 unfolding checkDefinitions listed
-all-ranked-case = let before = ranks-not-valid-cases in refl
+all-ranked-case = let before = ranks-not-valid-cases in let last = last-superblock-ranked-cases in refl
 
 -- ---- tables that are looked at to their end. They are computed only where the cases above and those of the other clauses hold: a declaration that cites a
 -- refused one is skipped, which makes an edit of a definition cheap

@@ -1,15 +1,16 @@
 -- The commands of document 01's whole case, of records whose bytes all differ, and the record's own refusals in their order. Assumes
 -- nothing.
-use mathlib.Core.Path.{_≡_, refl}
+use mathlib.Core.Path.{_≡_, refl, ap}
 use mathlib.Core.List.{List, [], _∷_, _++_}
 use Prim.Native.Nat.{ℕ, suc}
-use lib.ListN.{replicate}
+use native.Mathlib.Omega.{arith}
+use lib.ListN.{getD, replicate}
 use lib.ListN as bytes
 use Rattle.laws.proofs.Stages.{_also_}
 use Rattle.laws.specs.Lists.{listed}
 use Rattle.commands.specs.declared.Command.{Command}
 use Rattle.commands.specs.declared.Command.the-variants.{Setup, Take, Free, NamedTake, NamedFree, Drop, Refused}
-use Rattle.commands.specs.Record.{addressesIn, commandAt, commandsOf, commandNumberOf, refusalOffsetOf, commandByte, numbersOf}
+use Rattle.commands.specs.Record.{addressesIn, commandAt, commandsOf, commandNumberOf, refusalOffsetOf, commandByte, numbersOf, HasNumbersOf}
 use Rattle.commands.proofs.CommandDefinitions.{commandDefinitions}
 
 abbrev setup : List ℕ
@@ -119,6 +120,16 @@ named-free-first : (commandsOf named-free ≡ Refused 10 0 ∷ []) × (commandsO
 unfolding commandDefinitions
 named-free-first = (refl, refl)
 
+-- each kind of command as the last of its record, with no byte behind it; the other two end records above
+last-command-read : (commandsOf setup ≡ Setup 1 2 1 1 4 ∷ []) × (commandsOf (setup ++ named-take) ≡ Setup 1 2 1 1 4 ∷ NamedTake 1 5 2048 ∷ []) × (commandsOf (setup ++ named-free) ≡ Setup 1 2 1 1 4 ∷ NamedFree 1 5 ∷ []) × (commandsOf (setup ++ (2 ∷ 1 ∷ 0 ∷ 8 ∷ 0 ∷ 0 ∷ [])) ≡ Setup 1 2 1 1 4 ∷ Free 1 2048 ∷ [])
+unfolding commandDefinitions
+last-command-read = (refl, refl, refl, refl)
+
+-- at the end of a record there is no command, nor past it: 9 at its end, and 10 only where there is no byte at all
+past-the-end : (commandAt setup 6 ≡ Refused 9 6) × (commandAt setup 9 ≡ Refused 9 6) × (commandAt [] 0 ≡ Refused 10 0) × (commandAt [] 5 ≡ Refused 9 0)
+unfolding commandDefinitions
+past-the-end = (refl, refl, refl, refl)
+
 -- any name of two bytes is read: 14 and 15 are the call's refusals
 names-read-as-they-are : commandsOf (setup ++ (3 ∷ 1 ∷ 255 ∷ 3 ∷ 0 ∷ 0 ∷ 3 ∷ 1 ∷ 0 ∷ 4 ∷ 0 ∷ 0 ∷ 4 ∷ 1 ∷ 255 ∷ 255 ∷ []))
     ≡ Setup 1 2 1 1 4 ∷ NamedTake 1 1023 0 ∷ NamedTake 1 1024 0 ∷ NamedFree 1 65535 ∷ []
@@ -189,14 +200,30 @@ values-of-all-kinds : values (commandsOf (distinct-bytes ++ (6 ∷ [])))
 unfolding values commandNumberOf refusalOffsetOf commandByte numbersOf commandDefinitions
 values-of-all-kinds = refl
 
+-- a command has the numbers of another only where all four are the same: not of another refusal, one at another offset, another call with the same numbers, other numbers, a drop whose addresses begin
+-- elsewhere
+other-command-fails :
+    (HasNumbersOf (Refused 8 5) (Refused 9 5) → ⊥) × (HasNumbersOf (Refused 8 5) (Refused 8 6) → ⊥) × (HasNumbersOf (Take 1 5) (Free 1 5) → ⊥) × (HasNumbersOf (NamedFree 1 5) (Take 1 5) → ⊥)
+    × (HasNumbersOf (Take 1 5) (Take 1 6) → ⊥) × (HasNumbersOf (Drop 1 2 9) (Drop 1 2 10) → ⊥) × (HasNumbersOf (Refused 8 5) (Setup 1 1 1 1 2) → ⊥)
+unfolding commandNumberOf refusalOffsetOf commandByte numbersOf
+other-command-fails = (
+  λ h. let z = h .number-is in omega arith,
+  λ h. let z = h .offset-is in omega arith,
+  λ h. let z : _≡_ {A = ℕ} 1 2 = ap (λ (l : List ℕ). getD l 0 9) (h .byte-is) in omega arith,
+  λ h. let z : _≡_ {A = ℕ} 4 1 = ap (λ (l : List ℕ). getD l 0 9) (h .byte-is) in omega arith,
+  λ h. let z : _≡_ {A = ℕ} 5 6 = ap (λ (l : List ℕ). getD l 1 9) (h .numbers-are) in omega arith,
+  λ h. let z : _≡_ {A = ℕ} 9 10 = ap (λ (l : List ℕ). getD l 2 0) (h .numbers-are) in omega arith,
+  λ h. let z = h .number-is in omega arith,
+)
+
 -- ---- the longest record takes longer than all cases above: it is computed where they hold
 unfoldable recordsHold : Unit {0}
 recordsHold =
     whole-case also no-byte also unknown-first also unknown-later also take-first also setup-later also free-truncated also commands-of-distinct-bytes
     also addresses-of-distinct-bytes also setup-truncated also setup-twice also free-first also free-first-truncated also take-truncated
     also free-of-one-byte also named-calls-read also named-take-truncated also named-free-truncated also named-take-first also named-free-first
-    also names-read-as-they-are also drops-read also drop-of-255-read also drop-truncated also drop-of-0-truncated also drop-of-255-truncated
-    also drop-first also size-0-read-as-0 also values-of-all-kinds also tt
+    also last-command-read also past-the-end also names-read-as-they-are also drops-read also drop-of-255-read also drop-truncated also drop-of-0-truncated also drop-of-255-truncated
+    also drop-first also size-0-read-as-0 also values-of-all-kinds also other-command-fails also tt
 
 -- 60000 bytes are read and 60001 are not, whatever they are
 record-of-60001-refused : commandAt (replicate 60001 3) 5 ≡ Refused 11 0

@@ -2,7 +2,7 @@
 use mathlib.Core.Path.{_≡_, refl}
 use mathlib.Core.Bool.{Bool, true, false, not}
 use mathlib.Core.List.{List, [], _∷_, _++_, map}
-use Prim.Native.Nat.{ℕ, _^_}
+use Prim.Native.Nat.{ℕ, _-_, _^_}
 use lib.ListN.{replicate}
 use Rattle.laws.specs.Sums.{sumBelow, allBelow}
 use Rattle.marks.specs.Marks.{bit, markBit, isMarked, liveCount, noMarkFrom}
@@ -47,3 +47,15 @@ marks-past-n-cases = refl
 pub all-live-case : placesValid [] (31 ∷ 0 ∷ 0 ∷ 0 ∷ []) 0 5 ≡ true
 unfolding placesValid placesInStorage eachOnce occurrences place noMarkFrom liveCount isMarked markBit bit sumBelow allBelow
 all-live-case = refl
+
+-- marks beyond the first number: of 256 blocks all are live but 3, 70, 130 and 255, and superblock 0's first four places hold these; then a live block of each number instead of a free one, a free
+-- one twice, and all but one of them
+abbrev pub four-free-of-256 : List ℕ
+four-free-of-256 = (2 ^ 64 - 9) ∷ (2 ^ 64 - 65) ∷ (2 ^ 64 - 5) ∷ (2 ^ 63 - 1) ∷ []
+
+pub places-past-64-cases :
+    map (λ (places : List ℕ). placesValid places four-free-of-256 0 256)
+    ((255 ∷ 70 ∷ 3 ∷ 130 ∷ []) ∷ (255 ∷ 70 ∷ 4 ∷ 130 ∷ []) ∷ (255 ∷ 71 ∷ 3 ∷ 130 ∷ []) ∷ (255 ∷ 70 ∷ 3 ∷ 131 ∷ []) ∷ (254 ∷ 70 ∷ 3 ∷ 130 ∷ []) ∷ (255 ∷ 70 ∷ 70 ∷ 130 ∷ []) ∷ (255 ∷ 255 ∷ 3 ∷ 130 ∷ []) ∷ (255 ∷ 70 ∷ 3 ∷ []) ∷ [])
+    ≡ true ∷ replicate 7 false
+unfolding placesValid placesInStorage eachOnce occurrences place noMarkFrom liveCount isMarked markBit bit sumBelow allBelow
+places-past-64-cases = refl

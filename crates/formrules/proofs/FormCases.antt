@@ -11,7 +11,7 @@ use Rattle.laws.proofs.Stages.{_also_}
 use Rattle.littleendian.specs.Bytes.{byteAt, twoAt, foursAt}
 use Rattle.heap.specs.Table.{blank}
 use Rattle.formrules.specs.declared.Request.the-variants.{Setup, Take, Free, NamedTake, NamedFree, Drop}
-use Rattle.formrules.specs.Form.{callIn, superblockIn, namesIn, namesOffset, totalsIn, totalsOffset, stateIn, dropAddresses, tableOffset, placesOffset, placeCount, placesIn, wellFormed}
+use Rattle.formrules.specs.Form.{callIn, setupIn, superblockIn, namesIn, namesOffset, totalsIn, totalsOffset, stateIn, dropAddresses, tableOffset, placesOffset, placeCount, placesIn, wellFormed}
 
 -- ---- the call, by its first byte; behind it every byte another
 abbrev distinct-bytes : List ℕ
@@ -20,6 +20,17 @@ distinct-bytes = 1 ∷ 2 ∷ 3 ∷ 4 ∷ 5 ∷ 6 ∷ 7 ∷ 8 ∷ 9 ∷ 10 ∷ []
 call-in-cases : (callIn (0 ∷ distinct-bytes) ≡ Setup) × (callIn (1 ∷ distinct-bytes) ≡ Take 6 2055) × (callIn (2 ∷ distinct-bytes) ≡ Free 6 168364039) × (callIn (3 ∷ distinct-bytes) ≡ NamedTake 6 2055 2569) × (callIn (4 ∷ distinct-bytes) ≡ NamedFree 6 2055) × (callIn (5 ∷ distinct-bytes) ≡ Drop 6 2055)
 unfolding callIn
 call-in-cases = (refl, refl, refl, refl, refl, refl)
+
+-- P, N, K, p and q, whatever the call
+setup-in-cases :
+    (setupIn (0 ∷ distinct-bytes) ≡ record { processors = 1; superblocks = 2; spare = 3; p = 4; q = 5 }) × (setupIn (5 ∷ 9 ∷ 8 ∷ 7 ∷ 6 ∷ []) ≡ record { processors = 9; superblocks = 8; spare = 7; p = 6; q = 0 })
+unfolding setupIn
+setup-in-cases = (refl, refl)
+
+-- order places, of two bytes each, the low one first, from a position on and as many as are asked for; past the end 0
+places-in-cases : (placesIn distinct-bytes 5 2 ≡ 1798 ∷ 2312 ∷ []) × (placesIn distinct-bytes 6 3 ≡ 2055 ∷ 2569 ∷ 0 ∷ []) × (placesIn distinct-bytes 6 0 ≡ [])
+unfolding placesIn listed
+places-in-cases = (refl, refl, refl)
 
 -- ---- a drop of C addresses: the bytes 10, 11, .. are those of its addresses and of what stands behind them
 abbrev drop-bytes : ℕ → ℕ → ℕ → List ℕ
@@ -61,12 +72,16 @@ names-of-two-bytes : (b : List ℕ) (at : ℕ)
 unfolding namesIn
 names-of-two-bytes b at = (length-listed (λ m. twoAt b (at + 2 * m)) 1024, λ m l. getD-listed (λ i. twoAt b (at + 2 * i)) 1024 m 0 l)
 
--- ---- the parts of a state that begins at byte 3, of any bytes: superblocks 0 and 63, the names, the totals
+-- ---- the parts of a state that begins at byte 3, of any bytes: the setup numbers, superblocks 0 and 63, the names, the totals; there are 64 superblocks
 state-parts-in-order : (b : List ℕ)
-    → (getD (stateIn b 3 .table) 0 blank ≡ superblockIn b 3) × (getD (stateIn b 3 .table) 63 blank ≡ superblockIn b 2271)
+    → (stateIn b 3 .setup ≡ setupIn b) × (getD (stateIn b 3 .table) 0 blank ≡ superblockIn b 3) × (getD (stateIn b 3 .table) 63 blank ≡ superblockIn b 2271)
     × (stateIn b 3 .names ≡ namesIn b 2307) × (stateIn b 3 .totals ≡ totalsIn b 4355)
 unfolding stateIn listed
-state-parts-in-order b = (refl, refl, refl, refl)
+state-parts-in-order b = (refl, refl, refl, refl, refl)
+
+state-of-64-superblocks : (b : List ℕ) (at : ℕ) → length (stateIn b at .table) ≡ 64
+unfolding stateIn
+state-of-64-superblocks b at = length-listed (λ k. superblockIn b (at + 36 * k)) 64
 
 -- ---- 5 is a call, the last, of any bytes that are as many as it has
 drop-well-formed-by-length : (l : List ℕ) → length (5 ∷ l) ≡ placesOffset (5 ∷ l) + 2 * placeCount (5 ∷ l) → wellFormed (5 ∷ l) ≡ true
@@ -94,8 +109,8 @@ totals-of-superblocks-in-cases = (refl, refl, refl)
 -- skipped, which makes an edit of a definition cheap
 partsHold : Unit {0}
 partsHold =
-    call-in-cases also addresses-in-cases also drop-count-of-two-bytes also table-offset-cases also places-offset-cases also drop-offset-cases
-    also superblock-in-case also names-of-two-bytes also state-parts-in-order also drop-well-formed-by-length also unknown-call-not-well-formed
+    call-in-cases also setup-in-cases also places-in-cases also addresses-in-cases also drop-count-of-two-bytes also table-offset-cases also places-offset-cases also drop-offset-cases
+    also superblock-in-case also names-of-two-bytes also state-parts-in-order also state-of-64-superblocks also drop-well-formed-by-length also unknown-call-not-well-formed
     also totals-of-live-blocks-in-cases also totals-of-superblocks-in-cases also tt
 
 -- ---- the names: 1024, past the end 0

@@ -12,7 +12,8 @@ use Rattle.heap.specs.declared.Superblock.{Superblock}
 use Rattle.heap.specs.declared.Setup.{Setup}
 use Rattle.heap.specs.declared.State.{State}
 use Rattle.heap.specs.Table.{unused, isUnused, isOfRun, startsRun, isOfHeap, liveBlocks, withOwner, withMarkAt, withoutMarkAt, withRank, isLiveBlock}
-use Rattle.heap.specs.States.{withSuperblock, noState, newState}
+use Rattle.heap.specs.Totals.{recounted}
+use Rattle.heap.specs.States.{withSuperblock, withNames, noState, newState}
 use Rattle.heap.specs.Counts.{total, belongs, isOwnedOfClass, oneIfBelongs, liveIfBelongs, superblocksOf, blocksIn, liveOf, superblocksOfClass, liveOfClass, ownersChanged}
 use Rattle.heap.proofs.CaseStates.{unnamedState}
 
@@ -27,11 +28,13 @@ ranked h c marks r = withRank r (of h c marks)
 abbrev pub small-setup : Setup
 small-setup = record { processors = 2; superblocks = 5; spare = 1; p = 3; q = 7 }
 
--- "unused (owner 255, class 0, nothing live)"
+-- "unused (owner 255, class 0, nothing live)": no mark in any of the four numbers; a rank, and the length of a run, are looked at by the check's other clauses
 pub is-unused-cases :
     map isUnused (of 255 0 0 ∷ of 255 1 0 ∷ of 255 0 4 ∷ of 0 0 0 ∷ of 254 0 0 ∷ of 1 0 0 ∷ []) ≡ true ∷ false ∷ false ∷ false ∷ false ∷ false ∷ []
+    × map (λ (live : List ℕ). isUnused (record { owner = 255; class = 0; live = live; rank = 0; run = 0 })) ((0 ∷ 1 ∷ 0 ∷ 0 ∷ []) ∷ (0 ∷ 0 ∷ 0 ∷ 2 ^ 63 ∷ []) ∷ []) ≡ false ∷ false ∷ []
+    × map isUnused (ranked 255 0 0 5 ∷ record { owner = 255; class = 0; live = 0 ∷ 0 ∷ 0 ∷ 0 ∷ []; rank = 0; run = 3 } ∷ []) ≡ true ∷ true ∷ []
 unfolding isUnused liveCount sumBelow markBit bit
-is-unused-cases = refl
+is-unused-cases = (refl, refl, refl)
 
 -- "A refused setup hands back five zeros and 64 unused superblocks", "A new setup has every superblock unused"; "A new or refused setup
 -- holds no names"
@@ -55,6 +58,20 @@ pub new-state-case :
     }
 new-state-case = let before = no-state-case in refl
 
+-- a superblock replaced: the last, in a state that holds names; setup numbers and names are as they were, and the totals those of the table then. Other names, and nothing else
+abbrev pub named-table-state : List Superblock → List ℕ → State
+named-table-state table names = record { setup = small-setup; table = table; names = names; totals = recounted table }
+
+pub superblock-replaced-case :
+    withSuperblock (named-table-state (ranked 1 17 13 2 ∷ replicate 62 unused ++ of 2 16 3 ∷ []) (7 ∷ 8 ∷ [])) 63 (ranked 0 16 1 1)
+    ≡ named-table-state (ranked 1 17 13 2 ∷ replicate 62 unused ++ ranked 0 16 1 1 ∷ []) (7 ∷ 8 ∷ [])
+superblock-replaced-case = refl
+
+pub names-replaced-case :
+    withNames (record { setup = small-setup; table = of 1 17 13 ∷ []; names = 7 ∷ 8 ∷ []; totals = record { superblocks = 4 ∷ []; live = 5 ∷ [] } }) (9 ∷ [])
+    ≡ record { setup = small-setup; table = of 1 17 13 ∷ []; names = 9 ∷ []; totals = record { superblocks = 4 ∷ []; live = 5 ∷ [] } }
+names-replaced-case = refl
+
 -- one superblock changed: its owner, block 70 live, block 2 no longer live, its rank, and nothing else
 pub superblock-change-cases :
     withOwner 3 (ranked 1 17 13 5) ∷ withMarkAt (ranked 1 17 13 5) 70 ∷ withoutMarkAt (ranked 1 17 13 5) 2 ∷ withRank 6 (ranked 1 17 13 5) ∷ []
@@ -74,7 +91,9 @@ is-live-block-cases = refl
 
 -- the cases so far take little. Each that follows takes longer, and is computed where they and the one before it hold
 unfoldable quickTableHolds : Unit {0}
-quickTableHolds = is-unused-cases also no-state-case also new-state-case also superblock-change-cases also is-live-block-cases also tt
+quickTableHolds =
+    is-unused-cases also no-state-case also new-state-case also superblock-replaced-case also names-replaced-case also superblock-change-cases
+    also is-live-block-cases also tt
 
 -- ---- counts: superblocks 0 to 6 and 63 are in use; heap 1 has three of class 16, with 3, 0 and 7 blocks live
 abbrev pub counted-state : State
@@ -89,13 +108,19 @@ pub owners-changed-cases :
 unfolding quickTableHolds ownersChanged sumBelow
 owners-changed-cases = refl
 
+-- a block that a name holds is a live block as any other: names 0 and 2 hold blocks 0 and 2 of superblock 0
+pub counts-beside-names-case :
+    (let s : State = withNames counted-state (0 ∷ 65535 ∷ 2 ∷ []) in superblocksOf 1 16 s ∷ blocksIn 1 16 s ∷ liveOf 1 16 s ∷ []) ≡ 3 ∷ 30 ∷ 10 ∷ []
+unfolding superblocksOf blocksIn liveOf total oneIfBelongs liveIfBelongs belongs blocksOf counts liveCount sumBelow markBit bit
+counts-beside-names-case = let before = owners-changed-cases in refl
+
 -- heap and class: superblocks, blocks, live blocks
 abbrev pub counts-by-heap : List (ℕ × ℕ × ℕ × ℕ × ℕ)
 counts-by-heap = (1, 16, 3, 30, 10) ∷ (2, 16, 1, 10, 5) ∷ (0, 16, 1, 10, 0) ∷ (1, 17, 1, 9, 4) ∷ (2, 17, 1, 9, 9) ∷ (0, 17, 0, 0, 0) ∷ []
 
 pub counts-by-heap-cases : map (λ (r : ℕ × ℕ × ℕ × ℕ × ℕ). (r .0, r .1, superblocksOf (r .0) (r .1) counted-state, blocksIn (r .0) (r .1) counted-state, liveOf (r .0) (r .1) counted-state)) counts-by-heap ≡ counts-by-heap
 unfolding superblocksOf blocksIn liveOf total oneIfBelongs liveIfBelongs belongs blocksOf counts liveCount sumBelow markBit bit
-counts-by-heap-cases = let before = owners-changed-cases in refl
+counts-by-heap-cases = let before = counts-beside-names-case in refl
 
 -- a class: "the superblocks of this class that any heap owns .., empty ones too", and their live blocks; an unused superblock is of no class
 abbrev pub counts-by-class : List (ℕ × ℕ × ℕ)

@@ -1,9 +1,10 @@
 -- Keys of small records, computed from the definitions alone: first those in which no call finds a state that passes its check. Assumes nothing.
-use mathlib.Core.Path.{_≡_, refl}
+use mathlib.Core.Path.{_≡_, refl, ap}
 use mathlib.Core.Bool.{true}
 use mathlib.Core.List.{List, [], _∷_, _++_}
-use Prim.Native.Nat.{ℕ, _+_, _*_}
-use lib.ListN.{replicate}
+use Prim.Native.Nat.{ℕ, _+_, _*_, _≤_}
+use native.Mathlib.Omega.{arith}
+use lib.ListN.{getD, length, replicate}
 use lib.Dec.{leb}
 use Rattle.laws.proofs.Stages.{_also_}
 use Rattle.names.specs.Names.{noNames, withName}
@@ -26,8 +27,9 @@ use Rattle.linerules.specs.Lines.{takeLine, freeLine, namedTakeLine, namedFreeL
 use Rattle.calls.proofs.CallDefinitions.{callDefinitions}
 use Rattle.commands.proofs.CommandDefinitions.{commandDefinitions}
 use Rattle.linerules.proofs.LineDefinitions.{lineDefinitions}
-use Rattle.keyrules.specs.Key.{stateAndStorage, beforeFirst, setupText, textOf, orderAfter, keyOf, storageOf, room}
+use Rattle.keyrules.specs.Key.{stateAndStorage, beforeFirst, setupText, textOf, orderAfter, keyOf, storageOf, room, KeyWritten, KeyOrNoRoom}
 use Rattle.keyrules.proofs.KeyClaimCases.{keyClaimsHold}
+use Rattle.keyrules.specs.declared.Printed.the-variants.{Text, NoRoom}
 
 -- what a key's case computes with
 unfoldable pub keyDefinitions : Unit {0}
@@ -67,6 +69,61 @@ storage-after-refused-setup = refl
 key-of-setup-only-case : keyOf setup storage ≡ letters "setup 1 1 1 1 2\n" ++ letters "end\n"
 unfolding keyDefinitions
 key-of-setup-only-case = refl
+
+-- ---- what the answer to a key means, of that setup alone, with 257 places of 7: its key has 20 bytes, of a buffer of 23, and its places are 0
+abbrev setup-key : List ℕ
+setup-key = letters "setup 1 1 1 1 2\n" ++ letters "end\n"
+
+abbrev places-of : ℕ → List ℕ
+places-of n = replicate 256 n ++ (7 ∷ [])
+
+key-written-holds : KeyWritten setup (places-of 7) (replicate 23 5) 20 (places-of 0) (setup-key ++ replicate 3 5)
+unfolding keyDefinitions
+key-written-holds = record { text = refl; count = refl; behind = refl; storage = refl }
+
+-- not with another text; with another count, though the buffer ends there; with a byte behind the text changed; with the places as they were, or others; none of these, whatever else holds
+other-text-not-written : KeyWritten setup (places-of 7) (replicate 23 5) 20 (places-of 0) (letters "setup 1 1 1 1 3\n" ++ letters "end\n" ++ replicate 3 5) → ⊥
+unfolding keyDefinitions
+other-text-not-written k = let z : _≡_ {A = ℕ} 51 50 = ap (λ (l : List ℕ). getD l 14 0) (k .text) in omega arith
+
+other-count-not-written : KeyWritten setup (places-of 7) (replicate 20 5) 21 (places-of 0) setup-key → ⊥
+unfolding keyDefinitions
+other-count-not-written k = let z : _≡_ {A = ℕ} 21 20 = k .count in omega arith
+
+byte-behind-not-kept : KeyWritten setup (places-of 7) (replicate 23 5) 20 (places-of 0) (setup-key ++ (5 ∷ 5 ∷ 6 ∷ [])) → ⊥
+unfolding keyDefinitions
+byte-behind-not-kept k = let z : _≡_ {A = ℕ} 6 5 = ap (λ (l : List ℕ). getD l 2 0) (k .behind) in omega arith
+
+other-storage-not-left :
+    (KeyWritten setup (places-of 7) (replicate 23 5) 20 (places-of 7) (setup-key ++ replicate 3 5) → ⊥) × (KeyWritten setup (places-of 7) (replicate 23 5) 20 (replicate 257 0) (setup-key ++ replicate 3 5) → ⊥)
+unfolding keyDefinitions
+other-storage-not-left =
+    (λ k. let z : _≡_ {A = ℕ} 7 0 = ap (λ (l : List ℕ). getD l 0 9) (k .storage) in omega arith, λ k. let z : _≡_ {A = ℕ} 0 7 = ap (λ (l : List ℕ). getD l 256 9) (k .storage) in omega arith)
+
+-- "the key, wherever the buffer has room for every key; else nothing was changed": no text in a buffer that has not the room, though this key fits in it; no other text than the key in one that
+-- has; nothing told for want of room where there is room
+text-without-room-fails : KeyOrNoRoom setup (places-of 7) (replicate 23 5) (Text 20) (places-of 0) (setup-key ++ replicate 3 5) → ⊥
+unfolding KeyOrNoRoom
+text-without-room-fails k = let z : room ≤ 23 = k .0 in omega arith
+
+other-text-with-room-fails : (out left new : List ℕ) → KeyOrNoRoom setup (places-of 7) out (Text 19) left new → ⊥
+unfolding KeyOrNoRoom keyDefinitions
+other-text-with-room-fails out left new k = let z : _≡_ {A = ℕ} 19 20 = k .1 .count in omega arith
+
+no-room-with-room-fails : (out left new : List ℕ) → room ≤ length out → KeyOrNoRoom setup (places-of 7) out NoRoom left new → ⊥
+unfolding KeyOrNoRoom
+no-room-with-room-fails out left new l k = let z = k .0 in omega arith
+
+-- where there is none, neither the buffer nor a place may change
+no-room-holds : KeyOrNoRoom setup (places-of 7) (replicate 23 5) NoRoom (places-of 7) (replicate 23 5)
+unfolding KeyOrNoRoom
+no-room-holds = (omega arith, refl, refl)
+
+no-room-changed-fails :
+    (KeyOrNoRoom setup (places-of 7) (replicate 23 5) NoRoom (places-of 7) (setup-key ++ replicate 3 5) → ⊥) × (KeyOrNoRoom setup (places-of 7) (replicate 23 5) NoRoom (places-of 0) (replicate 23 5) → ⊥)
+unfolding KeyOrNoRoom
+no-room-changed-fails =
+    (λ k. let z : _≡_ {A = ℕ} 115 5 = ap (λ (l : List ℕ). getD l 0 9) (k .2) in omega arith, λ k. let z : _≡_ {A = ℕ} 0 7 = ap (λ (l : List ℕ). getD l 0 9) (k .1) in omega arith)
 
 -- calls on no state, which are refused 13: each has its own line, and the record goes on; a stop line is the last
 text-of-calls-on-no-state :
@@ -108,6 +165,8 @@ storage-of-call r order s i a m size count first rest = (refl, refl, refl, refl,
 casesWithoutCheckHold : Unit {0}
 casesWithoutCheckHold =
     key-of-refused-setup-case also key-of-short-storage-case also storage-after-refused-setup also key-of-setup-only-case
+    also key-written-holds also other-text-not-written also other-count-not-written also byte-behind-not-kept also other-storage-not-left
+    also text-without-room-fails also other-text-with-room-fails also no-room-with-room-fails also no-room-holds also no-room-changed-fails
     also text-of-calls-on-no-state also room-enough also text-of-call also storage-of-call also keyClaimsHold also tt
 
 -- an unknown byte behind a setup and an accepted take: their lines, and the stop line with the byte's own offset, as the last line

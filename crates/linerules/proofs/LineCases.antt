@@ -7,9 +7,12 @@ use Prim.Native.Nat.{ℕ}
 use lib.ListN.{replicate}
 use Rattle.laws.proofs.Stages.{_also_}
 use Rattle.textrules.specs.Text.{letters}
+use Rattle.names.specs.Names.{noNames, withName}
+use Rattle.names.proofs.NameDefinitions.{nameDefinitions}
 use Rattle.heap.specs.declared.Superblock.{Superblock}
 use Rattle.heap.specs.declared.State.{State}
 use Rattle.heap.specs.Table.{unused, runPart}
+use Rattle.heap.specs.Totals.{noTotals}
 use Rattle.heap.proofs.CaseStates.{unnamedState}
 use Rattle.calls.specs.declared.CallHeader.the-variants as header
 use Rattle.calls.specs.declared.Outcome.the-variants.{Address, Moves, Refused}
@@ -141,15 +144,21 @@ unfolding lineDefinitions
 run-line-cases = (refl, refl)
 
 -- P = 1: heap 1's superblock, a run of two, one of one beside it, heap 0's superblock, and at the end of the table two runs more; an unused superblock that
--- carries a length, as no state that passes has, begins no run
+-- carries a length, as no state that passes has, begins no run. Names 0, 1 and 1023 hold block 0 of superblock 0, the first run and the last, two superblocks are ranked, and
+-- the totals kept are 0, as in no state that passes: no line shows names or ranks, and the lines are counted
 abbrev several-runs : State
 several-runs =
-    unnamedState (record { processors = 1; superblocks = 64; spare = 15; p = 3; q = 8 }) (superblock 1 11 1 0 ∷ runPart 2 ∷ runPart 0 ∷ runPart 1 ∷ superblock 0 9 3 0 ∷ record { owner = 255; class = 0; live = 0 ∷ 0 ∷ 0 ∷ 0 ∷ []; rank = 0; run = 4 }
-    ∷ replicate 55 unused ++ runPart 2 ∷ runPart 0 ∷ runPart 1 ∷ [])
+    record {
+      setup = record { processors = 1; superblocks = 64; spare = 15; p = 3; q = 8 };
+      table = superblock 1 11 1 2 ∷ runPart 2 ∷ runPart 0 ∷ runPart 1 ∷ superblock 0 9 3 1 ∷ record { owner = 255; class = 0; live = 0 ∷ 0 ∷ 0 ∷ 0 ∷ []; rank = 0; run = 4 }
+          ∷ replicate 55 unused ++ runPart 2 ∷ runPart 0 ∷ runPart 1 ∷ [];
+      names = withName (withName (withName noNames 0 0) 1 256) 1023 16128;
+      totals = noTotals;
+    }
 
--- a line for the first of a run alone, and none for its others
+-- a line for the first of a run alone, though a name holds it, and none for its others
 run-line-if-cases : (runLineIf 1 several-runs ≡ letters "run 1 superblocks 2\n") × (runLineIf 2 several-runs ≡ []) × (runLineIf 5 several-runs ≡ []) × (runLineIf 4 several-runs ≡ [])
-unfolding lineDefinitions
+unfolding lineDefinitions nameDefinitions
 run-line-if-cases = (refl, refl, refl, refl)
 
 -- after a stop line nothing follows
@@ -174,7 +183,7 @@ class-lines-case = refl
 -- "by first superblock", after the heaps and "before `end`"
 final-lines-with-runs-case : finalLines several-runs
     ≡ letters "heap 0 class 9 superblocks 1 live 2\nheap 1 class 11 superblocks 1 live 1\nrun 1 superblocks 2\nrun 3 superblocks 1\nrun 61 superblocks 2\nrun 63 superblocks 1\nend\n"
-unfolding lineDefinitions
+unfolding lineDefinitions nameDefinitions
 final-lines-with-runs-case = let before = class-lines-case in refl
 
 final-lines-case : finalLines several-superblocks

@@ -41,6 +41,21 @@ pub without-mark-cases :
 unfolding withoutMark
 without-mark-cases = refl
 
+-- the first and the last block of a number, each beside the other: blocks 0, 63, 64, 127, 128, 191, 192 and 255 become live in turn, and then are no longer live, of all eight
+abbrev pub ends-of-numbers : List ℕ
+ends-of-numbers = 0 ∷ 63 ∷ 64 ∷ 127 ∷ 128 ∷ 191 ∷ 192 ∷ 255 ∷ []
+
+pub marks-at-ends-cases :
+    map (withMark noMarks) ends-of-numbers
+    ≡ (1 ∷ 0 ∷ 0 ∷ 0 ∷ []) ∷ (2 ^ 63 ∷ 0 ∷ 0 ∷ 0 ∷ []) ∷ (0 ∷ 1 ∷ 0 ∷ 0 ∷ []) ∷ (0 ∷ 2 ^ 63 ∷ 0 ∷ 0 ∷ []) ∷ (0 ∷ 0 ∷ 1 ∷ 0 ∷ []) ∷ (0 ∷ 0 ∷ 2 ^ 63 ∷ 0 ∷ []) ∷ (0 ∷ 0 ∷ 0 ∷ 1 ∷ []) ∷ (0 ∷ 0 ∷ 0 ∷ 2 ^ 63 ∷ []) ∷ []
+    × map (withoutMark ((2 ^ 63 + 1) ∷ (2 ^ 63 + 1) ∷ (2 ^ 63 + 1) ∷ (2 ^ 63 + 1) ∷ [])) ends-of-numbers
+    ≡ (2 ^ 63 ∷ (2 ^ 63 + 1) ∷ (2 ^ 63 + 1) ∷ (2 ^ 63 + 1) ∷ []) ∷ (1 ∷ (2 ^ 63 + 1) ∷ (2 ^ 63 + 1) ∷ (2 ^ 63 + 1) ∷ [])
+    ∷ ((2 ^ 63 + 1) ∷ 2 ^ 63 ∷ (2 ^ 63 + 1) ∷ (2 ^ 63 + 1) ∷ []) ∷ ((2 ^ 63 + 1) ∷ 1 ∷ (2 ^ 63 + 1) ∷ (2 ^ 63 + 1) ∷ [])
+    ∷ ((2 ^ 63 + 1) ∷ (2 ^ 63 + 1) ∷ 2 ^ 63 ∷ (2 ^ 63 + 1) ∷ []) ∷ ((2 ^ 63 + 1) ∷ (2 ^ 63 + 1) ∷ 1 ∷ (2 ^ 63 + 1) ∷ [])
+    ∷ ((2 ^ 63 + 1) ∷ (2 ^ 63 + 1) ∷ (2 ^ 63 + 1) ∷ 2 ^ 63 ∷ []) ∷ ((2 ^ 63 + 1) ∷ (2 ^ 63 + 1) ∷ (2 ^ 63 + 1) ∷ 1 ∷ []) ∷ []
+unfolding withMark withoutMark
+marks-at-ends-cases = (refl, refl)
+
 -- "no mark at n or above": the highest mark is 255's, and without it 190's
 pub no-mark-from-cases :
     map (noMarkFrom six-live) (256 ∷ 255 ∷ 0 ∷ []) ≡ true ∷ false ∷ false ∷ []

@@ -12,9 +12,11 @@ use Rattle.marks.specs.Marks.{bit, markBit, liveCount}
 use Rattle.heap.specs.declared.Superblock.{Superblock}
 use Rattle.heap.specs.declared.State.{State}
 use Rattle.heap.specs.declared.Moved.{Moved}
-use Rattle.heap.specs.Table.{unused}
+use Rattle.heap.specs.Table.{unused, runPart}
+use Rattle.heap.specs.States.{withNames}
 use Rattle.heap.specs.Counts.{total, belongs, oneIfBelongs, liveIfBelongs, superblocksOf, blocksIn, liveOf}
 use Rattle.heap.proofs.CaseStates.{unnamedState}
+use Rattle.heap.proofs.TableCases.{ranked, small-setup}
 use Rattle.choicerules.specs.Choice.{prefer, chosenBelow, fewerLive, emptiest}
 use Rattle.moverules.specs.Moves.{bothConditions, mustMove, transferred, foundTransferred, transfersUpTo, excessTransferred, invariantRestored}
 
@@ -117,6 +119,15 @@ pub invariant-restored-in-global-case : invariantRestored 0 16 all-global ≡ re
 unfolding invariantRestored
 invariant-restored-in-global-case = refl
 
+-- one superblock passes to heap 0, in a state with ranks, a run and names: its owner is 0, and its class, marks and rank, the other superblocks and the names are as they were
+abbrev pub ranked-table : ℕ → List Superblock
+ranked-table owner = ranked 1 16 3 2 ∷ ranked owner 16 5 1 ∷ runPart 1 ∷ replicate 61 unused
+
+pub transferred-whole-state-case :
+    transferred 1 (withNames (unnamedState small-setup (ranked-table 2)) (256 ∷ 512 ∷ [])) ≡ withNames (unnamedState small-setup (ranked-table 0)) (256 ∷ 512 ∷ [])
+unfolding transferred
+transferred-whole-state-case = refl
+
 -- in blocks, not in bytes
 pub full-with-tails-stays : result-of full-with-tails ≡ expected-of full-with-tails
 unfolding excessTransferred transfersUpTo mustMove bothConditions transferred foundTransferred emptiest chosenBelow prefer fewerLive belongs total oneIfBelongs liveIfBelongs superblocksOf blocksIn liveOf
@@ -125,7 +136,9 @@ full-with-tails-stays = refl
 
 -- ---- the cases so far take little. Each that follows takes longer, and is computed where they and the one before it hold
 unfoldable quickMovesHold : Unit {0}
-quickMovesHold = both-conditions-cases also second-condition-equal-case also invariant-restored-in-global-case also full-with-tails-stays also tt
+quickMovesHold =
+    both-conditions-cases also second-condition-equal-case also invariant-restored-in-global-case also transferred-whole-state-case
+    also full-with-tails-stays also tt
 
 -- compared before it is divided
 pub division-rounds-moves-one : result-of division-rounds ≡ expected-of division-rounds

@@ -29,15 +29,18 @@ pub is-held-cases :
 unfolding nameDefinitions
 is-held-cases = (refl, refl, refl, refl)
 
--- "A name holds from its take until its block is freed": the other names keep what they point at
-pub with-name-case : withName three-names 1 262 ≡ 261 ∷ 262 ∷ 0 ∷ replicate 1020 65535 ++ 16383 ∷ []
+-- "A name holds from its take until its block is freed": the other names keep what they point at; name 257, of two bytes, and the last; 1024 is none
+pub with-name-case :
+    map (λ (m : ℕ). withName three-names m 262) (1 ∷ 257 ∷ 1023 ∷ 1024 ∷ [])
+    ≡ (261 ∷ 262 ∷ 0 ∷ replicate 1020 65535 ++ 16383 ∷ []) ∷ (261 ∷ 65535 ∷ 0 ∷ replicate 254 65535 ++ 262 ∷ replicate 765 65535 ++ 16383 ∷ [])
+    ∷ (261 ∷ 65535 ∷ 0 ∷ replicate 1020 65535 ++ 262 ∷ []) ∷ three-names ∷ []
 unfolding nameDefinitions
 with-name-case = refl
 
--- the name of block 261 is let go, and of block 0; nothing changes where the block has no name
+-- the name of block 261 is let go, of block 0, and of block 16383, which is the last name; nothing changes where the block has no name
 pub without-block-cases :
-    map (withoutBlock three-names) (261 ∷ 0 ∷ 262 ∷ 65535 ∷ [])
-    ≡ (65535 ∷ 65535 ∷ 0 ∷ replicate 1020 65535 ++ 16383 ∷ []) ∷ (261 ∷ 65535 ∷ 65535 ∷ replicate 1020 65535 ++ 16383 ∷ []) ∷ three-names ∷ three-names ∷ []
+    map (withoutBlock three-names) (261 ∷ 0 ∷ 16383 ∷ 262 ∷ 65535 ∷ [])
+    ≡ (65535 ∷ 65535 ∷ 0 ∷ replicate 1020 65535 ++ 16383 ∷ []) ∷ (261 ∷ 65535 ∷ 65535 ∷ replicate 1020 65535 ++ 16383 ∷ []) ∷ (261 ∷ 65535 ∷ 0 ∷ replicate 1021 65535) ∷ three-names ∷ three-names ∷ []
 unfolding nameDefinitions
 without-block-cases = refl
 

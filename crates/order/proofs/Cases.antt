@@ -40,6 +40,19 @@ pub renewed-last-superblock-case : renewed storage 3 7 ≡ replicate 256 70 ++ (
 unfolding renewed withRenewedPlaces descending
 renewed-last-superblock-case = refl
 
+-- a superblock has 256 places, which class 0 needs: 256 blocks, and not 257, though the storage goes on
+pub renewed-256-case : renewed storage 1 256 ≡ replicate 256 70 ++ descending 256 ++ (21 ∷ 22 ∷ replicate 254 72) ++ replicate 7 73
+unfolding renewed withRenewedPlaces descending
+renewed-256-case = refl
+
+pub renewed-257-case : renewed storage 1 257 ≡ storage
+unfolding renewed withRenewedPlaces descending
+renewed-257-case = refl
+
+pub descending-case : descending 4 ≡ 3 ∷ 2 ∷ 1 ∷ 0 ∷ []
+unfolding descending
+descending-case = refl
+
 pub renewed-short-storage-case : renewed storage 3 8 ≡ storage
 unfolding renewed withRenewedPlaces descending
 renewed-short-storage-case = refl

@@ -64,9 +64,12 @@ ranked-superblock = record { owner = 255; class = 0; live = 0 ∷ 0 ∷ 0 ∷ 0 
 abbrev pub invalid-superblock : Superblock
 invalid-superblock = record { owner = 99; class = 33; live = 11 ∷ 12 ∷ 13 ∷ 14 ∷ []; rank = 15; run = 17 }
 
--- storage in which something stands: two places more than are needed, and one too few
+-- storage in which something stands: two places more than are needed, just as many, and one too few
 abbrev pub storage-of-258 : List ℕ
 storage-of-258 = replicate 256 7 ++ 8 ∷ 9 ∷ []
+
+abbrev pub storage-of-256 : List ℕ
+storage-of-256 = replicate 256 7
 
 abbrev pub storage-of-255 : List ℕ
 storage-of-255 = replicate 255 7
@@ -86,12 +89,13 @@ abbrev pub setup-refused-case : ℕ → Setup → List Superblock → List ℕ �
 setup-refused-case r u row order = record { setup = u; row = row; order = order; after = row-after (Refused r) (control-with zero-setup no-name-held zero-totals) row order }
 
 -- "1, 12, then 13 for a lent row that is not 64 long"; an accepted one writes all 64 records, whatever they were, and the first N × 256 places, and
--- holds no names and has totals of 0
+-- holds no names and has totals of 0; N × 256 places are enough
 abbrev pub row-setup-cases : List SetupCase
 row-setup-cases =
     setup-refused-case 1 setup-with-p-equal-q (replicate 63 invalid-superblock) storage-of-255 ∷ setup-refused-case 12 example-setup (replicate 63 invalid-superblock) storage-of-255 ∷ setup-refused-case 13 example-setup (replicate 63 invalid-superblock) storage-of-258 ∷ setup-refused-case 13 example-setup (replicate 65 invalid-superblock) storage-of-258
     ∷ setup-refused-case 1 setup-with-p-equal-q (replicate 64 invalid-superblock) storage-of-258 ∷ setup-refused-case 12 example-setup (replicate 64 invalid-superblock) storage-of-255
-    ∷ record { setup = example-setup; row = replicate 64 invalid-superblock; order = storage-of-258; after = row-after Ready (control-with example-setup no-name-held zero-totals) (replicate 64 unused-superblock) (replicate 256 0 ++ 8 ∷ 9 ∷ []) } ∷ []
+    ∷ record { setup = example-setup; row = replicate 64 invalid-superblock; order = storage-of-258; after = row-after Ready (control-with example-setup no-name-held zero-totals) (replicate 64 unused-superblock) (replicate 256 0 ++ 8 ∷ 9 ∷ []) }
+    ∷ record { setup = example-setup; row = replicate 64 invalid-superblock; order = storage-of-256; after = row-after Ready (control-with example-setup no-name-held zero-totals) (replicate 64 unused-superblock) (replicate 256 0) } ∷ []
 
 pub row-setup-cases-are-computed : map (λ (k : SetupCase). rowSetup (k .setup) (k .row) (k .order)) row-setup-cases ≡ map (λ (k : SetupCase). k .after) row-setup-cases
 unfolding setupOn withinLimits cleared
@@ -109,13 +113,14 @@ pub record CallCase : Type 0 where
 abbrev pub call-refused-case : ℕ → Control → List Superblock → List ℕ → Call → CallCase
 call-refused-case r control row order call = record { control = control; row = row; order = order; call = call; after = row-after (Refused r) control row order }
 
--- "13 for setup numbers, 12, the rest of 13", in which is the row's length
+-- "13 for setup numbers, 12, the rest of 13", in which is the row's length; N × 256 places are enough
 abbrev pub row-call-cases : List CallCase
 row-call-cases =
     call-refused-case 13 control-with-p-equal-q (replicate 63 ranked-superblock) storage-of-255 (Take 2 2048) ∷ call-refused-case 12 example-control (replicate 63 ranked-superblock) storage-of-255 (Take 2 2048) ∷ call-refused-case 13 example-control (replicate 63 ranked-superblock) storage-of-258 (Take 2 2048)
     ∷ call-refused-case 13 example-control (replicate 65 ranked-superblock) storage-of-258 (Free 2 0) ∷ call-refused-case 13 example-control (replicate 64 invalid-superblock) storage-of-258 (Take 2 2048)
     ∷ call-refused-case 12 example-control (replicate 65 ranked-superblock) storage-of-255 (NamedTake 2 10 2048) ∷ call-refused-case 13 example-control (replicate 63 ranked-superblock) storage-of-258 (NamedFree 2 6)
-    ∷ call-refused-case 12 example-control (replicate 65 ranked-superblock) storage-of-255 (Drop 0 []) ∷ call-refused-case 13 example-control (replicate 65 ranked-superblock) storage-of-258 (Drop 0 []) ∷ call-refused-case 13 example-control (replicate 64 invalid-superblock) storage-of-258 (Drop 0 []) ∷ []
+    ∷ call-refused-case 12 example-control (replicate 65 ranked-superblock) storage-of-255 (Drop 0 []) ∷ call-refused-case 13 example-control (replicate 65 ranked-superblock) storage-of-258 (Drop 0 []) ∷ call-refused-case 13 example-control (replicate 64 invalid-superblock) storage-of-258 (Drop 0 [])
+    ∷ call-refused-case 13 example-control (replicate 63 ranked-superblock) storage-of-256 (Take 2 2048) ∷ []
 
 pub row-call-cases-are-computed : map (λ (k : CallCase). rowCall (k .control) (k .row) (k .order) (k .call)) row-call-cases ≡ map (λ (k : CallCase). k .after) row-call-cases
 unfolding callOn callOf takeOf dropOf checked withinLimits restValid superblockValid isOwned isUnowned isUnused isPartOfRun isOfRun allBelow
