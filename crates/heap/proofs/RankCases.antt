@@ -9,6 +9,7 @@ use Rattle.laws.specs.Lists.{listed}
 use Rattle.heap.specs.declared.Superblock.{Superblock}
 use Rattle.heap.specs.declared.State.{State}
 use Rattle.heap.specs.Table.{unused}
+use Rattle.heap.specs.States.{withNames}
 use Rattle.heap.specs.Ranks.{isRanked, isMoreRecent, rankAfterFree, rankAfterRenewal, rankedLatest, unranked}
 use Rattle.heap.proofs.CaseStates.{unnamedState}
 use Rattle.heap.proofs.TableCases.{ranked, small-setup, tableHolds}
@@ -41,10 +42,10 @@ pub unranked-cases :
 unfolding tableHolds unranked listed rankAfterRenewal isMoreRecent isRanked
 unranked-cases = refl
 
--- superblock 63 is ranked as the others are, and nothing but ranks changes
+-- superblock 63 is ranked as the others are, and nothing but ranks changes, in a state that holds names
 pub last-superblock-ranked-case :
-    rankedLatest 63 (unnamedState small-setup (ranked 1 17 5 1 ∷ replicate 62 unused ++ ranked 2 16 3 0 ∷ []))
-    ≡ record { setup = small-setup; table = ranked 1 17 5 2 ∷ replicate 62 unused ++ ranked 2 16 3 1 ∷ []; names = unnamedState small-setup [] .names; totals = unnamedState small-setup (ranked 1 17 5 1 ∷ replicate 62 unused ++ ranked 2 16 3 0 ∷ []) .totals }
+    rankedLatest 63 (withNames (unnamedState small-setup (ranked 1 17 5 1 ∷ replicate 62 unused ++ ranked 2 16 3 0 ∷ [])) (2 ∷ 16128 ∷ []))
+    ≡ record { setup = small-setup; table = ranked 1 17 5 2 ∷ replicate 62 unused ++ ranked 2 16 3 1 ∷ []; names = 2 ∷ 16128 ∷ []; totals = unnamedState small-setup (ranked 1 17 5 1 ∷ replicate 62 unused ++ ranked 2 16 3 0 ∷ []) .totals }
 unfolding tableHolds rankedLatest listed rankAfterFree isMoreRecent isRanked
 last-superblock-ranked-case = refl
 

@@ -30,8 +30,8 @@ pub is-of-run-cases : map isOfRun (runPart 0 ∷ runPart 3 ∷ of 254 5 1 ∷ un
 unfolding tableHolds isOfRun
 is-of-run-cases = refl
 
--- the first of a run has a length; one of another owner is none
-pub starts-run-cases : map startsRun (runPart 1 ∷ runPart 16 ∷ runPart 0 ∷ with-length 255 3 ∷ with-length 253 3 ∷ with-length 0 3 ∷ []) ≡ true ∷ true ∷ false ∷ false ∷ false ∷ false ∷ []
+-- the first of a run has a length, whatever its rank; one of another owner is none
+pub starts-run-cases : map startsRun (runPart 1 ∷ runPart 16 ∷ runPart 0 ∷ withRank 3 (runPart 0) ∷ with-length 255 3 ∷ with-length 253 3 ∷ with-length 0 3 ∷ []) ≡ true ∷ true ∷ replicate 5 false
 unfolding tableHolds startsRun isOfRun
 starts-run-cases = refl
 
@@ -40,9 +40,9 @@ pub is-of-heap-cases : map isOfHeap (of 0 0 0 ∷ of 1 26 3 ∷ of 8 0 0 ∷ of 
 unfolding tableHolds isOfHeap
 is-of-heap-cases = refl
 
--- block 0 of the first of a run, though it has no marks; of all others the marked ones
+-- block 0 of the first of a run and no other, though it has no marks, or other marks than a state that passes has; of all others the marked ones
 pub live-blocks-cases :
-    map liveBlocks (runPart 3 ∷ runPart 0 ∷ of 1 16 6 ∷ with-length 255 3 ∷ []) ≡ (1 ∷ 0 ∷ 0 ∷ 0 ∷ []) ∷ noMarks ∷ (6 ∷ 0 ∷ 0 ∷ 0 ∷ []) ∷ noMarks ∷ []
+    map liveBlocks (runPart 3 ∷ runPart 0 ∷ of 1 16 6 ∷ with-length 255 3 ∷ withMarkAt (runPart 3) 2 ∷ []) ≡ (1 ∷ 0 ∷ 0 ∷ 0 ∷ []) ∷ noMarks ∷ (6 ∷ 0 ∷ 0 ∷ 0 ∷ []) ∷ noMarks ∷ (1 ∷ 0 ∷ 0 ∷ 0 ∷ []) ∷ []
 unfolding tableHolds liveBlocks startsRun isOfRun withMark
 live-blocks-cases = refl
 

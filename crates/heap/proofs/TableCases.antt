@@ -95,10 +95,10 @@ quickTableHolds =
     is-unused-cases also no-state-case also new-state-case also superblock-replaced-case also names-replaced-case also superblock-change-cases
     also is-live-block-cases also tt
 
--- ---- counts: superblocks 0 to 6 and 63 are in use; heap 1 has three of class 16, with 3, 0 and 7 blocks live
+-- ---- counts: superblocks 0 to 6 and 63 are in use; heap 1 has three of class 16, with 3, 0 and 7 blocks live; some are ranked, which no count goes by
 abbrev pub counted-state : State
 counted-state =
-    unnamedState small-setup (of 1 16 7 ∷ of 2 16 31 ∷ of 0 16 0 ∷ of 1 17 15 ∷ unused ∷ of 1 16 0 ∷ of 2 17 511 ∷ replicate 56 unused ++ of 1 16 127 ∷ [])
+    unnamedState small-setup (ranked 1 16 7 2 ∷ of 2 16 31 ∷ ranked 0 16 1 1 ∷ of 1 17 15 ∷ unused ∷ of 1 16 0 ∷ ranked 2 17 511 3 ∷ replicate 56 unused ++ of 1 16 127 ∷ [])
 
 -- superblocks 0 and 63 have other owners; superblock 3 other marks, and 5 another class; 4 has come into use
 pub owners-changed-cases :
@@ -116,7 +116,7 @@ counts-beside-names-case = let before = owners-changed-cases in refl
 
 -- heap and class: superblocks, blocks, live blocks
 abbrev pub counts-by-heap : List (ℕ × ℕ × ℕ × ℕ × ℕ)
-counts-by-heap = (1, 16, 3, 30, 10) ∷ (2, 16, 1, 10, 5) ∷ (0, 16, 1, 10, 0) ∷ (1, 17, 1, 9, 4) ∷ (2, 17, 1, 9, 9) ∷ (0, 17, 0, 0, 0) ∷ []
+counts-by-heap = (1, 16, 3, 30, 10) ∷ (2, 16, 1, 10, 5) ∷ (0, 16, 1, 10, 1) ∷ (1, 17, 1, 9, 4) ∷ (2, 17, 1, 9, 9) ∷ (0, 17, 0, 0, 0) ∷ []
 
 pub counts-by-heap-cases : map (λ (r : ℕ × ℕ × ℕ × ℕ × ℕ). (r .0, r .1, superblocksOf (r .0) (r .1) counted-state, blocksIn (r .0) (r .1) counted-state, liveOf (r .0) (r .1) counted-state)) counts-by-heap ≡ counts-by-heap
 unfolding superblocksOf blocksIn liveOf total oneIfBelongs liveIfBelongs belongs blocksOf counts liveCount sumBelow markBit bit
@@ -124,7 +124,7 @@ counts-by-heap-cases = let before = counts-beside-names-case in refl
 
 -- a class: "the superblocks of this class that any heap owns .., empty ones too", and their live blocks; an unused superblock is of no class
 abbrev pub counts-by-class : List (ℕ × ℕ × ℕ)
-counts-by-class = (16, 5, 15) ∷ (17, 2, 13) ∷ (0, 0, 0) ∷ []
+counts-by-class = (16, 5, 16) ∷ (17, 2, 13) ∷ (0, 0, 0) ∷ []
 
 pub counts-by-class-cases : map (λ (r : ℕ × ℕ × ℕ). (r .0, superblocksOfClass (r .0) counted-state, liveOfClass (r .0) counted-state)) counts-by-class ≡ counts-by-class
 unfolding superblocksOfClass liveOfClass total isOwnedOfClass isOfHeap liveCount sumBelow markBit bit

@@ -20,7 +20,7 @@ use Rattle.heap.specs.Totals.{superblocksKept, liveKept, isCounted, with
 use Rattle.heap.specs.Counts.{superblocksOf, liveOf}
 use Rattle.heap.specs.States.{withSuperblock, withNames}
 use Rattle.heap.proofs.CaseStates.{unnamedState}
-use Rattle.heap.proofs.TableCases.{of, small-setup}
+use Rattle.heap.proofs.TableCases.{of, ranked, small-setup}
 use Rattle.heap.proofs.RankCases.{ranksHold}
 use Rattle.heap.proofs.RunCases.{runsHold}
 use Rattle.heap.proofs.RunAtCases.{runAtHold}
@@ -59,9 +59,9 @@ other-totals-not-kept =
     (λ k. let z : _≡_ {A = ℕ} 0 3 = ap (λ (t : Totals). getD (t .live) 26 9) k in omega arith, λ k. let z : _≡_ {A = ℕ} 0 1 = ap (λ (t : Totals). getD (t .superblocks) 26 9) k in omega arith)
 
 -- Heap 1 has two superblocks of class 23, with two live blocks and none, heap 0 one of class 24 with one, heap 8 one of class 26 with two. Of no heap or
--- no class are an unused one, one with owner 9, one with owner 254 and one with class 27.
+-- no class are an unused one, one with owner 9, one with owner 254 and one with class 27. Two are ranked, which no total goes by.
 abbrev pub counted-state : State
-counted-state = unnamedState small-setup (of 1 23 5 ∷ unused ∷ of 0 24 2 ∷ of 1 23 0 ∷ of 9 3 1 ∷ of 254 0 1 ∷ of 1 27 1 ∷ replicate 56 unused ++ of 8 26 3 ∷ [])
+counted-state = unnamedState small-setup (ranked 1 23 5 2 ∷ unused ∷ ranked 0 24 2 1 ∷ of 1 23 0 ∷ of 9 3 1 ∷ of 254 0 1 ∷ of 1 27 1 ∷ replicate 56 unused ++ of 8 26 3 ∷ [])
 
 -- superblocks and live blocks of heaps and classes, and of all together
 abbrev pub totals-seen : State → List (ℕ × ℕ)

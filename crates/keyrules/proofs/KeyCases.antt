@@ -65,6 +65,11 @@ storage-after-refused-setup : storageOf (0 ∷ 0 ∷ 1 ∷ 1 ∷ 1 ∷ 2 ∷ tak
 unfolding keyDefinitions
 storage-after-refused-setup = refl
 
+-- and so does a record that stops at its first byte; one that stops behind its setup leaves what the setup left
+storage-after-stop : (storageOf [] (replicate 3 7) ≡ replicate 3 7) × (storageOf (setup ++ (6 ∷ [])) (replicate 257 7) ≡ replicate 256 0 ++ (7 ∷ []))
+unfolding keyDefinitions
+storage-after-stop = (refl, refl)
+
 -- a setup alone: no heap and class has a superblock
 key-of-setup-only-case : keyOf setup storage ≡ letters "setup 1 1 1 1 2\n" ++ letters "end\n"
 unfolding keyDefinitions
@@ -164,7 +169,7 @@ storage-of-call r order s i a m size count first rest = (refl, refl, refl, refl,
 -- which makes an edit of a definition cheap
 casesWithoutCheckHold : Unit {0}
 casesWithoutCheckHold =
-    key-of-refused-setup-case also key-of-short-storage-case also storage-after-refused-setup also key-of-setup-only-case
+    key-of-refused-setup-case also key-of-short-storage-case also storage-after-refused-setup also storage-after-stop also key-of-setup-only-case
     also key-written-holds also other-text-not-written also other-count-not-written also byte-behind-not-kept also other-storage-not-left
     also text-without-room-fails also other-text-with-room-fails also no-room-with-room-fails also no-room-holds also no-room-changed-fails
     also text-of-calls-on-no-state also room-enough also text-of-call also storage-of-call also keyClaimsHold also tt

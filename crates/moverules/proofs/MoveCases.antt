@@ -88,8 +88,12 @@ full-elsewhere =
       owners = 2 ∷ 1 ∷ 0 ∷ 1 ∷ [];
     }
 
+-- five empty superblocks: four move, as many as there are but K
+abbrev pub four-moves : MoveCase
+four-moves = record { spare = 1; p = 1; q = 8; class = 26; table = map (superblock-with 1 26) (0 ∷ 0 ∷ 0 ∷ 0 ∷ 0 ∷ []); moves = 4; owners = 0 ∷ 0 ∷ 0 ∷ 0 ∷ 1 ∷ [] }
+
 abbrev pub cases : List MoveCase
-cases = first-condition-equal ∷ second-condition-equal ∷ two-spare ∷ empty-elsewhere ∷ full-elsewhere ∷ []
+cases = first-condition-equal ∷ second-condition-equal ∷ two-spare ∷ empty-elsewhere ∷ full-elsewhere ∷ four-moves ∷ []
 
 -- the moves and the owners of the case's superblocks, as the rule leaves them and as they should be
 abbrev pub result-of : MoveCase → ℕ × List ℕ
@@ -134,11 +138,23 @@ unfolding excessTransferred transfersUpTo mustMove bothConditions transferred fo
     sumBelow sizes counts sizeOf blocksOf bit markBit liveCount
 full-with-tails-stays = refl
 
+-- heap 2, the last: of its two superblocks of class 26 with nothing live one moves, and of heap 1's, full, none
+abbrev pub last-heap-empty : State
+last-heap-empty =
+    stateOfCase (record { spare = 1; p = 1; q = 4; class = 26; table = superblock-with 1 26 2 ∷ superblock-with 2 26 0 ∷ superblock-with 1 26 2 ∷ superblock-with 2 26 0 ∷ []; moves = 1; owners = [] })
+
+pub last-heap-moves :
+    map (λ (h : ℕ). invariantRestored h 26 last-heap-empty .moves) (1 ∷ 2 ∷ []) ≡ 0 ∷ 1 ∷ []
+    × map (λ (b : Superblock). b .owner) (take 5 (invariantRestored 2 26 last-heap-empty .state .table)) ≡ 1 ∷ 0 ∷ 1 ∷ 2 ∷ 255 ∷ []
+unfolding invariantRestored excessTransferred transfersUpTo mustMove bothConditions transferred foundTransferred emptiest chosenBelow prefer fewerLive belongs total oneIfBelongs liveIfBelongs superblocksOf blocksIn liveOf
+    sumBelow sizes counts sizeOf blocksOf bit markBit liveCount
+last-heap-moves = (refl, refl)
+
 -- ---- the cases so far take little. Each that follows takes longer, and is computed where they and the one before it hold
 unfoldable quickMovesHold : Unit {0}
 quickMovesHold =
     both-conditions-cases also second-condition-equal-case also invariant-restored-in-global-case also transferred-whole-state-case
-    also full-with-tails-stays also tt
+    also full-with-tails-stays also last-heap-moves also tt
 
 -- compared before it is divided
 pub division-rounds-moves-one : result-of division-rounds ≡ expected-of division-rounds
