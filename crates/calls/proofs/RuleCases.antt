@@ -22,7 +22,9 @@ use Rattle.calls.specs.Setup.{setupOf}
 use Rattle.calls.specs.Take.{otherPlaces, acquired, acquiredOrder, unrankedIfEmpty, nextBlock, addressOf, takenFrom, takenAt}
 use Rattle.calls.specs.Free.{blockOf, isUnmapped, isMisaligned, isLiveAt, markCleared, orderPushed, freedAt}
 use Rattle.calls.proofs.CallDefinitions.{uncheckedCallDefinitions, callDefinitions}
-use Rattle.calls.specs.Calls.{Call, Take, Free, NamedTake, NamedFree, Drop, callUnchecked}
+use Rattle.calls.specs.declared.CallHeader.{CallHeader}
+use Rattle.calls.specs.declared.CallHeader.the-variants as header
+use Rattle.calls.specs.Calls.{Call, Take, Free, NamedTake, NamedFree, Drop, callWith, callOf, callUnchecked}
 use Rattle.calls.proofs.PairStates.{order-before, named-state}
 use Rattle.calls.proofs.CheckFirst.{checked-past-check}
 use Rattle.calls.proofs.AddressRefusalLaws.{free-unchecked-by-address-refusal}
@@ -68,6 +70,12 @@ accepted-with-failing-state-fails =
 pub refused-with-failing-state-holds : PassesIfAccepted (Refused 13) (state-with-wrong-owner 7) []
 unfolding numberOf
 refused-with-failing-state-holds e = absurd (omega arith)
+
+-- the call of each header, its numbers in their order; only a drop has the addresses that are lent beside it
+pub call-with-cases :
+    map (λ (c : CallHeader). callWith c (7 ∷ 8 ∷ [])) (header.Take 1 2 ∷ header.Free 1 2 ∷ header.NamedTake 1 2 3 ∷ header.NamedFree 1 2 ∷ header.Drop 1 ∷ []) ≡ Take 1 2 ∷ Free 1 2 ∷ NamedTake 1 2 3 ∷ NamedFree 1 2 ∷ Drop 1 (7 ∷ 8 ∷ []) ∷ []
+unfolding callWith
+call-with-cases = refl
 
 -- a refusal: its number, the state and the storage as they were
 pub refused-case : refused 9 (state-with-wrong-owner 7) (4 ∷ 5 ∷ []) ≡ record { answer = record { outcome = Refused 9; state = state-with-wrong-owner 7 }; order = 4 ∷ 5 ∷ [] }
@@ -176,7 +184,7 @@ next-block-cases = refl
 unfoldable quickRulesHold : Unit {0}
 quickRulesHold =
     checked-past-check also free-unchecked-by-address-refusal also number-and-values-cases also other-number-fails also other-values-fail
-    also accepted-with-failing-state-fails also refused-with-failing-state-holds also refused-case also is-processor-cases
+    also accepted-with-failing-state-fails also refused-with-failing-state-holds also call-with-cases also refused-case also is-processor-cases
     also is-unmapped-cases also is-unmapped-past-N-cases also is-misaligned-cases also block-of-cases also is-live-at-cases also address-of-cases
     also acquired-cases also taken-from-case also mark-cleared-case also order-pushed-case also taken-at-place-1-case also next-block-cases also tt
 
@@ -293,11 +301,17 @@ pub checked-cases :
 unfolding callDefinitions
 checked-cases = let before = setup-accepted-cases in refl
 
+-- each call is checked first: none is made on that state, with its own refusals before it
+pub each-call-checked-case :
+    map (λ (c : Call). callOf (state-with-wrong-owner 7) (used-order 1) c .answer .outcome) (Take 0 16 ∷ Free 0 0 ∷ NamedTake 0 5 16 ∷ NamedFree 0 5 ∷ Drop 0 [] ∷ []) ≡ replicate 5 (Refused 13)
+unfolding callDefinitions
+each-call-checked-case = let before = checked-cases in refl
+
 pub unranked-if-empty-cases :
     map (λ (k : ℕ). unrankedIfEmpty k (three-ranked (ranked 0 20 4 1) (ranked 0 23 0 2) (ranked 1 20 31 3))) (1 ∷ 0 ∷ [])
     ≡ three-ranked (ranked 0 20 4 1) (of 0 23 0) (ranked 1 20 31 2) ∷ three-ranked (ranked 0 20 4 1) (ranked 0 23 0 2) (ranked 1 20 31 3) ∷ []
 unfolding uncheckedCallDefinitions
-unranked-if-empty-cases = let before = checked-cases in refl
+unranked-if-empty-cases = let before = each-call-checked-case in refl
 
 -- what the cases of the other parts unfold
 unfoldable pub rulesHold : Unit {0}
