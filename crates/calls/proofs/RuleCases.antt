@@ -7,11 +7,13 @@ use native.Mathlib.Omega.{arith}
 use lib.ListN.{getD, length, replicate}
 use Rattle.laws.proofs.Stages.{_also_}
 use Rattle.laws.proofs.TestLaws.{true-not-false}
+use Rattle.names.specs.Names.{noNames, withName}
 use Rattle.heap.specs.declared.Superblock.{Superblock}
 use Rattle.heap.specs.declared.Setup.{Setup}
 use Rattle.heap.specs.declared.State.{State}
 use Rattle.heap.specs.declared.Found.the-variants.{At, Nothing}
 use Rattle.heap.specs.Table.{unused}
+use Rattle.heap.specs.States.{withNames}
 use Rattle.heap.proofs.CaseStates.{unnamedState}
 use Rattle.heap.proofs.TableCases.{of, ranked}
 use Rattle.calls.specs.declared.Outcome.{Outcome}
@@ -237,12 +239,16 @@ pub freed-with-move-case :
 unfolding uncheckedCallDefinitions
 freed-with-move-case = let before = freed-in-heap-0-case in refl
 
--- heap 2 acquires heap 0's superblock 1: empty, it is renewed for class 26 and leaves the ranking, which closes its gap, and its block 0 is taken; with block 0 live it keeps its class and its rank, and block 1 is taken
+-- heap 2 acquires heap 0's superblock 1, in a state whose name 0 holds block 0 of superblock 0: empty, it is renewed for class 26 and leaves the ranking, which closes its gap, and its block 0 is taken; with
+-- block 0 live it keeps its class and its rank, and block 1 is taken. The name stays
+abbrev pub name-0-held : State → State
+name-0-held s = withNames s (withName noNames 0 0)
+
 pub taken-from-other-cases :
-    takenAt 2 26 (three-ranked (ranked 1 20 31 2) (ranked 0 20 0 1) unused) (replicate 512 9) Nothing (At 1)
-    ∷ takenAt 2 26 (three-ranked (ranked 1 20 31 2) (ranked 0 26 1 1) unused) (replicate 256 9 ++ 1 ∷ 9 ∷ []) Nothing (At 1) ∷ []
-    ≡ after-with (Address 4096) (three-ranked (ranked 1 20 31 1) (of 2 26 1) unused) (replicate 256 9 ++ 1 ∷ 0 ∷ replicate 254 9)
-    ∷ after-with (Address 6144) (three-ranked (ranked 1 20 31 2) (ranked 2 26 3 1) unused) (replicate 256 9 ++ 1 ∷ 9 ∷ []) ∷ []
+    takenAt 2 26 (name-0-held (three-ranked (ranked 1 20 31 2) (ranked 0 20 0 1) unused)) (replicate 512 9) Nothing (At 1)
+    ∷ takenAt 2 26 (name-0-held (three-ranked (ranked 1 20 31 2) (ranked 0 26 1 1) unused)) (replicate 256 9 ++ 1 ∷ 9 ∷ []) Nothing (At 1) ∷ []
+    ≡ after-with (Address 4096) (name-0-held (three-ranked (ranked 1 20 31 1) (of 2 26 1) unused)) (replicate 256 9 ++ 1 ∷ 0 ∷ replicate 254 9)
+    ∷ after-with (Address 6144) (name-0-held (three-ranked (ranked 1 20 31 2) (ranked 2 26 3 1) unused)) (replicate 256 9 ++ 1 ∷ 9 ∷ []) ∷ []
 unfolding uncheckedCallDefinitions
 taken-from-other-cases = let before = freed-with-move-case in refl
 
