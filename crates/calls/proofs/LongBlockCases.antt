@@ -101,8 +101,8 @@ quickRunsHold =
     each-of-run-cases also run-freed-cases also is-misaligned-in-run-cases also address-refusal-in-run-cases
     also order-pushed-of-run-case also run-named-cases also first-refusal-in-run-cases also touched-beside-run-cases also tt
 
--- three superblocks from 1 on; and one alone, which carries 1
-pub run-taken-cases : runTaken 1 3 before-run ∷ runTaken 2 1 before-run ∷ [] ≡ with-run ∷ around 1 2 unused (runPart 1) unused ∷ []
+-- three superblocks from 1 on, name 8 held as before; and one alone, which carries 1
+pub run-taken-cases : runTaken 1 3 (withNames before-run (withName noNames 8 0)) ∷ runTaken 2 1 before-run ∷ [] ≡ withNames with-run (withName noNames 8 0) ∷ around 1 2 unused (runPart 1) unused ∷ []
 unfolding quickRunsHold uncheckedCallDefinitions
 run-taken-cases = refl
 

@@ -7,11 +7,13 @@ use native.Mathlib.Omega.{arith}
 use lib.ListN.{replicate, getD, length}
 use Rattle.laws.proofs.Stages.{_also_}
 use Rattle.laws.proofs.TestLaws.{true-not-false}
+use Rattle.names.specs.Names.{noNames, withName}
 use Rattle.heap.specs.declared.Superblock.{Superblock}
 use Rattle.heap.specs.declared.Setup.{Setup}
 use Rattle.heap.specs.declared.State.{State}
 use Rattle.heap.specs.declared.Found.the-variants.{At, Nothing}
 use Rattle.heap.specs.Table.{unused}
+use Rattle.heap.specs.States.{withNames}
 use Rattle.heap.proofs.CaseStates.{unnamedState}
 use Rattle.heap.proofs.TableCases.{of, ranked}
 use Rattle.calls.specs.declared.Outcome.{Outcome}
@@ -22,7 +24,9 @@ use Rattle.calls.specs.Setup.{setupOf}
 use Rattle.calls.specs.Take.{otherPlaces, acquired, acquiredOrder, unrankedIfEmpty, nextBlock, addressOf, takenFrom, takenAt}
 use Rattle.calls.specs.Free.{blockOf, isUnmapped, isMisaligned, isLiveAt, markCleared, orderPushed, freedAt}
 use Rattle.calls.proofs.CallDefinitions.{uncheckedCallDefinitions, callDefinitions}
-use Rattle.calls.specs.Calls.{Call, Take, Free, NamedTake, NamedFree, Drop, mostMoves, callUnchecked}
+use Rattle.calls.specs.declared.CallHeader.{CallHeader}
+use Rattle.calls.specs.declared.CallHeader.the-variants as header
+use Rattle.calls.specs.Calls.{Call, Take, Free, NamedTake, NamedFree, Drop, mostMoves, callWith, callOf, callUnchecked}
 use Rattle.calls.proofs.PairStates.{order-before, named-state}
 use Rattle.calls.proofs.AnswerLaws.{moves-at-most-of-moves, moves-at-most-of-address, moves-at-most-of-refusal}
 use Rattle.calls.proofs.CheckFirst.{checked-past-check}
@@ -85,6 +89,12 @@ accepted-with-failing-state-fails =
 pub refused-with-failing-state-holds : PassesIfAccepted (Refused 13) (state-with-wrong-owner 7) []
 unfolding numberOf
 refused-with-failing-state-holds e = absurd (omega arith)
+
+-- the call of each header, its numbers in their order; only a drop has the addresses that are lent beside it
+pub call-with-cases :
+    map (λ (c : CallHeader). callWith c (7 ∷ 8 ∷ [])) (header.Take 1 2 ∷ header.Free 1 2 ∷ header.NamedTake 1 2 3 ∷ header.NamedFree 1 2 ∷ header.Drop 1 ∷ []) ≡ Take 1 2 ∷ Free 1 2 ∷ NamedTake 1 2 3 ∷ NamedFree 1 2 ∷ Drop 1 (7 ∷ 8 ∷ []) ∷ []
+unfolding callWith
+call-with-cases = refl
 
 -- a refusal: its number, the state and the storage as they were
 pub refused-case : refused 9 (state-with-wrong-owner 7) (4 ∷ 5 ∷ []) ≡ record { answer = record { outcome = Refused 9; state = state-with-wrong-owner 7 }; order = 4 ∷ 5 ∷ [] }
@@ -194,7 +204,7 @@ unfoldable quickRulesHold : Unit {0}
 quickRulesHold =
     checked-past-check also free-unchecked-by-address-refusal also number-and-values-cases also most-moves-cases also moves-at-most-cases
     also other-number-fails also other-values-fail
-    also accepted-with-failing-state-fails also refused-with-failing-state-holds also refused-case also is-processor-cases
+    also accepted-with-failing-state-fails also refused-with-failing-state-holds also call-with-cases also refused-case also is-processor-cases
     also is-unmapped-cases also is-unmapped-past-N-cases also is-misaligned-cases also block-of-cases also is-live-at-cases also address-of-cases
     also acquired-cases also taken-from-case also mark-cleared-case also order-pushed-case also taken-at-place-1-case also next-block-cases also tt
 
@@ -247,12 +257,16 @@ pub freed-with-move-case :
 unfolding uncheckedCallDefinitions
 freed-with-move-case = let before = freed-in-heap-0-case in refl
 
--- heap 2 acquires heap 0's superblock 1: empty, it is renewed for class 26 and leaves the ranking, which closes its gap, and its block 0 is taken; with block 0 live it keeps its class and its rank, and block 1 is taken
+-- heap 2 acquires heap 0's superblock 1, in a state whose name 0 holds block 0 of superblock 0: empty, it is renewed for class 26 and leaves the ranking, which closes its gap, and its block 0 is taken; with
+-- block 0 live it keeps its class and its rank, and block 1 is taken. The name stays
+abbrev pub name-0-held : State → State
+name-0-held s = withNames s (withName noNames 0 0)
+
 pub taken-from-other-cases :
-    takenAt 2 26 (three-ranked (ranked 1 20 31 2) (ranked 0 20 0 1) unused) (replicate 512 9) Nothing (At 1)
-    ∷ takenAt 2 26 (three-ranked (ranked 1 20 31 2) (ranked 0 26 1 1) unused) (replicate 256 9 ++ 1 ∷ 9 ∷ []) Nothing (At 1) ∷ []
-    ≡ after-with (Address 4096) (three-ranked (ranked 1 20 31 1) (of 2 26 1) unused) (replicate 256 9 ++ 1 ∷ 0 ∷ replicate 254 9)
-    ∷ after-with (Address 6144) (three-ranked (ranked 1 20 31 2) (ranked 2 26 3 1) unused) (replicate 256 9 ++ 1 ∷ 9 ∷ []) ∷ []
+    takenAt 2 26 (name-0-held (three-ranked (ranked 1 20 31 2) (ranked 0 20 0 1) unused)) (replicate 512 9) Nothing (At 1)
+    ∷ takenAt 2 26 (name-0-held (three-ranked (ranked 1 20 31 2) (ranked 0 26 1 1) unused)) (replicate 256 9 ++ 1 ∷ 9 ∷ []) Nothing (At 1) ∷ []
+    ≡ after-with (Address 4096) (name-0-held (three-ranked (ranked 1 20 31 1) (of 2 26 1) unused)) (replicate 256 9 ++ 1 ∷ 0 ∷ replicate 254 9)
+    ∷ after-with (Address 6144) (name-0-held (three-ranked (ranked 1 20 31 2) (ranked 2 26 3 1) unused)) (replicate 256 9 ++ 1 ∷ 9 ∷ []) ∷ []
 unfolding uncheckedCallDefinitions
 taken-from-other-cases = let before = freed-with-move-case in refl
 
@@ -311,11 +325,17 @@ pub checked-cases :
 unfolding callDefinitions
 checked-cases = let before = setup-accepted-cases in refl
 
+-- each call is checked first: none is made on that state, with its own refusals before it
+pub each-call-checked-case :
+    map (λ (c : Call). callOf (state-with-wrong-owner 7) (used-order 1) c .answer .outcome) (Take 0 16 ∷ Free 0 0 ∷ NamedTake 0 5 16 ∷ NamedFree 0 5 ∷ Drop 0 [] ∷ []) ≡ replicate 5 (Refused 13)
+unfolding callDefinitions
+each-call-checked-case = let before = checked-cases in refl
+
 pub unranked-if-empty-cases :
     map (λ (k : ℕ). unrankedIfEmpty k (three-ranked (ranked 0 20 4 1) (ranked 0 23 0 2) (ranked 1 20 31 3))) (1 ∷ 0 ∷ [])
     ≡ three-ranked (ranked 0 20 4 1) (of 0 23 0) (ranked 1 20 31 2) ∷ three-ranked (ranked 0 20 4 1) (ranked 0 23 0 2) (ranked 1 20 31 3) ∷ []
 unfolding uncheckedCallDefinitions
-unranked-if-empty-cases = let before = checked-cases in refl
+unranked-if-empty-cases = let before = each-call-checked-case in refl
 
 -- what the cases of the other parts unfold
 unfoldable pub rulesHold : Unit {0}
