@@ -1,5 +1,5 @@
 -- What the ledger tells of a freed block: whether it was a run, and the superblock that it was freed into (document 02, items 4 and 7). Assumes nothing.
-use mathlib.Core.Path.{_≡_, refl, sym, ap, ap₂, _∙_, subst}
+use mathlib.Core.Path.{_≡_, refl, sym, ap, ap₂, _∙_}
 use mathlib.Core.Bool.{Bool, true, false}
 use mathlib.Core.List.{List, [], _∷_}
 use Prim.Native.Nat.{ℕ, _*_, _/_, _<_}
@@ -7,7 +7,7 @@ use native.Mathlib.Decide.{ℕ-discrete, decLt}
 use native.Mathlib.Omega.{arith}
 use borrow.Author.Tests.{eq-eqb, ne-eqb}
 use lib.Dec.{T, eqb}
-use Rattle.laws.specs.Sums.{pick, both, either, one}
+use Rattle.laws.specs.Sums.{pick, both, one}
 use Rattle.laws.proofs.Inequalities.{le-of-not-below}
 use Rattle.laws.proofs.TestLaws.{T-of-true, true-of-T, true-not-false, both-left}
 use Rattle.laws.proofs.Decides.{true-of-decides, false-of-decides}
@@ -18,20 +18,18 @@ use Rattle.heap.specs.declared.State.{State}
 use Rattle.heap.specs.Table.{isOfRun, startsRun}
 use Rattle.heaplaws.proofs.StateFacts.{Shape}
 use Rattle.calls.specs.Take.{addressOf}
-use Rattle.calls.specs.Free.{superblockIndex, superblockHolding, blockOf, isInRun, addressRefusal, smallBlockFreed, longBlockFreed, blockFreed}
-use Rattle.calls.specs.Drop.{allFreed, firstAddressRefusal}
+use Rattle.calls.specs.Free.{superblockIndex, superblockHolding, blockOf, isInRun, addressRefusal, smallBlockFreed, longBlockFreed}
 use Rattle.calls.specs.Named.{heldAddress}
 use Rattle.calllaws.proofs.CallEffects.{PassedAfterFrees}
 use Rattle.calllaws.proofs.BlockFreedLaws.{freed-address, freed-superblock-lt-64, small-block-freed-effect}
 use Rattle.calllaws.proofs.RunFreedLaws.{freed-run-address, long-block-freed-effect}
-use Rattle.bound.specs.Ledger.{Entry, classOfEntry, isAt, isAtOneOf, hasName, removed, EachEntry, entriesAt}
-use Rattle.bound.specs.NamesClaim.{holdsAddress}
+use Rattle.bound.specs.Ledger.{Entry, classOfEntry, isAt, hasName, removed, EachEntry, entriesAt}
 use Rattle.bound.specs.History.{Event, freedInto, neither, eventOfBlock}
 use Rattle.boundlaws.proofs.LedgerLaws.{entries-at-removed, entries-at-others-removed}
 use Rattle.boundlaws.proofs.LiveAtLaws.{liveAt, live-at-same, OneMoreLive, live-at-one-more, one-more-live-of-free}
 use Rattle.boundlaws.proofs.OneMoreLongLaws.{OneMoreLong, long-at-one-more, one-more-long-of-free}
-use Rattle.boundlaws.proofs.LedgerNames.{each-entry-map, EntryAgrees}
-use Rattle.boundlaws.proofs.ListedLaws.{live-at-run-is-zero, Agreement, all-freed-agreement}
+use Rattle.boundlaws.proofs.LedgerNames.{each-entry-map, EntryAgrees, name-is-at-address}
+use Rattle.boundlaws.proofs.ListedLaws.{live-at-run-is-zero, Agreement}
 
 -- ---- the entry that a test finds
 -- what it tells
@@ -111,23 +109,8 @@ same-events-removed ledger part b same a c l = go (ℕ-discrete a b)
         let as-many = entries-at-others-removed b part a c (λ q. f (sym q)) in
         event-of-block-at-others-removed a b part f ∙ same a c (omega arith)
 
--- it lists the blocks of the state after one more free
-removed-at-one-of-one : (a : ℕ) (ledger : List Entry) → removed (isAtOneOf (a ∷ [])) ledger ≡ removed (isAt a) ledger
-unfolding removed isAtOneOf
-removed-at-one-of-one a [] = refl
-removed-at-one-of-one a (e ∷ ledger) = ap₂ (λ (t : Bool) (l : List Entry). pick t l (e ∷ l)) (same (isAt a e)) (removed-at-one-of-one a ledger)
-  where
-    same : (t : Bool) → either t false ≡ t
-    same true = refl
-    same false = refl
-
 module _ (freed : ℕ → ℕ → ℕ) (s : State) (order : List ℕ) (a : ℕ) (ledger : List Entry) (shape : Shape s) (passed : PassedAfterFrees freed s order)
     (accepted : addressRefusal s a ≡ 0) (agrees : Agreement s ledger) where
-  pub agreement-after-one-free : Agreement (blockFreed s a) (removed (isAt a) ledger)
-  unfolding allFreed firstAddressRefusal
-  agreement-after-one-free =
-      subst (Agreement (blockFreed s a)) (removed-at-one-of-one a ledger) (all-freed-agreement freed s order (a ∷ []) ledger shape passed (rw accepted) agrees)
-
   -- ---- an accepted free of the block at address a, alone or after others of a drop
   -- of a class: the ledger has it, and no long one there, as its superblock is of no run
   pub small-block-in-ledger : isInRun s a ≡ false → 0 < entriesAt ledger a (superblockHolding s a .class)
@@ -183,8 +166,7 @@ module _ (freed : ℕ → ℕ → ℕ) (s : State) (order : List ℕ) (a : ℕ) 
 -- ---- a name that is held finds what the held address does
 pub event-of-named-block : (s : State) (ledger : List Entry) (m : ℕ) → EachEntry (EntryAgrees s) ledger → T (isHeld (s .names) m)
     → eventOfBlock (hasName m) ledger ≡ eventOfBlock (isAt (heldAddress s m)) ledger
-unfolding holdsAddress
 event-of-named-block s ledger m h held =
     event-of-block-cong (hasName m) (isAt (heldAddress s m)) ledger
     (each-entry-map (EntryAgrees s) (EntryAgrees s) (λ e. hasName m e ≡ isAt (heldAddress s m) e) ledger
-    (λ e g _. g .name-agrees m ∙ ap (λ (t : Bool). both t (eqb (e .address) (heldAddress s m))) (true-of-T (isHeld (s .names) m) held)) h h)
+    (λ e g _. name-is-at-address s m e g held) h h)

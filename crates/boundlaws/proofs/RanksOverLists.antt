@@ -47,8 +47,8 @@ use Rattle.bound.specs.Claim.{Step, Linked, peakWith}
 use Rattle.bound.specs.Ledger.{Entry, isAt, hasName, removed, ledgerAfter}
 use Rattle.bound.specs.History.{Event, freedInto, renewed, joinedRun, neither, eventOfBlock, eventOfFree, eventOfTaken, eventOfTake, eventsAfterDrop, eventsAfter, RankedByLastFree, OffersLastFreed, AlongHistory, RankedByLastFreeOver, OffersLastFreedOver}
 use Rattle.boundlaws.proofs.EventLaws.{ranked-by-last-free-after-free, ranked-by-last-free-after-renewal, ranked-by-last-free-after-run, ranked-by-last-free-after-neither, ranked-by-last-free-of-new-state, offers-last-freed-of-ranked}
-use Rattle.boundlaws.proofs.ListedLaws.{Agreement}
-use Rattle.boundlaws.proofs.LedgerEventLaws.{SameEvents, same-events-removed, agreement-after-one-free, small-block-in-ledger, event-of-small-block, long-block-in-ledger, event-of-long-block, event-of-named-block}
+use Rattle.boundlaws.proofs.ListedLaws.{Agreement, block-freed-agreement}
+use Rattle.boundlaws.proofs.LedgerEventLaws.{SameEvents, same-events-removed, small-block-in-ledger, event-of-small-block, long-block-in-ledger, event-of-long-block, event-of-named-block}
 use Rattle.boundlaws.proofs.CallInvariantLaws.{ListInvariant, after-step}
 use Rattle.boundlaws.proofs.Demand3.{list-invariant-after-setup}
 
@@ -127,7 +127,7 @@ after-frees freed ledger part same s order (a ∷ addresses) events m shape pass
     let one = address-freed freed s order a shape passed (first .0) in
     after-frees _ ledger (removed (isAt a) part) (same-events-removed ledger part a same) (blockFreed s a) (orderPushed s order a) addresses
     (eventOfFree (isAt a) ledger (Moves m) ∷ events) m (one .shape) (one .passed)
-    (agreement-after-one-free freed s order a part shape passed (first .0) agrees) (first .1)
+    (block-freed-agreement freed s order a part shape passed (first .0) agrees) (first .1)
     (after-one-free freed ledger part same s order shape passed agrees a m events (first .0) before)
 
 -- and its moves keep the ranks
