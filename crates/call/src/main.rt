@@ -2,12 +2,12 @@
 // the order places that changed go to standard output (docs/FORMATS.md, "One call").
 ghost use Prim.Native.Nat.{_≤_};
 ghost use Rattle.io.specs.Counts.{Counts};
-use calls::Answer;
-use calls::CallHeader;
-use formrules::Request;
-use heap::State;
-use rowrules::RecordsAnswer;
-use stream::Input;
+use call_rules::Answer;
+use call_rules::CallHeader;
+use form_rules::Request;
+use heap_rules::State;
+use program_stream::Input;
+use row_rules::RecordsAnswer;
 
 // What the call is made on: a state, or a lent row of so many records.
 enum Lent {
@@ -20,7 +20,7 @@ enum Lent {
 // bad in any case.
 fn main() {
     let mut input = [0u8; 41145];
-    let read = stream::read_input(b"call", &mut input);
+    let read = program_stream::read_input(b"call", &mut input);
     let Input::Bytes(n) = read else {
         return;
     };
@@ -44,10 +44,10 @@ fn reply_any(bytes: &[u8]) {
 
 // Input that is not of the form, or that lends more places or addresses than the program has, calls nothing.
 fn reply(on: Lent, bytes: &[u8]) {
-    if !formlayout::well_formed(bytes) {
+    if !form_layout::well_formed(bytes) {
         return reply_bad_input();
     }
-    let lent = formlayout::place_count(bytes);
+    let lent = form_layout::place_count(bytes);
     if lent > 17000 {
         return reply_bad_input();
     }
@@ -60,13 +60,13 @@ fn reply(on: Lent, bytes: &[u8]) {
 
 fn reply_bad_input() {
     let mut text = [0u8; 16];
-    let end = answertext::bad_input_text(&mut text);
+    let end = answer_text::bad_input_text(&mut text);
     write(&text, end);
 }
 
 // How many addresses are lent: none where the call is no drop.
 fn address_count(bytes: &[u8]) -> usize {
-    let request = callform::call_in(bytes);
+    let request = form_call::call_in(bytes);
     let Request::Drop {
         processor: _,
         count,
@@ -83,7 +83,7 @@ fn make_call(on: Lent, bytes: &[u8], lent: usize, count: usize)
 {
     let mut storage = [0u16; 17000];
     let mut copy = [0u16; 17000];
-    let addresses = callload::load_addresses(bytes);
+    let addresses = form_lists::load_addresses(bytes);
     load_and_call(
         on,
         bytes,
@@ -95,9 +95,9 @@ fn make_call(on: Lent, bytes: &[u8], lent: usize, count: usize)
 
 // The order places as the input has them; a copy of these shows which of them changed.
 fn load_and_call(on: Lent, bytes: &[u8], order: &mut [u16], before: &mut [u16], addresses: &[u32]) {
-    let from = formlayout::places_offset(bytes);
-    callload::load_places(bytes, from, order);
-    callload::load_places(bytes, from, before);
+    let from = form_layout::places_offset(bytes);
+    form_lists::load_places(bytes, from, order);
+    form_lists::load_places(bytes, from, before);
     call_on(on, bytes, order, before, addresses);
 }
 
@@ -123,12 +123,12 @@ fn print_answer(
     match on {
         Lent::State => {
             let a = answer_to(bytes, order, addresses);
-            let end = answertext::state_answer_text(text, a, before, order);
+            let end = answer_text::state_answer_text(text, a, before, order);
             write(text, end);
         }
         Lent::Row(n) => {
             let a = row_answer_to(n, bytes, order, addresses);
-            let end = answertext::row_answer_text(text, n, a, before, order);
+            let end = answer_text::row_answer_text(text, n, a, before, order);
             write(text, end);
         }
     }
@@ -137,28 +137,28 @@ fn print_answer(
 fn write(text: &[u8], end: usize)
     requires { ⌜ Counts end (now text) ⌝ }
 {
-    stream::write_output(b"call", &text[..end]);
+    program_stream::write_output(b"call", &text[..end]);
 }
 
 fn state_in(bytes: &[u8]) -> State {
-    stateload::state_at(bytes, formlayout::table_offset(bytes))
+    form_state::state_at(bytes, form_layout::table_offset(bytes))
 }
 
 // A call on the state that the input holds is the entry of its own name; a setup, which takes no state, is the engine's.
 fn answer_to(bytes: &[u8], order: &mut [u16], addresses: &[u32]) -> Answer {
-    let request = callform::call_in(bytes);
+    let request = form_call::call_in(bytes);
     match request {
         Request::Setup => {
-            let u = callform::setup_in(bytes);
-            engine::setup(u, order)
+            let u = form_call::setup_in(bytes);
+            engine_state::setup(u, order)
         }
         Request::Take { processor, size } => {
             let s = state_in(bytes);
-            entries::take(s, order, processor, size)
+            engine_entries::take(s, order, processor, size)
         }
         Request::Free { processor, address } => {
             let s = state_in(bytes);
-            entries::free(s, order, processor, address)
+            engine_entries::free(s, order, processor, address)
         }
         Request::NamedTake {
             processor,
@@ -166,18 +166,18 @@ fn answer_to(bytes: &[u8], order: &mut [u16], addresses: &[u32]) -> Answer {
             size,
         } => {
             let s = state_in(bytes);
-            entries::named_take(s, order, processor, name, size)
+            engine_entries::named_take(s, order, processor, name, size)
         }
         Request::NamedFree { processor, name } => {
             let s = state_in(bytes);
-            entries::named_free(s, order, processor, name)
+            engine_entries::named_free(s, order, processor, name)
         }
         Request::Drop {
             processor,
             count: _,
         } => {
             let s = state_in(bytes);
-            entries::drop(s, order, processor, addresses)
+            engine_entries::drop(s, order, processor, addresses)
         }
     }
 }
@@ -189,7 +189,7 @@ enum Asked {
 }
 
 fn asked_in(bytes: &[u8]) -> Asked {
-    let request = callform::call_in(bytes);
+    let request = form_call::call_in(bytes);
     match request {
         Request::Setup => Asked::Setup,
         Request::Take { processor, size } => Asked::Call(CallHeader::Take { processor, size }),
@@ -222,15 +222,15 @@ fn row_answer_to(n: usize, bytes: &[u8], order: &mut [u16], addresses: &[u32]) -
     let asked = asked_in(bytes);
     match asked {
         Asked::Setup => {
-            let u = callform::setup_in(bytes);
-            rowplain::setup_by_row(n, rowrecords::other_records(), order, u)
+            let u = form_call::setup_in(bytes);
+            row_plain::setup_by_row(n, form_row::other_records(), order, u)
         }
         Asked::Call(c) => {
             let s = state_in(bytes);
             let table = s.table;
-            let records = rowrecords::records_of(table);
-            let control = tablecall::control_of(s);
-            rowplain::call_by_row(n, records, order, control, c, addresses)
+            let records = form_row::records_of(table);
+            let control = row_by_value::control_of(s);
+            row_plain::call_by_row(n, records, order, control, c, addresses)
         }
     }
 }

@@ -1,12 +1,12 @@
 // Reads one record from standard input and prints its key. A record that cannot be read whole has no key.
 ghost use Rattle.io.specs.Counts.{Counts};
-use keyrules::Printed;
-use stream::Input;
+use key_rules::Printed;
+use program_stream::Input;
 
 // A record is at most 60000 bytes: one byte more is enough to know that it is too long, and the rest is not read.
 fn main() {
     let mut input = [0u8; 60001];
-    let read = stream::read_input(b"key", &mut input);
+    let read = program_stream::read_input(b"key", &mut input);
     let Input::Bytes(n) = read else {
         return;
     };
@@ -17,7 +17,7 @@ fn main() {
 fn print_key(record: &[u8]) {
     let mut storage = [0u16; 16384];
     let mut text = [0u8; 655360];
-    let printed = replay::key(record, &mut storage, &mut text);
+    let printed = key_replay::key(record, &mut storage, &mut text);
     match printed {
         Printed::Text(end) => print(&text, end),
         Printed::NoRoom => {}
@@ -27,5 +27,5 @@ fn print_key(record: &[u8]) {
 fn print(text: &[u8], end: usize)
     requires { ⌜ Counts end (now text) ⌝ }
 {
-    stream::write_output(b"key", &text[..end]);
+    program_stream::write_output(b"key", &text[..end]);
 }

@@ -1,5 +1,5 @@
 -- `key::main` is safe and ends: the bytes read lie in the buffer. Assumes nothing.
-use Rattle.stream.proofs.InputLaws.{input-bytes-within-buffer, input-bytes-counted}
+use Rattle.program_stream.proofs.InputLaws.{input-bytes-within-buffer, input-bytes-counted}
 use borrow.Author.Needs.{needs}
 use Rattle.key.proofs.main.Statement.{statement}
 use Rattle.key.proofs.main.Tie as tie

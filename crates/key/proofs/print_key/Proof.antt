@@ -2,7 +2,7 @@
 use mathlib.Core.Path.{sym, _∙_}
 use Prim.Native.Nat.{ℕ}
 use lib.ListN.{length-replicate}
-use Rattle.keylaws.proofs.KeyOrNoRoomLaws.{key-text-counted, key-text-within-buffer}
+use Rattle.key_laws.proofs.KeyOrNoRoomLaws.{key-text-counted, key-text-within-buffer}
 use borrow.Author.Needs.{needs}
 use Rattle.key.proofs.print_key.Statement.{statement}
 use Rattle.key.proofs.print_key.Tie as tie

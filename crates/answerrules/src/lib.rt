@@ -1,2 +1,0 @@
-// What the program `call` prints of one call (docs/FORMATS.md, "One call"). The lines are defined in specs/, with computed cases and laws of
-// their length in proofs/; the code is that of crates widefields, superblocklines, namelines, totallines, placelines and answertext.

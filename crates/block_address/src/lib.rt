@@ -1,0 +1,39 @@
+// The block at an address. The functions are total, as the definitions are: past the table's 64 superblocks no block has a number, and a
+// class with no block size has no blocks.
+ghost use mathlib.Core.Path.{_≡_};
+ghost use Prim.Native.Nat.{_/_};
+ghost use Rattle.class_rules.specs.Classes.{sizeOf};
+ghost use Rattle.call_rules.specs.Free.{offsetOf, blockOf, blockNumberAt};
+use heap_rules::State;
+
+// The block of a superblock of the class that the address lies in; 0 where the class has no block size.
+pub fn block_in(class: u8, address: u32) -> u16
+    ensures { λ r. ⌜ r ≡ offsetOf address / sizeOf class ⌝ }
+{
+    let size = class_table::block_size(class);
+    if size == 0 {
+        return 0;
+    }
+    let offset = (address % 4096) as u16;
+    offset / size
+}
+
+// The block that the address lies in.
+pub fn block_at(s: State, address: u32) -> u16
+    ensures { λ r. ⌜ r ≡ blockOf s address ⌝ }
+{
+    let k = (address / 4096) as usize;
+    let class = heap_table::class_at(s, k);
+    block_in(class, address)
+}
+
+// The number by which a name points at that block, superblock × 256 + block; 65535 past the table.
+pub fn block_number_at(s: State, address: u32) -> u16
+    ensures { λ r. ⌜ r ≡ blockNumberAt s address ⌝ }
+{
+    let k = address / 4096;
+    if k >= 64 {
+        return 65535;
+    }
+    k as u16 * 256 + block_at(s, address)
+}

@@ -1,0 +1,28 @@
+-- `block_refusal::refusal` meets its contract. Assumes nothing.
+use borrow.Author.Needs.{needs}
+use mathlib.Core.Path.{refl}
+use Rattle.block_refusal.proofs.AddressTestLaws.{address-refusal-past-table}
+use Rattle.block_refusal.proofs.refusal.Statement.{statement}
+use Rattle.block_refusal.proofs.refusal.Tie as tie
+
+cast-k : tie.Need-cast-k
+cast-k c = search needs
+
+returns : tie.Need-returns
+returns c = search (address-refusal-past-table, needs)
+
+mul-b : tie.Need-mul-b
+mul-b c = search needs
+
+element-copy-out-b : tie.Need-element-copy-out-b
+element-copy-out-b c = search needs
+
+refusal-in-requires : tie.Need-refusal-in-requires
+refusal-in-requires c κs = search needs
+
+returns-2 : tie.Need-returns-2
+returns-2 c = c .refusal-in .ensures _ refl refl
+
+pub refusal-spec : {M : Type 1} → statement M
+refusal-spec =
+    tie.close (tie.spec cast-k returns mul-b element-copy-out-b refusal-in-requires returns-2)

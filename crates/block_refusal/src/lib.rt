@@ -1,0 +1,96 @@
+// The tests of an address: unmapped, misaligned, live, and the refusal that they come to. The tests take the superblock that the address
+// lies in, and not the state: a state by value is a copy of six kilobytes.
+ghost use mathlib.Core.Path.{_≡_};
+ghost use Prim.Native.Nat.{_≤_};
+ghost use Rattle.call_rules.specs.Free.{isUnmapped, isRunStart, isOffBlock, isMisaligned, isLiveAt, addressRefusal};
+ghost use Rattle.block_refusal.specs.Holding.{TellsIn, TellsOf};
+use heap_rules::State;
+use heap_rules::Superblock;
+
+// The address is past superblocks 0 to N - 1, or in an unused one.
+fn is_unmapped(superblocks: u8, b: Superblock, address: u32) -> bool
+    ensures { λ r. ⌜ TellsOf r isUnmapped superblocks b address ⌝ }
+{
+    let end = superblocks as u32 * 4096;
+    if end <= address {
+        return true;
+    }
+    heap_tests::is_unused(b)
+}
+
+// No block of its superblock, which is of no run, starts at the address.
+fn is_off_block(b: Superblock, address: u32) -> bool
+    ensures { λ r. ⌜ TellsIn r isOffBlock b address ⌝ }
+{
+    let size = class_table::block_size(b.class);
+    if size == 0 {
+        return true;
+    }
+    let offset = (address % 4096) as u16;
+    if offset % size != 0 {
+        return true;
+    }
+    class_table::block_count(b.class) <= offset / size
+}
+
+// A run starts at the address: its superblock is the first of one, and the address is its first.
+fn is_run_start(b: Superblock, address: u32) -> bool
+    ensures { λ r. ⌜ TellsIn r isRunStart b address ⌝ }
+{
+    if address % 4096 != 0 {
+        return false;
+    }
+    heap_tests::starts_run(b)
+}
+
+// No block starts at the address; in a run its start is the only one.
+fn is_misaligned(b: Superblock, address: u32) -> bool
+    ensures { λ r. ⌜ TellsIn r isMisaligned b address ⌝ }
+{
+    if b.owner == 254 {
+        return !is_run_start(b, address);
+    }
+    is_off_block(b, address)
+}
+
+// The block at the address is live. A run's first superblock has no marks: its block 0 is live.
+fn is_live_in(b: Superblock, address: u32) -> bool
+    ensures { λ r. ⌜ TellsIn r isLiveAt b address ⌝ }
+{
+    let j = block_address::block_in(b.class, address) as usize;
+    if heap_tests::starts_run(b) {
+        return j == 0;
+    }
+    let live = b.live;
+    marks_bitmap::is_live(live, j)
+}
+
+// The refusal that the address meets, by N and the superblock that it lies in: the first of 5, 6 and 7 that applies, or 0 where a live block
+// starts there.
+pub fn refusal_in(superblocks: u8, b: Superblock, address: u32) -> u8
+    ensures { λ r. ⌜ TellsOf r addressRefusal superblocks b address ⌝ }
+{
+    if is_unmapped(superblocks, b, address) {
+        return 5;
+    }
+    if is_misaligned(b, address) {
+        return 6;
+    }
+    if !is_live_in(b, address) {
+        return 7;
+    }
+    0
+}
+
+// The refusal that the address meets in a state. What lies past the table lies past N superblocks too.
+pub fn refusal(s: State, address: u32) -> u8
+    requires { ⌜ s .setup .superblocks ≤ 64 ⌝ }
+    ensures { λ r. ⌜ r ≡ addressRefusal s address ⌝ }
+{
+    let k = (address / 4096) as usize;
+    if k >= 64 {
+        return 5;
+    }
+    let b = s.table[k];
+    refusal_in(s.setup.superblocks, b, address)
+}

@@ -1,0 +1,52 @@
+// The check of a state's totals: those kept are those counted. What is kept may be any number of its width, and is only compared.
+ghost use mathlib.Core.Path.{_≡_};
+ghost use lib.ListN.{length};
+ghost use Rattle.base_laws.specs.Lists.{sameNumbers};
+ghost use Rattle.check_rules.specs.Check.{sameTotals};
+use heap_rules::Totals;
+
+// The totals are equal.
+pub fn same_totals(kept: Totals, counted: Totals) -> bool
+    ensures { λ r. ⌜ r ≡ sameTotals kept counted ⌝ }
+{
+    let kept_superblocks = kept.superblocks;
+    let superblocks = counted.superblocks;
+    if !same_superblocks(&kept_superblocks, &superblocks) {
+        return false;
+    }
+    let kept_live = kept.live;
+    let live = counted.live;
+    same_live(&kept_live, &live)
+}
+
+// The numbers are equal: how many differ is counted, without a branch in the loop. A reference does not tell the proof how long its array is,
+// so the lengths are asked for.
+fn same_superblocks(a: &[u8; 243], b: &[u8; 243]) -> bool
+    requires { ⌜ (length (now a) ≡ 243) × (length (now b) ≡ 243) ⌝ }
+    ensures { λ r. ⌜ r ≡ sameNumbers (now (a .entry)) (now (b .entry)) ⌝ }
+{
+    let mut differ: u8 = 0;
+    let mut i: usize = 0;
+    while i < 243 {
+        if a[i] != b[i] {
+            differ += 1;
+        }
+        i += 1;
+    }
+    differ == 0
+}
+
+fn same_live(a: &[u16; 243], b: &[u16; 243]) -> bool
+    requires { ⌜ (length (now a) ≡ 243) × (length (now b) ≡ 243) ⌝ }
+    ensures { λ r. ⌜ r ≡ sameNumbers (now (a .entry)) (now (b .entry)) ⌝ }
+{
+    let mut differ: u16 = 0;
+    let mut j: usize = 0;
+    while j < 243 {
+        if a[j] != b[j] {
+            differ += 1;
+        }
+        j += 1;
+    }
+    differ == 0
+}

@@ -1,1 +1,0 @@
-// The filled order places of one superblock: definitions and laws. The code is crate ordercheck.

@@ -1,0 +1,62 @@
+// The totals of a heap and class: where they stand, and one superblock counted in them or no longer.
+ghost use mathlib.Core.Path.{_≡_};
+ghost use Prim.Native.Nat.{ℕ, _-_, _≤_};
+ghost use lib.ListN.{getD};
+ghost use Rattle.heap_totals.specs.OneSuperblock.{indexOf, countedIn, countedOut};
+use heap_rules::Superblock;
+use heap_rules::Totals;
+
+// Where the totals of a heap and class stand; 243 where none are kept of them.
+pub fn index_of(heap: u8, class: u8) -> usize
+    ensures { λ r. ⌜ r ≡ indexOf heap class ⌝ }
+{
+    if 9 <= heap {
+        return 243;
+    }
+    if 27 <= class {
+        return 243;
+    }
+    heap as usize * 27 + class as usize
+}
+
+// The totals with superblock b counted.
+pub fn count_in(t: Totals, b: Superblock) -> Totals
+    requires { ⌜ ((x : ℕ) → getD (t .superblocks) x 0 ≤ 64) × ((x : ℕ) → getD (t .live) x 0 ≤ 16384) ⌝ }
+    ensures { λ r. ⌜ r ≡ countedIn b t ⌝ }
+{
+    let at = index_of(b.owner, b.class);
+    if 243 <= at {
+        return t;
+    }
+    let mut r = t;
+    r.superblocks[at] += 1;
+    r.live[at] += heap_tests::live_in(b) as u16;
+    r
+}
+
+// The totals with superblock b no longer counted.
+pub fn count_out(t: Totals, b: Superblock) -> Totals
+    ensures { λ r. ⌜ r ≡ countedOut b t ⌝ }
+{
+    let at = index_of(b.owner, b.class);
+    if 243 <= at {
+        return t;
+    }
+    let mut r = t;
+    r.superblocks[at] = one_less(r.superblocks[at]);
+    r.live[at] = less(r.live[at], heap_tests::live_in(b) as u16);
+    r
+}
+
+// x - 1, and x - y; 0 where that is below 0.
+fn one_less(x: u8) -> u8
+    ensures { λ r. ⌜ r ≡ x - 1 ⌝ }
+{
+    if x < 1 { 0 } else { x - 1 }
+}
+
+fn less(x: u16, y: u16) -> u16
+    ensures { λ r. ⌜ r ≡ x - y ⌝ }
+{
+    if x < y { 0 } else { x - y }
+}

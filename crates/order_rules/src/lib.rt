@@ -1,0 +1,1 @@
+// The order storage as definitions: specs/Order.antt. Its laws are in crate order_laws, the code in crates order_places and order_renewal.

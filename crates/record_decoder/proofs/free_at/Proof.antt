@@ -1,0 +1,54 @@
+-- `record_decoder::free_at` meets its contract: each branch is one of the definition. Assumes nothing.
+use borrow.Author.Tests.{le-leb, lt-leb, eq-eqb, ne-eqb}
+use Rattle.record_rules.specs.Record.{freeAt, unlessFirst, unlessTruncated}
+use borrow.Author.Needs.{needs}
+use Rattle.record_decoder.proofs.free_at.Statement.{statement}
+use Rattle.record_decoder.proofs.free_at.Tie as tie
+
+refused-requires : tie.Need-refused-requires
+refused-requires c κs = search needs
+
+returns : tie.Need-returns
+unfolding freeAt unlessFirst unlessTruncated
+returns c = search (eq-eqb)
+
+add-if2 : tie.Need-add-if2
+add-if2 c = search needs
+
+add-t6 : tie.Need-add-t6
+add-t6 c = search needs
+
+shared-slice-read-t8 : tie.Need-shared-slice-read-t8
+shared-slice-read-t8 c = search needs
+
+add-four-at : tie.Need-add-four-at
+add-four-at c = search needs
+
+four-at-requires : tie.Need-four-at-requires
+four-at-requires c κs = search needs
+
+returns-2 : tie.Need-returns-2
+unfolding freeAt unlessFirst unlessTruncated
+returns-2 c = search (ne-eqb, le-leb)
+
+refused-requires-2 : tie.Need-refused-requires-2
+refused-requires-2 c κs = search needs
+
+returns-3 : tie.Need-returns-3
+unfolding freeAt unlessFirst unlessTruncated
+returns-3 c = search (ne-eqb, lt-leb)
+
+pub free-at-spec : {M : Type 1} → statement M
+free-at-spec =
+    tie.close
+    (tie.spec
+    refused-requires
+    returns
+    add-if2
+    add-t6
+    shared-slice-read-t8
+    add-four-at
+    four-at-requires
+    returns-2
+    refused-requires-2
+    returns-3)
