@@ -33,14 +33,6 @@ module _ {A : Type 0} (l : List A) (d : A) (i : ℕ) (a : A) where
   pub sum-set : (f : A → ℕ) (k : ℕ) → i < k → i < length l → sumBelow (λ j. f (getD (set l i a) j d)) k + f (getD l i d) ≡ sumBelow (λ j. f (getD l j d)) k + f a
   sum-set f = sum-set-indexed (λ j. f)
 
-  -- a test of each element, by its number, still passes where the new element passes
-  pub all-set : (p : ℕ → A → Bool) (k : ℕ) → i < length l → T (p i a) → T (allBelow (λ j. p j (getD l j d)) k) → T (allBelow (λ j. p j (getD (set l i a) j d)) k)
-  all-set p k within new old = all-of-each (λ j. p j (getD (set l i a) j d)) k (λ j lj. go j lj (ℕ-discrete j i))
-    where
-      go : (j : ℕ) → j < k → Dec (j ≡ i) → T (p j (getD (set l i a) j d))
-      go j lj (yes q) = subst (λ (m : ℕ). T (p m (getD (set l i a) m d))) (sym q) (subst (λ (x : A). T (p i x)) (sym (getD-set-same l i a d within)) new)
-      go j lj (no f) = subst (λ (x : A). T (p j x)) (sym (getD-set-other l i j a d f)) (all-at (λ m. p m (getD l m d)) k old j lj)
-
 -- the length of a list of structs, from that of their values
 pub length-of-length-map : {A B : Type 0} (f : A → B) (l : List A) (n : ℕ) → length (map f l) ≡ n → length l ≡ n
 length-of-length-map f l n e = sym (length-map l f) ∙ e

@@ -19,26 +19,6 @@ pub sum-below-suc : (f : ℕ → ℕ) (n : ℕ) → sumBelow f (n + 1) ≡ sumBe
 unfolding sumBelow
 sum-below-suc f n = rw add-one
 
-pub sum-loop-step : (f : ℕ → ℕ) (k a r : ℕ) → a ≡ sumBelow f k → r ≡ a + f k → r ≡ sumBelow f (k + 1)
-sum-loop-step f k a r e g = g ∙ ap (λ (x : ℕ). x + f k) e ∙ sym (sum-below-suc f k)
-
-pub sum-loop-end : (f : ℕ → ℕ) (k n a : ℕ) → a ≡ sumBelow f k → k ≤ n → n ≤ k → a ≡ sumBelow f n
-sum-loop-end f k n a e h g = e ∙ ap (sumBelow f) (le-antisymm h g)
-
-pub all-below-zero : (p : ℕ → Bool) → allBelow p 0 ≡ true
-unfolding allBelow
-all-below-zero p = refl
-
-pub all-below-suc : (p : ℕ → Bool) (n : ℕ) → allBelow p (n + 1) ≡ both (allBelow p n) (p n)
-unfolding allBelow
-all-below-suc p n = rw add-one
-
-pub all-loop-step : (p : ℕ → Bool) (n : ℕ) (ok r x : Bool) → ok ≡ allBelow p n → x ≡ p n → r ≡ both ok x → r ≡ allBelow p (n + 1)
-all-loop-step p n ok r x e f g = rw (all-below-suc, ← e, ← f) g
-
-pub all-loop-end : (p : ℕ → Bool) (i n : ℕ) (ok : Bool) → ok ≡ allBelow p i → i ≤ n → n ≤ i → ok ≡ allBelow p n
-all-loop-end p i n ok e h g = e ∙ ap (allBelow p) (le-antisymm h g)
-
 -- ---- sums
 pub sum-cong : (f g : ℕ → ℕ) (n : ℕ) → ((k : ℕ) → k < n → f k ≡ g k) → sumBelow f n ≡ sumBelow g n
 unfolding sumBelow

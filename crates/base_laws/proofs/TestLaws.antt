@@ -25,9 +25,6 @@ false-of-not-T false h = refl
 pub true-of-equal : (a b : Bool) → a ≡ b → a ≡ true → b ≡ true
 true-of-equal a b e t = sym e ∙ t
 
-pub false-of-equal : (a b : Bool) → a ≡ b → a ≡ false → b ≡ false
-false-of-equal a b e t = sym e ∙ t
-
 -- two tests that pass together are one
 pub equal-of-iff : (a b : Bool) → (T a → T b) → (T b → T a) → a ≡ b
 equal-of-iff true true f g = refl

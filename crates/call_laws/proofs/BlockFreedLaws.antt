@@ -228,10 +228,6 @@ module _ (freed : ℕ → ℕ → ℕ) (s : State) (order : List ℕ) (a : ℕ) 
   pub small-block-freed-shape : Shape (smallBlockFreed s a)
   small-block-freed-shape = subst Shape (sym small-block-freed-is) (mark-cleared-shape ready order k (blockOf s a) live-when-ready)
 
-  -- no class changes, so an address is of the block that it was of
-  pub small-block-freed-block : (x : ℕ) → blockOf (smallBlockFreed s a) x ≡ blockOf s x
-  small-block-freed-block = block-at-address-same s (smallBlockFreed s a) (shape .length-is) (small-block-freed-shape .length-is) (small-block-freed-effect .classes)
-
   abbrev oneMore : ℕ → ℕ → ℕ
   oneMore = oneMoreFreed (superblockHolding s a .owner) (superblockHolding s a .class) freed
 

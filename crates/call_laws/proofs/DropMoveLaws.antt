@@ -50,11 +50,6 @@ then-restored-moved-or-outside n h c before p = (length-of-invariant-restored h 
 pub then-restored-leaves-heaps : (h c : ℕ) (before : Moved) → length (before .state .table) ≡ 64 → movesAndOutsideGlobal (thenRestored h c before) ≡ movesAndOutsideGlobal before
 then-restored-leaves-heaps h c before long = then-restored-moved-or-outside (movesAndOutsideGlobal before) h c before (long, refl) .1
 
-pub classes-restored-leave-heaps : (touched : ℕ → ℕ → Bool) (h c : ℕ) (before : Moved) → length (before .state .table) ≡ 64
-    → movesAndOutsideGlobal (classesRestored touched h c before) ≡ movesAndOutsideGlobal before
-classes-restored-leave-heaps touched h c before long =
-    classes-restored-keep (MovedOrOutside (movesAndOutsideGlobal before)) (then-restored-moved-or-outside (movesAndOutsideGlobal before)) touched h c before (long, refl) .1
-
 pub heaps-restored-leave-heaps : (touched : ℕ → ℕ → Bool) (n : ℕ) (before : Moved) → length (before .state .table) ≡ 64
     → heapsRestored touched n before .moves + outsideGlobal (heapsRestored touched n before .state) ≡ before .moves + outsideGlobal (before .state)
 heaps-restored-leave-heaps touched n before long =

@@ -279,16 +279,10 @@ module _ (s : State) (order : List ℕ) (i m : ℕ) where
 
 -- an accepted named free has the answer, the state and the order places of the free of the held address
 module _ (s : State) (order : List ℕ) (i m : ℕ) (shape : Shape s) (acc : NamedFreeAccepted s order i m) where
-  pub named-free-shape : Shape (namedFreeOf s order i m .answer .state)
-  named-free-shape = rw (acc .result-is) (free-shape s order i (heldAddress s m) shape (acc .freed))
-
   pub named-free-passed : Passed (namedFreeOf s order i m .answer .state) (namedFreeOf s order i m .order)
   named-free-passed = rw (acc .result-is) (free-passed s order i (heldAddress s m) shape (acc .freed))
 
 module _ (s : State) (order : List ℕ) (i m : ℕ) (shape : Shape s) (acc : NamedLongFreeAccepted s order i m) where
-  pub named-long-free-shape : Shape (namedFreeOf s order i m .answer .state)
-  named-long-free-shape = rw (acc .result-is) (long-free-shape s order i (heldAddress s m) shape (acc .freed))
-
   pub named-long-free-passed : Passed (namedFreeOf s order i m .answer .state) (namedFreeOf s order i m .order)
   named-long-free-passed = rw (acc .result-is) (long-free-passed s order i (heldAddress s m) shape (acc .freed))
 

@@ -51,10 +51,6 @@ is-touched-iff s addresses h c = (
   λ t. is-touched-of-listed s addresses h c (t .address) (belongs-of-owner-and-class h c (superblockHolding s (t .address)) (t .owner-is) (t .class-is)) (t .listed),
 )
 
--- a long block is of no heap (item 7), so that its address touches none
-pub touching-address-outside-run : (s : State) (addresses : List ℕ) (h c : ℕ) → h < 254 → (t : Touches s addresses h c) → isInRun s (t .address) ≡ false
-touching-address-outside-run s addresses h c l t = outside-run-of-owner (superblockHolding s (t .address)) (λ (q : superblockHolding s (t .address) .owner ≡ 254). omega (arith, t .owner-is))
-
 -- ---- "each processor heap and class touched"
 -- heap h and class c are one of the pairs
 abbrev pub PairAmong : ℕ → ℕ → List Pair → Type 0

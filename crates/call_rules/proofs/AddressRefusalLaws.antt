@@ -40,15 +40,6 @@ module _ (s : State) (a : ℕ) where
   unfolding addressRefusal
   address-refusal-is-0-5-6-or-7 = refusal-cases (isUnmapped s a) (isMisaligned s a) (isLiveAt s a)
 
-  pub address-refusal-lt-256 : addressRefusal s a < 256
-  address-refusal-lt-256 = go address-refusal-is-0-5-6-or-7
-    where
-      go : (addressRefusal s a ≡ 0) ⊎ ((addressRefusal s a ≡ 5) ⊎ ((addressRefusal s a ≡ 6) ⊎ (addressRefusal s a ≡ 7))) → addressRefusal s a < 256
-      go (inl e) = omega arith
-      go (inr (inl e)) = omega arith
-      go (inr (inr (inl e))) = omega arith
-      go (inr (inr (inr e))) = omega arith
-
   -- ---- none: a live block starts there, and the other way round
   module _ (e : addressRefusal s a ≡ 0) where
     tests-passed : (isUnmapped s a ≡ false) × (isMisaligned s a ≡ false) × (isLiveAt s a ≡ true)

@@ -26,7 +26,3 @@ module _ (order live : List ℕ) (s n t : ℕ) (other : s ≡ t → ⊥) (small 
   -- a block put in a place of another superblock
   pub places-valid-other-with-place : (p b : ℕ) → p < 256 → placesValid (withPlace order t p b) live s n ≡ placesValid order live s n
   places-valid-other-with-place p b h = places-valid-cong (withPlace order t p b) order live s n (length-with-place order t p b) (λ q l. with-place-other-superblock order t p b s q other h (omega arith))
-
-  -- another superblock renewed
-  pub places-valid-other-renewed : (m : ℕ) → placesValid (renewed order t m) live s n ≡ placesValid order live s n
-  places-valid-other-renewed m = places-valid-cong (renewed order t m) order live s n (length-renewed order t m) (λ q l. renewed-other-superblock order t m s q other (omega arith))

@@ -218,20 +218,6 @@ module _ (meets : Superblock → Bool) (preferred : Superblock → Superblock �
   best-of-chosen r zero k e = absurd (At-not-Nothing k (sym e))
   best-of-chosen r (suc n) k e = best-step r n k (meets (getD table n blank)) refl (chosenBelow meets preferred table n) (best-of-chosen r n) (none-meets-of-chosen-nothing n) e
 
-  pub chosen-lt-bound : (n k : ℕ) → chosenBelow meets preferred table n ≡ At k → k < n
-  unfolding chosenBelow prefer
-  chosen-lt-bound zero k e = absurd (At-not-Nothing k (sym e))
-  chosen-lt-bound (suc n) k e = go (meets (getD table n blank)) (chosenBelow meets preferred table n) (chosen-lt-bound n) e
-    where
-      pass : (x : Bool) (m : ℕ) → m < n → pick x (At n) (At m) ≡ At k → k < suc n
-      pass true m l q = omega (arith, At-injective n k q)
-      pass false m l q = omega (arith, At-injective m k q)
-
-      go : (w : Bool) (f : Found) → ((m : ℕ) → f ≡ At m → m < n) → pick w (prefer preferred table f n) f ≡ At k → k < suc n
-      go true Nothing below q = omega (arith, At-injective n k q)
-      go true (At m) below q = pass (preferred (getD table n blank) (getD table m blank)) m (below m refl) q
-      go false f below q = omega (arith, below k q)
-
   -- where one meets the criterion, one is found
   pub chosen-of-meets : (n m : ℕ) → m < n → T (meets (getD table m blank)) → (k : ℕ) × (chosenBelow meets preferred table n ≡ At k)
   chosen-of-meets n m l t = go (chosenBelow meets preferred table n) refl

@@ -118,14 +118,6 @@ pub superblocks-of-le-64 : (h c : ℕ) (s : State) → superblocksOf h c s ≤ 6
 unfolding superblocksOf total oneIfBelongs
 superblocks-of-le-64 h c s = sum-le-of-terms-le-one (λ k. one (belongs h c (superblockAt s k))) 64 (λ k l. one-le-one (belongs h c (superblockAt s k)))
 
-pub live-of-le-16384 : (h c : ℕ) (s : State) → liveOf h c s ≤ 16384
-unfolding liveOf total liveIfBelongs
-live-of-le-16384 h c s = sum-le-mul (λ k. pick (belongs h c (superblockAt s k)) (liveIn (superblockAt s k)) 0) 256 64 (λ k l. small (belongs h c (superblockAt s k)) (superblockAt s k))
-  where
-    small : (t : Bool) (b : Superblock) → pick t (liveIn b) 0 ≤ 256
-    small true b = live-count-le-256 (b .live)
-    small false b = zero-le
-
 -- where each superblock of the heap and class has at least l live, there are at least l for each
 pub live-of-at-least-each : (h c l : ℕ) (s : State) → ((k : ℕ) → k < 64 → T (belongs h c (superblockAt s k)) → l ≤ liveIn (superblockAt s k)) → superblocksOf h c s * l ≤ liveOf h c s
 unfolding superblocksOf liveOf total oneIfBelongs liveIfBelongs
@@ -137,20 +129,6 @@ live-of-at-least-each h c l s f =
     omega arith
   where
     each : (t : Bool) (x : ℕ) → (T t → l ≤ x) → l * one t ≤ pick t x 0
-    each true x g = omega (arith, g tt)
-    each false x g = omega arith
-
--- where each has at most l, at most l for each
-pub live-of-at-most-each : (h c l : ℕ) (s : State) → ((k : ℕ) → k < 64 → T (belongs h c (superblockAt s k)) → liveIn (superblockAt s k) ≤ l) → liveOf h c s ≤ superblocksOf h c s * l
-unfolding superblocksOf liveOf total oneIfBelongs liveIfBelongs
-live-of-at-most-each h c l s f =
-    let e = sum-scale l (λ k. one (belongs h c (superblockAt s k))) 64 in
-    let m = mul-comm (sumBelow (λ k. one (belongs h c (superblockAt s k))) 64) l in
-    let g = sum-le-of-terms-le (λ k. pick (belongs h c (superblockAt s k)) (liveIn (superblockAt s k)) 0) (λ k. l * one (belongs h c (superblockAt s k))) 64
-    (λ k lk. each (belongs h c (superblockAt s k)) (liveIn (superblockAt s k)) (f k lk)) in
-    omega arith
-  where
-    each : (t : Bool) (x : ℕ) → (T t → x ≤ l) → pick t x 0 ≤ l * one t
     each true x g = omega (arith, g tt)
     each false x g = omega arith
 
@@ -262,10 +240,6 @@ total-of-new-state f u e = sum-of-zeros (λ k. f (superblockAt (newState u) k)) 
 pub superblocks-of-new-state : (u : Setup) (h c : ℕ) → h < 255 → superblocksOf h c (newState u) ≡ 0
 unfolding superblocksOf
 superblocks-of-new-state u h c l = total-of-new-state (oneIfBelongs h c) u (one-if-belongs-other-owner h c unused (λ (q : unused .owner ≡ h). omega arith))
-
-pub live-of-new-state : (u : Setup) (h c : ℕ) → h < 255 → liveOf h c (newState u) ≡ 0
-unfolding liveOf
-live-of-new-state u h c l = total-of-new-state (liveIfBelongs h c) u (live-if-belongs-other-owner h c unused (λ (q : unused .owner ≡ h). omega arith))
 
 pub owned-of-new-state : (u : Setup) (c : ℕ) → superblocksOfClass c (newState u) ≡ 0
 unfolding superblocksOfClass isOwnedOfClass isOfHeap

@@ -347,10 +347,6 @@ module _ (k : ℕ) (s : State) (below : k < 64) (sound : RanksSound s) where
 
 -- ---- the states after a free and after a renewal
 module _ (k : ℕ) (s : State) (m : ℕ) (l : m < 64) where
-  pub superblock-at-ranked-latest : superblockAt (rankedLatest k s) m ≡ withRank (rankAfterFree k (s .table) m) (superblockAt s m)
-  unfolding rankedLatest
-  superblock-at-ranked-latest = superblock-at-reranked (rankAfterFree k (s .table)) s m l
-
   pub superblock-at-unranked : superblockAt (unranked k s) m ≡ withRank (rankAfterRenewal k (s .table) m) (superblockAt s m)
   unfolding unranked
   superblock-at-unranked = superblock-at-reranked (rankAfterRenewal k (s .table)) s m l

@@ -139,9 +139,6 @@ module _ (rank : ℕ → ℕ) (s : State) where
     reranked-unowned : (k : ℕ) → Unowned (superblockAt s k) → Unowned (superblockAt (reranked rank s) k)
     reranked-unowned k u = subst Unowned (sym (superblock-keeps-all-but-rank k)) (record { owner = u .owner; class = u .class; live = u .live })
 
-    pub unused-of-reranked-unused : (k : ℕ) → Unused (superblockAt (reranked rank s) k) → Unused (superblockAt s k)
-    unused-of-reranked-unused k u = record { owner = sym (reranked-owner k) ∙ u .owner; class = sym (reranked-class k) ∙ u .class; live = sym (reranked-keeps liveIn (λ r b. refl) k) ∙ u .live }
-
     reranked-owned : (order : List ℕ) (k : ℕ) → Owned (s .setup) order k (superblockAt s k) → Owned (s .setup) order k (superblockAt (reranked rank s) k)
     reranked-owned order k o = subst (Owned (s .setup) order k) (sym (superblock-keeps-all-but-rank k)) (record { owner = o .owner; class = o .class; places = o .places })
 

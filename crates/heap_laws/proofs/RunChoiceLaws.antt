@@ -35,11 +35,6 @@ facts-of-is-available b t = go (isUnused b) refl
     go true e = inl (facts-of-is-unused b (T-of-true _ e))
     go false e = inr (facts-of-empty-in-global b (either-right-of-left-false (isUnused b) _ t e))
 
-pub is-available-of-facts : (b : Superblock) → Available b → T (isAvailable b)
-unfolding isAvailable
-is-available-of-facts b (inl u) = either-left (isUnused b) _ (is-unused-of-facts b u)
-is-available-of-facts b (inr (owner, live)) = either-right (isUnused b) _ (empty-in-global-of-facts b owner live)
-
 -- a "run of neighbouring superblocks, all below N, that are each unused or empty in heap 0": n superblocks from k on
 pub record FreeRun (n : ℕ) (s : State) (k : ℕ) : Type 0 where
   pub below : k + n ≤ s .setup .superblocks

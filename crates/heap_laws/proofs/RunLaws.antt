@@ -399,15 +399,6 @@ module _ (s t : State) (k n : ℕ) (others : (m : ℕ) → m < 64 → Outside k 
       outside-kept : (j : ℕ) → j < 64 → Outside k n j → isOfRun (superblockAt t j) ≡ false → superblockAt t j .run ≡ 0
       outside-kept j l out e = let (of-run, length-is) = others j l out in length-is ∙ h .outside-carries-0 j l (sym of-run ∙ e)
 
--- none differs
-pub runs-sound-of-same : (s t : State) → ((k : ℕ) → k < 64 → isOfRun (superblockAt t k) ≡ isOfRun (superblockAt s k)) → ((k : ℕ) → k < 64 → superblockAt t k .run ≡ superblockAt s k .run)
-    → RunsSound s → RunsSound t
-runs-sound-of-same s t of-run length-is h =
-    runs-sound-of-range s t 0 0 (λ m l _. (of-run m l, length-is m l)) (λ j r i a low high out m p q. inr (omega arith)) h
-    (λ j low high l e some. absurd (let z : ⊥ = omega arith in z))
-    (λ j low high e q. absurd (let z : ⊥ = omega arith in z))
-    (λ j low high e. omega arith)
-
 -- a run taken: superblocks of no run become one
 pub runs-sound-of-run-taken : (s t : State) (k n : ℕ) → ((m : ℕ) → k ≤ m → m < k + n → isOfRun (superblockAt s m) ≡ false) → RunAt t k n
     → ((m : ℕ) → m < 64 → Outside k n m → SameOfRuns s t m) → RunsSound s → RunsSound t

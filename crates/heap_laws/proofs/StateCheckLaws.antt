@@ -94,9 +94,6 @@ is-unused-of-facts b h =
 pub not-unused-of-owner : (b : Superblock) → (b .owner ≡ 255 → ⊥) → isUnused b ≡ false
 not-unused-of-owner b f = false-of-not-T (isUnused b) (λ t. f (facts-of-is-unused b t .owner))
 
-pub not-unused-of-belongs : (h c : ℕ) (b : Superblock) → h < 255 → T (belongs h c b) → isUnused b ≡ false
-not-unused-of-belongs h c b l t = not-unused-of-owner b (λ (q : b .owner ≡ 255). omega (arith, owner-and-class-of-belongs h c b t .0))
-
 -- unused, or part of a run
 pub unowned-of-unused : (b : Superblock) → Unused b → Unowned b
 unowned-of-unused b u = record { owner = inl (u .owner); class = u .class; live = u .live }
@@ -365,9 +362,6 @@ module _ {Invariant : ℕ → ℕ → State → Type 0} (s : State) (order : Lis
       go : Unowned (superblockAt s k) ⊎ Owned (s .setup) order k (superblockAt s k) → Unowned (superblockAt s k)
       go (inl u) = u
       go (inr o) = absurd (let z : ⊥ = omega (arith, o .owner, sound .numbers .processors-high) in z)
-
-  pub unused-of-owner-255 : superblockAt s k .owner ≡ 255 → Unused (superblockAt s k)
-  unused-of-owner-255 e = unused-of-unowned (superblockAt s k) (unowned-of-owner (omega arith)) e
 
   -- not more live than blocks
   pub live-le-blocks-of-owned : superblockAt s k .owner < 254 → liveIn (superblockAt s k) ≤ blocksOf (superblockAt s k .class)

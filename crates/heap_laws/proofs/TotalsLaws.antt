@@ -133,9 +133,6 @@ totals-valid-of-kept s k =
 pub totals-kept-with-superblock : (s : State) (k : ℕ) (b : Superblock) → TotalsKept (withSuperblock s k b)
 totals-kept-with-superblock s k b = refl
 
-pub totals-kept-with-names : (s : State) (names : List ℕ) → TotalsKept s → TotalsKept (withNames s names)
-totals-kept-with-names s names k = k
-
 pub new-state-totals-kept : (u : Setup) → TotalsKept (newState u)
 unfolding recounted countedBelow withCounted isCounted
 new-state-totals-kept u = refl

@@ -25,13 +25,6 @@ module _ (s : State) (k : ℕ) (long : length (s .table) ≡ 64) (h : 64 ≤ k) 
   pub class-past-table : 0 ≡ superblockAt s k .class
   class-past-table = ap (λ (b : Superblock). b .class) (sym superblock-past-table-is-blank)
 
-  pub not-unused-past-table : isUnused (superblockAt s k) ≡ false
-  unfolding isUnused
-  not-unused-past-table = ap (λ (b : Superblock). isUnused b) superblock-past-table-is-blank
-
-  pub mark-past-table : (j : ℕ) → false ≡ isMarked (superblockAt s k .live) j
-  mark-past-table j = sym (ap (λ (b : Superblock). isMarked (b .live) j) superblock-past-table-is-blank ∙ no-mark-of-mark-bit-zero [] j (mark-bit-of-empty-list j))
-
   pub with-superblock-past-table : (b : Superblock) → TotalsKept s → s ≡ withSuperblock s k b
   with-superblock-past-table b kept =
       ap (λ (t : Totals). record { setup = s .setup; table = s .table; names = s .names; totals = t }) kept

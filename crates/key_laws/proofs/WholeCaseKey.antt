@@ -162,9 +162,3 @@ unfolding KeyOrNoRoom
 whole-answer out left new n h = (h .1 .count ∙ ap length whole-case, h .1 .text ∙ whole-case, h .1 .behind, h .1 .storage)
 
 -- ---- and of a record with no command: no setup starts it, so that its key is a stop line, and the storage is as it was
-pub storage-of-no-command : (order : List ℕ) → storageOf [] order ≡ order
-unfolding commandDefinitions
-storage-of-no-command order = ⊎-elim (λ h. absurd (no-setup (h .0) (h .1) (h .2 .starts))) (λ h. h .3) (key-demand-3 [] order)
-  where
-    no-setup : (u : Setup) (commands : List Command) → commandsOf [] ≡ command.Setup (u .processors) (u .superblocks) (u .spare) (u .p) (u .q) ∷ commands → ⊥
-    no-setup u commands e = let z : _≡_ {A = ℕ} 0 1 = cc in omega arith

@@ -24,23 +24,6 @@ unfolding setupLine
 length-of-setup-line-le-26 u a b c d e =
     simp length-append (omega (arith, length-of-byte-decimal-le-3 (u .processors) a, length-of-byte-decimal-le-3 (u .superblocks) b, length-of-byte-decimal-le-3 (u .spare) c, length-of-byte-decimal-le-3 (u .p) d, length-of-byte-decimal-le-3 (u .q) e))
 
--- moves and refusals are of 8 bits, addresses of 32
-pub length-of-result-le-14 : (o : Outcome) → ((m : ℕ) → o ≡ Moves m → m < 256) → ((r : ℕ) → o ≡ Refused r → r < 256) → length (result o) ≤ 14
-unfolding result
-length-of-result-le-14 Ready f g = zero-le
-length-of-result-le-14 (Address a) f g = omega (arith, length-of-decimal-le-10 a)
-length-of-result-le-14 (Moves m) f g = omega (arith, length-of-byte-decimal-le-3 m (f m refl))
-length-of-result-le-14 (Refused r) f g = omega (arith, length-of-byte-decimal-le-3 r (g r refl))
-
-module _ (o : Outcome) (f : (m : ℕ) → o ≡ Moves m → m < 256) (g : (r : ℕ) → o ≡ Refused r → r < 256) where
-  pub length-of-take-line-le-29 : (processor size : ℕ) → processor < 256 → size < 65536 → length (takeLine processor size o) ≤ 29
-  unfolding takeLine
-  length-of-take-line-le-29 processor size a b = simp length-append (omega (arith, length-of-byte-decimal-le-3 processor a, length-of-u16-decimal-le-5 size b, length-of-result-le-14 o f g))
-
-  pub length-of-free-line-le-34 : (processor address : ℕ) → processor < 256 → length (freeLine processor address o) ≤ 34
-  unfolding freeLine
-  length-of-free-line-le-34 processor address a = simp length-append (omega (arith, length-of-byte-decimal-le-3 processor a, length-of-decimal-le-10 address, length-of-result-le-14 o f g))
-
 -- a call by name, of any outcome
 module _ (processor name : ℕ) (o : Outcome) (a : processor < 256) (b : name < 65536) where
   pub length-of-named-take-line-le : (size : ℕ) → size < 65536 → length (namedTakeLine processor name size o) ≤ 26 + length (result o)
@@ -64,10 +47,6 @@ module _ (processor count : ℕ) (o : Outcome) (a : processor < 256) (short : le
   pub length-of-drop-line-le-29 : count < 10 → length (dropLine processor count o) ≤ 29
   unfolding dropLine
   length-of-drop-line-le-29 b = simp length-append (omega (arith, length-of-byte-decimal-le-3 processor a, length-of-digit-decimal-le-1 count b))
-
-pub length-of-stop-line-le-26 : (number offset : ℕ) → number < 256 → length (stopLine number offset) ≤ 26
-unfolding stopLine
-length-of-stop-line-le-26 number offset a = simp length-append (omega (arith, length-of-byte-decimal-le-3 number a, length-of-decimal-le-10 offset))
 
 pub length-of-heap-line-le-64 : (h c superblocks live : ℕ) → h < 256 → c < 256 → length (heapLine h c superblocks live) ≤ 64
 unfolding heapLine

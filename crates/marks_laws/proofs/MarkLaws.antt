@@ -169,10 +169,6 @@ pub live-count-zero-of-marks-clear : (l : List ℕ) → ((j : ℕ) → j < 256 �
 unfolding liveCount
 live-count-zero-of-marks-clear l z = sum-of-zeros (markBit l) 256 z
 
-pub mark-set-of-live-count-pos : (l : List ℕ) → 0 < liveCount l → (j : ℕ) × (j < 256) × (markBit l j ≡ 1)
-unfolding liveCount
-mark-set-of-live-count-pos l h = let f = pos-term-of-pos-sum (markBit l) 256 h in (f .0, f .1, omega (arith, mark-bit-lt-two l (f .0), f .2))
-
 -- the ones of the four numbers are the set marks
 pub bit-of-word-is-mark-bit : (l : List ℕ) (i k : ℕ) → k < 64 → bit (getD l i 0) k ≡ markBit l (i * 64 + k)
 unfolding markBit

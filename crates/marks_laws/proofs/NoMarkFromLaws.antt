@@ -32,13 +32,6 @@ module _ (l : List ℕ) (n : ℕ) where
       go k below (yes p) = either-left (ltb k n) (not (isMarked l k)) (T-of-true (ltb k n) (lt-ltb k n p))
       go k below (no f) = either-right (ltb k n) (not (isMarked l k)) (T-of-true (not (isMarked l k)) (ap not (no-mark-of-mark-bit-zero l k (z k (omega arith) below))))
 
-  pub marked-below-of-no-mark-from : T (noMarkFrom l n) → (j : ℕ) → j < 256 → markBit l j ≡ 1 → j < n
-  marked-below-of-no-mark-from t j below marked = go (decLt j n)
-    where
-      go : Dec (j < n) → j < n
-      go (yes h) = h
-      go (no f) = absurd (let z = mark-clear-of-no-mark-from t j (omega arith) below in let e : ⊥ = omega arith in e)
-
   -- with no mark at n or above, the count is that of the marks below n, so at most n
   module _ (small : n ≤ 256) (none : T (noMarkFrom l n)) where
     pub live-count-is-sum-below : liveCount l ≡ sumBelow (markBit l) n

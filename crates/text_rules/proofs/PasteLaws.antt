@@ -150,9 +150,6 @@ module _ (old : List ℕ) (at : ℕ) (text : List ℕ) {new : List ℕ} {r : ℕ
   pub put-end-le : r ≤ length old
   put-end-le = rw end-of-put (paste-end-le old at text)
 
-  pub put-before : take at new ≡ take at old
-  put-before = rw buffer-of-put (paste-before old at text)
-
   pub put-end : at + length text ≤ length old → r ≡ at + length text
   put-end h = end-of-put ∙ paste-end old at text h
 
