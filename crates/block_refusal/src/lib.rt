@@ -3,13 +3,13 @@
 ghost use mathlib.Core.Path.{_≡_};
 ghost use Prim.Native.Nat.{_≤_};
 ghost use Rattle.call_rules.specs.Free.{isUnmapped, isRunStart, isOffBlock, isMisaligned, isLiveAt, addressRefusal};
-ghost use Rattle.block_refusal.specs.Holding.{TellsIn, TellsOf};
+ghost use Rattle.block_refusal.specs.Holding.{ToldBySuperblock, ToldByCountAndSuperblock};
 use heap_rules::State;
 use heap_rules::Superblock;
 
 // The address is past superblocks 0 to N - 1, or in an unused one.
 fn is_unmapped(superblocks: u8, b: Superblock, address: u32) -> bool
-    ensures { λ r. ⌜ TellsOf r isUnmapped superblocks b address ⌝ }
+    ensures { λ r. ⌜ ToldByCountAndSuperblock r isUnmapped superblocks b address ⌝ }
 {
     let end = superblocks as u32 * 4096;
     if end <= address {
@@ -20,7 +20,7 @@ fn is_unmapped(superblocks: u8, b: Superblock, address: u32) -> bool
 
 // No block of its superblock, which is of no run, starts at the address.
 fn is_off_block(b: Superblock, address: u32) -> bool
-    ensures { λ r. ⌜ TellsIn r isOffBlock b address ⌝ }
+    ensures { λ r. ⌜ ToldBySuperblock r isOffBlock b address ⌝ }
 {
     let size = class_table::block_size(b.class);
     if size == 0 {
@@ -35,7 +35,7 @@ fn is_off_block(b: Superblock, address: u32) -> bool
 
 // A run starts at the address: its superblock is the first of one, and the address is its first.
 fn is_run_start(b: Superblock, address: u32) -> bool
-    ensures { λ r. ⌜ TellsIn r isRunStart b address ⌝ }
+    ensures { λ r. ⌜ ToldBySuperblock r isRunStart b address ⌝ }
 {
     if address % 4096 != 0 {
         return false;
@@ -45,7 +45,7 @@ fn is_run_start(b: Superblock, address: u32) -> bool
 
 // No block starts at the address; in a run its start is the only one.
 fn is_misaligned(b: Superblock, address: u32) -> bool
-    ensures { λ r. ⌜ TellsIn r isMisaligned b address ⌝ }
+    ensures { λ r. ⌜ ToldBySuperblock r isMisaligned b address ⌝ }
 {
     if b.owner == 254 {
         return !is_run_start(b, address);
@@ -55,7 +55,7 @@ fn is_misaligned(b: Superblock, address: u32) -> bool
 
 // The block at the address is live. A run's first superblock has no marks: its block 0 is live.
 fn is_live_in(b: Superblock, address: u32) -> bool
-    ensures { λ r. ⌜ TellsIn r isLiveAt b address ⌝ }
+    ensures { λ r. ⌜ ToldBySuperblock r isLiveAt b address ⌝ }
 {
     let j = block_address::block_in(b.class, address) as usize;
     if heap_tests::starts_run(b) {
@@ -68,7 +68,7 @@ fn is_live_in(b: Superblock, address: u32) -> bool
 // The refusal that the address meets, by N and the superblock that it lies in: the first of 5, 6 and 7 that applies, or 0 where a live block
 // starts there.
 pub fn refusal_in(superblocks: u8, b: Superblock, address: u32) -> u8
-    ensures { λ r. ⌜ TellsOf r addressRefusal superblocks b address ⌝ }
+    ensures { λ r. ⌜ ToldByCountAndSuperblock r addressRefusal superblocks b address ⌝ }
 {
     if is_unmapped(superblocks, b, address) {
         return 5;

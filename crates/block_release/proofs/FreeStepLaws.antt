@@ -15,7 +15,7 @@ use Rattle.heap_rules.specs.States.{withSuperblock, withNames}
 use Rattle.heap_rules.specs.Totals.{TotalsKept}
 use Rattle.heap_rules.specs.Ranks.{rankAfterFree, rankedLatest}
 use Rattle.heap_laws.proofs.RerankedLaws.{reranked-totals-kept}
-use Rattle.call_rules.specs.Runs.{runFreed}
+use Rattle.call_rules.specs.LongBlocks.{runFreed}
 use Rattle.call_rules.specs.Free.{superblockHolding, blockOf, isInRun, markCleared, blockPushed, orderPushed, blockNumberAt, smallBlockFreed, longBlockFreed, blockFreed}
 
 -- the freed block's number put in the next place
@@ -36,15 +36,15 @@ pub ranked-latest-keeps-totals : (k : ℕ) (s t : State) → TotalsKept s → t 
 unfolding rankedLatest
 ranked-latest-keeps-totals k s t kept e = subst TotalsKept (sym e) (reranked-totals-kept (rankAfterFree k (s .table)) s kept)
 
--- the block, or its run, vacated
-abbrev Vacated : State → ℕ → State
-Vacated s a = pick (isInRun s a) (runFreed (a / 4096) (superblockHolding s a .run) s) (markCleared (rankedLatest (a / 4096) s) a)
+-- the block, or its run, freed, the names aside
+abbrev BlockOrRunFreed : State → ℕ → State
+BlockOrRunFreed s a = pick (isInRun s a) (runFreed (a / 4096) (superblockHolding s a .run) s) (markCleared (rankedLatest (a / 4096) s) a)
 
 -- in a run: "order places keep what they had"
 module _ (s : State) (a : ℕ) (o : superblockHolding s a .owner ≡ 254) where
-  pub vacated-run : (t : State) → t ≡ runFreed (a / 4096) (superblockHolding s a .run) s → t ≡ Vacated s a
+  pub run-freed-alone : (t : State) → t ≡ runFreed (a / 4096) (superblockHolding s a .run) s → t ≡ BlockOrRunFreed s a
   unfolding isOfRun
-  vacated-run t e = rw (eq-eqb (superblockHolding s a .owner) 254 o) e
+  run-freed-alone t e = rw (eq-eqb (superblockHolding s a .owner) 254 o) e
 
   pub no-place-written-for-run : (order : List ℕ) → order ≡ orderPushed s order a
   unfolding orderPushed isOfRun
@@ -52,16 +52,16 @@ module _ (s : State) (a : ℕ) (o : superblockHolding s a .owner ≡ 254) where
 
 -- in a superblock with a class
 module _ (s : State) (a : ℕ) (f : superblockHolding s a .owner ≡ 254 → ⊥) where
-  pub vacated-block : (ranked t : State) → ranked ≡ rankedLatest (a / 4096) s → t ≡ markCleared ranked a → t ≡ Vacated s a
+  pub block-freed-alone : (ranked t : State) → ranked ≡ rankedLatest (a / 4096) s → t ≡ markCleared ranked a → t ≡ BlockOrRunFreed s a
   unfolding isOfRun
-  vacated-block ranked t er et = rw (ne-eqb (superblockHolding s a .owner) 254 f, ← er) et
+  block-freed-alone ranked t er et = rw (ne-eqb (superblockHolding s a .owner) 254 f, ← er) et
 
   pub order-pushed-of-block : (order left : List ℕ) → left ≡ blockPushed s order a → left ≡ orderPushed s order a
   unfolding orderPushed isOfRun
   order-pushed-of-block order left e = rw (ne-eqb (superblockHolding s a .owner) 254 f) e
 
 -- and the block's name let go
-pub block-freed-by-steps : (s t : State) (a block : ℕ) (names : List ℕ) → block ≡ blockNumberAt s a → names ≡ withoutBlock (s .names) block → t ≡ Vacated s a → withNames t names ≡ blockFreed s a
+pub block-freed-by-steps : (s t : State) (a block : ℕ) (names : List ℕ) → block ≡ blockNumberAt s a → names ≡ withoutBlock (s .names) block → t ≡ BlockOrRunFreed s a → withNames t names ≡ blockFreed s a
 unfolding blockFreed longBlockFreed smallBlockFreed
 block-freed-by-steps s t a block names eb en et = rw (et, en, eb) (go (isInRun s a) (runFreed (a / 4096) (superblockHolding s a .run) s) (markCleared (rankedLatest (a / 4096) s) a))
   where

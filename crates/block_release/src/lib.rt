@@ -4,7 +4,7 @@ ghost use Prim.Native.Nat.{_+_, _≤_, _<_};
 ghost use Rattle.base_laws.specs.Sums.{pick};
 ghost use Rattle.heap_rules.specs.Totals.{TotalsKept};
 ghost use Rattle.heap_rules.specs.Ranks.{rankedLatest, RanksFit};
-ghost use Rattle.call_rules.specs.Runs.{runFreed};
+ghost use Rattle.call_rules.specs.LongBlocks.{runFreed};
 ghost use Rattle.call_rules.specs.Free.{superblockIndex, superblockHolding, isInRun, markCleared, blockPushed, orderPushed, blockFreed};
 use heap_rules::State;
 use heap_rules::Superblock;
@@ -17,15 +17,15 @@ pub fn release_block(s: State, order: &mut [u16], address: u32) -> State
 {
     let block = block_address::block_number_at(s, address);
     let held = s.names;
-    let names = names_table::release_block(held, block);
-    let mut t = vacate(s, order, address);
+    let names = names_table::unbind_block(held, block);
+    let mut t = free_block_or_run(s, order, address);
     t.names = names;
     t
 }
 
 // The state with the run at the address unused; or with the block's superblock the last freed into and the block no longer live, and with its number
 // in its place.
-fn vacate(s: State, order: &mut [u16], address: u32) -> State
+fn free_block_or_run(s: State, order: &mut [u16], address: u32) -> State
     requires { ⌜ (superblockIndex address < 64) × (superblockIndex address + superblockHolding s address .run ≤ 64) × TotalsKept s × RanksFit s ⌝ }
     ensures { λ r.
         ⌜

@@ -10,7 +10,7 @@ use Rattle.heap_rules.specs.Totals.{TotalsKept}
 use Rattle.heap_rules.specs.States.{withSuperblock}
 use Rattle.heap_rules.specs.Ranks.{rankAfterRenewal, unranked}
 use Rattle.heap_laws.proofs.RerankedLaws.{reranked-totals-kept}
-use Rattle.call_rules.specs.Runs.{eachOfRun, joinedToRun, runTaken, madeUnused, runFreed}
+use Rattle.call_rules.specs.LongBlocks.{eachOfRun, joinedToRun, runTaken, madeUnused, runFreed}
 
 -- ---- one superblock
 pub unranked-keeps-totals : (m : ℕ) (s t : State) → TotalsKept s → t ≡ unranked m s → TotalsKept t

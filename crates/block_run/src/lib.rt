@@ -2,7 +2,7 @@
 ghost use mathlib.Core.Path.{_≡_};
 ghost use Prim.Native.Nat.{_+_, _≤_, _<_};
 ghost use Rattle.heap_rules.specs.Totals.{TotalsKept};
-ghost use Rattle.call_rules.specs.Runs.{joinedToRun, runTaken, madeUnused, runFreed};
+ghost use Rattle.call_rules.specs.LongBlocks.{joinedToRun, runTaken, madeUnused, runFreed};
 use heap_rules::State;
 use heap_rules::Superblock;
 

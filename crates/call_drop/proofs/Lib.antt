@@ -1,5 +1,5 @@
 pub mod FreesLaws
-pub mod TouchedLaws
+pub mod TouchedArrayLaws
 pub mod RestoreLaws
 pub mod FreesSafeLaws
 pub mod DropUncheckedLaws

@@ -1,1 +1,1 @@
-pub mod FirstRefusalLaws
+pub mod FirstAddressRefusalLaws

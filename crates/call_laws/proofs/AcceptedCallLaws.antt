@@ -19,7 +19,7 @@ use Rattle.heap_rules.specs.declared.Found.{Found}
 use Rattle.heap_rules.specs.declared.Found.the-variants.{At, Nothing}
 use Rattle.heap_rules.specs.States.{noState, newState}
 use Rattle.choice_rules.specs.Choice.{fullest}
-use Rattle.choice_rules.specs.Runs.{lowestRun}
+use Rattle.choice_rules.specs.RunChoice.{lowestRun}
 use Rattle.check_rules.specs.Check.{withinLimits, restValid, passes}
 use Rattle.heap_laws.proofs.StateFacts.{Shape}
 use Rattle.heap_laws.proofs.StateCheckLaws.{passes-of-sound, new-state-sound, new-state-names-valid, new-state-shape}
@@ -29,7 +29,7 @@ use Rattle.heap_laws.proofs.TotalsLaws.{new-state-totals-kept}
 use Rattle.call_rules.specs.declared.Outcome.the-variants.{Address, Moves, Refused}
 use Rattle.call_rules.specs.Answers.{After, numberOf, PassesIfAccepted, MovesAtMost, refused, checked, isProcessor}
 use Rattle.call_rules.specs.Setup.{acceptedSetup, setupOf}
-use Rattle.call_rules.specs.Runs.{longTakenFrom, longTakenAt}
+use Rattle.call_rules.specs.LongBlocks.{longTakenFrom, longTakenAt}
 use Rattle.call_rules.specs.Take.{otherPlaces, takenFrom, takenFromOther, takenAt, takeUnchecked, takeOf}
 use Rattle.call_rules.specs.Free.{isUnmapped, isInRun, isMisaligned, isLiveAt, smallFreedAt, longFreedAt, freedAt, freeUnchecked, freeOf}
 use Rattle.call_rules.specs.Named.{isUnavailable, withNameBound, namedTakeUnchecked, namedTakeOf, heldAddress, namedFreeUnchecked, namedFreeOf}

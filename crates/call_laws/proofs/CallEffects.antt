@@ -16,12 +16,12 @@ use Rattle.heap_rules.specs.Ranks.{rankAfterFree, rankAfterRenewal}
 use Rattle.heap_rules.specs.Counts.{superblocksOf, superblocksOfClass, liveOfClass, ownersChanged, passedBetweenHeaps}
 use Rattle.heap_rules.specs.declared.Found.the-variants.{At, Nothing}
 use Rattle.choice_rules.specs.Choice.{fullest}
-use Rattle.choice_rules.specs.Runs.{isAvailable, lowestRun}
+use Rattle.choice_rules.specs.RunChoice.{isAvailable, lowestRun}
 use Rattle.check_rules.specs.Check.{namesValid, runsValid}
 use Rattle.move_rules.specs.Moves.{mustMove}
 use Rattle.heap_laws.proofs.StateFacts.{SoundWith, InvariantBeforeFrees, RanksSound, RunsKept}
 use Rattle.heap_rules.specs.Totals.{TotalsKept}
-use Rattle.call_rules.specs.Runs.{longTakenFrom}
+use Rattle.call_rules.specs.LongBlocks.{longTakenFrom}
 use Rattle.call_rules.specs.Take.{otherPlaces, takenFrom, takenFromOther, takeOf}
 use Rattle.call_rules.specs.Free.{isUnmapped, isInRun, isMisaligned, isLiveAt, smallFreedAt, longFreedAt, freeOf}
 use Rattle.call_rules.specs.Named.{isUnavailable, withNameBound, namedTakeOf, heldAddress, namedFreeOf}

@@ -8,7 +8,7 @@ use Rattle.heap_rules.specs.declared.Superblock.{Superblock}
 use Rattle.heap_rules.specs.declared.State.{State}
 use Rattle.heap_rules.specs.Table.{superblockAt}
 use Rattle.heap_laws.proofs.RunLaws.{Outside}
-use Rattle.call_rules.specs.Runs.{eachOfRun}
+use Rattle.call_rules.specs.LongBlocks.{eachOfRun}
 
 module _ (change : ℕ → State → State) (k : ℕ) (s : State) where
   -- what holds of a state in which so many are changed, from none on

@@ -5,7 +5,7 @@ pub mod CheckedLaws
 pub mod NamesKeptLaws
 pub mod SetupLaws
 pub mod SuperblockLaws
-pub mod VacatedLaws
+pub mod MadeUnownedLaws
 pub mod TakeSourceLaws
 pub mod TakeEffectLaws
 pub mod TakeLaws

@@ -20,7 +20,7 @@ use Rattle.heap_rules.specs.declared.Superblock.{Superblock}
 use Rattle.heap_rules.specs.declared.State.{State}
 use Rattle.heap_rules.specs.Table.{blank, superblockAt, isOfRun, startsRun, liveBlocks, isLiveBlock}
 use Rattle.heap_rules.specs.States.{withNames}
-use Rattle.choice_rules.specs.Runs.{isAvailable}
+use Rattle.choice_rules.specs.RunChoice.{isAvailable}
 use Rattle.check_rules.specs.Check.{namesValid}
 use Rattle.heap_laws.proofs.RunChoiceLaws.{facts-of-is-available}
 use Rattle.heap_laws.proofs.RunsKeptLaws.{live-blocks-outside-run, starts-run-same, outside-run-of-owner}

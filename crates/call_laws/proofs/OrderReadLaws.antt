@@ -23,7 +23,7 @@ use Rattle.heap_rules.specs.declared.Found.the-variants.{At, Nothing}
 use Rattle.heap_rules.specs.Table.{superblockAt, liveIn, withMarkAt}
 use Rattle.heap_rules.specs.States.{withSuperblock}
 use Rattle.choice_rules.specs.Choice.{fullest}
-use Rattle.choice_rules.specs.Runs.{lowestRun}
+use Rattle.choice_rules.specs.RunChoice.{lowestRun}
 use Rattle.check_rules.specs.Check.{withinLimits, restValid}
 use Rattle.heap_laws.proofs.StateCheckLaws.{sound-of-limits-and-rest, names-valid-of-rest, totals-kept-of-rest, ranks-valid-of-rest, runs-valid-of-rest}
 use Rattle.heap_laws.proofs.RankLaws.{ranks-sound-of-valid}
@@ -32,7 +32,7 @@ use Rattle.call_rules.specs.declared.Answer.{Answer}
 use Rattle.call_rules.specs.declared.Outcome.the-variants.{Address}
 use Rattle.call_rules.specs.Answers.{After, refused, checked, isProcessor}
 use Rattle.call_rules.specs.Setup.{setupOf}
-use Rattle.call_rules.specs.Runs.{longTakenFrom, longTakenAt}
+use Rattle.call_rules.specs.LongBlocks.{longTakenFrom, longTakenAt}
 use Rattle.call_rules.specs.Take.{otherPlaces, acquired, acquiredOrder, unrankedIfEmpty, nextBlock, addressOf, takenFrom, takenFromOther, takenAt, takeUnchecked}
 use Rattle.call_rules.specs.Free.{superblockIndex, superblockHolding, blockOf, isUnmapped, isInRun, isMisaligned, isLiveAt, blockPushed, orderPushed, blockFreed, smallFreedAt, longFreedAt, freedAt, freeUnchecked}
 use Rattle.call_rules.specs.Drop.{allPushed, firstAddressRefusal, droppedAll, dropUnchecked}

@@ -31,7 +31,7 @@ use Rattle.heap_laws.proofs.RunsKeptLaws.{live-blocks-outside-run}
 use Rattle.heap_laws.proofs.ChoiceLaws.{best-of-fullest, facts-of-has-free, facts-of-empty-in-global, best-of-lowest-empty, best-of-lowest-unused}
 use Rattle.call_rules.specs.Answers.{After, refused}
 use Rattle.call_rules.specs.Setup.{acceptedSetup, setupOf}
-use Rattle.call_rules.specs.Runs.{longTakenFrom}
+use Rattle.call_rules.specs.LongBlocks.{longTakenFrom}
 use Rattle.call_rules.specs.Take.{otherPlaces, acquiredOrder, takenFrom, takenFromOther, takeOf}
 use Rattle.call_rules.specs.Free.{superblockIndex, offsetOf, superblockHolding, blockOf, isUnmapped, isInRun, isRunStart, isOffBlock, isMisaligned, isLiveAt, addressRefusal, markCleared, blockPushed, orderPushed, smallBlockFreed, longBlockFreed, blockFreed, smallFreedAt, longFreedAt, freeOf}
 use Rattle.call_rules.specs.Drop.{allPushed, firstAddressRefusal, droppedAll, dropOf}

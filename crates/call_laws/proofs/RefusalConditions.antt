@@ -23,7 +23,7 @@ use Rattle.heap_rules.specs.declared.Found.the-variants.{At, Nothing}
 use Rattle.heap_rules.specs.Table.{isUnused, isOfRun, startsRun, liveBlocks}
 use Rattle.heap_rules.specs.States.{noState}
 use Rattle.choice_rules.specs.Choice.{fullest}
-use Rattle.choice_rules.specs.Runs.{lowestRun}
+use Rattle.choice_rules.specs.RunChoice.{lowestRun}
 use Rattle.check_rules.specs.Check.{withinLimits, runsValid, restValid}
 use Rattle.heap_laws.proofs.StateFacts.{WithinLimits, Unused, Sound, NamesSound, RanksSound}
 use Rattle.heap_rules.specs.Totals.{TotalsKept}
@@ -34,7 +34,7 @@ use Rattle.heap_laws.proofs.RunChoiceLaws.{FreeRun, no-run-of-lowest-run-nothin
 use Rattle.call_rules.specs.declared.Outcome.the-variants.{Ready, Address, Moves, Refused}
 use Rattle.call_rules.specs.Answers.{After, refused, checked, isProcessor}
 use Rattle.call_rules.specs.Setup.{acceptedSetup, setupOf}
-use Rattle.call_rules.specs.Runs.{longTakenFrom, longTakenAt}
+use Rattle.call_rules.specs.LongBlocks.{longTakenFrom, longTakenAt}
 use Rattle.call_rules.specs.Take.{otherPlaces, takenFrom, takenFromOther, takenAt, takeUnchecked, takeOf}
 use Rattle.call_rules.specs.Free.{offsetOf, superblockHolding, blockOf, isUnmapped, isInRun, isRunStart, isOffBlock, isMisaligned, isLiveAt, smallFreedAt, longFreedAt, freedAt, freeUnchecked, freeOf}
 use Rattle.call_laws.proofs.CallEffects.{Passed}

@@ -7,9 +7,9 @@ use Prim.Native.Nat.{ℕ}
 use Rattle.class_rules.specs.Classes.{classOf, isLong, runLength, isTooLarge}
 use Rattle.heap_rules.specs.declared.State.{State}
 use Rattle.choice_rules.specs.Choice.{fullest}
-use Rattle.choice_rules.specs.Runs.{lowestRun}
+use Rattle.choice_rules.specs.RunChoice.{lowestRun}
 use Rattle.call_rules.specs.Answers.{refused, isProcessor}
-use Rattle.call_rules.specs.Runs.{longTakenAt}
+use Rattle.call_rules.specs.LongBlocks.{longTakenAt}
 use Rattle.call_rules.specs.Take.{otherPlaces, takenAt, takeUnchecked, takeOf}
 use Rattle.call_rules.specs.Free.{isUnmapped, isMisaligned, isLiveAt, freedAt, freeUnchecked, freeOf}
 use Rattle.call_laws.proofs.CallEffects.{Passed}

@@ -18,7 +18,7 @@ use Rattle.heap_laws.proofs.StateFacts.{RunsSound}
 use Rattle.heap_laws.proofs.CountLaws.{superblock-at-replaced, superblock-at-others}
 use Rattle.heap_laws.proofs.RerankedLaws.{superblock-at-reranked}
 use Rattle.heap_laws.proofs.RunLaws.{runs-sound-of-run-taken, runs-sound-of-run-freed}
-use Rattle.call_rules.specs.Runs.{joinedToRun, runTaken, madeUnused, runFreed}
+use Rattle.call_rules.specs.LongBlocks.{joinedToRun, runTaken, madeUnused, runFreed}
 use Rattle.call_laws.proofs.EachOfRunLaws.{EachMade, each-of-run-keeps, each-of-run-made}
 use Rattle.heap_rules.specs.Runs.{RunAt}
 

@@ -34,7 +34,7 @@ use Rattle.heap_laws.proofs.RankLaws.{ranks-sound-of-same-ranks}
 use Rattle.heap_laws.proofs.RunLaws.{Outside, side-of-range, outside-not-inside, runs-sound-of-valid, runs-valid-of-sound, run-below-superblocks}
 use Rattle.heap_laws.proofs.RunsKeptLaws.{owner-of-run, live-blocks-outside-run, live-blocks-of-first, live-blocks-not-first}
 use Rattle.heap_laws.proofs.PassedBetweenHeapsLaws.{none-passed-between-heaps}
-use Rattle.call_rules.specs.Runs.{runFreed}
+use Rattle.call_rules.specs.LongBlocks.{runFreed}
 use Rattle.call_rules.specs.Free.{superblockIndex, offsetOf, superblockHolding, blockOf, isInRun, isRunStart, isMisaligned, addressRefusal, blockNumberAt, longBlockFreed}
 use Rattle.call_rules.proofs.AddressRefusalLaws.{mapped-of-no-refusal, aligned-of-no-refusal}
 use Rattle.call_laws.proofs.CallEffects.{PassedAfterFrees, LongFreeEffect, RanksKept}

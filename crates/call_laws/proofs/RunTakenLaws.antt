@@ -34,13 +34,13 @@ use Rattle.heap_laws.proofs.RunLaws.{Outside, runs-sound-of-valid, runs-valid-o
 use Rattle.heap_laws.proofs.RunChoiceLaws.{Available, facts-of-is-available, FreeRun, lowest-run-is-free}
 use Rattle.call_rules.specs.declared.Outcome.the-variants.{Address}
 use Rattle.call_rules.specs.Answers.{After}
-use Rattle.call_rules.specs.Runs.{joinedToRun, runTaken, longTakenFrom}
+use Rattle.call_rules.specs.LongBlocks.{joinedToRun, runTaken, longTakenFrom}
 use Rattle.call_rules.specs.Take.{takeOf}
 use Rattle.call_laws.proofs.CallEffects.{Passed, LongTakeAccepted, LongTakeEffect, RunUnranked}
 use Rattle.call_laws.proofs.NamesKeptLaws.{names-valid-after-long-take}
 use Rattle.call_laws.proofs.EachOfRunLaws.{each-of-run-by-steps}
 use Rattle.call_laws.proofs.RunEffectLaws.{run-taken-made, run-taken-keeps-rest, run-taken-runs-sound}
-use Rattle.call_laws.proofs.VacatedLaws.{Vacates, move-rule-goes-by-counts, vacated-shape, vacated-superblocks-of-class, vacated-live-of-class, vacated-sound, vacated-ranks-sound}
+use Rattle.call_laws.proofs.MadeUnownedLaws.{BecomesUnowned, move-rule-goes-by-counts, made-unowned-shape, made-unowned-superblocks-of-class, made-unowned-live-of-class, made-unowned-sound, made-unowned-ranks-sound}
 use Rattle.heap_rules.specs.Runs.{InRun}
 
 -- ---- a superblock that is "unused or empty in heap 0"
@@ -76,8 +76,8 @@ module _ (t : State) (m n : ℕ) (shape : Shape t) (below : m < 64) (available :
   out-available : Available (superblockAt outRanked m)
   out-available = subst Available (sym out-at) (available-with-rank 0 (superblockAt t m) available)
 
-  vacates : Vacates outRanked m (runPart n)
-  vacates =
+  becomes : BecomesUnowned outRanked m (runPart n)
+  becomes =
       record {
         shape = reranked-shape rank t (shape .length-is) shape;
         in-table = below;
@@ -88,21 +88,21 @@ module _ (t : State) (m n : ℕ) (shape : Shape t) (below : m < 64) (available :
       }
 
   joined-shape : Shape joined
-  joined-shape = vacated-shape outRanked m (runPart n) vacates
+  joined-shape = made-unowned-shape outRanked m (runPart n) becomes
 
   joined-sound : (order : List ℕ) → m < t .setup .superblocks → Sound t order → Sound joined order
   joined-sound order l sound =
-      vacated-sound outRanked m (runPart n) vacates (λ h c r. T (mustMove h c r) → ⊥) move-rule-goes-by-counts order l (reranked-sound rank t (shape .length-is) order sound)
+      made-unowned-sound outRanked m (runPart n) becomes (λ h c r. T (mustMove h c r) → ⊥) move-rule-goes-by-counts order l (reranked-sound rank t (shape .length-is) order sound)
 
   joined-ranks-sound : RanksSound t → RanksSound joined
   unfolding unranked
-  joined-ranks-sound sound = vacated-ranks-sound outRanked m (runPart n) vacates (ap (λ (b : Superblock). b .rank) out-at) refl (unranked-ranks-sound m t below sound)
+  joined-ranks-sound sound = made-unowned-ranks-sound outRanked m (runPart n) becomes (ap (λ (b : Superblock). b .rank) out-at) refl (unranked-ranks-sound m t below sound)
 
   joined-superblocks-of-class : (d : ℕ) → superblocksOfClass d joined ≤ superblocksOfClass d t
-  joined-superblocks-of-class d = omega (arith, vacated-superblocks-of-class outRanked m (runPart n) vacates d, reranked-superblocks-of-class rank t (shape .length-is) d)
+  joined-superblocks-of-class d = omega (arith, made-unowned-superblocks-of-class outRanked m (runPart n) becomes d, reranked-superblocks-of-class rank t (shape .length-is) d)
 
   joined-live-of-class : (d : ℕ) → liveOfClass d joined ≡ liveOfClass d t
-  joined-live-of-class d = vacated-live-of-class outRanked m (runPart n) vacates d ∙ reranked-live-of-class rank t (shape .length-is) d
+  joined-live-of-class d = made-unowned-live-of-class outRanked m (runPart n) becomes d ∙ reranked-live-of-class rank t (shape .length-is) d
 
   joined-at-others : (j : ℕ) → j < 64 → (j ≡ m → ⊥) → superblockAt joined j ≡ withRank (rank j) (superblockAt t j)
   joined-at-others j l other = superblock-at-others outRanked m (runPart n) j other ∙ superblock-at-reranked rank t j l
@@ -128,7 +128,7 @@ module _ (t : State) (m n : ℕ) (shape : Shape t) (below : m < 64) (available :
   joined-order-kept sound i j li lj f g pos h = omega (arith, order-kept-by-renewal m t below sound i j li lj f g pos h, joined-rank i li f, joined-rank j lj g)
 
   joined-at-superblock : superblockAt joined m ≡ runPart n
-  joined-at-superblock = superblock-at-replaced outRanked m (runPart n) (vacates .shape .length-is) below
+  joined-at-superblock = superblock-at-replaced outRanked m (runPart n) (becomes .shape .length-is) below
 
 -- ---- the first j of the run of n superblocks from k on have joined it: t is the state then, and s what was before
 record Joined (s : State) (order : List ℕ) (k n j : ℕ) (t : State) : Type 0 where

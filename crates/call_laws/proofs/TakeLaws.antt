@@ -21,14 +21,14 @@ use Rattle.heap_rules.specs.declared.Found.the-variants.{At, Nothing}
 use Rattle.heap_rules.specs.Table.{superblockAt, liveIn}
 use Rattle.heap_rules.specs.Ranks.{rankAfterRenewal, unranked}
 use Rattle.choice_rules.specs.Choice.{fullest, lowestEmpty, lowestUnused, orElse}
-use Rattle.choice_rules.specs.Runs.{lowestRun}
+use Rattle.choice_rules.specs.RunChoice.{lowestRun}
 use Rattle.check_rules.specs.Check.{withinLimits, restValid}
 use Rattle.heap_laws.proofs.StateFacts.{Shape}
 use Rattle.heap_laws.proofs.RankLaws.{superblock-at-unranked, unranked-ranks-sound}
 use Rattle.heap_laws.proofs.RerankedLaws.{reranked-shape}
 use Rattle.call_rules.specs.declared.Outcome.the-variants.{Address}
 use Rattle.call_rules.specs.Answers.{After, numberOf, refused, checked, isProcessor}
-use Rattle.call_rules.specs.Runs.{longTakenFrom, longTakenAt}
+use Rattle.call_rules.specs.LongBlocks.{longTakenFrom, longTakenAt}
 use Rattle.call_rules.specs.Take.{otherPlaces, acquired, acquiredOrder, unrankedIfEmpty, addressOf, takenFrom, takenFromOther, takenAt, takeUnchecked, takeOf}
 use Rattle.call_laws.proofs.CheckedLaws.{checked-refused-or-passed, checked-is-next-of-passed, bounds-of-is-processor}
 use Rattle.call_laws.proofs.CallEffects.{Passed, TakeAccepted, LongTakeAccepted, TakeEffect, Renews, RenewsNot, TakeRanks}

@@ -24,7 +24,7 @@ use Rattle.heap_rules.specs.Counts.{superblocksOf, liveOf, superblocksOfClass, 
 use Rattle.heap_rules.specs.Totals.{heapCount, totalCount, totalIndex, superblocksKept, liveKept, TotalsKept, TotalsCounted}
 use Rattle.heap_rules.specs.States.{noState, newState}
 use Rattle.choice_rules.specs.Choice.{fullest}
-use Rattle.choice_rules.specs.Runs.{lowestRun}
+use Rattle.choice_rules.specs.RunChoice.{lowestRun}
 use Rattle.check_rules.specs.Check.{withinLimits, restValid}
 use Rattle.heap_laws.proofs.StateFacts.{Shape, WithinLimits}
 use Rattle.heap_laws.proofs.StateCheckLaws.{sound-of-passes, totals-kept-of-rest, owned-of-owner}
@@ -34,7 +34,7 @@ use Rattle.call_rules.specs.declared.Outcome.{Outcome}
 use Rattle.call_rules.specs.declared.Outcome.the-variants.{Ready, Address, Moves, Refused}
 use Rattle.call_rules.specs.Answers.{After, numberOf, refused, checked, isProcessor}
 use Rattle.call_rules.specs.Setup.{acceptedSetup, setupOf}
-use Rattle.call_rules.specs.Runs.{joinedToRun, runTaken, longTakenFrom, longTakenAt, madeUnused, runFreed}
+use Rattle.call_rules.specs.LongBlocks.{joinedToRun, runTaken, longTakenFrom, longTakenAt, madeUnused, runFreed}
 use Rattle.call_rules.specs.Take.{otherPlaces, takenFrom, takenFromOther, takenAt, takeUnchecked}
 use Rattle.call_rules.specs.Free.{superblockIndex, superblockHolding, isUnmapped, isInRun, isMisaligned, isLiveAt, markCleared, smallBlockFreed, longBlockFreed, blockFreed, smallFreedAt, longFreedAt, freedAt, freeUnchecked}
 use Rattle.call_rules.specs.Named.{isUnavailable, nameBound, boundBy, withNameBound, namedTakeUnchecked, heldAddress, namedFreeUnchecked}

@@ -5,12 +5,12 @@ use Rattle.base_laws.specs.Lists.{listed}
 use Rattle.heap_rules.specs.Ranks.{isMoreRecent, rankAfterFree, rankAfterRenewal, rankedLatest, unranked}
 use Rattle.order_rules.specs.Order.{lastFilled, withPlace, descending, withRenewedPlaces, renewed, cleared}
 use Rattle.choice_rules.specs.Choice.{prefer, chosenBelow, moreLive, fullerOrMoreRecent, fewerLive, neverPreferred, hasFree, emptyInGlobal, fullest, lowestEmpty, lowestUnused, emptiest}
-use Rattle.choice_rules.specs.Runs.{isAvailable, isFreeRun, lowestBelow, lowestRun}
+use Rattle.choice_rules.specs.RunChoice.{isAvailable, isFreeRun, lowestBelow, lowestRun}
 use Rattle.move_rules.specs.Moves.{transferred, foundTransferred, transfersUpTo, excessTransferred, invariantRestored}
 use Rattle.check_rules.proofs.CheckDefinitions.{checkDefinitions}
 use Rattle.call_rules.specs.Answers.{checked, isProcessor}
 use Rattle.call_rules.specs.Setup.{setupOf}
-use Rattle.call_rules.specs.Runs.{eachOfRun, joinedToRun, runTaken, longTakenFrom, longTakenAt, madeUnused, runFreed}
+use Rattle.call_rules.specs.LongBlocks.{eachOfRun, joinedToRun, runTaken, longTakenFrom, longTakenAt, madeUnused, runFreed}
 use Rattle.call_rules.specs.Take.{otherPlaces, acquired, acquiredOrder, unrankedIfEmpty, nextBlock, addressOf, takenFrom, takenFromOther, takenAt, takeUnchecked, takeOf}
 use Rattle.call_rules.specs.Free.{blockOf, isUnmapped, isRunStart, isOffBlock, isMisaligned, isLiveAt, addressRefusal, markCleared, blockPushed, orderPushed, blockNumberAt, smallBlockFreed, longBlockFreed, blockFreed, smallFreedAt, longFreedAt, freedAt, freeUnchecked, freeOf}
 use Rattle.call_rules.specs.Named.{isUnavailable, nameBound, boundBy, withNameBound, namedTakeUnchecked, namedTakeOf, heldAddress, namedFreeUnchecked, namedFreeOf}

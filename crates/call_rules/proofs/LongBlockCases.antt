@@ -15,7 +15,7 @@ use Rattle.heap_rules.proofs.CaseStates.{unnamedState}
 use Rattle.heap_rules.proofs.TableCases.{ranked}
 use Rattle.call_rules.specs.declared.Outcome.the-variants.{Address, Moves}
 use Rattle.call_rules.specs.Answers.{refused}
-use Rattle.call_rules.specs.Runs.{eachOfRun, runTaken, longTakenAt, runFreed}
+use Rattle.call_rules.specs.LongBlocks.{eachOfRun, runTaken, longTakenAt, runFreed}
 use Rattle.call_rules.specs.Free.{isRunStart, isMisaligned, isLiveAt, addressRefusal, orderPushed, blockNumberAt, blockFreed, freedAt}
 use Rattle.call_rules.specs.Named.{heldAddress}
 use Rattle.call_rules.specs.Drop.{Pair, firstAddressRefusal, isTouched, touchedPairs}

@@ -15,7 +15,7 @@ use Rattle.heap_rules.specs.States.{withSuperblock, withNames}
 use Rattle.heap_rules.specs.Ranks.{rankedLatest}
 use Rattle.move_rules.specs.Moves.{invariantRestored}
 use Rattle.call_rules.specs.Answers.{After, refused, checked, isProcessor}
-use Rattle.call_rules.specs.Runs.{runFreed}
+use Rattle.call_rules.specs.LongBlocks.{runFreed}
 use Rattle.call_rules.specs.declared.Outcome.the-variants.{Moves}
 
 -- "Superblock s .. covers addresses s × 4096 to s × 4096 + 4095"

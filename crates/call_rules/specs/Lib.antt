@@ -1,6 +1,6 @@
 pub mod Answers
 pub mod Setup
-pub mod Runs
+pub mod LongBlocks
 pub mod Take
 pub mod Free
 pub mod Named

@@ -15,9 +15,9 @@ use Rattle.heap_rules.specs.Table.{superblockAt, liveIn, withOwner, withMarkAt}
 use Rattle.heap_rules.specs.States.{withSuperblock}
 use Rattle.heap_rules.specs.Ranks.{unranked}
 use Rattle.choice_rules.specs.Choice.{fullest, lowestEmpty, lowestUnused, orElse}
-use Rattle.choice_rules.specs.Runs.{lowestRun}
+use Rattle.choice_rules.specs.RunChoice.{lowestRun}
 use Rattle.call_rules.specs.Answers.{After, refused, checked, isProcessor}
-use Rattle.call_rules.specs.Runs.{longTakenAt}
+use Rattle.call_rules.specs.LongBlocks.{longTakenAt}
 use Rattle.call_rules.specs.declared.Outcome.the-variants.{Address}
 
 -- places 2 to 4, after place 1: "2. heap 0: the same choice; 3. heap 0: the lowest-numbered superblock with nothing live, of any

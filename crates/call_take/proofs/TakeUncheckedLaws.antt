@@ -12,14 +12,14 @@ use Rattle.heap_rules.specs.declared.State.{State}
 use Rattle.heap_rules.specs.declared.Found.{Found}
 use Rattle.heap_rules.specs.declared.Found.the-variants.{At, Nothing}
 use Rattle.choice_rules.specs.Choice.{fullest}
-use Rattle.choice_rules.specs.Runs.{lowestRun}
+use Rattle.choice_rules.specs.RunChoice.{lowestRun}
 use Rattle.check_rules.specs.Check.{passes}
 use Rattle.heap_laws.proofs.StateCheckLaws.{sound-of-passes}
 use Rattle.heap_laws.proofs.RunChoiceLaws.{lowest-run-is-free}
 use Rattle.call_rules.specs.declared.Answer.{Answer}
 use Rattle.call_rules.specs.declared.Outcome.the-variants.{Address, Refused}
 use Rattle.call_rules.specs.Answers.{After, HasNumberAndValuesOf, isProcessor}
-use Rattle.call_rules.specs.Runs.{runTaken, longTakenFrom, longTakenAt}
+use Rattle.call_rules.specs.LongBlocks.{runTaken, longTakenFrom, longTakenAt}
 use Rattle.call_rules.specs.Take.{otherPlaces, takenAt, takeUnchecked}
 use Rattle.call_rules.proofs.AnswerLaws.{number-and-values-by-rules, refused-of-answer}
 

@@ -7,10 +7,10 @@ ghost use Rattle.class_rules.specs.Classes.{isLong, runLength};
 ghost use Rattle.heap_rules.specs.declared.Found.the-variants.{Nothing};
 ghost use Rattle.check_rules.specs.Check.{passes};
 ghost use Rattle.heap_rules.specs.Totals.{TotalsKept};
-ghost use Rattle.choice_rules.specs.Runs.{lowestRun};
+ghost use Rattle.choice_rules.specs.RunChoice.{lowestRun};
 ghost use Rattle.call_rules.specs.declared.Outcome.the-variants.{Address};
 ghost use Rattle.call_rules.specs.Answers.{HasNumberAndValuesOf};
-ghost use Rattle.call_rules.specs.Runs.{runTaken, longTakenAt};
+ghost use Rattle.call_rules.specs.LongBlocks.{runTaken, longTakenAt};
 ghost use Rattle.call_rules.specs.Take.{otherPlaces, takenAt, takeUnchecked};
 use call_rules::Answer;
 use call_rules::Outcome;
@@ -47,13 +47,13 @@ fn take_long(s: State, size: u16) -> Answer
     let length = n as usize;
     let found = choice_run::lowest_run(s, length);
     match found {
-        Found::At(k) => take_run(s, k, n),
+        Found::At(k) => take_long_at(s, k, n),
         Found::Nothing => call_outcomes::refuse(s, 17),
     }
 }
 
 // The run of n superblocks from k on is taken: its address is the start of superblock k.
-fn take_run(s: State, k: usize, n: u8) -> Answer
+fn take_long_at(s: State, k: usize, n: u8) -> Answer
     requires { ⌜ (k + n ≤ 64) × TotalsKept s ⌝ }
     ensures { λ r. ⌜ r ≡ record { outcome = Address (k * 4096); state = runTaken k n s } ⌝ }
 {

@@ -32,7 +32,7 @@ fn alone_valid(setup: Setup, order: &[u16], k: u8, b: Superblock) -> bool
     if setup.superblocks <= k {
         return false;
     }
-    if is_part_of_run(b) {
+    if is_run_member(b) {
         return true;
     }
     if setup.processors < b.owner {
@@ -49,7 +49,7 @@ fn alone_valid(setup: Setup, order: &[u16], k: u8, b: Superblock) -> bool
 }
 
 // Part of a long block's run. The owner is looked at here, since a call of another crate for each superblock takes longer.
-fn is_part_of_run(b: Superblock) -> bool
+fn is_run_member(b: Superblock) -> bool
     ensures { λ r. ⌜ r ≡ isPartOfRun b ⌝ }
 {
     if b.owner != 254 {

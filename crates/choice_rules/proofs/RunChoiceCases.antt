@@ -12,7 +12,7 @@ use Rattle.heap_rules.specs.declared.State.{State}
 use Rattle.heap_rules.specs.declared.Found.the-variants.{At, Nothing}
 use Rattle.heap_rules.specs.Table.{unused, isUnused, runPart}
 use Rattle.choice_rules.specs.Choice.{emptyInGlobal}
-use Rattle.choice_rules.specs.Runs.{isAvailable, isFreeRun, lowestBelow, lowestRun}
+use Rattle.choice_rules.specs.RunChoice.{isAvailable, isFreeRun, lowestBelow, lowestRun}
 use Rattle.heap_rules.proofs.TableCases.{of, ranked}
 use Rattle.heap_rules.proofs.CaseStates.{unnamedState}
 use Rattle.choice_rules.proofs.ChoiceCases.{choicesHold}

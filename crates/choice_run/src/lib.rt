@@ -1,7 +1,7 @@
 // The lowest-numbered run of neighbouring superblocks that a long block can take, in one pass over the table.
 ghost use mathlib.Core.Path.{_≡_};
 ghost use Prim.Native.Nat.{_≤_};
-ghost use Rattle.choice_rules.specs.Runs.{isAvailable, lowestRun};
+ghost use Rattle.choice_rules.specs.RunChoice.{isAvailable, lowestRun};
 use heap_rules::Found;
 use heap_rules::State;
 use heap_rules::Superblock;

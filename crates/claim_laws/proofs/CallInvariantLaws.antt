@@ -31,7 +31,7 @@ use Rattle.call_rules.specs.Calls.{Call, Take, Free, NamedTake, NamedFree, Drop
 use Rattle.call_laws.proofs.CallEffects.{Passed, TakeAccepted, LongTakeAccepted, FreeAccepted, LongFreeAccepted, NamedTakeAccepted, NamedLongTakeAccepted, NamedFreeAccepted, NamedLongFreeAccepted, TakeEffect, FreeEffect, LongTakeEffect, LongFreeEffect}
 use Rattle.claim_rules.specs.Ledger.{Name, named, unnamed, Entry, isAt, isAtOneOf, hasName, removed, afterTake, afterFree, ledgerAfter, entriesOf}
 use Rattle.claim_rules.specs.Ledger.{someEntry, EachEntry, entriesAt}
-use Rattle.claim_rules.specs.Claim.{Step, Bounded, freesRun, RefusedOwnerChanges, FreeOwnerChanges, OwnerChanges, OwnersChangeRightly, peakWith}
+use Rattle.claim_rules.specs.Claim.{Step, Bounded, freesRun, RefusedOwnerChanges, FreeOwnerChanges, OwnerChanges, CallOwnerChanges, peakWith}
 use Rattle.call_laws.proofs.TakeLaws.{take-refused-or-accepted, taken-block, take-address, take-effect, take-names, take-shape, take-passed}
 use Rattle.call_laws.proofs.RunTakenLaws.{long-take-address, long-take-effect, long-take-names, long-take-shape, long-take-passed}
 use Rattle.call_laws.proofs.FreeLaws.{free-refused-or-accepted, free-passed-between-heaps, moves, free-outcome, free-address, free-effect, free-names, free-shape, free-passed}
@@ -47,7 +47,7 @@ use Rattle.claim_laws.proofs.LedgerRuns.{LongAgrees, long-take-entry-is
 use Rattle.claim_laws.proofs.LedgerNames.{each-entry-map, each-entry-cons, EntryAgrees, BlockTaken, block-taken-of-take, block-taken-of-long-take, plain-take-keeps-agreement, plain-take-entry-agrees, named-take-keeps-agreement, named-take-entry-agrees, no-entry-at}
 use Rattle.claim_laws.proofs.LedgerNames.{block-let-go-of-free, block-let-go-of-long-free, agreement-after-free, agreement-of-same-names-and-classes}
 use Rattle.claim_laws.proofs.LedgerNames.{name-is-at-address, removed-by-name-is-removed-by-address}
-use Rattle.claim_laws.proofs.ListedLaws.{Listed, listed-added, listed-removed, live-at-run-is-zero, listed-long-added, listed-long-removed, Agreement, all-freed-agreement, transfers-class, transfers-runs, listed-after-transfers}
+use Rattle.claim_laws.proofs.LiveBlocksListedLaws.{Listed, listed-added, listed-removed, live-at-run-is-zero, listed-long-added, listed-long-removed, Agreement, all-freed-agreement, transfers-class, transfers-runs, listed-after-transfers}
 use Rattle.claim_laws.proofs.FreesRunLaws.{some-entry-cong, longWhere, run-start-is-long, drop-changes-passed-owners}
 use Rattle.claim_laws.proofs.BoundLaws.{bound-of-none-in-global}
 
@@ -96,7 +96,7 @@ list-invariant-next u s t order after-call ledger new peak g e passed shape list
 -- ---- a call
 -- what a call leaves, and the owners that it changed
 pub record AfterCall (u : Setup) (s : State) (ledger : List Entry) (peak : ℕ → ℕ) (call : Call) (after : After) : Type 0 where
-  pub owner-changes : OwnersChangeRightly (u .q) ledger s (after .answer .state) call (after .answer .outcome)
+  pub owner-changes : CallOwnerChanges (u .q) ledger s (after .answer .state) call (after .answer .outcome)
   pub invariant : ListInvariant u (after .answer .state) (after .order) (ledgerAfter ledger call (after .answer .outcome)) (peakWith peak (ledgerAfter ledger call (after .answer .outcome)))
 
 -- outcomes of different kinds differ, and so do different numbers of moves

@@ -30,7 +30,7 @@ use Rattle.claim_laws.proofs.LedgerLaws.{entries-at-empty, entries-of-e
 use Rattle.claim_laws.proofs.LongAtLaws.{long-at-of-new-state}
 use Rattle.claim_laws.proofs.LiveAtLaws.{live-at-of-new-state}
 use Rattle.claim_laws.proofs.LedgerNames.{EntryAgrees, each-entry-empty}
-use Rattle.claim_laws.proofs.ListedLaws.{Listed}
+use Rattle.claim_laws.proofs.LiveBlocksListedLaws.{Listed}
 use Rattle.claim_laws.proofs.CallInvariantLaws.{ListInvariant, AfterCall, after-step}
 
 -- ---- after the setup

@@ -30,7 +30,7 @@ use Rattle.call_laws.proofs.TransferredLaws.{passed-after-no-frees}
 use Rattle.call_laws.proofs.DropLaws.{drop-transfers}
 use Rattle.claim_rules.specs.Ledger.{Entry, classOfEntry, isAt, isAtOneOf, removed, someEntry, EachEntry, entriesAt}
 use Rattle.claim_laws.proofs.OneMoreLongLaws.{long-at-of-run}
-use Rattle.claim_laws.proofs.ListedLaws.{Listed, Agreement, block-freed-agreement}
+use Rattle.claim_laws.proofs.LiveBlocksListedLaws.{Listed, Agreement, block-freed-agreement}
 
 -- ---- some entry of a ledger
 -- tests that agree on each entry are passed by some or by none

@@ -29,7 +29,7 @@ use Rattle.claim_laws.proofs.LedgerLaws.{entries-at-removed, entries-at
 use Rattle.claim_laws.proofs.LiveAtLaws.{liveAt, live-at-same, OneMoreLive, live-at-one-more, one-more-live-of-free}
 use Rattle.claim_laws.proofs.OneMoreLongLaws.{OneMoreLong, long-at-one-more, one-more-long-of-free}
 use Rattle.claim_laws.proofs.LedgerNames.{each-entry-map, EntryAgrees, name-is-at-address}
-use Rattle.claim_laws.proofs.ListedLaws.{live-at-run-is-zero, Agreement}
+use Rattle.claim_laws.proofs.LiveBlocksListedLaws.{live-at-run-is-zero, Agreement}
 
 -- ---- the entry that a test finds
 -- what it tells

@@ -5,7 +5,7 @@ pub mod OneMoreLongLaws
 pub mod LedgerRuns
 pub mod LedgerNames
 pub mod BoundLaws
-pub mod ListedLaws
+pub mod LiveBlocksListedLaws
 pub mod FreesRunLaws
 pub mod CallInvariantLaws
 pub mod Demand3

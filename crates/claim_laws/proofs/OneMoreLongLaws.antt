@@ -14,7 +14,7 @@ use Rattle.heap_rules.specs.declared.Superblock.{Superblock}
 use Rattle.heap_rules.specs.declared.State.{State}
 use Rattle.heap_rules.specs.Table.{superblockAt, isOfRun, startsRun, isOfHeap, runPart, withRank}
 use Rattle.heap_rules.specs.Counts.{isOwnedOfClass, liveOfClass}
-use Rattle.choice_rules.specs.Runs.{isAvailable}
+use Rattle.choice_rules.specs.RunChoice.{isAvailable}
 use Rattle.heap_laws.proofs.RunLaws.{side-of-range, outside-not-inside}
 use Rattle.heap_laws.proofs.RunsKeptLaws.{owner-of-run}
 use Rattle.heap_laws.proofs.RunChoiceLaws.{facts-of-is-available}

@@ -47,7 +47,7 @@ use Rattle.claim_rules.specs.Claim.{Step, Linked, peakWith}
 use Rattle.claim_rules.specs.Ledger.{Entry, isAt, hasName, removed, ledgerAfter}
 use Rattle.claim_rules.specs.History.{Event, freedInto, renewed, joinedRun, neither, eventOfBlock, eventOfFree, eventOfTaken, eventOfTake, eventsAfterDrop, eventsAfter, RankedByLastFree, OffersLastFreed, AlongHistory, RankedByLastFreeOver, OffersLastFreedOver}
 use Rattle.claim_laws.proofs.EventLaws.{ranked-by-last-free-after-free, ranked-by-last-free-after-renewal, ranked-by-last-free-after-run, ranked-by-last-free-after-neither, ranked-by-last-free-of-new-state, offers-last-freed-of-ranked}
-use Rattle.claim_laws.proofs.ListedLaws.{Agreement, block-freed-agreement}
+use Rattle.claim_laws.proofs.LiveBlocksListedLaws.{Agreement, block-freed-agreement}
 use Rattle.claim_laws.proofs.LedgerEventLaws.{SameEvents, same-events-removed, small-block-in-ledger, event-of-small-block, long-block-in-ledger, event-of-long-block, event-of-named-block}
 use Rattle.claim_laws.proofs.CallInvariantLaws.{ListInvariant, after-step}
 use Rattle.claim_laws.proofs.Demand3.{list-invariant-after-setup}

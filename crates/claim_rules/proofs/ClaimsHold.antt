@@ -26,7 +26,7 @@ use Rattle.call_rules.specs.Answers.{After}
 use Rattle.call_rules.specs.Named.{heldAddress}
 use Rattle.call_rules.specs.Calls.{callOf}
 use Rattle.claim_rules.specs.Ledger.{Entry, named, unnamed, isAt, hasName, someEntry, entriesAt, ledgerAfter}
-use Rattle.claim_rules.specs.Claim.{Step, Linked, Along, Bounded, OwnersChangeRightly, peakWith, Claims}
+use Rattle.claim_rules.specs.Claim.{Step, Linked, Along, Bounded, CallOwnerChanges, peakWith, Claims}
 use Rattle.claim_rules.specs.NamesClaim.{holdsAddress, NamesAgree}
 use Rattle.claim_rules.specs.LongBlocksClaim.{LongBlocksAgree}
 use Rattle.claim_rules.proofs.LedgerDefinitions.{entry, ledgerDefinitions}
@@ -55,7 +55,7 @@ along-goes-on P before ledger a steps k = k
 pub claims-go-on : (u : Setup) (before : After) (ledger : List Entry) (peak : ℕ → ℕ) (a : Step) (steps : List Step)
     → Claims u before ledger peak (a ∷ steps)
     → (let then = ledgerAfter ledger (a .call) (a .after .answer .outcome) in Bounded u (before .answer .state) peak
-    × OwnersChangeRightly (u .q) ledger (before .answer .state) (a .after .answer .state) (a .call) (a .after .answer .outcome)
+    × CallOwnerChanges (u .q) ledger (before .answer .state) (a .after .answer .state) (a .call) (a .after .answer .outcome)
     × Claims u (a .after) then (peakWith peak then) steps)
 unfolding othersHold Claims
 claims-go-on u before ledger peak a steps k = k

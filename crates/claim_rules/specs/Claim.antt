@@ -78,8 +78,8 @@ OwnerChanges q changed passed run (NamedFree processor name) outcome = FreeOwner
 OwnerChanges q changed passed run (Drop processor addresses) outcome = FreeOwnerChanges (q * length addresses) changed passed run outcome
 
 -- of a call from state s, with the ledger before it, to state t
-abbrev pub OwnersChangeRightly : ℕ → List Entry → State → State → Call → Outcome → Type 0
-OwnersChangeRightly q ledger s t call outcome = OwnerChanges q (ownersChanged s t) (passedBetweenHeaps s t) (freesRun ledger call) call outcome
+abbrev pub CallOwnerChanges : ℕ → List Entry → State → State → Call → Outcome → Type 0
+CallOwnerChanges q ledger s t call outcome = OwnerChanges q (ownersChanged s t) (passedBetweenHeaps s t) (freesRun ledger call) call outcome
 
 -- "M is the most live blocks of the class after the setup (none) or any call up to and including this one."
 abbrev pub peakWith : (ℕ → ℕ) → List Entry → ℕ → ℕ
@@ -91,5 +91,5 @@ unfoldable pub Claims : Setup → After → List Entry → (ℕ → ℕ) → Lis
 Claims u before ledger peak [] = Bounded u (before .answer .state) peak
 Claims u before ledger peak (step ∷ steps) =
     Bounded u (before .answer .state) peak
-    × OwnersChangeRightly (u .q) ledger (before .answer .state) (step .after .answer .state) (step .call) (step .after .answer .outcome)
+    × CallOwnerChanges (u .q) ledger (before .answer .state) (step .after .answer .state) (step .call) (step .after .answer .outcome)
     × Claims u (step .after) (ledgerAfter ledger (step .call) (step .after .answer .outcome)) (peakWith peak (ledgerAfter ledger (step .call) (step .after .answer .outcome))) steps

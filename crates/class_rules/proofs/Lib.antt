@@ -1,4 +1,4 @@
-pub mod Cases
+pub mod ClassCases
 pub mod FirstAtLeastLaws
 pub mod ClassTableLaws
 pub mod ClassLaws

@@ -1,4 +1,4 @@
-pub mod Cases
+pub mod FilledPlacesCases
 pub mod OccurrenceLaws
 pub mod SeenMarksLaws
 pub mod PlacesCheckLaws

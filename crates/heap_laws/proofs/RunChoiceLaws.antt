@@ -17,7 +17,7 @@ use Rattle.heap_rules.specs.declared.Found.{Found}
 use Rattle.heap_rules.specs.declared.Found.the-variants.{At, Nothing}
 use Rattle.heap_rules.specs.Table.{superblockAt, liveIn, isUnused}
 use Rattle.choice_rules.specs.Choice.{orElse}
-use Rattle.choice_rules.specs.Runs.{isAvailable, isFreeRun, lowestBelow, lowestRun}
+use Rattle.choice_rules.specs.RunChoice.{isAvailable, isFreeRun, lowestBelow, lowestRun}
 use Rattle.heap_laws.proofs.StateFacts.{Unused}
 use Rattle.heap_laws.proofs.StateCheckLaws.{facts-of-is-unused, is-unused-of-facts}
 use Rattle.heap_laws.proofs.ChoiceLaws.{facts-of-empty-in-global, empty-in-global-of-facts}

@@ -1,3 +1,3 @@
 pub mod RecordCases
-pub mod DropCases
+pub mod DropKeyCases
 pub mod LongRecordCases

@@ -19,14 +19,14 @@ use Rattle.heap_rules.specs.declared.Found.{Found}
 use Rattle.heap_rules.specs.declared.Found.the-variants.{At, Nothing}
 use Rattle.heap_rules.specs.declared.Moved.{Moved}
 use Rattle.choice_rules.specs.Choice.{fullest, emptiest}
-use Rattle.choice_rules.specs.Runs.{lowestRun}
+use Rattle.choice_rules.specs.RunChoice.{lowestRun}
 use Rattle.move_rules.specs.Moves.{mustMove, foundTransferred, transfersUpTo, excessTransferred, invariantRestored}
 use Rattle.check_rules.specs.Check.{withinLimits, restValid}
 use Rattle.call_rules.specs.declared.Outcome.{Outcome}
 use Rattle.call_rules.specs.declared.Outcome.the-variants.{Ready, Address, Moves, Refused}
 use Rattle.call_rules.specs.Answers.{After, numberOf, refused, checked, isProcessor}
 use Rattle.call_rules.specs.Setup.{setupOf}
-use Rattle.call_rules.specs.Runs.{longTakenFrom, longTakenAt}
+use Rattle.call_rules.specs.LongBlocks.{longTakenFrom, longTakenAt}
 use Rattle.call_rules.specs.Take.{otherPlaces, takenFrom, takenFromOther, takenAt, takeUnchecked, takeOf}
 use Rattle.call_rules.specs.Free.{superblockHolding, isUnmapped, isInRun, isMisaligned, isLiveAt, addressRefusal, smallBlockFreed, blockFreed, smallFreedAt, longFreedAt, freedAt, freeUnchecked, freeOf}
 use Rattle.call_rules.specs.Named.{namedTakeOf, heldAddress, namedFreeUnchecked, namedFreeOf}

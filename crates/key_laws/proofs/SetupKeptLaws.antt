@@ -20,7 +20,7 @@ use Rattle.heap_rules.specs.States.{noState}
 use Rattle.heap_rules.specs.Ranks.{rankedLatest, unranked}
 use Rattle.base_laws.proofs.TestLaws.{pick-elim}
 use Rattle.choice_rules.specs.Choice.{fullest}
-use Rattle.choice_rules.specs.Runs.{lowestRun}
+use Rattle.choice_rules.specs.RunChoice.{lowestRun}
 use Rattle.move_rules.specs.Moves.{transferred, foundTransferred, invariantRestored}
 use Rattle.heap_laws.proofs.MovesKeepLaws.{invariant-restored-keeps}
 use Rattle.check_rules.specs.Check.{withinLimits}
@@ -29,7 +29,7 @@ use Rattle.call_rules.specs.declared.Outcome.{Outcome}
 use Rattle.call_rules.specs.declared.Outcome.the-variants.{Ready, Address, Moves, Refused}
 use Rattle.call_rules.specs.Answers.{After, refused, checked, isProcessor}
 use Rattle.call_rules.specs.Setup.{acceptedSetup, setupOf}
-use Rattle.call_rules.specs.Runs.{longTakenFrom, longTakenAt}
+use Rattle.call_rules.specs.LongBlocks.{longTakenFrom, longTakenAt}
 use Rattle.call_rules.specs.Take.{otherPlaces, unrankedIfEmpty, takenFrom, takenFromOther, takenAt, takeUnchecked, takeOf}
 use Rattle.call_rules.specs.Free.{superblockIndex, superblockHolding, isUnmapped, isInRun, isMisaligned, isLiveAt, markCleared, smallBlockFreed, longBlockFreed, blockFreed, smallFreedAt, longFreedAt, freedAt, freeUnchecked, freeOf}
 use Rattle.call_rules.specs.Named.{isUnavailable, nameBound, boundBy, withNameBound, namedTakeUnchecked, namedTakeOf, heldAddress, namedFreeUnchecked, namedFreeOf}

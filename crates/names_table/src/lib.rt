@@ -54,7 +54,7 @@ pub fn bind(names: [u16; 1024], name: u16, block: u16) -> [u16; 1024]
 }
 
 // The names with none that points at a block.
-pub fn release_block(names: [u16; 1024], block: u16) -> [u16; 1024]
+pub fn unbind_block(names: [u16; 1024], block: u16) -> [u16; 1024]
     ensures { λ r. ⌜ r ≡ withoutBlock names block ⌝ }
 {
     let mut next = names;

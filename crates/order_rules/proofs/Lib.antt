@@ -1,1 +1,1 @@
-pub mod Cases
+pub mod OrderCases

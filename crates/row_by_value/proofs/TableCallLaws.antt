@@ -31,14 +31,14 @@ answered-call-from-parts a control b g e = rw (g, e)
 
 -- ---- the first refusals
 module _ (numbers n first : ℕ) (order : List ℕ) (u : Setup) (e : first ≡ setupRefusal numbers u order) where
-  pub first-refusal-of-is-setup-refusal : (first ≡ 0 → ⊥) → first ≡ rowFirstRefusal numbers n order u
+  pub row-first-refusal-of-is-setup-refusal : (first ≡ 0 → ⊥) → first ≡ rowFirstRefusal numbers n order u
   unfolding rowFirstRefusal
-  first-refusal-of-is-setup-refusal f = rw (← e, ne-eqb first 0 f)
+  row-first-refusal-of-is-setup-refusal f = rw (← e, ne-eqb first 0 f)
 
-  pub first-refusal-of-13-of-length : first ≡ 0 → (n ≡ 64 → ⊥) → 13 ≡ rowFirstRefusal numbers n order u
+  pub row-first-refusal-of-13-of-length : first ≡ 0 → (n ≡ 64 → ⊥) → 13 ≡ rowFirstRefusal numbers n order u
   unfolding rowFirstRefusal
-  first-refusal-of-13-of-length f g = rw (← e, f, ne-eqb n 64 g)
+  row-first-refusal-of-13-of-length f g = rw (← e, f, ne-eqb n 64 g)
 
-  pub first-refusal-of-none : first ≡ 0 → n ≡ 64 → 0 ≡ rowFirstRefusal numbers n order u
+  pub row-first-refusal-of-none : first ≡ 0 → n ≡ 64 → 0 ≡ rowFirstRefusal numbers n order u
   unfolding rowFirstRefusal
-  first-refusal-of-none f g = rw (← e, f, eq-eqb n 64 g)
+  row-first-refusal-of-none f g = rw (← e, f, eq-eqb n 64 g)

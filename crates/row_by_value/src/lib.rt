@@ -50,7 +50,7 @@ pub fn control_of(s: State) -> Control
 }
 
 // The refusals before any superblock is looked at: setup numbers, 12, 13 for the row's length; 0 where none applies.
-pub fn first_refusal(numbers: u8, n: usize, order: &[u16], u: Setup) -> u8
+pub fn row_first_refusal(numbers: u8, n: usize, order: &[u16], u: Setup) -> u8
     ensures { λ r. ⌜ r ≡ rowFirstRefusal numbers n (now (order .entry)) u ⌝ }
 {
     let first = check_limits::setup_refusal(numbers, u, order);

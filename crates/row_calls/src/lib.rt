@@ -22,7 +22,7 @@ fn setup_table(n: usize, table: [Superblock; 64], order: &mut [u16], u: Setup) -
     ensures number_and_values { λ r. ⌜ HasNumberAndValuesOf (r .answer .outcome) (setupOn n u table (now (order .entry)) .outcome) ⌝ }
     ensures passes { λ r. ⌜ PassesIfAccepted (r .answer .outcome) (stateOf (r .answer .control) (r .table)) (now (order .exit)) ⌝ }
 {
-    let first = row_by_value::first_refusal(1, n, order, u);
+    let first = row_by_value::row_first_refusal(1, n, order, u);
     if first != 0 {
         let none = call_states::no_state();
         let zeros = row_by_value::control_of(none);
@@ -48,7 +48,7 @@ fn call_table(
     ensures moves { λ r. ⌜ MovesAtMost (mostMoves (control .setup .q) (callWith call (now (addresses .entry)))) (r .answer .outcome) ⌝ }
 {
     let u = control.setup;
-    let first = row_by_value::first_refusal(13, n, order, u);
+    let first = row_by_value::row_first_refusal(13, n, order, u);
     if first != 0 {
         return row_by_value::refuse(first, control, table);
     }

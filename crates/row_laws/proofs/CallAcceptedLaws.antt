@@ -17,7 +17,7 @@ use Rattle.call_rules.specs.declared.Outcome.the-variants.{Ready, Address, Move
 use Rattle.call_rules.specs.Answers.{After, refused}
 use Rattle.call_laws.proofs.TakeSourceLaws.{length-unranked-if-empty}
 use Rattle.call_rules.specs.Take.{acquired, unrankedIfEmpty, nextBlock, takenFrom, takenFromOther, takeOf}
-use Rattle.call_rules.specs.Runs.{longTakenFrom}
+use Rattle.call_rules.specs.LongBlocks.{longTakenFrom}
 use Rattle.call_rules.specs.Free.{superblockHolding, isInRun, smallBlockFreed, smallFreedAt, longFreedAt, freeOf}
 use Rattle.call_rules.specs.Drop.{droppedAll, dropOf}
 use Rattle.call_rules.specs.Named.{nameBound, boundBy, withNameBound, namedTakeOf, heldAddress, namedFreeOf}

@@ -2,7 +2,7 @@
 -- Assumes nothing.
 use Prim.Native.Nat.{_-_, _≤_}
 use native.Mathlib.Omega.{arith}
-use Rattle.call_rules.specs.Runs.{madeUnused}
+use Rattle.call_rules.specs.LongBlocks.{madeUnused}
 use Rattle.block_run.proofs.RunStepLaws.{ChangedSoFar, none-changed, one-more-unused, all-unused}
 use borrow.Author.Needs.{needs}
 use Rattle.block_run.proofs.free_run.Statement.{statement}

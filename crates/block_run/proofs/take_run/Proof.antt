@@ -2,7 +2,7 @@
 -- Assumes nothing.
 use Prim.Native.Nat.{_-_, _≤_}
 use native.Mathlib.Omega.{arith}
-use Rattle.call_rules.specs.Runs.{joinedToRun}
+use Rattle.call_rules.specs.LongBlocks.{joinedToRun}
 use Rattle.block_run.proofs.RunStepLaws.{ChangedSoFar, none-changed, one-more-joined, all-joined}
 use borrow.Author.Needs.{needs}
 use Rattle.block_run.proofs.take_run.Statement.{statement}

@@ -6,7 +6,7 @@ use mathlib.Core.Logic.{⊎-elim}
 use Prim.Native.Nat.{_+_, _-_, _≤_}
 use native.Mathlib.Omega.{arith}
 use lib.ListN.{length}
-use Rattle.call_drop.proofs.TouchedLaws.{ToldBelow, none-told, pair-in-array, told-past-run, told-at-next, told-at-end}
+use Rattle.call_drop.proofs.TouchedArrayLaws.{ToldBelow, none-told, pair-in-array, told-past-run, told-at-next, told-at-end}
 use borrow.Author.Needs.{needs}
 use Rattle.call_drop.proofs.touched_pairs.Statement.{statement}
 use Rattle.call_drop.proofs.touched_pairs.Tie as tie

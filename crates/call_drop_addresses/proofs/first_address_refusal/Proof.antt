@@ -5,7 +5,7 @@ use Prim.Native.Nat.{_-_, _≤_}
 use native.Mathlib.Omega.{arith}
 use lib.ListN.{length}
 use Rattle.base_laws.proofs.ReplacedElement.{length-of-length-map}
-use Rattle.call_drop_addresses.proofs.FirstRefusalLaws.{NoneRefused, none-refused-yet, past-table-refused, first-bad-refused, run-of-address-fits, none-refused-past-run, none-refused-past-block, none-refused-at-end}
+use Rattle.call_drop_addresses.proofs.FirstAddressRefusalLaws.{NoneRefused, none-refused-yet, past-table-refused, first-bad-refused, run-of-address-fits, none-refused-past-run, none-refused-past-block, none-refused-at-end}
 use Rattle.call_drop_addresses.proofs.first_address_refusal.Statement.{statement}
 use Rattle.call_drop_addresses.proofs.first_address_refusal.Tie as tie
 

@@ -1,6 +1,6 @@
 -- `call_drop_addresses::without_mark` meets its contract. Assumes nothing.
 use borrow.Author.Needs.{needs}
-use Rattle.call_drop_addresses.proofs.FirstRefusalLaws.{without-mark-by-steps}
+use Rattle.call_drop_addresses.proofs.FirstAddressRefusalLaws.{without-mark-by-steps}
 use Rattle.call_drop_addresses.proofs.without_mark.Statement.{statement}
 use Rattle.call_drop_addresses.proofs.without_mark.Tie as tie
 

@@ -3,7 +3,7 @@ use mathlib.Core.Path.{_≡_}
 use Prim.Native.Nat.{_-_, _≤_}
 use native.Mathlib.Omega.{arith}
 use Rattle.call_drop_addresses.specs.TestedTable.{tableWithoutRun}
-use Rattle.call_drop_addresses.proofs.FirstRefusalLaws.{none-left-yet, one-more-left, all-left}
+use Rattle.call_drop_addresses.proofs.FirstAddressRefusalLaws.{none-left-yet, one-more-left, all-left}
 use Rattle.call_drop_addresses.proofs.without_run.Statement.{statement}
 use Rattle.call_drop_addresses.proofs.without_run.Tie as tie
 

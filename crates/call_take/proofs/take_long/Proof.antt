@@ -16,8 +16,8 @@ lowest-run-requires c κs = (search (long-takes-some, needs), search needs)
 enum-known-found : tie.Need-enum-known-found
 enum-known-found c = search needs
 
-take-run-requires : tie.Need-take-run-requires
-take-run-requires c κs = (search run-in-table, search needs)
+take-long-at-requires : tie.Need-take-long-at-requires
+take-long-at-requires c κs = (search run-in-table, search needs)
 
 enum-told : tie.Need-enum-told
 enum-told c = search needs
@@ -39,7 +39,7 @@ take-long-spec =
     cast-length
     lowest-run-requires
     enum-known-found
-    take-run-requires
+    take-long-at-requires
     enum-told
     refuse-requires
     returns

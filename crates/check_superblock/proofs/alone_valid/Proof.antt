@@ -13,8 +13,8 @@ returns c = search alone-valid-of-unused
 returns-2 : tie.Need-returns-2
 returns-2 c = search alone-valid-false-past-n
 
-is-part-of-run-requires : tie.Need-is-part-of-run-requires
-is-part-of-run-requires c κs = search needs
+is-run-member-requires : tie.Need-is-run-member-requires
+is-run-member-requires c κs = search needs
 
 returns-3 : tie.Need-returns-3
 returns-3 c = search alone-valid-of-part-of-run
@@ -44,7 +44,7 @@ alone-valid-spec =
     is-unused-requires
     returns
     returns-2
-    is-part-of-run-requires
+    is-run-member-requires
     returns-3
     returns-4
     returns-5

@@ -1,6 +1,6 @@
 -- `choice_run::is_available` meets its contract: heap 0's superblocks are never unused, and no other is heap 0's. Assumes nothing.
 use borrow.Author.Needs.{needs}
-use Rattle.choice_run.proofs.RowLaws.{available-of-global, available-of-other-owner}
+use Rattle.choice_run.proofs.RunScanLaws.{available-of-global, available-of-other-owner}
 use Rattle.choice_run.proofs.is_available.Statement.{statement}
 use Rattle.choice_run.proofs.is_available.Tie as tie
 

@@ -3,7 +3,7 @@
 use mathlib.Core.Logic.{⊎-elim}
 use Prim.Native.Nat.{_-_, _≤_}
 use native.Mathlib.Omega.{arith}
-use Rattle.choice_run.proofs.RowLaws.{RowBefore, no-row-at-start, row-step-available, row-step-other, run-found, no-run-found}
+use Rattle.choice_run.proofs.RunScanLaws.{RowBefore, no-row-at-start, row-step-available, row-step-other, run-found, no-run-found}
 use Rattle.choice_run.proofs.lowest_run.Statement.{statement}
 use Rattle.choice_run.proofs.lowest_run.Tie as tie
 

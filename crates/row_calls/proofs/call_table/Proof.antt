@@ -6,8 +6,8 @@ use borrow.Author.Needs.{needs}
 use Rattle.row_calls.proofs.call_table.Statement.{statement}
 use Rattle.row_calls.proofs.call_table.Tie as tie
 
-first-refusal-requires : tie.Need-first-refusal-requires
-first-refusal-requires c κs = search needs
+row-first-refusal-requires : tie.Need-row-first-refusal-requires
+row-first-refusal-requires c κs = search needs
 
 refuse-requires : tie.Need-refuse-requires
 refuse-requires c κs = search needs
@@ -43,7 +43,7 @@ pub call-table-spec : {M : Type 1} → statement M
 call-table-spec =
     tie.close
     (tie.spec
-    first-refusal-requires
+    row-first-refusal-requires
     refuse-requires
     same-length
     returns

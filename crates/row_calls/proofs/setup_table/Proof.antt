@@ -4,8 +4,8 @@ use borrow.Author.Needs.{needs}
 use Rattle.row_calls.proofs.setup_table.Statement.{statement}
 use Rattle.row_calls.proofs.setup_table.Tie as tie
 
-first-refusal-requires : tie.Need-first-refusal-requires
-first-refusal-requires c κs = search needs
+row-first-refusal-requires : tie.Need-row-first-refusal-requires
+row-first-refusal-requires c κs = search needs
 
 no-state-requires : tie.Need-no-state-requires
 no-state-requires c κs = search needs
@@ -38,7 +38,7 @@ pub setup-table-spec : {M : Type 1} → statement M
 setup-table-spec =
     tie.close
     (tie.spec
-    first-refusal-requires
+    row-first-refusal-requires
     no-state-requires
     control-of-requires
     refuse-requires

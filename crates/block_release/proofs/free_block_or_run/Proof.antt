@@ -1,8 +1,8 @@
--- `block_release::vacate` meets its contract: by whether the superblock is of a run. Assumes nothing.
+-- `block_release::free_block_or_run` meets its contract: by whether the superblock is of a run. Assumes nothing.
 use borrow.Author.Needs.{needs}
-use Rattle.block_release.proofs.FreeStepLaws.{ranked-latest-keeps-totals, vacated-run, no-place-written-for-run, vacated-block, order-pushed-of-block}
-use Rattle.block_release.proofs.vacate.Statement.{statement}
-use Rattle.block_release.proofs.vacate.Tie as tie
+use Rattle.block_release.proofs.FreeStepLaws.{ranked-latest-keeps-totals, run-freed-alone, no-place-written-for-run, block-freed-alone, order-pushed-of-block}
+use Rattle.block_release.proofs.free_block_or_run.Statement.{statement}
+use Rattle.block_release.proofs.free_block_or_run.Tie as tie
 
 cast-k : tie.Need-cast-k
 cast-k c = search needs
@@ -17,7 +17,7 @@ free-run-requires : tie.Need-free-run-requires
 free-run-requires c κs = search needs
 
 returns : tie.Need-returns
-returns c = (search vacated-run, search no-place-written-for-run)
+returns c = (search run-freed-alone, search no-place-written-for-run)
 
 push-block-requires : tie.Need-push-block-requires
 push-block-requires c κs = search needs
@@ -29,13 +29,13 @@ clear-mark-requires : tie.Need-clear-mark-requires
 clear-mark-requires c κs = (search needs, search ranked-latest-keeps-totals)
 
 returns-2 : tie.Need-returns-2
-returns-2 c = (search vacated-block, search order-pushed-of-block)
+returns-2 c = (search block-freed-alone, search order-pushed-of-block)
 
 same-length : tie.Need-same-length
 same-length c = search needs
 
-pub vacate-spec : {M : Type 1} → statement M
-vacate-spec =
+pub free-block-or-run-spec : {M : Type 1} → statement M
+free-block-or-run-spec =
     tie.close
     (tie.spec
     cast-k

@@ -1,8 +1,8 @@
--- `call_take::take_run` meets its contract. Assumes nothing.
+-- `call_take::take_long_at` meets its contract. Assumes nothing.
 use Rattle.call_take.proofs.TakeUncheckedLaws.{run-taken-answer}
 use borrow.Author.Needs.{needs}
-use Rattle.call_take.proofs.take_run.Statement.{statement}
-use Rattle.call_take.proofs.take_run.Tie as tie
+use Rattle.call_take.proofs.take_long_at.Statement.{statement}
+use Rattle.call_take.proofs.take_long_at.Tie as tie
 
 cast-address : tie.Need-cast-address
 cast-address c = search needs
@@ -16,5 +16,5 @@ take-run-requires c κs = search needs
 returns : tie.Need-returns
 returns c = search run-taken-answer
 
-pub take-run-spec : {M : Type 1} → statement M
-take-run-spec = tie.close (tie.spec cast-address mul-address take-run-requires returns)
+pub take-long-at-spec : {M : Type 1} → statement M
+take-long-at-spec = tie.close (tie.spec cast-address mul-address take-run-requires returns)

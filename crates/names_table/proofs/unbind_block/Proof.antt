@@ -1,4 +1,4 @@
--- `names_table::release_block` meets its contract. The loop's invariant: the names passed are let go where they point at the block. The measure
+-- `names_table::unbind_block` meets its contract. The loop's invariant: the names passed are let go where they point at the block. The measure
 -- is the names left. Assumes nothing.
 use mathlib.Core.Path.{_≡_}
 use mathlib.Core.Logic.{⊎-elim}
@@ -6,8 +6,8 @@ use Prim.Native.Nat.{_-_, _≤_, _<_}
 use native.Mathlib.Omega.{arith}
 use borrow.Author.Needs.{needs}
 use Rattle.names_table.proofs.NameTableLaws.{releasedBelow, released-below-0, release-step-at-block, release-step-elsewhere, release-end}
-use Rattle.names_table.proofs.release_block.Statement.{statement}
-use Rattle.names_table.proofs.release_block.Tie as tie
+use Rattle.names_table.proofs.unbind_block.Statement.{statement}
+use Rattle.names_table.proofs.unbind_block.Tie as tie
 
 abbrev Inv-loop : tie.InvT-loop
 Inv-loop block names next₀ i₀ next i = (i ≤ 1024) × (next ≡ releasedBelow names block i)
@@ -44,8 +44,8 @@ loop-again c =
 returns : tie.Need-returns Inv-loop μ-loop
 returns c = let h : 1024 ≤ c .before .loop .i = omega arith in search (release-end, needs)
 
-pub release-block-spec : {M : Type 1} → statement M
-release-block-spec =
+pub unbind-block-spec : {M : Type 1} → statement M
+unbind-block-spec =
     tie.close
     (tie.spec
     Inv-loop

@@ -40,7 +40,7 @@ move-rule-goes-by-counts h c s t e f g none must =
     must)
 
 -- nothing is live in superblock k, which is of heap 0 or of none, and no heap owns b
-pub record Vacates (s : State) (k : ℕ) (b : Superblock) : Type 0 where
+pub record BecomesUnowned (s : State) (k : ℕ) (b : Superblock) : Type 0 where
   pub shape : Shape s
   pub in-table : k < 64
   pub owner-before : (superblockAt s k .owner ≡ 0) ⊎ (254 ≤ superblockAt s k .owner)
@@ -48,15 +48,15 @@ pub record Vacates (s : State) (k : ℕ) (b : Superblock) : Type 0 where
   pub unowned : Unowned b
   pub marks-length : length (b .live) ≡ 4
 
-module _ (s : State) (k : ℕ) (b : Superblock) (vacates : Vacates s k b) where
+module _ (s : State) (k : ℕ) (b : Superblock) (becomes : BecomesUnowned s k b) where
   abbrev after : State
   after = withSuperblock s k b
 
   here : superblockAt after k ≡ b
-  here = superblock-at-replaced s k b (vacates .shape .length-is) (vacates .in-table)
+  here = superblock-at-replaced s k b (becomes .shape .length-is) (becomes .in-table)
 
   owner-after : 254 ≤ b .owner
-  owner-after = ⊎-elim (λ e. omega arith) (λ e. omega arith) (vacates .unowned .owner)
+  owner-after = ⊎-elim (λ e. omega arith) (λ e. omega arith) (becomes .unowned .owner)
 
   -- what holds of b and of each other superblock holds of each
   each-after : (P : ℕ → Superblock → Type 0) → P k b → ((m : ℕ) → m < 64 → (m ≡ k → ⊥) → P m (superblockAt s m)) → (m : ℕ) → m < 64 → P m (superblockAt after m)
@@ -66,55 +66,55 @@ module _ (s : State) (k : ℕ) (b : Superblock) (vacates : Vacates s k b) where
       go (yes e) = subst (λ (i : ℕ). P i (superblockAt after i)) (sym e) (subst (λ (x : Superblock). P k x) (sym here) this)
       go (no f) = subst (λ (x : Superblock). P m x) (sym (superblock-at-others s k b m f)) (other m l f)
 
-  pub vacated-shape : Shape after
-  vacated-shape = shape-with-superblock s k b (vacates .shape) (vacates .in-table) (vacates .marks-length)
+  pub made-unowned-shape : Shape after
+  made-unowned-shape = shape-with-superblock s k b (becomes .shape) (becomes .in-table) (becomes .marks-length)
 
   -- ---- the counts
   total-same : (f : Superblock → ℕ) → f b ≡ f (superblockAt s k) → total f (after .table) ≡ total f (s .table)
-  total-same f e = omega (arith, total-with-superblock f s k b (vacates .shape .length-is) (vacates .in-table))
+  total-same f e = omega (arith, total-with-superblock f s k b (becomes .shape .length-is) (becomes .in-table))
 
   not-of-heap : (h : ℕ) → 1 ≤ h → h < 254 → superblockAt s k .owner ≡ h → ⊥
-  not-of-heap h low high e = ⊎-elim (λ z. omega arith) (λ z. omega arith) (vacates .owner-before)
+  not-of-heap h low high e = ⊎-elim (λ z. omega arith) (λ z. omega arith) (becomes .owner-before)
 
-  pub vacated-superblocks-of : (h c : ℕ) → 1 ≤ h → h < 254 → superblocksOf h c after ≡ superblocksOf h c s
+  pub made-unowned-superblocks-of : (h c : ℕ) → 1 ≤ h → h < 254 → superblocksOf h c after ≡ superblocksOf h c s
   unfolding superblocksOf
-  vacated-superblocks-of h c low high =
+  made-unowned-superblocks-of h c low high =
       total-same (oneIfBelongs h c)
       (one-if-belongs-other-owner h c b (λ (e : b .owner ≡ h). omega (arith, owner-after)) ∙ sym (one-if-belongs-other-owner h c (superblockAt s k) (not-of-heap h low high)))
 
-  pub vacated-live-of : (h c : ℕ) → liveOf h c after ≡ liveOf h c s
+  pub made-unowned-live-of : (h c : ℕ) → liveOf h c after ≡ liveOf h c s
   unfolding liveOf liveIfBelongs
-  vacated-live-of h c = total-same (liveIfBelongs h c) (none b (vacates .unowned .live) ∙ sym (none (superblockAt s k) (vacates .live-before)))
+  made-unowned-live-of h c = total-same (liveIfBelongs h c) (none b (becomes .unowned .live) ∙ sym (none (superblockAt s k) (becomes .live-before)))
     where
       none : (x : Superblock) → liveIn x ≡ 0 → liveIfBelongs h c x ≡ 0
       none x e = pick-elim (λ (n : ℕ). n ≡ 0) (belongs h c x) (liveIn x) 0 (λ _. e) (λ _. refl)
 
   -- no class has more superblocks
-  pub vacated-superblocks-of-class : (d : ℕ) → superblocksOfClass d after ≤ superblocksOfClass d s
+  pub made-unowned-superblocks-of-class : (d : ℕ) → superblocksOfClass d after ≤ superblocksOfClass d s
   unfolding superblocksOfClass
-  vacated-superblocks-of-class d =
-      omega (arith, total-with-superblock (λ x. one (isOwnedOfClass d x)) s k b (vacates .shape .length-is) (vacates .in-table), ap one (unowned-of-no-class d b owner-after))
+  made-unowned-superblocks-of-class d =
+      omega (arith, total-with-superblock (λ x. one (isOwnedOfClass d x)) s k b (becomes .shape .length-is) (becomes .in-table), ap one (unowned-of-no-class d b owner-after))
 
-  pub vacated-live-of-class : (d : ℕ) → liveOfClass d after ≡ liveOfClass d s
+  pub made-unowned-live-of-class : (d : ℕ) → liveOfClass d after ≡ liveOfClass d s
   unfolding liveOfClass
-  vacated-live-of-class d =
-      total-same (λ x. pick (isOwnedOfClass d x) (liveIn x) 0) (no-live-adds-nothing d b (vacates .unowned .live) ∙ sym (no-live-adds-nothing d (superblockAt s k) (vacates .live-before)))
+  made-unowned-live-of-class d =
+      total-same (λ x. pick (isOwnedOfClass d x) (liveIn x) 0) (no-live-adds-nothing d b (becomes .unowned .live) ∙ sym (no-live-adds-nothing d (superblockAt s k) (becomes .live-before)))
 
   -- ---- the check
-  pub vacated-sound : (Invariant : ℕ → ℕ → State → Type 0) → GoesByCounts Invariant → (order : List ℕ) → k < s .setup .superblocks → SoundWith Invariant s order → SoundWith Invariant after order
-  vacated-sound Invariant by-counts order below sound =
+  pub made-unowned-sound : (Invariant : ℕ → ℕ → State → Type 0) → GoesByCounts Invariant → (order : List ℕ) → k < s .setup .superblocks → SoundWith Invariant s order → SoundWith Invariant after order
+  made-unowned-sound Invariant by-counts order below sound =
       record {
         numbers = sound .numbers;
-        each = each-after (λ m x. Unowned x ⊎ Owned (s .setup) order m x) (inl (vacates .unowned)) (λ m l f. sound .each m l);
+        each = each-after (λ m x. Unowned x ⊎ Owned (s .setup) order m x) (inl (becomes .unowned)) (λ m l f. sound .each m l);
         past-unused = each-after (λ m x. s .setup .superblocks ≤ m → Unused x) (λ far. absurd (let z : ⊥ = omega arith in z)) (λ m l f. sound .past-unused m l);
-        invariant = λ h c low high known. by-counts h c s after refl (vacated-superblocks-of h c low (omega (arith, sound .numbers .processors-high))) (vacated-live-of h c) (sound .invariant h c low high known);
+        invariant = λ h c low high known. by-counts h c s after refl (made-unowned-superblocks-of h c low (omega (arith, sound .numbers .processors-high))) (made-unowned-live-of h c) (sound .invariant h c low high known);
         sparse = each-after (λ m x. x .owner ≡ 0 → Sparse (s .setup) x) (λ (e : b .owner ≡ 0). absurd (let z : ⊥ = omega (arith, owner-after) in z)) (λ m l f. sound .sparse m l);
       }
 
   -- the ranking's facts, where it has no rank
-  pub vacated-ranks-sound : superblockAt s k .rank ≡ 0 → b .rank ≡ 0 → RanksSound s → RanksSound after
+  pub made-unowned-ranks-sound : superblockAt s k .rank ≡ 0 → b .rank ≡ 0 → RanksSound s → RanksSound after
   unfolding rankedCount isRanked
-  vacated-ranks-sound before now sound =
+  made-unowned-ranks-sound before now sound =
       record {
         bounded = λ m l. omega (arith, same m l, sound .bounded m l, total-cong (λ x. one (ltb 0 (x .rank))) after s (λ m l. ap (λ (r : ℕ). one (ltb 0 r)) (same m l)));
         distinct = λ m j lm lj pos e. sound .distinct m j lm lj (omega (arith, same m lm)) (sym (same m lm) ∙ e ∙ same j lj);

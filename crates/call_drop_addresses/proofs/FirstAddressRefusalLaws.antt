@@ -21,10 +21,10 @@ use Rattle.heap_rules.specs.Totals.{recounted}
 use Rattle.heap_rules.specs.Ranks.{rankAfterFree, rankedLatest}
 use Rattle.heap_laws.proofs.CountLaws.{superblock-at-replaced, superblock-at-others}
 use Rattle.heap_laws.proofs.RerankedLaws.{superblock-keeps-all-but-rank}
-use Rattle.call_rules.specs.Runs.{eachOfRun, madeUnused, runFreed}
+use Rattle.call_rules.specs.LongBlocks.{eachOfRun, madeUnused, runFreed}
 use Rattle.call_rules.specs.Free.{superblockIndex, superblockHolding, blockOf, isUnmapped, isInRun, isRunStart, isOffBlock, isMisaligned, isLiveAt, addressRefusal, markCleared, smallBlockFreed, longBlockFreed, blockFreed}
 use Rattle.call_rules.specs.Drop.{allFreed, firstAddressRefusal}
-use Rattle.block_refusal.specs.Holding.{TellsOf}
+use Rattle.block_refusal.specs.Holding.{ToldByCountAndSuperblock}
 use Rattle.block_refusal.proofs.AddressTestLaws.{address-refusal-past-table}
 use Rattle.call_drop_addresses.specs.TestedTable.{RunsFit, tableWithoutRun}
 
@@ -209,7 +209,7 @@ module _ (s : State) (t : List Superblock) (addresses : List ℕ) (i : ℕ) (so 
     pub past-table-refused : s .setup .superblocks ≤ 64 → 64 ≤ getD addresses i 0 / 4096 → 5 ≡ firstAddressRefusal s addresses
     past-table-refused high h = refused-of-bad 5 (address-refusal-past-table (withTable s t) a high h) (λ z. omega arith)
 
-    module _ (bad : ℕ) (e : TellsOf bad addressRefusal (s .setup .superblocks) (getD t (getD addresses i 0 / 4096) blank) (getD addresses i 0)) where
+    module _ (bad : ℕ) (e : ToldByCountAndSuperblock bad addressRefusal (s .setup .superblocks) (getD t (getD addresses i 0 / 4096) blank) (getD addresses i 0)) where
       pub first-bad-refused : (bad ≡ 0 → ⊥) → bad ≡ firstAddressRefusal s addresses
       first-bad-refused = refused-of-bad bad (e (withTable s t) refl refl)
 

@@ -14,7 +14,7 @@ use Rattle.heap_rules.specs.declared.State.{State}
 use Rattle.heap_rules.specs.declared.Found.the-variants.{At, Nothing}
 use Rattle.heap_rules.specs.Table.{superblockAt, liveIn, isUnused}
 use Rattle.choice_rules.specs.Choice.{emptyInGlobal}
-use Rattle.choice_rules.specs.Runs.{isAvailable, isFreeRun, lowestRun}
+use Rattle.choice_rules.specs.RunChoice.{isAvailable, isFreeRun, lowestRun}
 use Rattle.heap_laws.proofs.RunChoiceLaws.{FreeRun, facts-of-is-free-run, is-free-run-of-facts, lowest-below-of-lowest, lowest-run-nothing-of-no-run}
 
 -- ---- one superblock, by its owner
