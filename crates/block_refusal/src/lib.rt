@@ -1,7 +1,7 @@
 // The tests of an address: unmapped, misaligned, live, and the refusal that they come to. The tests take the superblock that the address
 // lies in, and not the state: a state by value is a copy of six kilobytes.
 ghost use mathlib.Core.Path.{_≡_};
-ghost use Prim.Native.Nat.{_≤_};
+ghost use Rattle.heap_rules.specs.Table.{blank};
 ghost use Rattle.call_rules.specs.Free.{isUnmapped, isRunStart, isOffBlock, isMisaligned, isLiveAt, addressRefusal};
 ghost use Rattle.block_refusal.specs.Holding.{ToldBySuperblock, ToldByCountAndSuperblock};
 use heap_rules::State;
@@ -82,15 +82,28 @@ pub fn refusal_in(superblocks: u8, b: Superblock, address: u32) -> u8
     0
 }
 
-// The refusal that the address meets in a state. What lies past the table lies past N superblocks too.
+// The refusal that the address meets in a state. A superblock past the table reads as empty in heap 0.
 pub fn refusal(s: State, address: u32) -> u8
-    requires { ⌜ s .setup .superblocks ≤ 64 ⌝ }
     ensures { λ r. ⌜ r ≡ addressRefusal s address ⌝ }
 {
     let k = (address / 4096) as usize;
+    let superblocks = s.setup.superblocks;
     if k >= 64 {
-        return 5;
+        return refusal_in(superblocks, past_table(), address);
     }
     let b = s.table[k];
-    refusal_in(s.setup.superblocks, b, address)
+    refusal_in(superblocks, b, address)
+}
+
+// What a superblock past the table reads as.
+fn past_table() -> Superblock
+    ensures { λ r. ⌜ r ≡ blank ⌝ }
+{
+    Superblock {
+        owner: 0,
+        class: 0,
+        rank: 0,
+        run: 0,
+        live: [0, 0, 0, 0],
+    }
 }

@@ -31,7 +31,8 @@ pub fn take(s: State, order: &mut [u16], processor: u8, name: u16, size: u16) ->
     }
 }
 
-// The block or run that the name points at is free again, its name let go, and the move rule is followed; or refusal 2, 15, 5, 6 or 7.
+// The block or run that the name points at is free again, its name let go, and the move rule is followed; or refusal 2 or 15. A held name's
+// block is live, so that its address meets no refusal.
 pub fn free(s: State, order: &mut [u16], processor: u8, name: u16) -> Answer
     requires { ⌜ passes s (now order) ≡ true ⌝ }
     ensures { λ r. ⌜ record { answer = r; order = now (order .exit) } ≡ namedFreeUnchecked s (now (order .entry)) processor name ⌝ }

@@ -86,7 +86,7 @@ unfoldable pub lastFree : ℕ → List Event → LastFree
 lastFree k [] = notSinceRenewal
 lastFree k (event ∷ earlier) = lastFreeAfter k event (lastFree k earlier)
 
--- the ranked superblocks are those freed into since they were last renewed, and the later the last free the lower the rank
+-- the ranked superblocks are those freed into since they were last renewed or joined a run, and the later the last free the lower the rank
 pub record RankedByLastFree (s : State) (events : List Event) : Type 0 where
   pub unranked-iff : (k : ℕ) → k < 64 → (superblockAt s k .rank ≡ 0) ↔ (lastFree k events ≡ notSinceRenewal)
   pub later-first : (k m x y : ℕ) → k < 64 → m < 64 → lastFree k events ≡ eventsAgo x → lastFree m events ≡ eventsAgo y → x < y → superblockAt s k .rank < superblockAt s m .rank

@@ -178,3 +178,7 @@ unranked-of-not-ranked s k long e = ap (withTable s) (ext-getD blank (s .table) 
         let z = ap one (not-more-recent-of-unranked (superblockAt s k) (superblockAt s j) (omega arith)) in
         let same : superblockAt s j .rank ≡ shiftedAhead k s j = omega arith in
         rw (ne-eqb j k n) (ap (λ (r : ℕ). withRank r (superblockAt s j)) same)
+
+-- past the table nothing is ranked
+pub unranked-past-table : (s : State) (k : ℕ) → length (s .table) ≡ 64 → 64 ≤ k → s ≡ unranked k s
+unranked-past-table s k long past = unranked-of-not-ranked s k long (ap (λ (b : Superblock). b .rank) (getD-past (s .table) k blank (omega arith)))

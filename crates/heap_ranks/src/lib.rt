@@ -25,11 +25,13 @@ pub fn rank_latest(s: State, k: usize) -> State
     t
 }
 
-// Superblock k leaves the ranking: each that was behind it goes one ahead. One that was not ranked leaves no gap.
+// Superblock k leaves the ranking: each that was behind it goes one ahead. One that was not ranked, as none past the table is, leaves no gap.
 pub fn unrank(s: State, k: usize) -> State
-    requires { ⌜ k < 64 ⌝ }
     ensures { λ r. ⌜ r ≡ unranked k s ⌝ }
 {
+    if k >= 64 {
+        return s;
+    }
     let was = s.table[k].rank;
     if was == 0 {
         return s;

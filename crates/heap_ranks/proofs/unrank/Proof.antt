@@ -4,7 +4,7 @@ use mathlib.Core.Logic.{⊎-elim}
 use Prim.Native.Nat.{_-_, _≤_, _<_}
 use native.Mathlib.Omega.{arith}
 use Rattle.base_laws.proofs.ReplacedElement.{length-of-length-map}
-use Rattle.heap_ranks.proofs.RankingLaws.{RankedBelow, ranked-none, shiftedAhead, one-ahead, not-ahead, unranked-end, unranked-of-not-ranked}
+use Rattle.heap_ranks.proofs.RankingLaws.{RankedBelow, ranked-none, shiftedAhead, one-ahead, not-ahead, unranked-end, unranked-of-not-ranked, unranked-past-table}
 use Rattle.heap_ranks.proofs.unrank.Statement.{statement}
 use Rattle.heap_ranks.proofs.unrank.Tie as tie
 
@@ -14,14 +14,17 @@ Inv-loop k was t₀ i₀ t i = (i ≤ 64) × RankedBelow (shiftedAhead k t₀) t
 abbrev μ-loop : tie.MeasureT-loop
 μ-loop k was t₀ i₀ t i = 64 - i
 
+returns : tie.Need-returns Inv-loop μ-loop
+returns c = search (unranked-past-table, length-of-length-map)
+
 mul-was : tie.Need-mul-was Inv-loop μ-loop
 mul-was c = omega arith
 
 element-copy-out-was : tie.Need-element-copy-out-was Inv-loop μ-loop
 element-copy-out-was c = omega arith
 
-returns : tie.Need-returns Inv-loop μ-loop
-returns c = search (unranked-of-not-ranked, length-of-length-map)
+returns-2 : tie.Need-returns-2 Inv-loop μ-loop
+returns-2 c = search (unranked-of-not-ranked, length-of-length-map)
 
 loop-holds : tie.Need-loop-holds Inv-loop μ-loop
 loop-holds c = (omega arith, search (ranked-none, length-of-length-map))
@@ -58,8 +61,8 @@ mul-t-2 c = omega arith
 way-write-given-t-2 : tie.Need-way-write-given-t-2 Inv-loop μ-loop
 way-write-given-t-2 c = (omega arith, tt)
 
-returns-2 : tie.Need-returns-2 Inv-loop μ-loop
-returns-2 c = search unranked-end
+returns-3 : tie.Need-returns-3 Inv-loop μ-loop
+returns-3 c = search unranked-end
 
 pub unrank-spec : {M : Type 1} → statement M
 unrank-spec =
@@ -67,9 +70,10 @@ unrank-spec =
     (tie.spec
     Inv-loop
     μ-loop
+    returns
     mul-was
     element-copy-out-was
-    returns
+    returns-2
     loop-holds
     mul-x
     element-copy-out-x
@@ -81,4 +85,4 @@ unrank-spec =
     loop-again
     mul-t-2
     way-write-given-t-2
-    returns-2)
+    returns-3)
