@@ -5,6 +5,7 @@ use Prim.Native.Nat.{ℕ, _*_, _/_, _%_, _≤_, _<_, zero-le}
 use native.Mathlib.Decide.{ℕ-discrete, decLt}
 use native.Mathlib.Omega.{arith}
 use borrow.Author.Tests.{le-leb, lt-leb, eq-eqb, ne-eqb}
+use lib.ListN.{length, List·getD-eq-default}
 use lib.Dec.{eqb, leb}
 use Rattle.base_laws.specs.Sums.{either}
 use Rattle.base_laws.proofs.TestLaws.{both-false-right, both-true-right}
@@ -15,7 +16,7 @@ use Rattle.marks_rules.specs.Marks.{isMarked, noMarks, withMark}
 use Rattle.marks_laws.proofs.MarkLaws.{mark-of-mark-bit-one, no-mark-of-mark-bit-zero, with-mark-same, with-mark-other, mark-bit-of-no-marks}
 use Rattle.heap_rules.specs.declared.Superblock.{Superblock}
 use Rattle.heap_rules.specs.declared.State.{State}
-use Rattle.heap_rules.specs.Table.{isUnused, isOfRun, startsRun, liveBlocks}
+use Rattle.heap_rules.specs.Table.{blank, superblockAt, isUnused, isOfRun, startsRun, liveBlocks}
 use Rattle.call_rules.specs.Free.{superblockHolding, blockOf, isUnmapped, isRunStart, isOffBlock, isMisaligned, isLiveAt, addressRefusal}
 use Rattle.call_rules.proofs.AddressRefusalLaws.{address-refusal-5}
 
@@ -95,6 +96,7 @@ module _ (s : State) (a : ℕ) (b : Superblock) (eb : superblockHolding s a ≡ 
     unfolding isLiveAt blockOf liveBlocks
     is-live-at-is-mark r n e = rw (eb, ← ej, ← et, n) e
 
--- the refusal of an address past the table, which has no more than 64 superblocks
-pub address-refusal-past-table : (s : State) (a : ℕ) → s .setup .superblocks ≤ 64 → 64 ≤ a / 4096 → 5 ≡ addressRefusal s a
-address-refusal-past-table s a high h = address-refusal-5 s a true (is-unmapped-past-end s a (superblockHolding s a) refl (s .setup .superblocks) refl (omega arith)) refl
+-- past the table an address lies in a superblock that reads as blank
+pub holding-past-table : (s : State) (a : ℕ) (b : Superblock) → length (s .table) ≡ 64 → 64 ≤ a / 4096 → b ≡ blank → superblockHolding s a ≡ b
+unfolding superblockAt
+holding-past-table s a b long past e = List·getD-eq-default (s .table) blank {n = a / 4096} (omega arith) ∙ sym e

@@ -7,7 +7,7 @@ use Prim.Native.Nat.{ℕ, _+_, _-_, _≤_, _<_}
 use native.Mathlib.Decide.{ℕ-discrete}
 use native.Mathlib.Omega.{arith}
 use lib.Dec.{eqb}
-use lib.ListN.{length, getD, set, length-set}
+use lib.ListN.{length, getD, set, length-set, List·getD-eq-default}
 use lib.Seq.{getD-set-same, getD-set-other, ext-getD}
 use borrow.Author.Tests.{eq-eqb, ne-eqb, lt-ltb, le-ltb}
 use Rattle.base_laws.specs.Sums.{pick, one}
@@ -181,4 +181,4 @@ unranked-of-not-ranked s k long e = ap (withTable s) (ext-getD blank (s .table) 
 
 -- past the table nothing is ranked
 pub unranked-past-table : (s : State) (k : ℕ) → length (s .table) ≡ 64 → 64 ≤ k → s ≡ unranked k s
-unranked-past-table s k long past = unranked-of-not-ranked s k long (ap (λ (b : Superblock). b .rank) (getD-past (s .table) k blank (omega arith)))
+unranked-past-table s k long past = unranked-of-not-ranked s k long (ap (λ (b : Superblock). b .rank) (List·getD-eq-default (s .table) blank {n = k} (omega arith)))

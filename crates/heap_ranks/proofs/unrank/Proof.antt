@@ -53,7 +53,7 @@ loop-less c = omega arith
 loop-again : tie.Need-loop-again Inv-loop μ-loop
 loop-again c =
     let h : c .before .before .loop .i < 64 = omega arith in
-    (omega arith, ⊎-elim (λ w. search one-ahead) (λ w. search not-ahead) (c .if2 .came))
+    (omega arith, ⊎-elim (λ w. search one-ahead) (λ w. search not-ahead) (c .if3 .came))
 
 mul-t-2 : tie.Need-mul-t-2 Inv-loop μ-loop
 mul-t-2 c = omega arith
