@@ -1,6 +1,7 @@
 -- The tests of an address, step by step as the code goes. Assumes nothing.
 use mathlib.Core.Path.{_≡_, refl, sym, _∙_}
 use mathlib.Core.Bool.{Bool, true, false, not}
+use mathlib.Core.List.{[]}
 use Prim.Native.Nat.{ℕ, _*_, _/_, _%_, _≤_, _<_, zero-le}
 use native.Mathlib.Decide.{ℕ-discrete, decLt}
 use native.Mathlib.Omega.{arith}
@@ -10,15 +11,15 @@ use lib.Dec.{eqb, leb}
 use Rattle.base_laws.specs.Sums.{either}
 use Rattle.base_laws.proofs.TestLaws.{both-false-right, both-true-right}
 use Rattle.base_laws.proofs.Inequalities.{le-of-not-below}
-use Rattle.class_rules.specs.Classes.{sizeOf, blocksOf}
+use Rattle.class_rules.specs.Classes.{sizes, counts, sizeOf, blocksOf}
 use Rattle.class_rules.proofs.ClassTableLaws.{size-of-ge-16, blocks-of-no-class}
 use Rattle.marks_rules.specs.Marks.{isMarked, noMarks, withMark}
-use Rattle.marks_laws.proofs.MarkLaws.{mark-of-mark-bit-one, no-mark-of-mark-bit-zero, with-mark-same, with-mark-other, mark-bit-of-no-marks}
+use Rattle.marks_laws.proofs.MarkLaws.{mark-of-mark-bit-one, mark-bit-of-empty-list, no-mark-of-mark-bit-zero, with-mark-same, with-mark-other, mark-bit-of-no-marks}
 use Rattle.heap_rules.specs.declared.Superblock.{Superblock}
 use Rattle.heap_rules.specs.declared.State.{State}
-use Rattle.heap_rules.specs.Table.{blank, superblockAt, isUnused, isOfRun, startsRun, liveBlocks}
+use Rattle.heap_rules.specs.Table.{blank, isUnused, isOfRun, startsRun, liveBlocks}
 use Rattle.call_rules.specs.Free.{superblockHolding, blockOf, isUnmapped, isRunStart, isOffBlock, isMisaligned, isLiveAt, addressRefusal}
-use Rattle.call_rules.proofs.AddressRefusalLaws.{address-refusal-5}
+use Rattle.call_rules.proofs.AddressRefusalLaws.{address-refusal-5, address-refusal-6, address-refusal-7}
 
 -- a class with no block size has no blocks
 pub blocks-of-size-0 : (class : ℕ) → sizeOf class ≡ 0 → blocksOf class ≡ 0
@@ -96,7 +97,35 @@ module _ (s : State) (a : ℕ) (b : Superblock) (eb : superblockHolding s a ≡ 
     unfolding isLiveAt blockOf liveBlocks
     is-live-at-is-mark r n e = rw (eb, ← ej, ← et, n) e
 
--- past the table an address lies in a superblock that reads as blank
-pub holding-past-table : (s : State) (a : ℕ) (b : Superblock) → length (s .table) ≡ 64 → 64 ≤ a / 4096 → b ≡ blank → superblockHolding s a ≡ b
-unfolding superblockAt
-holding-past-table s a b long past e = List·getD-eq-default (s .table) blank {n = a / 4096} (omega arith) ∙ sym e
+-- the refusal of an address past the table, where there are no more than 64 superblocks
+pub address-refusal-past-table : (s : State) (a : ℕ) → s .setup .superblocks ≤ 64 → 64 ≤ a / 4096 → 5 ≡ addressRefusal s a
+address-refusal-past-table s a high h =
+    address-refusal-5 s a true (is-unmapped-past-end s a (superblockHolding s a) refl (s .setup .superblocks) refl (omega arith)) refl
+
+-- ---- past the table a superblock reads as blank: empty, of class 0 and of heap 0
+pub holding-past-table : (s : State) (a : ℕ) → length (s .table) ≡ 64 → 64 ≤ a / 4096 → superblockHolding s a ≡ blank
+holding-past-table s a long past = List·getD-eq-default (s .table) blank {n = a / 4096} (omega arith)
+
+module _ (s : State) (a n : ℕ) (en : s .setup .superblocks ≡ n) (eb : superblockHolding s a ≡ blank) where
+  pub refusal-past-table-5 : n * 4096 ≤ a → 5 ≡ addressRefusal s a
+  refusal-past-table-5 l = address-refusal-5 s a true (is-unmapped-past-end s a blank eb n en l) refl
+
+  module _ (l : a < n * 4096) where
+    mapped : false ≡ isUnmapped s a
+    unfolding isUnused
+    mapped = is-unmapped-is-unused s a blank eb n en false l refl
+
+    pub refusal-past-table-6 : (a % 4096 % 16 ≡ 0 → ⊥) → 6 ≡ addressRefusal s a
+    unfolding sizeOf sizes
+    refusal-past-table-6 f =
+        address-refusal-6 s a false mapped refl true
+        (is-misaligned-of-class s a blank eb true (λ z. omega arith) (is-off-block-of-remainder s a blank eb 16 refl f)) refl
+
+    pub refusal-past-table-7 : a % 4096 % 16 ≡ 0 → 7 ≡ addressRefusal s a
+    unfolding startsRun isOfRun sizeOf sizes blocksOf counts
+    refusal-past-table-7 e =
+        let starts : false ≡ isOffBlock s a =
+        sym (lt-leb 256 (a % 4096 / 16) (omega arith)) ∙ is-off-block-is-past-last-block s a blank eb 16 refl 256 e refl in
+        let unmarked : false ≡ isMarked [] (a % 4096 / 16) = sym (no-mark-of-mark-bit-zero [] (a % 4096 / 16) (mark-bit-of-empty-list (a % 4096 / 16))) in
+        address-refusal-7 s a false mapped refl false (is-misaligned-of-class s a blank eb false (λ z. omega arith) starts) refl false
+        (is-live-at-is-mark s a blank eb (a % 4096 / 16) refl false refl false refl unmarked) refl

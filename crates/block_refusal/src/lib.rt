@@ -82,28 +82,26 @@ pub fn refusal_in(superblocks: u8, b: Superblock, address: u32) -> u8
     0
 }
 
-// The refusal that the address meets in a state. A superblock past the table reads as empty in heap 0.
+// The refusal that an address past the table meets: a superblock there reads as empty, of class 0 and of heap 0.
+fn refusal_past_table(superblocks: u8, address: u32) -> u8
+    ensures { λ r. ⌜ ToldByCountAndSuperblock r addressRefusal superblocks blank address ⌝ }
+{
+    let end = superblocks as u32 * 4096;
+    if end <= address {
+        return 5;
+    }
+    if address % 4096 % 16 == 0 { 7 } else { 6 }
+}
+
+// The refusal that the address meets in a state. N is at most 64 in one that passes the check, so that what lies past the table is unmapped.
 pub fn refusal(s: State, address: u32) -> u8
     ensures { λ r. ⌜ r ≡ addressRefusal s address ⌝ }
 {
     let k = (address / 4096) as usize;
     let superblocks = s.setup.superblocks;
     if k >= 64 {
-        return refusal_in(superblocks, past_table(), address);
+        return refusal_past_table(superblocks, address);
     }
     let b = s.table[k];
     refusal_in(superblocks, b, address)
-}
-
-// What a superblock past the table reads as.
-fn past_table() -> Superblock
-    ensures { λ r. ⌜ r ≡ blank ⌝ }
-{
-    Superblock {
-        owner: 0,
-        class: 0,
-        rank: 0,
-        run: 0,
-        live: [0, 0, 0, 0],
-    }
 }

@@ -52,10 +52,6 @@ module _ (s : State) (order : List ℕ) (i size : ℕ) (t : Bool) (p : t ≡ isP
 pub superblocks-in-table : (s : State) (order : List ℕ) → passes s order ≡ true → s .setup .superblocks ≤ 64
 superblocks-in-table s order p = sound-of-passes s order (T-of-true _ p) .numbers .superblocks-high
 
--- it takes a superblock at least
-pub long-takes-some : (size n : ℕ) → isLong size ≡ true → n ≡ runLength size → 1 ≤ n
-long-takes-some size n l e = rw e (run-length-pos size l)
-
 module _ (s : State) (size n : ℕ) (en : n ≡ runLength size) (found : Found) (ef : found ≡ lowestRun n s) where
   -- the run that is found lies in the table
   pub run-in-table : (k : ℕ) → found ≡ At k → s .setup .superblocks ≤ 64 → k + n ≤ 64

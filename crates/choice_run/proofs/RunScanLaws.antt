@@ -1,21 +1,26 @@
 -- The search for a run: the available superblocks in a row, turn by turn. Assumes nothing.
 use mathlib.Core.Path.{_≡_, refl, sym, _∙_, subst}
 use mathlib.Core.Bool.{Bool, true, false}
-use Prim.Native.Nat.{ℕ, _+_, _-_, _≤_, _<_}
+use mathlib.Core.Logic.{_⊎_, inl, inr}
+use mathlib.Core.List.{[]}
+use Prim.Native.Nat.{ℕ, _+_, _-_, _≤_, _<_, zero-le}
 use native.Mathlib.Nat.{lt-of-not-le}
-use native.Mathlib.Decide.{ℕ-discrete, decLe}
+use native.Mathlib.Decide.{ℕ-discrete, decLe, decLt}
 use native.Mathlib.Omega.{arith}
 use borrow.Author.Tests.{ne-eqb}
+use lib.ListN.{length, List·getD-eq-default}
 use lib.Dec.{T, eqb}
 use Rattle.base_laws.specs.Sums.{either}
 use Rattle.base_laws.proofs.TestLaws.{T-of-true, not-T-of-false}
+use Rattle.base_laws.proofs.Inequalities.{le-of-not-below}
+use Rattle.marks_laws.proofs.MarkLaws.{mark-bit-of-empty-list, live-count-zero-of-marks-clear}
 use Rattle.heap_rules.specs.declared.Superblock.{Superblock}
 use Rattle.heap_rules.specs.declared.State.{State}
 use Rattle.heap_rules.specs.declared.Found.the-variants.{At, Nothing}
-use Rattle.heap_rules.specs.Table.{superblockAt, liveIn, isUnused}
+use Rattle.heap_rules.specs.Table.{blank, superblockAt, liveIn, isUnused}
 use Rattle.choice_rules.specs.Choice.{emptyInGlobal}
-use Rattle.choice_rules.specs.RunChoice.{isAvailable, isFreeRun, lowestRun}
-use Rattle.heap_laws.proofs.RunChoiceLaws.{FreeRun, facts-of-is-free-run, is-free-run-of-facts, lowest-below-of-lowest, lowest-run-nothing-of-no-run}
+use Rattle.choice_rules.specs.RunChoice.{isAvailable, isFreeRun, lowestBelow, lowestRun}
+use Rattle.heap_laws.proofs.RunChoiceLaws.{FreeRun, facts-of-is-free-run, is-free-run-of-facts, lowest-below-of-lowest, lowest-below-nothing-of-none}
 
 -- ---- one superblock, by its owner
 module _ (b : Superblock) where
@@ -102,7 +107,7 @@ module _ (s : State) (n k row : ℕ) (before : RowBefore s n k row) where
           }
 
       -- it is n long: the run
-      pub run-found : t ≡ true → now ≡ row + 1 → now ≡ n → k < s .setup .superblocks → s .setup .superblocks ≤ 64 → At (k + 1 - n) ≡ lowestRun n s
+      pub run-found : t ≡ true → now ≡ row + 1 → now ≡ n → k < s .setup .superblocks → k < 64 → At (k + 1 - n) ≡ lowestRun n s
       unfolding lowestRun
       run-found y q g l h =
           let fit = before .fits in
@@ -115,6 +120,73 @@ module _ (s : State) (n k row : ℕ) (before : RowBefore s n k row) where
             none-lower = λ j m t. before .no-run j (omega arith) (facts-of-is-free-run n s j t);
           }))
 
--- no row was
-pub no-run-found : (s : State) (n k row : ℕ) → RowBefore s n k row → s .setup .superblocks ≤ k → Nothing ≡ lowestRun n s
-no-run-found s n k row before h = sym (lowest-run-nothing-of-no-run n s (λ j t. before .no-run j (omega (arith, t .below)) t))
+-- ---- after the scan
+-- it ends at N, or at the table's end where N is above it
+abbrev pub ScanEnd : State → ℕ → Type 0
+ScanEnd s end = ((end ≡ s .setup .superblocks) × (end ≤ 64)) ⊎ ((end ≡ 64) × (64 ≤ s .setup .superblocks))
+
+pub run-of-none-is-first : (s : State) → At 0 ≡ lowestRun 0 s
+unfolding lowestRun
+run-of-none-is-first s =
+    sym
+    (lowest-below-of-lowest (isFreeRun 0 s) 64 0
+    (record {
+      below = omega arith;
+      passes = is-free-run-of-facts 0 s 0 (record { below = zero-le; available = λ i a b. absurd (omega arith) });
+      none-lower = λ j m t. omega arith;
+    }))
+
+blank-available : T (isAvailable blank)
+unfolding isAvailable emptyInGlobal isUnused
+blank-available = rw (live-count-zero-of-marks-clear [] (λ j h. mark-bit-of-empty-list j)) tt
+
+-- past the table a superblock reads as blank, which is available
+available-past-table : (s : State) → length (s .table) ≡ 64 → (i : ℕ) → 64 ≤ i → T (isAvailable (superblockAt s i))
+available-past-table s long i h =
+    subst (λ (b : Superblock). T (isAvailable b)) (sym (List·getD-eq-default (s .table) blank {n = i} (omega arith))) blank-available
+
+module _ (s : State) (n k end row : ℕ) (ends : ScanEnd s end) (scanned : RowBefore s n k row) (le : k ≤ end) (ge : end ≤ k) where
+  before : RowBefore s n end row
+  before = let e : k ≡ end = omega arith in subst (λ (m : ℕ). RowBefore s n m row) e scanned
+
+  -- a run that ends past the scan, and begins before the last row, would make that row longer
+  none-before-row : (j : ℕ) → j + row < end → FreeRun n s j → ⊥
+  none-before-row j l t = go (decLe (j + n) end)
+    where
+      go : Dec (j + n ≤ end) → ⊥
+      go (yes h) = before .no-run j h t
+      go (no f) = before .no-longer j l (λ i a b. t .available i a (omega (arith, lt-of-not-le f)))
+
+  -- the last row and what lies past the table are the run
+  pub run-past-table : length (s .table) ≡ 64 → 0 < row → n ≤ row + (s .setup .superblocks - end) → At (end - row) ≡ lowestRun n s
+  unfolding lowestRun
+  run-past-table long some enough = go ends
+    where
+      go : ScanEnd s end → At (end - row) ≡ lowestBelow (isFreeRun n s) 64
+      go (inl e) = absurd (omega (arith, e .0, before .shorter))
+      go (inr e) =
+          let fit = before .fits in
+          sym
+          (lowest-below-of-lowest (isFreeRun n s) 64 (end - row)
+          (record {
+            below = omega (arith, e .0);
+            passes = is-free-run-of-facts n s (end - row) (record { below = omega (arith, e .0, e .1); available = λ i a b. here i a (decLt i 64) });
+            none-lower = λ j m t. none-before-row j (omega arith) (facts-of-is-free-run n s j t);
+          }))
+        where
+          here : (i : ℕ) → end - row ≤ i → Dec (i < 64) → T (isAvailable (superblockAt s i))
+          here i a (yes l) = before .available i (omega arith) (omega (arith, e .0))
+          here i a (no f) = available-past-table s long i (le-of-not-below f)
+
+  -- no row was long enough
+  pub no-run-found : (0 < row → n ≤ row + (s .setup .superblocks - end) → ⊥) → Nothing ≡ lowestRun n s
+  unfolding lowestRun
+  no-run-found short = sym (lowest-below-nothing-of-none (isFreeRun n s) 64 (λ j l t. none j l (facts-of-is-free-run n s j t)))
+    where
+      none : (j : ℕ) → j < 64 → FreeRun n s j → ⊥
+      none j l t = go ends (decLt (j + row) end)
+        where
+          go : ScanEnd s end → Dec (j + row < end) → ⊥
+          go _ (yes h) = none-before-row j h t
+          go (inl e) (no f) = before .no-run j (omega (arith, t .below, e .0)) t
+          go (inr e) (no f) = short (omega (arith, le-of-not-below f, e .0)) (omega (arith, le-of-not-below f, t .below, e .0, e .1))

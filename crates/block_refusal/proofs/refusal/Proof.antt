@@ -9,14 +9,11 @@ use Rattle.block_refusal.proofs.refusal.Tie as tie
 cast-k : tie.Need-cast-k
 cast-k c = search needs
 
-past-table-requires : tie.Need-past-table-requires
-past-table-requires c κs = search needs
-
-refusal-in-requires : tie.Need-refusal-in-requires
-refusal-in-requires c κs = search needs
+refusal-past-table-requires : tie.Need-refusal-past-table-requires
+refusal-past-table-requires c κs = search needs
 
 returns : tie.Need-returns
-returns c = c .refusal-in .ensures _ refl (search (holding-past-table, length-of-length-map))
+returns c = c .refusal-past-table .ensures _ refl (search (holding-past-table, length-of-length-map))
 
 mul-b : tie.Need-mul-b
 mul-b c = search needs
@@ -24,21 +21,20 @@ mul-b c = search needs
 element-copy-out-b : tie.Need-element-copy-out-b
 element-copy-out-b c = search needs
 
-refusal-in-requires-2 : tie.Need-refusal-in-requires-2
-refusal-in-requires-2 c κs = search needs
+refusal-in-requires : tie.Need-refusal-in-requires
+refusal-in-requires c κs = search needs
 
 returns-2 : tie.Need-returns-2
-returns-2 c = c .refusal-in2 .ensures _ refl refl
+returns-2 c = c .refusal-in .ensures _ refl refl
 
 pub refusal-spec : {M : Type 1} → statement M
 refusal-spec =
     tie.close
     (tie.spec
     cast-k
-    past-table-requires
-    refusal-in-requires
+    refusal-past-table-requires
     returns
     mul-b
     element-copy-out-b
-    refusal-in-requires-2
+    refusal-in-requires
     returns-2)

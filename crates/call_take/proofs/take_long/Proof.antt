@@ -1,5 +1,5 @@
 -- `call_take::take_long` meets its contract. Assumes nothing.
-use Rattle.call_take.proofs.TakeUncheckedLaws.{long-takes-some, run-in-table, long-taken-rules}
+use Rattle.call_take.proofs.TakeUncheckedLaws.{run-in-table, long-taken-rules}
 use borrow.Author.Needs.{needs}
 use Rattle.call_take.proofs.take_long.Statement.{statement}
 use Rattle.call_take.proofs.take_long.Tie as tie
@@ -11,7 +11,7 @@ cast-length : tie.Need-cast-length
 cast-length c = search needs
 
 lowest-run-requires : tie.Need-lowest-run-requires
-lowest-run-requires c κs = (search (long-takes-some, needs), search needs)
+lowest-run-requires c κs = search needs
 
 enum-known-found : tie.Need-enum-known-found
 enum-known-found c = search needs
