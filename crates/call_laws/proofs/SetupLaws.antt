@@ -23,7 +23,7 @@ use Rattle.call_rules.specs.declared.Outcome.the-variants.{Ready, Refused}
 refused-not-ready : (r : ℕ) → Refused r ≡ Ready → ⊥
 refused-not-ready r e = let z : _≡_ {A = ℕ} 0 1 = cc in omega arith
 
--- an accepted setup hands back a new state that passes, and the storage with its first N × 256 places 0 and no other changed
+-- an accepted setup hands back a new state that is sound, and the storage with its first N × 256 places 0 and no other changed
 pub accepted-setup-of-ready : (u : Setup) (order : List ℕ) → setupOf u order .answer .outcome ≡ Ready → T (withinLimits u) × (setupOf u order ≡ acceptedSetup u order) × Sound (newState u) (cleared order (u .superblocks * 256)) × Shape (newState u)
 unfolding setupOf
 accepted-setup-of-ready u order e = go (withinLimits u) (leb (u .superblocks * 256) (length order)) refl e

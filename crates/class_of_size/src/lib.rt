@@ -1,5 +1,5 @@
 // The class of a size, from the table of specs/SizeTable.antt, and of a long size, which no class holds, the superblocks that it takes. The contracts
-// name the definitions of crate classes.
+// name the definitions of crate class_rules.
 ghost use mathlib.Core.Path.{_≡_};
 ghost use Rattle.class_rules.specs.Classes.{classOf, isLong, runLength};
 

@@ -29,7 +29,7 @@ unfoldable pub withRenewedPlaces : List ℕ → ℕ → ℕ → List ℕ
 withRenewedPlaces l s n = take (s * 256) l ++ descending n ++ drop (s * 256 + n) l
 
 -- the order of a renewed superblock s of n blocks; nothing changes where superblock s has not n places. "Renew" is document 01's term for
--- reinitializing an empty superblock: its free list here, its record in calls/specs/Take.antt
+-- reinitializing an empty superblock: its free list here, its record in call_rules/specs/Take.antt
 unfoldable pub renewed : List ℕ → ℕ → ℕ → List ℕ
 renewed l s n = pick (both (leb n 256) (leb (s * 256 + n) (length l))) (withRenewedPlaces l s n) l
 
