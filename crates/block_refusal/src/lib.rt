@@ -2,16 +2,20 @@
 // lies in, and not the state: a state by value is a copy of six kilobytes.
 ghost use mathlib.Core.Path.{_≡_};
 ghost use Prim.Native.Nat.{_≤_};
+ghost use Rattle.heap_rules.specs.Table.{tableLength};
 ghost use Rattle.call_rules.specs.Free.{isUnmapped, isRunStart, isOffBlock, isMisaligned, isLiveAt, addressRefusal};
 ghost use Rattle.block_refusal.specs.Holding.{TellsIn, TellsOf};
+use class_rules::SUPERBLOCK_BYTES;
+use heap_rules::RUN_OWNER;
 use heap_rules::State;
 use heap_rules::Superblock;
+use heap_rules::TABLE_LENGTH;
 
 // The address is past superblocks 0 to N - 1, or in an unused one.
 fn is_unmapped(superblocks: u8, b: Superblock, address: u32) -> bool
     ensures { λ r. ⌜ TellsOf r isUnmapped superblocks b address ⌝ }
 {
-    let end = superblocks as u32 * 4096;
+    let end = superblocks as u32 * SUPERBLOCK_BYTES;
     if end <= address {
         return true;
     }
@@ -26,7 +30,7 @@ fn is_off_block(b: Superblock, address: u32) -> bool
     if size == 0 {
         return true;
     }
-    let offset = (address % 4096) as u16;
+    let offset = (address % SUPERBLOCK_BYTES) as u16;
     if offset % size != 0 {
         return true;
     }
@@ -37,7 +41,7 @@ fn is_off_block(b: Superblock, address: u32) -> bool
 fn is_run_start(b: Superblock, address: u32) -> bool
     ensures { λ r. ⌜ TellsIn r isRunStart b address ⌝ }
 {
-    if address % 4096 != 0 {
+    if address % SUPERBLOCK_BYTES != 0 {
         return false;
     }
     heap_tests::starts_run(b)
@@ -47,7 +51,7 @@ fn is_run_start(b: Superblock, address: u32) -> bool
 fn is_misaligned(b: Superblock, address: u32) -> bool
     ensures { λ r. ⌜ TellsIn r isMisaligned b address ⌝ }
 {
-    if b.owner == 254 {
+    if b.owner == RUN_OWNER {
         return !is_run_start(b, address);
     }
     is_off_block(b, address)
@@ -84,11 +88,11 @@ pub fn refusal_in(superblocks: u8, b: Superblock, address: u32) -> u8
 
 // The refusal that the address meets in a state. What lies past the table lies past N superblocks too.
 pub fn refusal(s: State, address: u32) -> u8
-    requires { ⌜ s .setup .superblocks ≤ 64 ⌝ }
+    requires { ⌜ s .setup .superblocks ≤ tableLength ⌝ }
     ensures { λ r. ⌜ r ≡ addressRefusal s address ⌝ }
 {
-    let k = (address / 4096) as usize;
-    if k >= 64 {
+    let k = (address / SUPERBLOCK_BYTES) as usize;
+    if k >= TABLE_LENGTH {
         return 5;
     }
     let b = s.table[k];

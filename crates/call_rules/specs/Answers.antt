@@ -6,6 +6,7 @@ use mathlib.Core.List.{List, [], _∷_}
 use lib.ListN.{length}
 use lib.Dec.{leb}
 use Rattle.base_laws.specs.Sums.{pick}
+use Rattle.order_rules.specs.Order.{placesEach}
 use Rattle.heap_rules.specs.declared.State.{State}
 use Rattle.check_rules.specs.Check.{within, withinLimits, restValid, passes}
 use Rattle.call_rules.specs.declared.Answer.{Answer}
@@ -53,7 +54,7 @@ refused r s order = record { answer = record { outcome = Refused r; state = s };
 unfoldable pub checked : State → List ℕ → After → After
 checked s order next =
     pick (withinLimits (s .setup))
-    (pick (leb (s .setup .superblocks * 256) (length order))
+    (pick (leb (s .setup .superblocks * placesEach) (length order))
     (pick (restValid s order) next
     (refused 13 s order))
     (refused 12 s order))

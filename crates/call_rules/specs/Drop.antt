@@ -5,6 +5,7 @@ use mathlib.Core.List.{List, [], _∷_, _++_}
 use lib.ListN.{length}
 use lib.Dec.{eqb}
 use Rattle.base_laws.specs.Sums.{pick, either}
+use Rattle.class_rules.specs.Classes.{classCount}
 use Rattle.heap_rules.specs.declared.State.{State}
 use Rattle.heap_rules.specs.declared.Moved.{Moved}
 use Rattle.heap_rules.specs.Counts.{belongs}
@@ -53,7 +54,7 @@ touchedClasses touched h (suc c) = touchedClasses touched h c ++ pick (touched h
 -- "each processor heap and class touched, heaps then classes rising": those of the processor heaps 1 to n; heap 0 is none
 unfoldable pub touchedPairs : (ℕ → ℕ → Bool) → ℕ → List Pair
 touchedPairs touched zero = []
-touchedPairs touched (suc h) = touchedPairs touched h ++ touchedClasses touched (suc h) 27
+touchedPairs touched (suc h) = touchedPairs touched h ++ touchedClasses touched (suc h) classCount
 
 -- one after another
 unfoldable pub eachRestored : List Pair → Moved → Moved

@@ -4,13 +4,13 @@ use mathlib.Core.Bool.{Bool, not}
 use mathlib.Core.List.{List}
 use lib.Dec.{eqb, leb, ltb}
 use Rattle.base_laws.specs.Sums.{pick, both, either}
-use Rattle.class_rules.specs.Classes.{sizeOf, blocksOf}
+use Rattle.class_rules.specs.Classes.{superblockBytes, sizeOf, blocksOf}
 use Rattle.marks_rules.specs.Marks.{isMarked}
 use Rattle.names_rules.specs.Names.{notHeld, blockNumber, withoutBlock}
 use Rattle.order_rules.specs.Order.{withPlace}
 use Rattle.heap_rules.specs.declared.Superblock.{Superblock}
 use Rattle.heap_rules.specs.declared.State.{State}
-use Rattle.heap_rules.specs.Table.{superblockAt, liveIn, isUnused, isOfRun, startsRun, liveBlocks, withoutMarkAt}
+use Rattle.heap_rules.specs.Table.{tableLength, superblockAt, liveIn, isUnused, isOfRun, startsRun, liveBlocks, withoutMarkAt}
 use Rattle.heap_rules.specs.States.{withSuperblock, withNames}
 use Rattle.heap_rules.specs.Ranks.{rankedLatest}
 use Rattle.move_rules.specs.Moves.{invariantRestored}
@@ -20,10 +20,10 @@ use Rattle.call_rules.specs.declared.Outcome.the-variants.{Moves}
 
 -- "Superblock s .. covers addresses s × 4096 to s × 4096 + 4095"
 abbrev pub superblockIndex : ℕ → ℕ
-superblockIndex a = a / 4096
+superblockIndex a = a / superblockBytes
 
 abbrev pub offsetOf : ℕ → ℕ
-offsetOf a = a % 4096
+offsetOf a = a % superblockBytes
 
 -- the superblock that an address lies in
 abbrev pub superblockHolding : State → ℕ → Superblock
@@ -35,7 +35,7 @@ blockOf s a = offsetOf a / sizeOf (superblockHolding s a .class)
 
 -- refusal 5 (bench word: astray): "address at or past N × 4096, or in an unused superblock"
 unfoldable pub isUnmapped : State → ℕ → Bool
-isUnmapped s a = either (leb (s .setup .superblocks * 4096) a) (isUnused (superblockHolding s a))
+isUnmapped s a = either (leb (s .setup .superblocks * superblockBytes) a) (isUnused (superblockHolding s a))
 
 -- the address lies in a long block's run (document 02, item 7)
 abbrev pub isInRun : State → ℕ → Bool
@@ -76,7 +76,7 @@ orderPushed s order a = pick (isInRun s a) order (blockPushed s order a)
 
 -- the number by which a name points at the block at an address; past the table there is none
 unfoldable pub blockNumberAt : State → ℕ → ℕ
-blockNumberAt s a = pick (ltb (superblockIndex a) 64) (blockNumber (superblockIndex a) (blockOf s a)) notHeld
+blockNumberAt s a = pick (ltb (superblockIndex a) tableLength) (blockNumber (superblockIndex a) (blockOf s a)) notHeld
 
 -- a block of a class is freed: its superblock, in whatever heap, is the last freed into (document 02, item 4), its mark is cleared, and its name let
 -- go: "A name holds from its take until its block is freed by either command" (item 2)

@@ -4,7 +4,7 @@ use Prim.Native.Nat.{ℕ, _/_, _%_}
 use mathlib.Core.Bool.{Bool, not}
 use mathlib.Core.List.{List}
 use Rattle.base_laws.specs.Sums.{pick, either}
-use Rattle.names_rules.specs.Names.{isName, blockNamed, isHeld, withName}
+use Rattle.names_rules.specs.Names.{numbersEach, isName, blockNamed, isHeld, withName}
 use Rattle.heap_rules.specs.declared.State.{State}
 use Rattle.heap_rules.specs.Table.{superblockAt}
 use Rattle.heap_rules.specs.States.{withNames}
@@ -51,7 +51,7 @@ namedTakeOf s order i m size = checked s order (namedTakeUnchecked s order i m s
 unfoldable pub heldAddress : State → ℕ → ℕ
 heldAddress s m =
     let b = blockNamed (s .names) m in
-    addressOf (b / 256) (superblockAt s (b / 256) .class) (b % 256)
+    addressOf (b / numbersEach) (superblockAt s (b / numbersEach) .class) (b % numbersEach)
 
 -- a named free behind the check, on any state: refusal 15, "name not held, .. after 2", then what "a free with the held address" does
 unfoldable pub namedFreeUnchecked : State → List ℕ → ℕ → ℕ → After

@@ -4,7 +4,7 @@ use mathlib.Core.Bool.{not}
 use mathlib.Core.List.{List}
 use lib.Dec.{eqb}
 use Rattle.base_laws.specs.Sums.{pick}
-use Rattle.class_rules.specs.Classes.{sizeOf, blocksOf, classOf, isLong, runLength, isTooLarge}
+use Rattle.class_rules.specs.Classes.{superblockBytes, sizeOf, blocksOf, classOf, isLong, runLength, isTooLarge}
 use Rattle.marks_rules.specs.Marks.{noMarks}
 use Rattle.order_rules.specs.Order.{lastFilled, renewed}
 use Rattle.heap_rules.specs.declared.Superblock.{Superblock}
@@ -48,7 +48,7 @@ nextBlock s order k = lastFilled order k (blocksOf (superblockAt s k .class) - l
 
 -- "Block j of it starts at s × 4096 + j × block size."
 unfoldable pub addressOf : ℕ → ℕ → ℕ → ℕ
-addressOf k c j = k * 4096 + j * sizeOf c
+addressOf k c j = k * superblockBytes + j * sizeOf c
 
 -- "The block in the last filled place of its order is taken and marked live; that place keeps its number."
 unfoldable pub takenFrom : ℕ → State → List ℕ → After

@@ -3,8 +3,9 @@ ghost use mathlib.Core.Path.{_≡_};
 ghost use mathlib.Core.Bool.{true};
 ghost use mathlib.Core.List.{List};
 ghost use Prim.Native.Nat.{ℕ, _+_, _*_, _≤_};
-ghost use Rattle.class_rules.specs.Classes.{isLong, runLength};
+ghost use Rattle.class_rules.specs.Classes.{superblockBytes, isLong, runLength};
 ghost use Rattle.heap_rules.specs.declared.Found.the-variants.{Nothing};
+ghost use Rattle.heap_rules.specs.Table.{tableLength};
 ghost use Rattle.check_rules.specs.Check.{passes};
 ghost use Rattle.heap_rules.specs.Totals.{TotalsKept};
 ghost use Rattle.choice_rules.specs.Runs.{lowestRun};
@@ -14,6 +15,7 @@ ghost use Rattle.call_rules.specs.Runs.{runTaken, longTakenAt};
 ghost use Rattle.call_rules.specs.Take.{otherPlaces, takenAt, takeUnchecked};
 use call_rules::Answer;
 use call_rules::Outcome;
+use class_rules::SUPERBLOCK_BYTES;
 use heap_rules::Found;
 use heap_rules::State;
 
@@ -40,7 +42,7 @@ pub fn take(s: State, order: &mut [u16], processor: u8, size: u16) -> Answer
 
 // The lowest-numbered run for a long size, or refusal 17; whatever the order places are, they stay so.
 fn take_long(s: State, size: u16) -> Answer
-    requires { ⌜ (isLong size ≡ true) × (s .setup .superblocks ≤ 64) × TotalsKept s ⌝ }
+    requires { ⌜ (isLong size ≡ true) × (s .setup .superblocks ≤ tableLength) × TotalsKept s ⌝ }
     ensures { λ r. ⌜ ((order : List ℕ) → record { answer = r; order = order } ≡ longTakenAt (runLength size) s order (lowestRun (runLength size) s)) ⌝ }
 {
     let n = class_of_size::run_length(size);
@@ -54,10 +56,10 @@ fn take_long(s: State, size: u16) -> Answer
 
 // The run of n superblocks from k on is taken: its address is the start of superblock k.
 fn take_run(s: State, k: usize, n: u8) -> Answer
-    requires { ⌜ (k + n ≤ 64) × TotalsKept s ⌝ }
-    ensures { λ r. ⌜ r ≡ record { outcome = Address (k * 4096); state = runTaken k n s } ⌝ }
+    requires { ⌜ (k + n ≤ tableLength) × TotalsKept s ⌝ }
+    ensures { λ r. ⌜ r ≡ record { outcome = Address (k * superblockBytes); state = runTaken k n s } ⌝ }
 {
-    let address = k as u32 * 4096;
+    let address = k as u32 * SUPERBLOCK_BYTES;
     let t = block_run::take_run(s, k, n);
     Answer {
         outcome: Outcome::Address(address),

@@ -1,6 +1,7 @@
 // The lowest-numbered run of neighbouring superblocks that a long block can take, in one pass over the table.
 ghost use mathlib.Core.Path.{_≡_};
 ghost use Prim.Native.Nat.{_≤_};
+ghost use Rattle.heap_rules.specs.Table.{tableLength};
 ghost use Rattle.choice_rules.specs.Runs.{isAvailable, lowestRun};
 use heap_rules::Found;
 use heap_rules::State;
@@ -19,7 +20,7 @@ fn is_available(b: Superblock) -> bool
 // The first superblock of the lowest-numbered run of n that are all below N and available. The last `row` superblocks passed are available, and
 // those before them end with one that is not: the first n in a row are the run.
 pub fn lowest_run(s: State, n: usize) -> Found
-    requires { ⌜ (1 ≤ n) × (s .setup .superblocks ≤ 64) ⌝ }
+    requires { ⌜ (1 ≤ n) × (s .setup .superblocks ≤ tableLength) ⌝ }
     ensures { λ r. ⌜ r ≡ lowestRun n s ⌝ }
 {
     let end = s.setup.superblocks as usize;

@@ -9,6 +9,7 @@ use call_rules::CallHeader;
 use call_rules::Outcome;
 use heap_rules::Setup;
 use heap_rules::State;
+use order_rules::PLACES_EACH;
 
 // A new state with its first N × 256 order places 0; or refusal 1, then 12.
 pub fn setup(u: Setup, order: &mut [u16]) -> Answer
@@ -20,7 +21,7 @@ pub fn setup(u: Setup, order: &mut [u16]) -> Answer
     if first != 0 {
         return call_outcomes::refuse(call_states::no_state(), first);
     }
-    order_renewal::clear_order(order, u.superblocks as usize * 256);
+    order_renewal::clear_order(order, u.superblocks as usize * PLACES_EACH);
     let s = call_states::new_state(u);
     Answer {
         outcome: Outcome::Ready,

@@ -1,5 +1,6 @@
 // The records that the program `call` lends a row of (docs/FORMATS.md, "On a lent row"), 65 of them.
 use heap_rules::Superblock;
+use heap_rules::TABLE_LENGTH;
 ghost use mathlib.Core.Path.{_≡_};
 ghost use lib.ListN.{replicate};
 ghost use mathlib.Core.List.{[], _∷_, _++_};
@@ -20,12 +21,12 @@ pub fn other_records() -> [Superblock; 65]
 }
 
 // A table's 64 superblocks, and one such record more.
-pub fn records_of(table: [Superblock; 64]) -> [Superblock; 65]
+pub fn records_of(table: [Superblock; TABLE_LENGTH]) -> [Superblock; 65]
     ensures { λ r. ⌜ r ≡ table ++ (otherRecord ∷ []) ⌝ }
 {
     let mut records = other_records();
     let mut k: usize = 0;
-    while k < 64 {
+    while k < TABLE_LENGTH {
         let b = table[k];
         records[k] = b;
         k += 1;

@@ -7,6 +7,7 @@ use bytes_reader::byte_at;
 use bytes_reader::eight_at;
 use heap_rules::State;
 use heap_rules::Superblock;
+use heap_rules::TABLE_LENGTH;
 
 // The superblock at a position.
 fn superblock_in(bytes: &[u8], at: usize) -> Superblock
@@ -41,9 +42,9 @@ pub fn state_at(bytes: &[u8], at: usize) -> State
         rank: 0,
         run: 0,
     };
-    let mut table = [none; 64];
+    let mut table = [none; TABLE_LENGTH];
     let mut k = 0;
-    while k < 64 {
+    while k < TABLE_LENGTH {
         let b = superblock_in(bytes, position_after(bytes, at, 36 * k));
         table[k] = b;
         k += 1;

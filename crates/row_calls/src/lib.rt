@@ -8,6 +8,7 @@ ghost use Rattle.row_by_value.specs.Tables.{isAccepted, rowAfterCall};
 use call_rules::CallHeader;
 use heap_rules::Setup;
 use heap_rules::Superblock;
+use heap_rules::TABLE_LENGTH;
 use row_by_value::TableCall;
 use row_rules::Control;
 use row_rules::RowAnswer;
@@ -16,7 +17,12 @@ use row_rules::RowAnswer;
 // with whether the call was accepted: a refused one stores nothing.
 
 // A setup where n records are lent.
-fn setup_table(n: usize, table: [Superblock; 64], order: &mut [u16], u: Setup) -> TableCall
+fn setup_table(
+    n: usize,
+    table: [Superblock; TABLE_LENGTH],
+    order: &mut [u16],
+    u: Setup,
+) -> TableCall
     ensures { λ r. ⌜ rowAfterCall r (now (order .exit)) ≡ setupOn n u table (now (order .entry)) ⌝ }
     ensures accepts { λ r. ⌜ r .accepted ≡ isAccepted (r .answer .outcome) ⌝ }
     ensures number_and_values { λ r. ⌜ HasNumberAndValuesOf (r .answer .outcome) (setupOn n u table (now (order .entry)) .outcome) ⌝ }
@@ -35,7 +41,7 @@ fn setup_table(n: usize, table: [Superblock; 64], order: &mut [u16], u: Setup) -
 // A take, a free, plain or named, or a drop, where n records are lent. Only a drop reads the addresses.
 fn call_table(
     n: usize,
-    table: [Superblock; 64],
+    table: [Superblock; TABLE_LENGTH],
     order: &mut [u16],
     control: Control,
     call: CallHeader,

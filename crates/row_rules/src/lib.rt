@@ -3,11 +3,12 @@ use call_rules::Outcome;
 use heap_rules::Setup;
 use heap_rules::Superblock;
 use heap_rules::Totals;
+use names_rules::NAME_COUNT;
 
 // What a call on a lent row is given and hands back by value: all of a state but its superblocks.
 pub struct Control {
     pub setup: Setup,
-    pub names: [u16; 1024],
+    pub names: [u16; NAME_COUNT],
     pub totals: Totals,
 }
 
