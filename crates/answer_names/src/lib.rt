@@ -9,6 +9,7 @@ ghost use mathlib.Core.Path.{_≡_};
 ghost use Rattle.text_rules.specs.Text.{pasted};
 ghost use Rattle.answer_rules.specs.AnswerLines.{nameLineIf, nameLines};
 
+// How many names there are, in the width of a name.
 const NAMES: u16 = NAME_COUNT as u16;
 
 // The line of a name that is held, with the superblock and the block of its number.

@@ -11,6 +11,7 @@ ghost use Rattle.base_laws.specs.Sums.{both};
 ghost use Rattle.text_rules.specs.Text.{pasted};
 ghost use Rattle.answer_rules.specs.AnswerLines.{totalLineIf, totalLines};
 
+// How many totals there are, in the width of their count.
 const TOTALS: u8 = TOTAL_COUNT as u8;
 
 // Both totals are 0.

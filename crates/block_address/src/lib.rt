@@ -10,6 +10,7 @@ use heap_rules::TABLE_LENGTH;
 use names_rules::NOT_HELD;
 use names_rules::NUMBERS_EACH;
 
+// The superblocks of a table, in the width of an address.
 const SUPERBLOCKS: u32 = TABLE_LENGTH as u32;
 
 // The block of a superblock of the class that the address lies in; 0 where the class has no block size.

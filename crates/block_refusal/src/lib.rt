@@ -10,6 +10,9 @@ use heap_rules::RUN_OWNER;
 use heap_rules::State;
 use heap_rules::Superblock;
 use heap_rules::TABLE_LENGTH;
+use refusal_rules::ADDRESS_MISALIGNED;
+use refusal_rules::ADDRESS_UNMAPPED;
+use refusal_rules::BLOCK_NOT_LIVE;
 
 // The address is past superblocks 0 to N - 1, or in an unused one.
 fn is_unmapped(superblocks: u8, b: Superblock, address: u32) -> bool
@@ -75,13 +78,13 @@ pub fn refusal_in(superblocks: u8, b: Superblock, address: u32) -> u8
     ensures { λ r. ⌜ TellsOf r addressRefusal superblocks b address ⌝ }
 {
     if is_unmapped(superblocks, b, address) {
-        return 5;
+        return ADDRESS_UNMAPPED;
     }
     if is_misaligned(b, address) {
-        return 6;
+        return ADDRESS_MISALIGNED;
     }
     if !is_live_in(b, address) {
-        return 7;
+        return BLOCK_NOT_LIVE;
     }
     0
 }
@@ -93,7 +96,7 @@ pub fn refusal(s: State, address: u32) -> u8
 {
     let k = (address / SUPERBLOCK_BYTES) as usize;
     if k >= TABLE_LENGTH {
-        return 5;
+        return ADDRESS_UNMAPPED;
     }
     let b = s.table[k];
     refusal_in(s.setup.superblocks, b, address)

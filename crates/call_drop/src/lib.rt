@@ -18,6 +18,8 @@ use heap_rules::HEAPS;
 use heap_rules::Moved;
 use heap_rules::State;
 use heap_rules::TOTAL_COUNT;
+use refusal_rules::DROP_EMPTY;
+use refusal_rules::NO_SUCH_PROCESSOR;
 
 // The blocks at the addresses are free again, and the move rule is followed in each processor heap and class touched; or refusal 2, 16, or
 // that of the first bad address.
@@ -27,10 +29,10 @@ pub fn drop(s: State, order: &mut [u16], processor: u8, addresses: &[u32]) -> An
     ensures number_and_values { λ r. ⌜ HasNumberAndValuesOf (r .outcome) (dropUnchecked s (now (order .entry)) processor (now (addresses .entry)) .answer .outcome) ⌝ }
 {
     if !call_states::is_processor(s, processor) {
-        return call_outcomes::refuse(s, 2);
+        return call_outcomes::refuse(s, NO_SUCH_PROCESSOR);
     }
     if addresses.len() == 0 {
-        return call_outcomes::refuse(s, 16);
+        return call_outcomes::refuse(s, DROP_EMPTY);
     }
     let bad = call_drop_addresses::first_address_refusal(s, addresses);
     if bad != 0 {

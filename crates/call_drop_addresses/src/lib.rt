@@ -12,6 +12,7 @@ use heap_rules::State;
 use heap_rules::Superblock;
 use heap_rules::TABLE_LENGTH;
 use heap_rules::UNUSED_OWNER;
+use refusal_rules::ADDRESS_UNMAPPED;
 
 // The refusal of the first bad address, or 0. A free clears the mark of its block, or makes the superblocks of its run unused, and no later address
 // tells the rest of it: so much in a copy of the table is enough to refuse a block that comes twice. What lies past the table lies past N superblocks
@@ -26,7 +27,7 @@ pub fn first_address_refusal(s: State, addresses: &[u32]) -> u8
         let address = addresses[i];
         let k = (address / SUPERBLOCK_BYTES) as usize;
         if k >= TABLE_LENGTH {
-            return 5;
+            return ADDRESS_UNMAPPED;
         }
         let b = t[k];
         let bad = block_refusal::refusal_in(s.setup.superblocks, b, address);

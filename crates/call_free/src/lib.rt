@@ -14,6 +14,7 @@ use call_rules::Outcome;
 use class_rules::SUPERBLOCK_BYTES;
 use heap_rules::RUN_OWNER;
 use heap_rules::State;
+use refusal_rules::NO_SUCH_PROCESSOR;
 
 // The block at the address is free again, and the move rule is followed; or refusal 2, 5, 6 or 7.
 pub fn free(s: State, order: &mut [u16], processor: u8, address: u32) -> Answer
@@ -22,7 +23,7 @@ pub fn free(s: State, order: &mut [u16], processor: u8, address: u32) -> Answer
     ensures number_and_values { λ r. ⌜ HasNumberAndValuesOf (r .outcome) (freeUnchecked s (now (order .entry)) processor address .answer .outcome) ⌝ }
 {
     if !call_states::is_processor(s, processor) {
-        return call_outcomes::refuse(s, 2);
+        return call_outcomes::refuse(s, NO_SUCH_PROCESSOR);
     }
     let bad = block_refusal::refusal(s, address);
     if bad != 0 {

@@ -8,6 +8,7 @@ use Rattle.class_rules.specs.Classes.{superblockBytes, sizeOf, blocksOf}
 use Rattle.marks_rules.specs.Marks.{isMarked}
 use Rattle.names_rules.specs.Names.{notHeld, blockNumber, withoutBlock}
 use Rattle.order_rules.specs.Order.{withPlace}
+use Rattle.refusal_rules.specs.Refusals.{noSuchProcessor, addressUnmapped, addressMisaligned, blockNotLive}
 use Rattle.heap_rules.specs.declared.Superblock.{Superblock}
 use Rattle.heap_rules.specs.declared.State.{State}
 use Rattle.heap_rules.specs.Table.{tableLength, superblockAt, liveIn, isUnused, isOfRun, startsRun, liveBlocks, withoutMarkAt}
@@ -60,7 +61,7 @@ isLiveAt s a = isMarked (liveBlocks (superblockHolding s a)) (blockOf s a)
 
 -- the refusal that an address meets: "5, 6, 7" in this order, or 0 where a live block starts there
 unfoldable pub addressRefusal : State → ℕ → ℕ
-addressRefusal s a = pick (isUnmapped s a) 5 (pick (isMisaligned s a) 6 (pick (isLiveAt s a) 0 7))
+addressRefusal s a = pick (isUnmapped s a) addressUnmapped (pick (isMisaligned s a) addressMisaligned (pick (isLiveAt s a) 0 blockNotLive))
 
 -- "The block's mark is cleared"
 unfoldable pub markCleared : State → ℕ → State
@@ -112,10 +113,10 @@ freedAt s order a = pick (isInRun s a) (longFreedAt s order a) (smallFreedAt s o
 -- a free behind the check, on any state: "and free 2, 5, 6, 7"; "The processor has no other effect."
 unfoldable pub freeUnchecked : State → List ℕ → ℕ → ℕ → After
 freeUnchecked s order i a =
-    pick (not (isProcessor s i)) (refused 2 s order)
-    (pick (isUnmapped s a) (refused 5 s order)
-    (pick (isMisaligned s a) (refused 6 s order)
-    (pick (not (isLiveAt s a)) (refused 7 s order)
+    pick (not (isProcessor s i)) (refused noSuchProcessor s order)
+    (pick (isUnmapped s a) (refused addressUnmapped s order)
+    (pick (isMisaligned s a) (refused addressMisaligned s order)
+    (pick (not (isLiveAt s a)) (refused blockNotLive s order)
     (freedAt s order a))))
 
 -- "Take or free: 13 for setup numbers, 12, the rest of 13; .. and free 2, 5, 6, 7"

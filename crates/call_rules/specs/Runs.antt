@@ -4,6 +4,7 @@ use mathlib.Core.List.{List}
 use lib.Dec.{eqb}
 use Rattle.base_laws.specs.Sums.{pick}
 use Rattle.class_rules.specs.Classes.{superblockBytes}
+use Rattle.refusal_rules.specs.Refusals.{noRun}
 use Rattle.heap_rules.specs.declared.State.{State}
 use Rattle.heap_rules.specs.declared.Found.{Found}
 use Rattle.heap_rules.specs.declared.Found.the-variants.{At, Nothing}
@@ -34,7 +35,7 @@ longTakenFrom k n s order = record { answer = record { outcome = Address (k * su
 -- the run that was found, n superblocks long; refusal 17, "no such run, given exactly then and in place of 4 for a long size"
 unfoldable pub longTakenAt : ℕ → State → List ℕ → Found → After
 longTakenAt n s order (At k) = longTakenFrom k n s order
-longTakenAt n s order Nothing = refused 17 s order
+longTakenAt n s order Nothing = refused noRun s order
 
 -- superblock m becomes unused
 unfoldable pub madeUnused : ℕ → State → State

@@ -5,6 +5,7 @@ use lib.ListN.{length}
 use lib.Dec.{leb}
 use Rattle.base_laws.specs.Sums.{pick}
 use Rattle.order_rules.specs.Order.{placesEach, cleared}
+use Rattle.refusal_rules.specs.Refusals.{setupOutOfLimits, storageTooSmall}
 use Rattle.heap_rules.specs.declared.Setup.{Setup}
 use Rattle.heap_rules.specs.States.{noState, newState}
 use Rattle.check_rules.specs.Check.{withinLimits}
@@ -21,5 +22,5 @@ unfoldable pub setupOf : Setup → List ℕ → After
 setupOf u order =
     pick (withinLimits u)
     (pick (leb (u .superblocks * placesEach) (length order)) (acceptedSetup u order)
-    (refused 12 noState order))
-    (refused 1 noState order)
+    (refused storageTooSmall noState order))
+    (refused setupOutOfLimits noState order)

@@ -18,6 +18,9 @@ use call_rules::Outcome;
 use class_rules::SUPERBLOCK_BYTES;
 use heap_rules::Found;
 use heap_rules::State;
+use refusal_rules::NO_RUN;
+use refusal_rules::NO_SUCH_PROCESSOR;
+use refusal_rules::NO_SUPERBLOCK;
 
 // The address of a block for the size, from place 1 or else from the other places, or of a run for a long size; or refusal 2, 4 or 17. A size of 16
 // bits is never too large, so refusal 3 is not given.
@@ -27,7 +30,7 @@ pub fn take(s: State, order: &mut [u16], processor: u8, size: u16) -> Answer
     ensures number_and_values { λ r. ⌜ HasNumberAndValuesOf (r .outcome) (takeUnchecked s (now (order .entry)) processor size .answer .outcome) ⌝ }
 {
     if !call_states::is_processor(s, processor) {
-        return call_outcomes::refuse(s, 2);
+        return call_outcomes::refuse(s, NO_SUCH_PROCESSOR);
     }
     if class_of_size::is_long(size) {
         return take_long(s, size);
@@ -50,7 +53,7 @@ fn take_long(s: State, size: u16) -> Answer
     let found = choice_run::lowest_run(s, length);
     match found {
         Found::At(k) => take_run(s, k, n),
-        Found::Nothing => call_outcomes::refuse(s, 17),
+        Found::Nothing => call_outcomes::refuse(s, NO_RUN),
     }
 }
 
@@ -75,7 +78,7 @@ fn take_elsewhere(s: State, order: &mut [u16], heap: u8, class: u8) -> Answer
     let other = other_places(s, class);
     match other {
         Found::At(k) => block_acquire::take_from_other(s, order, heap, class, k as u8),
-        Found::Nothing => call_outcomes::refuse(s, 4),
+        Found::Nothing => call_outcomes::refuse(s, NO_SUPERBLOCK),
     }
 }
 

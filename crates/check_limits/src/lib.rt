@@ -5,7 +5,9 @@ ghost use Rattle.check_limits.specs.SetupRefusal.{setupRefusal};
 use heap_rules::Setup;
 use heap_rules::TABLE_LENGTH;
 use order_rules::PLACES_EACH;
+use refusal_rules::STORAGE_TOO_SMALL;
 
+// The most superblocks that a setup has, in the width of its numbers.
 const SUPERBLOCKS: u8 = TABLE_LENGTH as u8;
 
 // The setup numbers are within their limits.
@@ -49,7 +51,7 @@ pub fn setup_refusal(numbers: u8, u: Setup, order: &[u16]) -> u8
         return numbers;
     }
     if order.len() < places {
-        return 12;
+        return STORAGE_TOO_SMALL;
     }
     0
 }

@@ -11,6 +11,7 @@ use marks_rules::BITS_OF_WORD;
 use names_rules::NAME_COUNT;
 use names_rules::NOT_HELD;
 
+// What stands for a name that is not held, in the width of an index.
 const NO_BLOCK: usize = NOT_HELD as usize;
 
 // The numbers that the blocks of a table have: 0 up to this.

@@ -8,6 +8,7 @@ use heap_rules::Setup;
 use heap_rules::Superblock;
 use heap_rules::TABLE_LENGTH;
 
+// The superblocks of a table, in the width of their numbers.
 const SUPERBLOCKS: u8 = TABLE_LENGTH as u8;
 
 // Each superblock of the table passes.

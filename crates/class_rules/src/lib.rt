@@ -1,8 +1,9 @@
 // The size classes, as definitions with computed cases and laws. The code of their table is that of crate class_table, of the class of a size class_of_size.
 
-// How many classes there are, 0 to 26: as a class, and as a length.
+// How many classes there are: 0 to 26.
 pub const CLASSES: u8 = 27;
 
+// The same as a length.
 pub const CLASS_COUNT: usize = CLASSES as usize;
 
 // The bytes of a superblock.

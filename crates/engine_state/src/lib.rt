@@ -10,6 +10,7 @@ use call_rules::Outcome;
 use heap_rules::Setup;
 use heap_rules::State;
 use order_rules::PLACES_EACH;
+use refusal_rules::SETUP_OUT_OF_LIMITS;
 
 // A new state with its first N × 256 order places 0; or refusal 1, then 12.
 pub fn setup(u: Setup, order: &mut [u16]) -> Answer
@@ -17,7 +18,7 @@ pub fn setup(u: Setup, order: &mut [u16]) -> Answer
     ensures number_and_values { λ r. ⌜ HasNumberAndValuesOf (r .outcome) (setupOf u (now (order .entry)) .answer .outcome) ⌝ }
     ensures passes { λ r. ⌜ PassesIfAccepted (r .outcome) (r .state) (now (order .exit)) ⌝ }
 {
-    let first = check_limits::setup_refusal(1, u, order);
+    let first = check_limits::setup_refusal(SETUP_OUT_OF_LIMITS, u, order);
     if first != 0 {
         return call_outcomes::refuse(call_states::no_state(), first);
     }

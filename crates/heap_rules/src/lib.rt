@@ -6,16 +6,19 @@ use names_rules::NAME_COUNT;
 // How many superblocks a state has.
 pub const TABLE_LENGTH: usize = 64;
 
-// The owner field of a superblock that no heap owns: one that is part of a long block's run, and an unused one.
+// The owner field of a superblock that is part of a long block's run, and so of no heap.
 pub const RUN_OWNER: u8 = 254;
 
+// The owner field of an unused superblock.
 pub const UNUSED_OWNER: u8 = 255;
 
-// How many heaps there are, heap 0 and those of 8 processors: as a heap, and as a length; and how many totals they and the classes make.
+// How many heaps there are: heap 0 and those of 8 processors.
 pub const HEAPS: u8 = 9;
 
+// The same as a length.
 pub const HEAP_COUNT: usize = HEAPS as usize;
 
+// How many totals of each kind a state keeps: one for each heap and class.
 pub const TOTAL_COUNT: usize = HEAP_COUNT * CLASS_COUNT;
 
 // The marks come last: behind them rank and length would make each superblock eight bytes longer.

@@ -11,6 +11,7 @@ ghost use Rattle.heap_rules.specs.Table.{tableLength};
 ghost use Rattle.text_rules.specs.Text.{pasted};
 ghost use Rattle.line_rules.specs.Lines.{runLine, runLineIf, runLines};
 
+// The superblocks of a table, in the width of their numbers.
 const SUPERBLOCKS: u8 = TABLE_LENGTH as u8;
 
 // The line of a run, with its first superblock and how many it has.

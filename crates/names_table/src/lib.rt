@@ -7,7 +7,7 @@ ghost use Rattle.names_rules.specs.Names.{isName, blockNamed, isHeld, withName,
 use names_rules::NAME_COUNT;
 use names_rules::NOT_HELD;
 
-// How many names there are: 0 to 1023.
+// How many names there are, in the width of a name.
 const NAMES: u16 = NAME_COUNT as u16;
 
 // The number of the block that a name points at, 65535 where it is not held.

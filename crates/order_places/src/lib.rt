@@ -4,6 +4,7 @@ ghost use mathlib.Core.Path.{_≡_};
 ghost use Rattle.order_rules.specs.Order.{place, lastFilled, withPlace};
 use order_rules::PLACES_EACH;
 
+// The places of a superblock, in the width of their count.
 const PLACES: u16 = PLACES_EACH as u16;
 
 // What place p of superblock s holds; 0 where the storage has no such place.

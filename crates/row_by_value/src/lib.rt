@@ -11,6 +11,7 @@ use heap_rules::Setup;
 use heap_rules::State;
 use heap_rules::Superblock;
 use heap_rules::TABLE_LENGTH;
+use refusal_rules::STATE_INVALID;
 use row_rules::Control;
 use row_rules::RowAnswer;
 
@@ -59,7 +60,7 @@ pub fn first_refusal(numbers: u8, n: usize, order: &[u16], u: Setup) -> u8
         return first;
     }
     if n != TABLE_LENGTH {
-        return 13;
+        return STATE_INVALID;
     }
     0
 }

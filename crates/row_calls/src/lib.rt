@@ -9,6 +9,8 @@ use call_rules::CallHeader;
 use heap_rules::Setup;
 use heap_rules::Superblock;
 use heap_rules::TABLE_LENGTH;
+use refusal_rules::SETUP_OUT_OF_LIMITS;
+use refusal_rules::STATE_INVALID;
 use row_by_value::TableCall;
 use row_rules::Control;
 use row_rules::RowAnswer;
@@ -28,7 +30,7 @@ fn setup_table(
     ensures number_and_values { λ r. ⌜ HasNumberAndValuesOf (r .answer .outcome) (setupOn n u table (now (order .entry)) .outcome) ⌝ }
     ensures passes { λ r. ⌜ PassesIfAccepted (r .answer .outcome) (stateOf (r .answer .control) (r .table)) (now (order .exit)) ⌝ }
 {
-    let first = row_by_value::first_refusal(1, n, order, u);
+    let first = row_by_value::first_refusal(SETUP_OUT_OF_LIMITS, n, order, u);
     if first != 0 {
         let none = call_states::no_state();
         let zeros = row_by_value::control_of(none);
@@ -54,7 +56,7 @@ fn call_table(
     ensures moves { λ r. ⌜ MovesAtMost (mostMoves (control .setup .q) (callWith call (now (addresses .entry)))) (r .answer .outcome) ⌝ }
 {
     let u = control.setup;
-    let first = row_by_value::first_refusal(13, n, order, u);
+    let first = row_by_value::first_refusal(STATE_INVALID, n, order, u);
     if first != 0 {
         return row_by_value::refuse(first, control, table);
     }

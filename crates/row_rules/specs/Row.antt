@@ -6,6 +6,7 @@ use lib.ListN.{length, replicate}
 use lib.Dec.{eqb, leb}
 use Rattle.base_laws.specs.Sums.{pick}
 use Rattle.order_rules.specs.Order.{placesEach, cleared}
+use Rattle.refusal_rules.specs.Refusals.{setupOutOfLimits, storageTooSmall, stateInvalid}
 use Rattle.heap_rules.specs.declared.Superblock.{Superblock}
 use Rattle.heap_rules.specs.declared.Setup.{Setup}
 use Rattle.heap_rules.specs.declared.State.{State}
@@ -60,9 +61,9 @@ setupOn n u row order =
     pick (withinLimits u)
     (pick (leb (u .superblocks * placesEach) (length order))
     (pick (eqb n tableLength) (rowAcceptedSetup u order)
-    (rowRefused 13 (controlOf noState) row order))
-    (rowRefused 12 (controlOf noState) row order))
-    (rowRefused 1 (controlOf noState) row order)
+    (rowRefused stateInvalid (controlOf noState) row order))
+    (rowRefused storageTooSmall (controlOf noState) row order))
+    (rowRefused setupOutOfLimits (controlOf noState) row order)
 
 -- A take or a free, plain or named, or a drop, where n records are lent: "13 for setup numbers, 12, the rest of 13", in which is "a lent row exactly
 -- 64 records long". What else is checked, and the call's own refusals, are those of the state.
@@ -71,9 +72,9 @@ callOn n control row order call =
     pick (withinLimits (control .setup))
     (pick (leb (control .setup .superblocks * placesEach) (length order))
     (pick (eqb n tableLength) (asRowAfter (callOf (stateOf control row) order call))
-    (rowRefused 13 control row order))
-    (rowRefused 12 control row order))
-    (rowRefused 13 control row order)
+    (rowRefused stateInvalid control row order))
+    (rowRefused storageTooSmall control row order))
+    (rowRefused stateInvalid control row order)
 
 -- a setup on a lent row
 abbrev pub rowSetup : Setup → List Superblock → List ℕ → RowAfter
