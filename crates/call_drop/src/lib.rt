@@ -4,7 +4,7 @@ ghost use mathlib.Core.Bool.{true};
 ghost use Prim.Native.Nat.{_≤_, _<_};
 ghost use Rattle.class_rules.specs.Classes.{classCount};
 ghost use Rattle.check_rules.specs.Check.{passes};
-ghost use Rattle.heap_rules.specs.Totals.{heapCount, TotalsKept};
+ghost use Rattle.heap_rules.specs.Totals.{mostProcessors, heapCount, TotalsKept};
 ghost use Rattle.call_rules.specs.Answers.{After, HasNumberAndValuesOf};
 ghost use Rattle.call_rules.specs.Drop.{allFreed, allPushed, thenRestored, droppedAll, dropUnchecked};
 ghost use Rattle.call_rules.specs.DropLoops.{classesRestored, heapsRestored};
@@ -43,7 +43,7 @@ pub fn drop(s: State, order: &mut [u16], processor: u8, addresses: &[u32]) -> An
 
 // The frees, and then the moves.
 fn drop_all(s: State, order: &mut [u16], addresses: &[u32]) -> Answer
-    requires { ⌜ FreesSafe s (now addresses) × TotalsKept s × (s .setup .processors ≤ 8) ⌝ }
+    requires { ⌜ FreesSafe s (now addresses) × TotalsKept s × (s .setup .processors ≤ mostProcessors) ⌝ }
     ensures { λ r. ⌜ record { answer = r; order = now (order .exit) } ≡ droppedAll s (now (order .entry)) (now (addresses .entry)) ⌝ }
 {
     let touched = touched_pairs(s, addresses);
@@ -92,7 +92,7 @@ fn free_all(s: State, order: &mut [u16], addresses: &[u32]) -> State
 
 // The moves of the processor heaps, heaps rising.
 fn restore_heaps(s: State, touched: [bool; TOTAL_COUNT]) -> Moved
-    requires { ⌜ TotalsKept s × (s .setup .processors ≤ 8) ⌝ }
+    requires { ⌜ TotalsKept s × (s .setup .processors ≤ mostProcessors) ⌝ }
     ensures { λ r. ⌜ r ≡ heapsRestored (touchedIn touched) (s .setup .processors) (record { moves = 0; state = s }) ⌝ }
 {
     let processors = s.setup.processors;

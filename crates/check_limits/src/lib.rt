@@ -2,6 +2,7 @@
 ghost use mathlib.Core.Path.{_≡_};
 ghost use Rattle.check_rules.specs.Check.{within, withinLimits};
 ghost use Rattle.check_limits.specs.SetupRefusal.{setupRefusal};
+use heap_rules::MOST_PROCESSORS;
 use heap_rules::Setup;
 use heap_rules::TABLE_LENGTH;
 use order_rules::PLACES_EACH;
@@ -14,7 +15,7 @@ const SUPERBLOCKS: u8 = TABLE_LENGTH as u8;
 fn within_limits(u: Setup) -> bool
     ensures { λ r. ⌜ r ≡ withinLimits u ⌝ }
 {
-    if !between(1, 8, u.processors) {
+    if !between(1, MOST_PROCESSORS, u.processors) {
         return false;
     }
     if !between(1, SUPERBLOCKS, u.superblocks) {

@@ -13,7 +13,7 @@ use Rattle.heap_rules.specs.declared.Totals.{Totals}
 use Rattle.heap_rules.specs.declared.State.{State}
 use Rattle.names_rules.specs.Names.{eachHeld, noTwoAtOne}
 use Rattle.heap_rules.specs.Table.{tableLength, superblockAt, liveIn, isUnused, isOfRun, isLiveBlock}
-use Rattle.heap_rules.specs.Totals.{recounted}
+use Rattle.heap_rules.specs.Totals.{mostProcessors, recounted}
 use Rattle.heap_rules.specs.Counts.{total}
 use Rattle.heap_rules.specs.Ranks.{isRanked}
 use Rattle.move_rules.specs.Moves.{mustMove}
@@ -25,7 +25,7 @@ within a b x = both (leb a x) (leb x b)
 -- "P 1 to 8, N 1 to 64, K 1 to 16, p 1 to q - 1, q 2 to 8"
 unfoldable pub withinLimits : Setup → Bool
 withinLimits u =
-    both (within 1 8 (u .processors))
+    both (within 1 mostProcessors (u .processors))
     (both (within 1 tableLength (u .superblocks))
     (both (within 1 16 (u .spare))
     (both (both (leb 1 (u .p)) (ltb (u .p) (u .q)))

@@ -6,6 +6,9 @@ ghost use Rattle.heap_rules.specs.Ranks.{rankedLatest, unranked, RanksFit};
 use heap_rules::State;
 use heap_rules::TABLE_LENGTH;
 
+// Past the last rank that a superblock can have.
+const PAST_RANKS: u8 = TABLE_LENGTH as u8 + 1;
+
 // Superblock k was freed into: it is the latest, and each that was ahead of it goes one back.
 pub fn rank_latest(s: State, k: usize) -> State
     requires { ⌜ (k < tableLength) × RanksFit s ⌝ }
@@ -13,7 +16,7 @@ pub fn rank_latest(s: State, k: usize) -> State
 {
     let was = s.table[k].rank;
     // all that are ranked were ahead of one that was not
-    let behind = if was == 0 { 65 } else { was };
+    let behind = if was == 0 { PAST_RANKS } else { was };
     let mut t = s;
     let mut m: usize = 0;
     while m < TABLE_LENGTH {

@@ -14,9 +14,13 @@ use Rattle.heap_rules.specs.declared.State.{State}
 use Rattle.heap_rules.specs.Table.{tableLength, blank, liveIn}
 use Rattle.heap_rules.specs.Counts.{superblocksOf, liveOf}
 
--- totals are kept of heap 0 and of the heaps of 8 processors
+-- "P 1 to 8": the most processors that a setup has
+abbrev pub mostProcessors : ℕ
+mostProcessors = 8
+
+-- totals are kept of heap 0 and of the heap of each processor
 abbrev pub heapCount : ℕ
-heapCount = 9
+heapCount = mostProcessors + 1
 
 -- and of each class
 abbrev pub totalCount : ℕ

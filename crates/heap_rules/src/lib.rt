@@ -12,8 +12,11 @@ pub const RUN_OWNER: u8 = 254;
 // The owner field of an unused superblock.
 pub const UNUSED_OWNER: u8 = 255;
 
-// How many heaps there are: heap 0 and those of 8 processors.
-pub const HEAPS: u8 = 9;
+// The most processors that a setup has.
+pub const MOST_PROCESSORS: u8 = 8;
+
+// How many heaps there are: heap 0 and one for each processor.
+pub const HEAPS: u8 = MOST_PROCESSORS + 1;
 
 // The same as a length.
 pub const HEAP_COUNT: usize = HEAPS as usize;
@@ -23,7 +26,7 @@ pub const TOTAL_COUNT: usize = HEAP_COUNT * CLASS_COUNT;
 
 // The marks come last: behind them rank and length would make each superblock eight bytes longer.
 pub struct Superblock {
-    // 0 the global heap, 1 to 8 a processor's heap, RUN_OWNER or UNUSED_OWNER
+    // 0 the global heap, 1 to MOST_PROCESSORS a processor's heap, RUN_OWNER or UNUSED_OWNER
     pub owner: u8,
     // the size class
     pub class: u8,

@@ -8,7 +8,7 @@ use text_writer::put_text;
 ghost use mathlib.Core.Path.{_≡_};
 ghost use Prim.Native.Nat.{_≤_, _<_};
 ghost use Rattle.class_rules.specs.Classes.{classCount};
-ghost use Rattle.heap_rules.specs.Totals.{heapCount, TotalsKept};
+ghost use Rattle.heap_rules.specs.Totals.{mostProcessors, heapCount, TotalsKept};
 ghost use Rattle.text_rules.specs.Text.{pasted};
 ghost use Rattle.line_rules.specs.Lines.{classLines, heapLines, finalLines, closingLines};
 
@@ -42,7 +42,7 @@ fn heap_lines(out: &mut [u8], at: usize, heaps: usize, s: State) -> usize
 
 // The lines at the end of a record that does not stop.
 fn final_lines(out: &mut [u8], at: usize, s: State) -> usize
-    requires { ⌜ TotalsKept s × (s .setup .processors ≤ 8) ⌝ }
+    requires { ⌜ TotalsKept s × (s .setup .processors ≤ mostProcessors) ⌝ }
     ensures { λ r. ⌜ record { end = r; buffer = now (out .exit) } ≡ pasted (now (out .entry)) at (finalLines s) ⌝ }
 {
     let heaps = heap_lines(out, at, s.setup.processors as usize + 1, s);
@@ -52,7 +52,7 @@ fn final_lines(out: &mut [u8], at: usize, s: State) -> usize
 
 // The lines after the last command of a record: none after a stop line.
 pub fn closing_lines(out: &mut [u8], at: usize, stopped: bool, s: State) -> usize
-    requires { ⌜ TotalsKept s × (s .setup .processors ≤ 8) ⌝ }
+    requires { ⌜ TotalsKept s × (s .setup .processors ≤ mostProcessors) ⌝ }
     ensures { λ r. ⌜ record { end = r; buffer = now (out .exit) } ≡ pasted (now (out .entry)) at (closingLines stopped s) ⌝ }
 {
     if !stopped {
