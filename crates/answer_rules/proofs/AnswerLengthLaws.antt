@@ -13,6 +13,7 @@ use Rattle.heap_rules.specs.declared.Setup.{Setup}
 use Rattle.heap_rules.specs.declared.Superblock.{Superblock}
 use Rattle.heap_rules.specs.declared.Totals.{Totals}
 use Rattle.heap_rules.specs.declared.State.{State}
+use Rattle.heap_rules.specs.Totals.{totalCount}
 use Rattle.call_rules.specs.declared.Outcome.{Outcome}
 use Rattle.call_rules.specs.declared.Outcome.the-variants.{Ready, Address, Moves, Refused}
 use Rattle.line_rules.specs.Lines.{setupLine}
@@ -99,9 +100,9 @@ length-of-total-line-if-le-64 x superblocks live h =
     length-of-line-if-le (both (eqb superblocks 0) (eqb live 0)) (totalLine (x / 27) (x % 27) superblocks live) 64
     (length-of-total-line-le-64 (x / 27) (x % 27) superblocks live (omega arith) (omega arith))
 
-length-of-total-lines-le : (t : Totals) → length (totalLines t) ≤ 243 * 64
+length-of-total-lines-le : (t : Totals) → length (totalLines t) ≤ totalCount * 64
 unfolding totalLines
-length-of-total-lines-le t = length-of-texts-below-le _ 64 243 (λ x h. length-of-total-line-if-le-64 x _ _ (omega arith))
+length-of-total-lines-le t = length-of-texts-below-le _ 64 totalCount (λ x h. length-of-total-line-if-le-64 x _ _ (omega arith))
 
 -- ---- order places
 length-of-place-line-le-23 : (i number : ℕ) → i < 65536 → length (placeLine i number) ≤ 23

@@ -5,8 +5,9 @@ use Prim.Native.Nat.{ℕ, zero, suc, _/_, _%_, min}
 use lib.ListN.{length, getD}
 use lib.Dec.{eqb}
 use Rattle.base_laws.specs.Sums.{pick, both}
+use Rattle.class_rules.specs.Classes.{classCount}
 use Rattle.text_rules.specs.Text.{letters, digits}
-use Rattle.names_rules.specs.Names.{notHeld, blockNamed}
+use Rattle.names_rules.specs.Names.{nameCount, notHeld, numbersEach, blockNamed}
 use Rattle.heap_rules.specs.declared.Superblock.{Superblock}
 use Rattle.heap_rules.specs.declared.Totals.{Totals}
 use Rattle.heap_rules.specs.declared.State.{State}
@@ -63,7 +64,8 @@ superblockLines table = textsBelow (λ k. superblockLineIf k (getD table k blank
 -- ---- the names
 -- `name M superblock S block J`: "its number is S × 256 + J with J below 256"
 unfoldable pub nameLine : ℕ → ℕ → List ℕ
-nameLine m number = field (letters "name ") m ++ field (letters " superblock ") (number / 256) ++ field (letters " block ") (number % 256) ++ letters "\n"
+nameLine m number =
+    field (letters "name ") m ++ field (letters " superblock ") (number / numbersEach) ++ field (letters " block ") (number % numbersEach) ++ letters "\n"
 
 -- "for each name that the state handed back holds"
 unfoldable pub nameLineIf : ℕ → ℕ → List ℕ
@@ -71,7 +73,7 @@ nameLineIf m number = pick (eqb number notHeld) [] (nameLine m number)
 
 -- "M rising"
 unfoldable pub nameLines : List ℕ → List ℕ
-nameLines names = textsBelow (λ m. nameLineIf m (blockNamed names m)) 1024
+nameLines names = textsBelow (λ m. nameLineIf m (blockNamed names m)) nameCount
 
 -- ---- the totals
 -- `total heap H class C superblocks N live L`
@@ -82,7 +84,7 @@ totalLine h c superblocks live =
 
 -- "for each heap H and class C of which the state handed back keeps a total other than 0": the totals at x are those of heap x / 27 and class x % 27
 unfoldable pub totalLineIf : ℕ → ℕ → ℕ → List ℕ
-totalLineIf x superblocks live = pick (both (eqb superblocks 0) (eqb live 0)) [] (totalLine (x / 27) (x % 27) superblocks live)
+totalLineIf x superblocks live = pick (both (eqb superblocks 0) (eqb live 0)) [] (totalLine (x / classCount) (x % classCount) superblocks live)
 
 -- "H rising, then C"
 unfoldable pub totalLines : Totals → List ℕ

@@ -5,9 +5,11 @@ use heap_tests::is_unused;
 use line_fields::put_byte;
 use line_fields::put_last_field;
 use line_next_fields::put_nothing;
+use row_rules::RECORD_COUNT;
 ghost use mathlib.Core.Path.{_≡_};
 ghost use Prim.Native.Nat.{_≤_, min};
 ghost use lib.ListN.{take};
+ghost use Rattle.row_rules.specs.Borrowed.{recordCount};
 ghost use Rattle.text_rules.specs.Text.{pasted};
 ghost use Rattle.answer_rules.specs.AnswerLines.{
   isAsNew,
@@ -62,16 +64,21 @@ fn superblock_line_if(out: &mut [u8], at: usize, k: u8, b: Superblock) -> usize
 
 // As many as there are records.
 fn at_most(n: usize) -> usize
-    ensures { λ r. ⌜ (r ≡ min n 65) × (r ≤ 65) ⌝ }
+    ensures { λ r. ⌜ (r ≡ min n recordCount) × (r ≤ recordCount) ⌝ }
 {
-    if n <= 65 {
+    if n <= RECORD_COUNT {
         return n;
     }
-    65
+    RECORD_COUNT
 }
 
 // The lines of the first n records, or of all 65 where n is above.
-pub fn superblock_lines(out: &mut [u8], at: usize, n: usize, records: [Superblock; 65]) -> usize
+pub fn superblock_lines(
+    out: &mut [u8],
+    at: usize,
+    n: usize,
+    records: [Superblock; RECORD_COUNT],
+) -> usize
     ensures { λ r. ⌜ record { end = r; buffer = now (out .exit) } ≡ pasted (now (out .entry)) at (superblockLines (take n records)) ⌝ }
 {
     let m = at_most(n);

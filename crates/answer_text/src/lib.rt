@@ -6,6 +6,7 @@ use answer_totals::total_lines;
 use call_rules::Answer;
 use call_rules::Outcome;
 use form_row::records_of;
+use heap_rules::TABLE_LENGTH;
 use line_fields::put_last_field;
 use line_setup::setup_line;
 use row_by_value::control_of;
@@ -68,7 +69,7 @@ pub fn state_answer_text(out: &mut [u8], a: Answer, before: &[u16], after: &[u16
     let records = records_of(table);
     let answer = RowAnswer { outcome, control };
     let on_row = RecordsAnswer { records, answer };
-    row_answer_text(out, 64, on_row, before, after)
+    row_answer_text(out, TABLE_LENGTH, on_row, before, after)
 }
 
 // The text of an input that is no call.

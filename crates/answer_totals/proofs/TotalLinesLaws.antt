@@ -8,6 +8,7 @@ use lib.Dec.{eqb}
 use Rattle.base_laws.specs.Sums.{both}
 use Rattle.text_rules.specs.Text.{pasted}
 use Rattle.heap_rules.specs.declared.Totals.{Totals}
+use Rattle.heap_rules.specs.Totals.{totalCount}
 use Rattle.answer_rules.specs.AnswerLines.{textsBelow, totalLine, totalLineIf, totalLines}
 use Rattle.answer_rules.proofs.AnswerLineLaws.{texts-end}
 
@@ -28,7 +29,7 @@ module _ (l₀ : List ℕ) {l : List ℕ} (at : ℕ) {r : ℕ} where
   unfolding totalLineIf
   total-line-if-of-others x superblocks live zeros d e p = rw (← d, e) p
 
-  pub total-lines-end : (t : Totals) (x : ℕ) → x ≤ 243 → 243 ≤ x
+  pub total-lines-end : (t : Totals) (x : ℕ) → x ≤ totalCount → totalCount ≤ x
       → record { end = r; buffer = l } ≡ pasted l₀ at (linesOfTotals t x) → record { end = r; buffer = l } ≡ pasted l₀ at (totalLines t)
   unfolding totalLines
-  total-lines-end t x a b p = texts-end l₀ at _ x 243 a b p
+  total-lines-end t x a b p = texts-end l₀ at _ x totalCount a b p

@@ -2,7 +2,7 @@
 ghost use mathlib.Core.Path.{_≡_};
 ghost use Prim.Native.Nat.{_<_};
 ghost use Rattle.heap_rules.specs.Totals.{TotalsKept};
-ghost use Rattle.heap_rules.specs.Table.{superblockAt};
+ghost use Rattle.heap_rules.specs.Table.{tableLength, superblockAt};
 ghost use Rattle.heap_rules.specs.States.{withSuperblock};
 ghost use Rattle.call_rules.specs.Answers.{HasNumberAndValuesOf};
 ghost use Rattle.call_rules.specs.Take.{acquired, acquiredOrder, unrankedIfEmpty, takenFromOther};
@@ -35,7 +35,7 @@ fn acquire(b: Superblock, heap: u8, class: u8) -> Superblock
 
 // The state with superblock k out of the ranking where nothing is live in it.
 fn unrank_if_empty(s: State, k: usize) -> State
-    requires { ⌜ k < 64 ⌝ }
+    requires { ⌜ k < tableLength ⌝ }
     ensures { λ r. ⌜ r ≡ unrankedIfEmpty k s ⌝ }
 {
     let b = s.table[k];
@@ -47,7 +47,7 @@ fn unrank_if_empty(s: State, k: usize) -> State
 
 // The state once the heap has acquired superblock k.
 fn acquire_at(s: State, heap: u8, class: u8, k: usize) -> State
-    requires { ⌜ (k < 64) × TotalsKept s ⌝ }
+    requires { ⌜ (k < tableLength) × TotalsKept s ⌝ }
     ensures { λ r. ⌜ r ≡ withSuperblock (unrankedIfEmpty k s) k (acquired heap class (superblockAt s k)) ⌝ }
 {
     let b = s.table[k];
@@ -68,7 +68,7 @@ fn acquire_order(b: Superblock, order: &mut [u16], class: u8, k: u8)
 
 // The heap acquires superblock k from place 2, 3 or 4, and a block is taken from it.
 pub fn take_from_other(s: State, order: &mut [u16], heap: u8, class: u8, k: u8) -> Answer
-    requires { ⌜ (k < 64) × TotalsKept s ⌝ }
+    requires { ⌜ (k < tableLength) × TotalsKept s ⌝ }
     ensures { λ r. ⌜ record { answer = r; order = now (order .exit) } ≡ takenFromOther heap class k s (now (order .entry)) ⌝ }
     ensures number_and_values { λ r. ⌜ HasNumberAndValuesOf (r .outcome) (takenFromOther heap class k s (now (order .entry)) .answer .outcome) ⌝ }
 {

@@ -4,7 +4,14 @@ ghost use mathlib.Core.Path.{_≡_};
 ghost use Prim.Native.Nat.{_/_};
 ghost use Rattle.class_rules.specs.Classes.{sizeOf};
 ghost use Rattle.call_rules.specs.Free.{offsetOf, blockOf, blockNumberAt};
+use class_rules::SUPERBLOCK_BYTES;
 use heap_rules::State;
+use heap_rules::TABLE_LENGTH;
+use names_rules::NOT_HELD;
+use names_rules::NUMBERS_EACH;
+
+// The superblocks of a table, in the width of an address.
+const SUPERBLOCKS: u32 = TABLE_LENGTH as u32;
 
 // The block of a superblock of the class that the address lies in; 0 where the class has no block size.
 pub fn block_in(class: u8, address: u32) -> u16
@@ -14,7 +21,7 @@ pub fn block_in(class: u8, address: u32) -> u16
     if size == 0 {
         return 0;
     }
-    let offset = (address % 4096) as u16;
+    let offset = (address % SUPERBLOCK_BYTES) as u16;
     offset / size
 }
 
@@ -22,7 +29,7 @@ pub fn block_in(class: u8, address: u32) -> u16
 pub fn block_at(s: State, address: u32) -> u16
     ensures { λ r. ⌜ r ≡ blockOf s address ⌝ }
 {
-    let k = (address / 4096) as usize;
+    let k = (address / SUPERBLOCK_BYTES) as usize;
     let class = heap_table::class_at(s, k);
     block_in(class, address)
 }
@@ -31,9 +38,9 @@ pub fn block_at(s: State, address: u32) -> u16
 pub fn block_number_at(s: State, address: u32) -> u16
     ensures { λ r. ⌜ r ≡ blockNumberAt s address ⌝ }
 {
-    let k = address / 4096;
-    if k >= 64 {
-        return 65535;
+    let k = address / SUPERBLOCK_BYTES;
+    if k >= SUPERBLOCKS {
+        return NOT_HELD;
     }
-    k as u16 * 256 + block_at(s, address)
+    k as u16 * NUMBERS_EACH + block_at(s, address)
 }

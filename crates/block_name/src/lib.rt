@@ -3,6 +3,7 @@ ghost use mathlib.Core.Path.{_≡_};
 ghost use Rattle.call_rules.specs.Named.{nameBound, boundBy, heldAddress};
 use call_rules::Outcome;
 use heap_rules::State;
+use names_rules::NUMBERS_EACH;
 
 // The state after a take for the name, by its outcome: only an accepted one binds it.
 pub fn bound_by(outcome: Outcome, name: u16, s: State) -> State
@@ -34,7 +35,7 @@ pub fn held_address(s: State, name: u16) -> u32
 {
     let blocks = s.names;
     let block = names_table::block_named(blocks, name);
-    let k = block / 256;
+    let k = block / NUMBERS_EACH;
     let class = heap_table::class_at(s, k as usize);
-    block_take::address_of(k as u8, class, block % 256)
+    block_take::address_of(k as u8, class, block % NUMBERS_EACH)
 }

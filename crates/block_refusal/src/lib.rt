@@ -4,14 +4,20 @@ ghost use mathlib.Core.Path.{_≡_};
 ghost use Rattle.heap_rules.specs.Table.{blank};
 ghost use Rattle.call_rules.specs.Free.{isUnmapped, isRunStart, isOffBlock, isMisaligned, isLiveAt, addressRefusal};
 ghost use Rattle.block_refusal.specs.Holding.{ToldBySuperblock, ToldByCountAndSuperblock};
+use class_rules::SUPERBLOCK_BYTES;
+use heap_rules::RUN_OWNER;
 use heap_rules::State;
 use heap_rules::Superblock;
+use heap_rules::TABLE_LENGTH;
+use refusal_rules::ADDRESS_MISALIGNED;
+use refusal_rules::ADDRESS_UNMAPPED;
+use refusal_rules::BLOCK_NOT_LIVE;
 
 // The address is past superblocks 0 to N - 1, or in an unused one.
 fn is_unmapped(superblocks: u8, b: Superblock, address: u32) -> bool
     ensures { λ r. ⌜ ToldByCountAndSuperblock r isUnmapped superblocks b address ⌝ }
 {
-    let end = superblocks as u32 * 4096;
+    let end = superblocks as u32 * SUPERBLOCK_BYTES;
     if end <= address {
         return true;
     }
@@ -26,7 +32,7 @@ fn is_off_block(b: Superblock, address: u32) -> bool
     if size == 0 {
         return true;
     }
-    let offset = (address % 4096) as u16;
+    let offset = (address % SUPERBLOCK_BYTES) as u16;
     if offset % size != 0 {
         return true;
     }
@@ -37,7 +43,7 @@ fn is_off_block(b: Superblock, address: u32) -> bool
 fn is_run_start(b: Superblock, address: u32) -> bool
     ensures { λ r. ⌜ ToldBySuperblock r isRunStart b address ⌝ }
 {
-    if address % 4096 != 0 {
+    if address % SUPERBLOCK_BYTES != 0 {
         return false;
     }
     heap_tests::starts_run(b)
@@ -47,7 +53,7 @@ fn is_run_start(b: Superblock, address: u32) -> bool
 fn is_misaligned(b: Superblock, address: u32) -> bool
     ensures { λ r. ⌜ ToldBySuperblock r isMisaligned b address ⌝ }
 {
-    if b.owner == 254 {
+    if b.owner == RUN_OWNER {
         return !is_run_start(b, address);
     }
     is_off_block(b, address)
@@ -71,13 +77,13 @@ pub fn refusal_in(superblocks: u8, b: Superblock, address: u32) -> u8
     ensures { λ r. ⌜ ToldByCountAndSuperblock r addressRefusal superblocks b address ⌝ }
 {
     if is_unmapped(superblocks, b, address) {
-        return 5;
+        return ADDRESS_UNMAPPED;
     }
     if is_misaligned(b, address) {
-        return 6;
+        return ADDRESS_MISALIGNED;
     }
     if !is_live_in(b, address) {
-        return 7;
+        return BLOCK_NOT_LIVE;
     }
     0
 }
@@ -86,20 +92,20 @@ pub fn refusal_in(superblocks: u8, b: Superblock, address: u32) -> u8
 fn refusal_past_table(superblocks: u8, address: u32) -> u8
     ensures { λ r. ⌜ ToldByCountAndSuperblock r addressRefusal superblocks blank address ⌝ }
 {
-    let end = superblocks as u32 * 4096;
+    let end = superblocks as u32 * SUPERBLOCK_BYTES;
     if end <= address {
-        return 5;
+        return ADDRESS_UNMAPPED;
     }
-    if address % 4096 % 16 == 0 { 7 } else { 6 }
+    if address % SUPERBLOCK_BYTES % 16 == 0 { BLOCK_NOT_LIVE } else { ADDRESS_MISALIGNED }
 }
 
 // The refusal that the address meets in a state. N is at most 64 in one that passes the check, so that what lies past the table is unmapped.
 pub fn refusal(s: State, address: u32) -> u8
     ensures { λ r. ⌜ r ≡ addressRefusal s address ⌝ }
 {
-    let k = (address / 4096) as usize;
+    let k = (address / SUPERBLOCK_BYTES) as usize;
     let superblocks = s.setup.superblocks;
-    if k >= 64 {
+    if k >= TABLE_LENGTH {
         return refusal_past_table(superblocks, address);
     }
     let b = s.table[k];

@@ -1,19 +1,22 @@
 // A long block's run: its superblocks taken, and made unused again, one after another.
 ghost use mathlib.Core.Path.{_≡_};
 ghost use Prim.Native.Nat.{_+_, _≤_, _<_};
+ghost use Rattle.heap_rules.specs.Table.{tableLength};
 ghost use Rattle.heap_rules.specs.Totals.{TotalsKept};
 ghost use Rattle.call_rules.specs.LongBlocks.{joinedToRun, runTaken, madeUnused, runFreed};
+use heap_rules::RUN_OWNER;
 use heap_rules::State;
 use heap_rules::Superblock;
+use heap_rules::UNUSED_OWNER;
 
 // Superblock m becomes part of the run of n superblocks from k on: it leaves the ranking, and carries the run's length where it is the first.
 fn join_run(s: State, k: usize, n: u8, m: usize) -> State
-    requires { ⌜ (m < 64) × TotalsKept s ⌝ }
+    requires { ⌜ (m < tableLength) × TotalsKept s ⌝ }
     ensures { λ r. ⌜ r ≡ joinedToRun k n m s ⌝ }
 {
     let carried = if m == k { n } else { 0 };
     let part = Superblock {
-        owner: 254,
+        owner: RUN_OWNER,
         class: 0,
         live: [0u64; 4],
         rank: 0,
@@ -25,7 +28,7 @@ fn join_run(s: State, k: usize, n: u8, m: usize) -> State
 
 // The n superblocks from k on become a run.
 pub fn take_run(s: State, k: usize, n: u8) -> State
-    requires { ⌜ (k + n ≤ 64) × TotalsKept s ⌝ }
+    requires { ⌜ (k + n ≤ tableLength) × TotalsKept s ⌝ }
     ensures { λ r. ⌜ r ≡ runTaken k n s ⌝ }
 {
     let joining = n as usize;
@@ -40,11 +43,11 @@ pub fn take_run(s: State, k: usize, n: u8) -> State
 
 // Superblock m becomes unused.
 fn make_unused(s: State, m: usize) -> State
-    requires { ⌜ (m < 64) × TotalsKept s ⌝ }
+    requires { ⌜ (m < tableLength) × TotalsKept s ⌝ }
     ensures { λ r. ⌜ r ≡ madeUnused m s ⌝ }
 {
     let unused = Superblock {
-        owner: 255,
+        owner: UNUSED_OWNER,
         class: 0,
         live: [0u64; 4],
         rank: 0,
@@ -55,7 +58,7 @@ fn make_unused(s: State, m: usize) -> State
 
 // The run of n superblocks from k on becomes unused.
 pub fn free_run(s: State, k: usize, n: u8) -> State
-    requires { ⌜ (k + n ≤ 64) × TotalsKept s ⌝ }
+    requires { ⌜ (k + n ≤ tableLength) × TotalsKept s ⌝ }
     ensures { λ r. ⌜ r ≡ runFreed k n s ⌝ }
 {
     let leaving = n as usize;

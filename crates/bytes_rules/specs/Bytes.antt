@@ -6,6 +6,10 @@ use lib.Dec.{ltb}
 use Rattle.base_laws.specs.Sums.{pick}
 use Rattle.base_laws.specs.Lists.{listed}
 
+-- the largest number of one byte, and so the most that a count of one byte tells
+abbrev pub largestByte : ℕ
+largestByte = 255
+
 -- "numbers of several bytes have the low byte first"
 abbrev pub byteAt : List ℕ → ℕ → ℕ
 byteAt r i = getD r i 0

@@ -14,6 +14,7 @@ use Rattle.heap_rules.specs.declared.Superblock.{Superblock}
 use Rattle.heap_rules.specs.declared.State.{State}
 use Rattle.heap_rules.specs.Table.{superblockAt}
 use Rattle.heap_rules.specs.Counts.{belongs}
+use Rattle.heap_rules.specs.Totals.{heapCount, totalCount}
 use Rattle.heap_laws.proofs.CountLaws.{belongs-true, not-belongs-of-other-owner, not-belongs-of-other-class}
 use Rattle.heap_laws.proofs.RunsKeptLaws.{outside-run-of-owner}
 use Rattle.call_rules.specs.Free.{superblockHolding}
@@ -43,12 +44,12 @@ is-touched-at-next s (a ∷ addresses) (suc i) h c l =
 
 -- ---- the loop: the array tells the heaps and classes of the addresses below i
 pub record ToldBelow (touched : List Bool) (s : State) (addresses : List ℕ) (i : ℕ) : Type 0 where
-  pub length-is : length touched ≡ 243
+  pub length-is : length touched ≡ totalCount
   pub tells : TellsTouched touched s (take i addresses)
 
-pub none-told : (s : State) (addresses : List ℕ) → ToldBelow (replicate 243 false) s addresses 0
+pub none-told : (s : State) (addresses : List ℕ) → ToldBelow (replicate totalCount false) s addresses 0
 unfolding isTouched
-none-told s addresses = record { length-is = refl; tells = λ h c lh lc. getD-replicate 243 (h * 27 + c) false false (omega arith) }
+none-told s addresses = record { length-is = refl; tells = λ h c lh lc. getD-replicate totalCount (h * 27 + c) false false (omega arith) }
 
 -- two heaps and classes at one place are one
 same-pair : (h c owner class : ℕ) → c < 27 → class < 27 → h * 27 + c ≡ owner * 27 + class → (h ≡ owner) × (c ≡ class)
@@ -63,23 +64,23 @@ not-belongs-elsewhere h c b n = go (ℕ-discrete (b .owner) h)
 
 module _ (s : State) (addresses : List ℕ) (i : ℕ) (safe : FreesSafe s addresses) (l : i < length addresses) where
   module _ (owner class : ℕ) (eo : owner ≡ superblockAt s (getD addresses i 0 / 4096) .owner) (ec : class ≡ superblockAt s (getD addresses i 0 / 4096) .class) where
-    module _ (of-heap : owner < 9) where
+    module _ (of-heap : owner < heapCount) where
       -- it is of a heap, and so of no run
       pub class-in-array : class < 27
       class-in-array = rw ec (safe i l .of-heap-and-class (outside-run-of-owner (superblockHolding s (getD addresses i 0)) (λ (q : superblockHolding s (getD addresses i 0) .owner ≡ 254). omega (arith, eo))) .1)
 
-      pub pair-in-array : owner * 27 + class < 243
+      pub pair-in-array : owner * 27 + class < totalCount
       pair-in-array = let c = class-in-array in omega arith
 
     -- a superblock of a run is of no heap: the array stays
-    pub told-past-run : 9 ≤ owner → (touched : List Bool) → ToldBelow touched s addresses i → ToldBelow touched s addresses (i + 1)
+    pub told-past-run : heapCount ≤ owner → (touched : List Bool) → ToldBelow touched s addresses i → ToldBelow touched s addresses (i + 1)
     told-past-run high touched told = record {
       length-is = told .length-is;
       tells = λ h c lh lc. rw (add-one, is-touched-at-next s addresses i h c l, not-belongs-of-other-owner h c (superblockHolding s (getD addresses i 0)) (λ (q : superblockHolding s (getD addresses i 0) .owner ≡ h). omega (arith, eo)))
           (told .tells h c lh lc ∙ sym (either-false-right (isTouched s (take i addresses) h c)));
     }
 
-    pub told-at-next : owner < 9 → (touched : List Bool) → ToldBelow touched s addresses i → ToldBelow (set touched (owner * 27 + class) true) s addresses (i + 1)
+    pub told-at-next : owner < heapCount → (touched : List Bool) → ToldBelow touched s addresses i → ToldBelow (set touched (owner * 27 + class) true) s addresses (i + 1)
     told-at-next of-heap touched told = record {
       length-is = length-set touched (owner * 27 + class) true ∙ told .length-is;
       tells = λ h c lh lc. rw (add-one, is-touched-at-next s addresses i h c l) (go h c lh lc (ℕ-discrete (h * 27 + c) (owner * 27 + class)));
@@ -88,7 +89,7 @@ module _ (s : State) (addresses : List ℕ) (i : ℕ) (safe : FreesSafe s addres
         b : Superblock
         b = superblockHolding s (getD addresses i 0)
 
-        go : (h c : ℕ) → h < 9 → c < 27 → Dec (h * 27 + c ≡ owner * 27 + class) → touchedIn (set touched (owner * 27 + class) true) h c ≡ either (isTouched s (take i addresses) h c) (belongs h c b)
+        go : (h c : ℕ) → h < heapCount → c < 27 → Dec (h * 27 + c ≡ owner * 27 + class) → touchedIn (set touched (owner * 27 + class) true) h c ≡ either (isTouched s (take i addresses) h c) (belongs h c b)
         go h c lh lc (yes e) =
             let at = same-pair h c owner class lc (class-in-array of-heap) e in
             rw (e, getD-set-same touched (owner * 27 + class) true false (omega (arith, pair-in-array of-heap, told .length-is)), belongs-true h c b (sym (at .0 ∙ eo)) (sym (at .1 ∙ ec))) (sym (either-true-right (isTouched s (take i addresses) h c)))

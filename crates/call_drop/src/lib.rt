@@ -2,16 +2,24 @@
 ghost use mathlib.Core.Path.{_≡_};
 ghost use mathlib.Core.Bool.{true};
 ghost use Prim.Native.Nat.{_≤_, _<_};
+ghost use Rattle.class_rules.specs.Classes.{classCount};
 ghost use Rattle.check_rules.specs.Check.{passes};
-ghost use Rattle.heap_rules.specs.Totals.{TotalsKept};
+ghost use Rattle.heap_rules.specs.Totals.{mostProcessors, heapCount, TotalsKept};
 ghost use Rattle.call_rules.specs.Answers.{After, HasNumberAndValuesOf};
 ghost use Rattle.call_rules.specs.Drop.{allFreed, allPushed, thenRestored, droppedAll, dropUnchecked};
 ghost use Rattle.call_rules.specs.DropLoops.{classesRestored, heapsRestored};
 ghost use Rattle.call_drop.specs.DropSteps.{FreesSafe, touchedIn, TellsTouched, CanMove};
 use call_rules::Answer;
 use call_rules::Outcome;
+use class_rules::CLASS_COUNT;
+use class_rules::CLASSES;
+use class_rules::SUPERBLOCK_BYTES;
+use heap_rules::HEAPS;
 use heap_rules::Moved;
 use heap_rules::State;
+use heap_rules::TOTAL_COUNT;
+use refusal_rules::DROP_EMPTY;
+use refusal_rules::NO_SUCH_PROCESSOR;
 
 // The blocks at the addresses are free again, and the move rule is followed in each processor heap and class touched; or refusal 2, 16, or
 // that of the first bad address.
@@ -21,10 +29,10 @@ pub fn drop(s: State, order: &mut [u16], processor: u8, addresses: &[u32]) -> An
     ensures number_and_values { λ r. ⌜ HasNumberAndValuesOf (r .outcome) (dropUnchecked s (now (order .entry)) processor (now (addresses .entry)) .answer .outcome) ⌝ }
 {
     if !call_states::is_processor(s, processor) {
-        return call_outcomes::refuse(s, 2);
+        return call_outcomes::refuse(s, NO_SUCH_PROCESSOR);
     }
     if addresses.len() == 0 {
-        return call_outcomes::refuse(s, 16);
+        return call_outcomes::refuse(s, DROP_EMPTY);
     }
     let bad = call_drop_addresses::first_address_refusal(s, addresses);
     if bad != 0 {
@@ -35,7 +43,7 @@ pub fn drop(s: State, order: &mut [u16], processor: u8, addresses: &[u32]) -> An
 
 // The frees, and then the moves.
 fn drop_all(s: State, order: &mut [u16], addresses: &[u32]) -> Answer
-    requires { ⌜ FreesSafe s (now addresses) × TotalsKept s × (s .setup .processors ≤ 8) ⌝ }
+    requires { ⌜ FreesSafe s (now addresses) × TotalsKept s × (s .setup .processors ≤ mostProcessors) ⌝ }
     ensures { λ r. ⌜ record { answer = r; order = now (order .exit) } ≡ droppedAll s (now (order .entry)) (now (addresses .entry)) ⌝ }
 {
     let touched = touched_pairs(s, addresses);
@@ -49,17 +57,17 @@ fn drop_all(s: State, order: &mut [u16], addresses: &[u32]) -> Answer
 }
 
 // The heaps and classes of the superblocks that the addresses lie in, that of heap h and class c at h × 27 + c. A run is of none.
-fn touched_pairs(s: State, addresses: &[u32]) -> [bool; 243]
+fn touched_pairs(s: State, addresses: &[u32]) -> [bool; TOTAL_COUNT]
     requires { ⌜ FreesSafe s (now addresses) ⌝ }
     ensures { λ r. ⌜ TellsTouched r s (now (addresses .entry)) ⌝ }
 {
-    let mut touched = [false; 243];
+    let mut touched = [false; TOTAL_COUNT];
     let mut i: usize = 0;
     while i < addresses.len() {
-        let k = (addresses[i] / 4096) as usize;
+        let k = (addresses[i] / SUPERBLOCK_BYTES) as usize;
         let b = s.table[k];
-        if b.owner < 9 {
-            let at = b.owner as usize * 27 + b.class as usize;
+        if b.owner < HEAPS {
+            let at = b.owner as usize * CLASS_COUNT + b.class as usize;
             touched[at] = true;
         }
         i += 1;
@@ -83,8 +91,8 @@ fn free_all(s: State, order: &mut [u16], addresses: &[u32]) -> State
 }
 
 // The moves of the processor heaps, heaps rising.
-fn restore_heaps(s: State, touched: [bool; 243]) -> Moved
-    requires { ⌜ TotalsKept s × (s .setup .processors ≤ 8) ⌝ }
+fn restore_heaps(s: State, touched: [bool; TOTAL_COUNT]) -> Moved
+    requires { ⌜ TotalsKept s × (s .setup .processors ≤ mostProcessors) ⌝ }
     ensures { λ r. ⌜ r ≡ heapsRestored (touchedIn touched) (s .setup .processors) (record { moves = 0; state = s }) ⌝ }
 {
     let processors = s.setup.processors;
@@ -98,14 +106,14 @@ fn restore_heaps(s: State, touched: [bool; 243]) -> Moved
 }
 
 // The moves of a heap's touched classes, classes rising, after those before.
-fn restore_classes(before: Moved, heap: u8, touched: [bool; 243]) -> Moved
-    requires { ⌜ (heap < 9) × CanMove before ⌝ }
-    ensures { λ r. ⌜ r ≡ classesRestored (touchedIn touched) heap 27 before ⌝ }
+fn restore_classes(before: Moved, heap: u8, touched: [bool; TOTAL_COUNT]) -> Moved
+    requires { ⌜ (heap < heapCount) × CanMove before ⌝ }
+    ensures { λ r. ⌜ r ≡ classesRestored (touchedIn touched) heap classCount before ⌝ }
 {
     let mut m = before;
     let mut class: u8 = 0;
-    while class < 27 {
-        if touched[heap as usize * 27 + class as usize] {
+    while class < CLASSES {
+        if touched[heap as usize * CLASS_COUNT + class as usize] {
             m = restore_pair(m, heap, class);
         }
         class += 1;
@@ -115,7 +123,7 @@ fn restore_classes(before: Moved, heap: u8, touched: [bool; 243]) -> Moved
 
 // The moves of a heap and class, added to those before.
 fn restore_pair(before: Moved, heap: u8, class: u8) -> Moved
-    requires { ⌜ (heap < 9) × (class < 27) × CanMove before ⌝ }
+    requires { ⌜ (heap < heapCount) × (class < classCount) × CanMove before ⌝ }
     ensures { λ r. ⌜ r ≡ thenRestored heap class before ⌝ }
 {
     let s = before.state;

@@ -2,34 +2,39 @@
 ghost use mathlib.Core.Path.{_≡_};
 ghost use Prim.Native.Nat.{_+_, _/_, _≤_};
 ghost use Rattle.class_rules.specs.Classes.{sizeOf};
-ghost use Rattle.heap_rules.specs.Table.{withoutMarkAt};
+ghost use Rattle.heap_rules.specs.Table.{tableLength, withoutMarkAt};
 ghost use Rattle.call_rules.specs.Free.{offsetOf};
 ghost use Rattle.call_rules.specs.Drop.{firstAddressRefusal};
 ghost use Rattle.call_drop_addresses.specs.TestedTable.{RunsFit, tableWithoutRun};
+use class_rules::SUPERBLOCK_BYTES;
+use heap_rules::RUN_OWNER;
 use heap_rules::State;
 use heap_rules::Superblock;
+use heap_rules::TABLE_LENGTH;
+use heap_rules::UNUSED_OWNER;
+use refusal_rules::ADDRESS_UNMAPPED;
 
 // The refusal of the first bad address, or 0. A free clears the mark of its block, or makes the superblocks of its run unused, and no later address
 // tells the rest of it: so much in a copy of the table is enough to refuse a block that comes twice. What lies past the table lies past N superblocks
 // too.
 pub fn first_address_refusal(s: State, addresses: &[u32]) -> u8
-    requires { ⌜ (s .setup .superblocks ≤ 64) × RunsFit (s .table) ⌝ }
+    requires { ⌜ (s .setup .superblocks ≤ tableLength) × RunsFit (s .table) ⌝ }
     ensures { λ r. ⌜ r ≡ firstAddressRefusal s (now (addresses .entry)) ⌝ }
 {
     let mut t = s.table;
     let mut i: usize = 0;
     while i < addresses.len() {
         let address = addresses[i];
-        let k = (address / 4096) as usize;
-        if k >= 64 {
-            return 5;
+        let k = (address / SUPERBLOCK_BYTES) as usize;
+        if k >= TABLE_LENGTH {
+            return ADDRESS_UNMAPPED;
         }
         let b = t[k];
         let bad = block_refusal::refusal_in(s.setup.superblocks, b, address);
         if bad != 0 {
             return bad;
         }
-        if b.owner == 254 {
+        if b.owner == RUN_OWNER {
             t = without_run(t, k, b.run);
         } else {
             t[k] = without_mark(b, address);
@@ -56,12 +61,12 @@ fn without_mark(b: Superblock, address: u32) -> Superblock
 }
 
 // The table with the n superblocks from k on unused.
-fn without_run(table: [Superblock; 64], k: usize, n: u8) -> [Superblock; 64]
-    requires { ⌜ k + n ≤ 64 ⌝ }
+fn without_run(table: [Superblock; TABLE_LENGTH], k: usize, n: u8) -> [Superblock; TABLE_LENGTH]
+    requires { ⌜ k + n ≤ tableLength ⌝ }
     ensures { λ r. ⌜ r ≡ tableWithoutRun k n table ⌝ }
 {
     let unused = Superblock {
-        owner: 255,
+        owner: UNUSED_OWNER,
         class: 0,
         live: [0u64; 4],
         rank: 0,

@@ -9,7 +9,7 @@ use Rattle.base_laws.proofs.TestLaws.{T-of-true}
 use Rattle.heap_rules.specs.declared.State.{State}
 use Rattle.heap_rules.specs.declared.Moved.{Moved}
 use Rattle.heap_rules.specs.Table.{superblockAt}
-use Rattle.heap_rules.specs.Totals.{TotalsKept}
+use Rattle.heap_rules.specs.Totals.{heapCount, TotalsKept}
 use Rattle.heap_rules.specs.Ranks.{RanksFit}
 use Rattle.move_rules.specs.Moves.{invariantRestored}
 use Rattle.check_rules.specs.Check.{passes}
@@ -69,7 +69,7 @@ module _ (s : State) (order : List ℕ) (a : ℕ) (p : passes s order ≡ true) 
 
     pub freed-superblock : (superblockIndex a < 64)
         × (superblockIndex a + superblockHolding s a .run ≤ 64)
-        × (isInRun s a ≡ false → (superblockHolding s a .owner < 9) × (superblockHolding s a .class < 27))
+        × (isInRun s a ≡ false → (superblockHolding s a .owner < heapCount) × (superblockHolding s a .class < 27))
         × TotalsKept s
         × RanksFit s
     freed-superblock = (
@@ -81,11 +81,11 @@ module _ (s : State) (order : List ℕ) (a : ℕ) (p : passes s order ≡ true) 
     )
 
 -- so, of its owner and class as the code reads them, where the owner is not that of a run
-module _ (s : State) (a owner : ℕ) (e : owner ≡ superblockAt s (a / 4096) .owner) (other : owner ≡ 254 → ⊥) (of-heap : isInRun s a ≡ false → (superblockHolding s a .owner < 9) × (superblockHolding s a .class < 27)) where
+module _ (s : State) (a owner : ℕ) (e : owner ≡ superblockAt s (a / 4096) .owner) (other : owner ≡ 254 → ⊥) (of-heap : isInRun s a ≡ false → (superblockHolding s a .owner < heapCount) × (superblockHolding s a .class < 27)) where
   outside-run : isInRun s a ≡ false
   outside-run = outside-run-of-owner (superblockHolding s a) (λ q. other (e ∙ q))
 
-  pub freed-owner : owner < 9
+  pub freed-owner : owner < heapCount
   freed-owner = rw e (of-heap outside-run .0)
 
   pub freed-class : (class : ℕ) → class ≡ superblockAt s (a / 4096) .class → class < 27

@@ -2,14 +2,19 @@
 ghost use mathlib.Core.Path.{_≡_};
 ghost use mathlib.Core.Bool.{true, false};
 ghost use Prim.Native.Nat.{_+_, _≤_, _<_};
+ghost use Rattle.class_rules.specs.Classes.{classCount};
+ghost use Rattle.heap_rules.specs.Table.{tableLength};
 ghost use Rattle.check_rules.specs.Check.{passes};
-ghost use Rattle.heap_rules.specs.Totals.{TotalsKept};
+ghost use Rattle.heap_rules.specs.Totals.{heapCount, TotalsKept};
 ghost use Rattle.heap_rules.specs.Ranks.{RanksFit};
 ghost use Rattle.call_rules.specs.Answers.{After, HasNumberAndValuesOf};
 ghost use Rattle.call_rules.specs.Free.{superblockIndex, superblockHolding, isInRun, freedAt, freeUnchecked};
 use call_rules::Answer;
 use call_rules::Outcome;
+use class_rules::SUPERBLOCK_BYTES;
+use heap_rules::RUN_OWNER;
 use heap_rules::State;
+use refusal_rules::NO_SUCH_PROCESSOR;
 
 // The block at the address is free again, and the move rule is followed; or refusal 2, 5, 6 or 7.
 pub fn free(s: State, order: &mut [u16], processor: u8, address: u32) -> Answer
@@ -18,7 +23,7 @@ pub fn free(s: State, order: &mut [u16], processor: u8, address: u32) -> Answer
     ensures number_and_values { λ r. ⌜ HasNumberAndValuesOf (r .outcome) (freeUnchecked s (now (order .entry)) processor address .answer .outcome) ⌝ }
 {
     if !call_states::is_processor(s, processor) {
-        return call_outcomes::refuse(s, 2);
+        return call_outcomes::refuse(s, NO_SUCH_PROCESSOR);
     }
     let bad = block_refusal::refusal(s, address);
     if bad != 0 {
@@ -31,19 +36,19 @@ pub fn free(s: State, order: &mut [u16], processor: u8, address: u32) -> Answer
 // invariant of the owner's heap and class is restored. A run is of no heap and class: it becomes unused, and nothing moves.
 fn free_at(s: State, order: &mut [u16], address: u32) -> Answer
     requires { ⌜
-        (superblockIndex address < 64)
-        × (superblockIndex address + superblockHolding s address .run ≤ 64)
-        × (isInRun s address ≡ false → (superblockHolding s address .owner < 9) × (superblockHolding s address .class < 27))
+        (superblockIndex address < tableLength)
+        × (superblockIndex address + superblockHolding s address .run ≤ tableLength)
+        × (isInRun s address ≡ false → (superblockHolding s address .owner < heapCount) × (superblockHolding s address .class < classCount))
         × TotalsKept s
         × RanksFit s
         ⌝ }
     ensures { λ r. ⌜ record { answer = r; order = now (order .exit) } ≡ freedAt s (now (order .entry)) address ⌝ }
 {
-    let k = (address / 4096) as usize;
+    let k = (address / SUPERBLOCK_BYTES) as usize;
     let owner = heap_table::owner_at(s, k);
     let class = heap_table::class_at(s, k);
     let t = block_release::release_block(s, order, address);
-    if owner == 254 {
+    if owner == RUN_OWNER {
         return Answer {
             outcome: Outcome::Moves(0),
             state: t,

@@ -20,7 +20,7 @@ use Rattle.heap_rules.specs.declared.Superblock.{Superblock}
 use Rattle.heap_rules.specs.declared.State.{State}
 use Rattle.heap_rules.specs.Table.{superblockAt, isOfRun}
 use Rattle.heap_rules.specs.Counts.{belongs, superblocksOfClass}
-use Rattle.heap_rules.specs.Totals.{TotalsKept}
+use Rattle.heap_rules.specs.Totals.{heapCount, TotalsKept}
 use Rattle.heap_rules.specs.Ranks.{RanksFit}
 use Rattle.heap_laws.proofs.StateFacts.{Shape, RunsSound}
 use Rattle.heap_laws.proofs.CountLaws.{sum-from-heap-0}
@@ -175,7 +175,7 @@ run-fits s k sound l = go (isOfRun (superblockAt s k)) refl (ℕ-discrete (super
 
 -- the superblock at an address is of a heap and a class
 abbrev pub OfHeapAndClass : State → ℕ → Type 0
-OfHeapAndClass s a = (superblockHolding s a .owner < 9) × (superblockHolding s a .class < 27)
+OfHeapAndClass s a = (superblockHolding s a .owner < heapCount) × (superblockHolding s a .class < 27)
 
 -- outside runs it was before the frees where it is after them
 of-heap-and-class-before : (s t : State) (a : ℕ) → superblockIndex a < 64 → OwnersKeptOrRunFreed s t → ((m : ℕ) → m < 64 → superblockAt t m .class ≡ superblockAt s m .class)
@@ -186,7 +186,7 @@ of-heap-and-class-before s t a l owners classes there outside = go (owners (supe
     go : (superblockHolding t a .owner ≡ superblockHolding s a .owner) ⊎ ((superblockHolding s a .owner ≡ 254) × (superblockHolding t a .owner ≡ 255)) → OfHeapAndClass s a
     go (inl e) =
         let is = there (ap (λ (o : ℕ). eqb o 254) e ∙ outside) in
-        (subst (λ (h : ℕ). h < 9) e (is .0), subst (λ (c : ℕ). c < 27) (classes (superblockIndex a) l) (is .1))
+        (subst (λ (h : ℕ). h < heapCount) e (is .0), subst (λ (c : ℕ). c < 27) (classes (superblockIndex a) l) (is .1))
     go (inr (was, now)) = absurd (eqb-false (superblockHolding s a .owner) 254 outside was)
 
 -- each address of a drop that meets no refusal lies in the table, in a superblock that a heap owns where it was in no run before the drop; in the state before its free

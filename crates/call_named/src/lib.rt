@@ -7,6 +7,9 @@ ghost use Rattle.call_rules.specs.Answers.{After, HasNumberAndValuesOf};
 ghost use Rattle.call_rules.specs.Named.{namedTakeUnchecked, namedFreeUnchecked};
 use call_rules::Answer;
 use heap_rules::State;
+use refusal_rules::NAME_NOT_HELD;
+use refusal_rules::NAME_UNAVAILABLE;
+use refusal_rules::NO_SUCH_PROCESSOR;
 
 // The address of a block or a run for the size, with the name bound to it; or refusal 2, 14, 4 or 17.
 pub fn take(s: State, order: &mut [u16], processor: u8, name: u16, size: u16) -> Answer
@@ -16,10 +19,10 @@ pub fn take(s: State, order: &mut [u16], processor: u8, name: u16, size: u16) ->
 {
     let names = s.names;
     if !call_states::is_processor(s, processor) {
-        return call_outcomes::refuse(s, 2);
+        return call_outcomes::refuse(s, NO_SUCH_PROCESSOR);
     }
     if names_table::is_unavailable(names, name) {
-        return call_outcomes::refuse(s, 14);
+        return call_outcomes::refuse(s, NAME_UNAVAILABLE);
     }
     let plain = call_take::take(s, order, processor, size);
     let outcome = plain.outcome;
@@ -40,10 +43,10 @@ pub fn free(s: State, order: &mut [u16], processor: u8, name: u16) -> Answer
 {
     let held = s.names;
     if !call_states::is_processor(s, processor) {
-        return call_outcomes::refuse(s, 2);
+        return call_outcomes::refuse(s, NO_SUCH_PROCESSOR);
     }
     if !names_table::is_held(held, name) {
-        return call_outcomes::refuse(s, 15);
+        return call_outcomes::refuse(s, NAME_NOT_HELD);
     }
     let address = block_name::held_address(s, name);
     call_free::free(s, order, processor, address)

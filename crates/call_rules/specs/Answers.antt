@@ -6,6 +6,8 @@ use mathlib.Core.List.{List, [], _∷_}
 use lib.ListN.{length}
 use lib.Dec.{leb}
 use Rattle.base_laws.specs.Sums.{pick}
+use Rattle.order_rules.specs.Order.{placesEach}
+use Rattle.refusal_rules.specs.Refusals.{storageTooSmall, stateInvalid}
 use Rattle.heap_rules.specs.declared.State.{State}
 use Rattle.check_rules.specs.Check.{within, withinLimits, restValid, passes}
 use Rattle.call_rules.specs.declared.Answer.{Answer}
@@ -53,11 +55,11 @@ refused r s order = record { answer = record { outcome = Refused r; state = s };
 unfoldable pub checked : State → List ℕ → After → After
 checked s order next =
     pick (withinLimits (s .setup))
-    (pick (leb (s .setup .superblocks * 256) (length order))
+    (pick (leb (s .setup .superblocks * placesEach) (length order))
     (pick (restValid s order) next
-    (refused 13 s order))
-    (refused 12 s order))
-    (refused 13 s order)
+    (refused stateInvalid s order))
+    (refused storageTooSmall s order))
+    (refused stateInvalid s order)
 
 -- refusal 2 (bench word: processor): "0 or above P"
 unfoldable pub isProcessor : State → ℕ → Bool

@@ -5,6 +5,8 @@ use mathlib.Core.List.{List, [], _∷_, _++_}
 use lib.ListN.{length}
 use lib.Dec.{eqb}
 use Rattle.base_laws.specs.Sums.{pick, either}
+use Rattle.class_rules.specs.Classes.{classCount}
+use Rattle.refusal_rules.specs.Refusals.{noSuchProcessor, dropEmpty}
 use Rattle.heap_rules.specs.declared.State.{State}
 use Rattle.heap_rules.specs.declared.Moved.{Moved}
 use Rattle.heap_rules.specs.Counts.{belongs}
@@ -53,7 +55,7 @@ touchedClasses touched h (suc c) = touchedClasses touched h c ++ pick (touched h
 -- "each processor heap and class touched, heaps then classes rising": those of the processor heaps 1 to n; heap 0 is none
 unfoldable pub touchedPairs : (ℕ → ℕ → Bool) → ℕ → List Pair
 touchedPairs touched zero = []
-touchedPairs touched (suc h) = touchedPairs touched h ++ touchedClasses touched (suc h) 27
+touchedPairs touched (suc h) = touchedPairs touched h ++ touchedClasses touched (suc h) classCount
 
 -- one after another
 unfoldable pub eachRestored : List Pair → Moved → Moved
@@ -74,8 +76,8 @@ droppedAll s order addresses =
 -- meet none of 5, 6, 7"; "A refused drop frees nothing and gives the refusal of its first bad address."
 unfoldable pub dropUnchecked : State → List ℕ → ℕ → List ℕ → After
 dropUnchecked s order i addresses =
-    pick (not (isProcessor s i)) (refused 2 s order)
-    (pick (eqb (length addresses) 0) (refused 16 s order)
+    pick (not (isProcessor s i)) (refused noSuchProcessor s order)
+    (pick (eqb (length addresses) 0) (refused dropEmpty s order)
     (pick (eqb (firstAddressRefusal s addresses) 0) (droppedAll s order addresses)
     (refused (firstAddressRefusal s addresses) s order)))
 

@@ -2,6 +2,7 @@
 use Prim.Native.Nat.{ℕ, zero, suc}
 use mathlib.Core.Bool.{Bool}
 use Rattle.base_laws.specs.Sums.{pick}
+use Rattle.class_rules.specs.Classes.{classCount}
 use Rattle.heap_rules.specs.declared.Moved.{Moved}
 use Rattle.call_rules.specs.Drop.{thenRestored}
 
@@ -13,4 +14,4 @@ classesRestored touched h (suc c) before = pick (touched h c) (thenRestored h c 
 -- those of the processor heaps 1 to n
 unfoldable pub heapsRestored : (ℕ → ℕ → Bool) → ℕ → Moved → Moved
 heapsRestored touched zero before = before
-heapsRestored touched (suc h) before = classesRestored touched (suc h) 27 (heapsRestored touched h before)
+heapsRestored touched (suc h) before = classesRestored touched (suc h) classCount (heapsRestored touched h before)

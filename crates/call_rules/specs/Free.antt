@@ -4,13 +4,14 @@ use mathlib.Core.Bool.{Bool, not}
 use mathlib.Core.List.{List}
 use lib.Dec.{eqb, leb, ltb}
 use Rattle.base_laws.specs.Sums.{pick, both, either}
-use Rattle.class_rules.specs.Classes.{sizeOf, blocksOf}
+use Rattle.class_rules.specs.Classes.{superblockBytes, sizeOf, blocksOf}
 use Rattle.marks_rules.specs.Marks.{isMarked}
 use Rattle.names_rules.specs.Names.{notHeld, blockNumber, withoutBlock}
 use Rattle.order_rules.specs.Order.{withPlace}
+use Rattle.refusal_rules.specs.Refusals.{noSuchProcessor, addressUnmapped, addressMisaligned, blockNotLive}
 use Rattle.heap_rules.specs.declared.Superblock.{Superblock}
 use Rattle.heap_rules.specs.declared.State.{State}
-use Rattle.heap_rules.specs.Table.{superblockAt, liveIn, isUnused, isOfRun, startsRun, liveBlocks, withoutMarkAt}
+use Rattle.heap_rules.specs.Table.{tableLength, superblockAt, liveIn, isUnused, isOfRun, startsRun, liveBlocks, withoutMarkAt}
 use Rattle.heap_rules.specs.States.{withSuperblock, withNames}
 use Rattle.heap_rules.specs.Ranks.{rankedLatest}
 use Rattle.move_rules.specs.Moves.{invariantRestored}
@@ -20,10 +21,10 @@ use Rattle.call_rules.specs.declared.Outcome.the-variants.{Moves}
 
 -- "Superblock s .. covers addresses s × 4096 to s × 4096 + 4095"
 abbrev pub superblockIndex : ℕ → ℕ
-superblockIndex a = a / 4096
+superblockIndex a = a / superblockBytes
 
 abbrev pub offsetOf : ℕ → ℕ
-offsetOf a = a % 4096
+offsetOf a = a % superblockBytes
 
 -- the superblock that an address lies in
 abbrev pub superblockHolding : State → ℕ → Superblock
@@ -35,7 +36,7 @@ blockOf s a = offsetOf a / sizeOf (superblockHolding s a .class)
 
 -- refusal 5 (bench word: astray): "address at or past N × 4096, or in an unused superblock"
 unfoldable pub isUnmapped : State → ℕ → Bool
-isUnmapped s a = either (leb (s .setup .superblocks * 4096) a) (isUnused (superblockHolding s a))
+isUnmapped s a = either (leb (s .setup .superblocks * superblockBytes) a) (isUnused (superblockHolding s a))
 
 -- the address lies in a long block's run (document 02, item 7)
 abbrev pub isInRun : State → ℕ → Bool
@@ -60,7 +61,7 @@ isLiveAt s a = isMarked (liveBlocks (superblockHolding s a)) (blockOf s a)
 
 -- the refusal that an address meets: "5, 6, 7" in this order, or 0 where a live block starts there
 unfoldable pub addressRefusal : State → ℕ → ℕ
-addressRefusal s a = pick (isUnmapped s a) 5 (pick (isMisaligned s a) 6 (pick (isLiveAt s a) 0 7))
+addressRefusal s a = pick (isUnmapped s a) addressUnmapped (pick (isMisaligned s a) addressMisaligned (pick (isLiveAt s a) 0 blockNotLive))
 
 -- "The block's mark is cleared"
 unfoldable pub markCleared : State → ℕ → State
@@ -76,7 +77,7 @@ orderPushed s order a = pick (isInRun s a) order (blockPushed s order a)
 
 -- the number by which a name points at the block at an address; past the table there is none
 unfoldable pub blockNumberAt : State → ℕ → ℕ
-blockNumberAt s a = pick (ltb (superblockIndex a) 64) (blockNumber (superblockIndex a) (blockOf s a)) notHeld
+blockNumberAt s a = pick (ltb (superblockIndex a) tableLength) (blockNumber (superblockIndex a) (blockOf s a)) notHeld
 
 -- a block of a class is freed: its superblock, in whatever heap, is the last freed into (document 02, item 4), its mark is cleared, and its name let
 -- go: "A name holds from its take until its block is freed by either command" (item 2)
@@ -112,10 +113,10 @@ freedAt s order a = pick (isInRun s a) (longFreedAt s order a) (smallFreedAt s o
 -- a free behind the check, on any state: "and free 2, 5, 6, 7"; "The processor has no other effect."
 unfoldable pub freeUnchecked : State → List ℕ → ℕ → ℕ → After
 freeUnchecked s order i a =
-    pick (not (isProcessor s i)) (refused 2 s order)
-    (pick (isUnmapped s a) (refused 5 s order)
-    (pick (isMisaligned s a) (refused 6 s order)
-    (pick (not (isLiveAt s a)) (refused 7 s order)
+    pick (not (isProcessor s i)) (refused noSuchProcessor s order)
+    (pick (isUnmapped s a) (refused addressUnmapped s order)
+    (pick (isMisaligned s a) (refused addressMisaligned s order)
+    (pick (not (isLiveAt s a)) (refused blockNotLive s order)
     (freedAt s order a))))
 
 -- "Take or free: 13 for setup numbers, 12, the rest of 13; .. and free 2, 5, 6, 7"

@@ -3,6 +3,8 @@ use Prim.Native.Nat.{ℕ, zero, suc, _+_, _*_}
 use mathlib.Core.List.{List}
 use lib.Dec.{eqb}
 use Rattle.base_laws.specs.Sums.{pick}
+use Rattle.class_rules.specs.Classes.{superblockBytes}
+use Rattle.refusal_rules.specs.Refusals.{noRun}
 use Rattle.heap_rules.specs.declared.State.{State}
 use Rattle.heap_rules.specs.declared.Found.{Found}
 use Rattle.heap_rules.specs.declared.Found.the-variants.{At, Nothing}
@@ -28,12 +30,12 @@ runTaken k n s = eachOfRun (joinedToRun k n) k n s
 
 -- "The block's address is the start of the run"; "order places keep what they had"
 unfoldable pub longTakenFrom : ℕ → ℕ → State → List ℕ → After
-longTakenFrom k n s order = record { answer = record { outcome = Address (k * 4096); state = runTaken k n s }; order = order }
+longTakenFrom k n s order = record { answer = record { outcome = Address (k * superblockBytes); state = runTaken k n s }; order = order }
 
 -- the run that was found, n superblocks long; refusal 17, "no such run, given exactly then and in place of 4 for a long size"
 unfoldable pub longTakenAt : ℕ → State → List ℕ → Found → After
 longTakenAt n s order (At k) = longTakenFrom k n s order
-longTakenAt n s order Nothing = refused 17 s order
+longTakenAt n s order Nothing = refused noRun s order
 
 -- superblock m becomes unused
 unfoldable pub madeUnused : ℕ → State → State

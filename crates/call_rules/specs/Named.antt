@@ -4,7 +4,8 @@ use Prim.Native.Nat.{ℕ, _/_, _%_}
 use mathlib.Core.Bool.{Bool, not}
 use mathlib.Core.List.{List}
 use Rattle.base_laws.specs.Sums.{pick, either}
-use Rattle.names_rules.specs.Names.{isName, blockNamed, isHeld, withName}
+use Rattle.names_rules.specs.Names.{numbersEach, isName, blockNamed, isHeld, withName}
+use Rattle.refusal_rules.specs.Refusals.{noSuchProcessor, nameUnavailable, nameNotHeld}
 use Rattle.heap_rules.specs.declared.State.{State}
 use Rattle.heap_rules.specs.Table.{superblockAt}
 use Rattle.heap_rules.specs.States.{withNames}
@@ -40,8 +41,8 @@ withNameBound m after =
 -- a named take behind the check, on any state: 14 "after 2 and before 3", then what the plain take does
 unfoldable pub namedTakeUnchecked : State → List ℕ → ℕ → ℕ → ℕ → After
 namedTakeUnchecked s order i m size =
-    pick (not (isProcessor s i)) (refused 2 s order)
-    (pick (isUnavailable s m) (refused 14 s order)
+    pick (not (isProcessor s i)) (refused noSuchProcessor s order)
+    (pick (isUnavailable s m) (refused nameUnavailable s order)
     (withNameBound m (takeUnchecked s order i size)))
 
 unfoldable pub namedTakeOf : State → List ℕ → ℕ → ℕ → ℕ → After
@@ -51,13 +52,13 @@ namedTakeOf s order i m size = checked s order (namedTakeUnchecked s order i m s
 unfoldable pub heldAddress : State → ℕ → ℕ
 heldAddress s m =
     let b = blockNamed (s .names) m in
-    addressOf (b / 256) (superblockAt s (b / 256) .class) (b % 256)
+    addressOf (b / numbersEach) (superblockAt s (b / numbersEach) .class) (b % numbersEach)
 
 -- a named free behind the check, on any state: refusal 15, "name not held, .. after 2", then what "a free with the held address" does
 unfoldable pub namedFreeUnchecked : State → List ℕ → ℕ → ℕ → After
 namedFreeUnchecked s order i m =
-    pick (not (isProcessor s i)) (refused 2 s order)
-    (pick (not (isHeld (s .names) m)) (refused 15 s order)
+    pick (not (isProcessor s i)) (refused noSuchProcessor s order)
+    (pick (not (isHeld (s .names) m)) (refused nameNotHeld s order)
     (freeUnchecked s order i (heldAddress s m)))
 
 unfoldable pub namedFreeOf : State → List ℕ → ℕ → ℕ → After

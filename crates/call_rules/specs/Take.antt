@@ -4,9 +4,10 @@ use mathlib.Core.Bool.{not}
 use mathlib.Core.List.{List}
 use lib.Dec.{eqb}
 use Rattle.base_laws.specs.Sums.{pick}
-use Rattle.class_rules.specs.Classes.{sizeOf, blocksOf, classOf, isLong, runLength, isTooLarge}
+use Rattle.class_rules.specs.Classes.{superblockBytes, sizeOf, blocksOf, classOf, isLong, runLength, isTooLarge}
 use Rattle.marks_rules.specs.Marks.{noMarks}
 use Rattle.order_rules.specs.Order.{lastFilled, renewed}
+use Rattle.refusal_rules.specs.Refusals.{noSuchProcessor, sizeTooLarge, noSuperblock}
 use Rattle.heap_rules.specs.declared.Superblock.{Superblock}
 use Rattle.heap_rules.specs.declared.State.{State}
 use Rattle.heap_rules.specs.declared.Found.{Found}
@@ -48,7 +49,7 @@ nextBlock s order k = lastFilled order k (blocksOf (superblockAt s k .class) - l
 
 -- "Block j of it starts at s × 4096 + j × block size."
 unfoldable pub addressOf : ℕ → ℕ → ℕ → ℕ
-addressOf k c j = k * 4096 + j * sizeOf c
+addressOf k c j = k * superblockBytes + j * sizeOf c
 
 -- "The block in the last filled place of its order is taken and marked live; that place keeps its number."
 unfoldable pub takenFrom : ℕ → State → List ℕ → After
@@ -71,14 +72,14 @@ takenFromOther i c k s order =
 unfoldable pub takenAt : ℕ → ℕ → State → List ℕ → Found → Found → After
 takenAt i c s order (At k) other = takenFrom k s order
 takenAt i c s order Nothing (At k) = takenFromOther i c k s order
-takenAt i c s order Nothing Nothing = refused 4 s order
+takenAt i c s order Nothing Nothing = refused noSuperblock s order
 
 -- a take behind the check, on any state: "then take 2, 3, 4"; refusal 3 (bench word: size) "can no longer be met" by a size of 16 bits, and a long size
 -- takes a run (document 02, item 7)
 unfoldable pub takeUnchecked : State → List ℕ → ℕ → ℕ → After
 takeUnchecked s order i size =
-    pick (not (isProcessor s i)) (refused 2 s order)
-    (pick (isTooLarge size) (refused 3 s order)
+    pick (not (isProcessor s i)) (refused noSuchProcessor s order)
+    (pick (isTooLarge size) (refused sizeTooLarge s order)
     (pick (isLong size) (longTakenAt (runLength size) s order (lowestRun (runLength size) s))
     (takenAt i (classOf size) s order (fullest i (classOf size) s) (otherPlaces (classOf size) s))))
 

@@ -1,13 +1,18 @@
 // Whole states, and the test of a processor.
 ghost use mathlib.Core.Path.{_≡_};
 ghost use lib.ListN.{replicate};
-ghost use Rattle.heap_rules.specs.Table.{unused};
+ghost use Rattle.heap_rules.specs.Table.{tableLength, unused};
 ghost use Rattle.heap_rules.specs.States.{noState, newState};
 ghost use Rattle.call_rules.specs.Answers.{isProcessor};
 use heap_rules::Setup;
 use heap_rules::State;
 use heap_rules::Superblock;
+use heap_rules::TABLE_LENGTH;
+use heap_rules::TOTAL_COUNT;
 use heap_rules::Totals;
+use heap_rules::UNUSED_OWNER;
+use names_rules::NAME_COUNT;
+use names_rules::NOT_HELD;
 
 // The processor is one of the setup's.
 pub fn is_processor(s: State, processor: u8) -> bool
@@ -24,7 +29,7 @@ pub fn new_state(u: Setup) -> State
     ensures { λ r. ⌜ r ≡ newState u ⌝ }
 {
     let b = Superblock {
-        owner: 255,
+        owner: UNUSED_OWNER,
         class: 0,
         live: [0u64; 4],
         rank: 0,
@@ -32,11 +37,11 @@ pub fn new_state(u: Setup) -> State
     };
     State {
         setup: u,
-        table: [b; 64],
-        names: [65535u16; 1024],
+        table: [b; TABLE_LENGTH],
+        names: [NOT_HELD; NAME_COUNT],
         totals: Totals {
-            superblocks: [0u8; 243],
-            live: [0u16; 243],
+            superblocks: [0u8; TOTAL_COUNT],
+            live: [0u16; TOTAL_COUNT],
         },
     }
 }
@@ -55,8 +60,8 @@ pub fn no_state() -> State
 }
 
 // A table of unused superblocks.
-pub fn unused_table() -> [Superblock; 64]
-    ensures { λ r. ⌜ r ≡ replicate 64 unused ⌝ }
+pub fn unused_table() -> [Superblock; TABLE_LENGTH]
+    ensures { λ r. ⌜ r ≡ replicate tableLength unused ⌝ }
 {
     let s = no_state();
     s.table

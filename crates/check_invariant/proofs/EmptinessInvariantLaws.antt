@@ -72,14 +72,14 @@ module _ (u : Setup) (t : Totals) (h : ℕ) where
 
 -- ---- all heaps of which totals are kept
 module _ (u : Setup) (t : Totals) (h : ℕ) where
-  pub totals-invariant-false-of-heap : (r : Bool) → h < 9 → r ≡ heapInvariant u t h → not r ≡ true → false ≡ totalsInvariant u t
+  pub totals-invariant-false-of-heap : (r : Bool) → h < heapCount → r ≡ heapInvariant u t h → not r ≡ true → false ≡ totalsInvariant u t
   unfolding totalsInvariant
   totals-invariant-false-of-heap r l e f = all-false (heapInvariant u t) heapCount h l (sym e ∙ not-true r f)
 
   pub heap-invariants-step : (r : Bool) → r ≡ heapInvariant u t h → not r ≡ false → ((i : ℕ) → i < h → T (heapInvariant u t i)) → (i : ℕ) → i < h + 1 → T (heapInvariant u t i)
   heap-invariants-step r e f below = below-more (λ i. T (heapInvariant u t i)) h below (T-of-true _ (sym e ∙ not-false r f))
 
-  pub totals-invariant-of-all-heaps : 9 ≤ h → ((i : ℕ) → i < h → T (heapInvariant u t i)) → true ≡ totalsInvariant u t
+  pub totals-invariant-of-all-heaps : heapCount ≤ h → ((i : ℕ) → i < h → T (heapInvariant u t i)) → true ≡ totalsInvariant u t
   unfolding totalsInvariant
   totals-invariant-of-all-heaps l each = all-true (heapInvariant u t) heapCount (λ i li. each i (omega arith))
 

@@ -3,7 +3,7 @@ use mathlib.Core.Bool.{Bool, not}
 use Prim.Native.Nat.{ℕ, _*_}
 use lib.ListN.{getD}
 use Rattle.base_laws.specs.Sums.{either, allBelow}
-use Rattle.class_rules.specs.Classes.{blocksOf}
+use Rattle.class_rules.specs.Classes.{classCount, blocksOf}
 use Rattle.heap_rules.specs.declared.Setup.{Setup}
 use Rattle.heap_rules.specs.declared.Totals.{Totals}
 use Rattle.heap_rules.specs.Totals.{heapCount, totalIndex}
@@ -20,7 +20,7 @@ classInvariant u t h c = pairInvariant u c (getD (t .superblocks) (totalIndex h 
 
 -- heap h is no processor's, or keeps it in each class
 unfoldable pub heapInvariant : Setup → Totals → ℕ → Bool
-heapInvariant u t h = either (not (within 1 (u .processors) h)) (allBelow (classInvariant u t h) 27)
+heapInvariant u t h = either (not (within 1 (u .processors) h)) (allBelow (classInvariant u t h) classCount)
 
 -- all heaps of which totals are kept
 unfoldable pub totalsInvariant : Setup → Totals → Bool

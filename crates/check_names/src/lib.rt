@@ -4,11 +4,21 @@
 ghost use mathlib.Core.Path.{_≡_};
 ghost use Rattle.check_rules.specs.Check.{namesValid};
 ghost use Rattle.check_names.specs.NameScan.{heldCount, eachHasAMark};
+use check_live_marks::TABLE_WORDS;
 use check_live_marks::marks_of_table;
 use heap_rules::State;
+use marks_rules::BITS_OF_WORD;
+use names_rules::NAME_COUNT;
+use names_rules::NOT_HELD;
+
+// What stands for a name that is not held, in the width of an index.
+const NO_BLOCK: usize = NOT_HELD as usize;
+
+// The numbers that the blocks of a table have: 0 up to this.
+const NUMBER_COUNT: usize = TABLE_WORDS * BITS_OF_WORD;
 
 // Each held name finds its block's mark, which it takes out. Past the last held name nothing is left to find.
-fn each_has_a_mark(marks: [u64; 256], names: [u16; 1024], held: u16) -> bool
+fn each_has_a_mark(marks: [u64; TABLE_WORDS], names: [u16; NAME_COUNT], held: u16) -> bool
     requires { ⌜ held ≡ heldCount names ⌝ }
     ensures { λ r. ⌜ r ≡ eachHasAMark marks names ⌝ }
 {
@@ -17,12 +27,12 @@ fn each_has_a_mark(marks: [u64; 256], names: [u16; 1024], held: u16) -> bool
     let mut i: usize = 0;
     while 0 < to_find {
         let x = names[i] as usize;
-        if x != 65535 {
-            if 16384 <= x {
+        if x != NO_BLOCK {
+            if NUMBER_COUNT <= x {
                 return false;
             }
-            let w = x / 64;
-            let b = x % 64;
+            let w = x / BITS_OF_WORD;
+            let b = x % BITS_OF_WORD;
             let m = left[w];
             if (m >> b) % 2 == 0 {
                 return false;
@@ -41,8 +51,8 @@ pub fn names_valid(s: State) -> bool
 {
     let mut held: u16 = 0;
     let mut i: usize = 0;
-    while i < 1024 {
-        if s.names[i] != 65535 {
+    while i < NAME_COUNT {
+        if s.names[i] != NOT_HELD {
             held += 1;
         }
         i += 1;

@@ -12,7 +12,7 @@ use Rattle.marks_laws.proofs.MarkLaws.{live-count-le-256}
 use Rattle.heap_rules.specs.declared.Superblock.{Superblock}
 use Rattle.heap_rules.specs.declared.Totals.{Totals}
 use Rattle.heap_rules.specs.Table.{blank, liveIn}
-use Rattle.heap_rules.specs.Totals.{withCounted, countedBelow, recounted}
+use Rattle.heap_rules.specs.Totals.{totalCount, withCounted, countedBelow, recounted}
 use Rattle.heap_laws.proofs.TotalsLaws.{length-counted-below, counted-below-at-most}
 use Rattle.heap_totals.specs.OneSuperblock.{indexOf}
 use Rattle.heap_totals.proofs.OneSuperblockLaws.{with-counted-of-index, with-counted-of-no-index}
@@ -21,8 +21,8 @@ use Rattle.heap_totals.proofs.OneSuperblockLaws.{with-counted-of-index, with-co
 pub record RecountedBelow (table : List Superblock) (k : ℕ) (superblocks live : List ℕ) : Type 0 where
   pub superblocks-are : superblocks ≡ countedBelow (λ b. 1) table k
   pub live-are : live ≡ countedBelow liveIn table k
-  pub superblocks-length : length superblocks ≡ 243
-  pub live-length : length live ≡ 243
+  pub superblocks-length : length superblocks ≡ totalCount
+  pub live-length : length live ≡ totalCount
 
 recounted-below : (table : List Superblock) (k : ℕ) (superblocks live : List ℕ) → superblocks ≡ countedBelow (λ b. 1) table k → live ≡ countedBelow liveIn table k → RecountedBelow table k superblocks live
 recounted-below table k superblocks live p q =
@@ -33,14 +33,14 @@ recounted-below table k superblocks live p q =
       live-length = ap length q ∙ length-counted-below liveIn table k;
     }
 
-pub recounted-below-0 : (table : List Superblock) (k : ℕ) (superblocks live : List ℕ) → k ≡ 0 → superblocks ≡ replicate 243 0 → live ≡ replicate 243 0 → RecountedBelow table k superblocks live
+pub recounted-below-0 : (table : List Superblock) (k : ℕ) (superblocks live : List ℕ) → k ≡ 0 → superblocks ≡ replicate totalCount 0 → live ≡ replicate totalCount 0 → RecountedBelow table k superblocks live
 unfolding countedBelow
 recounted-below-0 table k superblocks live z p q = rw z (recounted-below table 0 superblocks live p q)
 
 module _ (table : List Superblock) (k x : ℕ) (superblocks live : List ℕ) (before : RecountedBelow table k superblocks live)
     (at : x ≡ indexOf (getD table k blank .owner) (getD table k blank .class)) where
   -- a superblock that has a heap and a class
-  pub recounted-below-counted : (n : ℕ) (superblocks' live' : List ℕ) → x < 243 → n ≡ liveIn (getD table k blank) → superblocks' ≡ set superblocks x (getD superblocks x 0 + 1) → live' ≡ set live x (getD live x 0 + n)
+  pub recounted-below-counted : (n : ℕ) (superblocks' live' : List ℕ) → x < totalCount → n ≡ liveIn (getD table k blank) → superblocks' ≡ set superblocks x (getD superblocks x 0 + 1) → live' ≡ set live x (getD live x 0 + n)
       → RecountedBelow table (k + 1) superblocks' live'
   unfolding countedBelow
   recounted-below-counted n superblocks' live' l e p q =
@@ -51,7 +51,7 @@ module _ (table : List Superblock) (k x : ℕ) (superblocks live : List ℕ) (be
       (q ∙ with-counted-of-index b x at liveIn live n l e ∙ ap (withCounted liveIn b) (before .live-are)))
 
   -- any other
-  pub recounted-below-not-counted : (superblocks' live' : List ℕ) → 243 ≤ x → superblocks' ≡ superblocks → live' ≡ live → RecountedBelow table (k + 1) superblocks' live'
+  pub recounted-below-not-counted : (superblocks' live' : List ℕ) → totalCount ≤ x → superblocks' ≡ superblocks → live' ≡ live → RecountedBelow table (k + 1) superblocks' live'
   unfolding countedBelow
   recounted-below-not-counted superblocks' live' l p q =
       let b = getD table k blank in

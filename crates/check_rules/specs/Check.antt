@@ -5,15 +5,15 @@ use mathlib.Core.List.{List, [], _∷_}
 use lib.Dec.{eqb, leb, ltb}
 use Rattle.base_laws.specs.Sums.{pick, both, either, one, allBelow}
 use Rattle.base_laws.specs.Lists.{sameNumbers}
-use Rattle.class_rules.specs.Classes.{blocksOf}
+use Rattle.class_rules.specs.Classes.{classCount, longestRun, blocksOf}
 use Rattle.filled_rules.specs.FilledPlaces.{placesValid}
 use Rattle.heap_rules.specs.declared.Superblock.{Superblock}
 use Rattle.heap_rules.specs.declared.Setup.{Setup}
 use Rattle.heap_rules.specs.declared.Totals.{Totals}
 use Rattle.heap_rules.specs.declared.State.{State}
 use Rattle.names_rules.specs.Names.{eachHeld, noTwoAtOne}
-use Rattle.heap_rules.specs.Table.{superblockAt, liveIn, isUnused, isOfRun, isLiveBlock}
-use Rattle.heap_rules.specs.Totals.{recounted}
+use Rattle.heap_rules.specs.Table.{tableLength, superblockAt, liveIn, isUnused, isOfRun, isLiveBlock}
+use Rattle.heap_rules.specs.Totals.{mostProcessors, recounted}
 use Rattle.heap_rules.specs.Counts.{total}
 use Rattle.heap_rules.specs.Ranks.{isRanked}
 use Rattle.move_rules.specs.Moves.{mustMove}
@@ -25,8 +25,8 @@ within a b x = both (leb a x) (leb x b)
 -- "P 1 to 8, N 1 to 64, K 1 to 16, p 1 to q - 1, q 2 to 8"
 unfoldable pub withinLimits : Setup → Bool
 withinLimits u =
-    both (within 1 8 (u .processors))
-    (both (within 1 64 (u .superblocks))
+    both (within 1 mostProcessors (u .processors))
+    (both (within 1 tableLength (u .superblocks))
     (both (within 1 16 (u .spare))
     (both (both (leb 1 (u .p)) (ltb (u .p) (u .q)))
     (within 2 8 (u .q)))))
@@ -38,7 +38,7 @@ isPartOfRun b = both (isOfRun b) (both (eqb (b .class) 0) (eqb (liveIn b) 0))
 -- "of owner 0 to P and class 0 to 26; no mark at n or above; in an owned superblock the filled order places hold each unmarked block below n just
 -- once"
 unfoldable pub isOwned : Setup → List ℕ → ℕ → Superblock → Bool
-isOwned u order k b = both (leb (b .owner) (u .processors)) (both (ltb (b .class) 27) (placesValid order (b .live) k (blocksOf (b .class))))
+isOwned u order k b = both (leb (b .owner) (u .processors)) (both (ltb (b .class) classCount) (placesValid order (b .live) k (blocksOf (b .class))))
 
 -- no heap owns the superblock: it is "unused as above", or part of a run
 unfoldable pub isUnowned : Superblock → Bool
@@ -54,7 +54,7 @@ unusedFrom n k b = either (ltb k n) (isUnused b)
 
 -- the emptiness invariant of the processor heaps: "no processor heap and class meets both conditions of the move rule"
 unfoldable pub emptinessInvariant : State → Bool
-emptinessInvariant s = allBelow (λ i. allBelow (λ c. not (mustMove (suc i) c s)) 27) (s .setup .processors)
+emptinessInvariant s = allBelow (λ i. allBelow (λ c. not (mustMove (suc i) c s)) classCount) (s .setup .processors)
 
 -- "each superblock of heap 0 has q × live < (q - p) × n"
 unfoldable pub sparseIfGlobal : Setup → Superblock → Bool
@@ -85,7 +85,7 @@ carrying r s = total (λ b. one (eqb (b .rank) r)) (s .table)
 unfoldable pub ranksValid : State → Bool
 ranksValid s =
     both (allBelow (λ r. eqb (carrying (suc r) s) 1) (rankedCount s))
-    (allBelow (λ k. not (both (isUnowned (superblockAt s k)) (isRanked (superblockAt s k)))) 64)
+    (allBelow (λ k. not (both (isUnowned (superblockAt s k)) (isRanked (superblockAt s k)))) tableLength)
 
 -- "The first carries the run's length, every other superblock 0. The state check tests .. that runs are whole and at most 16 long" (document 02,
 -- item 7): the superblocks of a table from one on, read in order, where so many of a run are still to come. Behind the last of a run begins
@@ -93,7 +93,7 @@ ranksValid s =
 unfoldable pub runsWhole : ℕ → List Superblock → Bool
 runsWhole zero [] = true
 runsWhole (suc left) [] = false
-runsWhole zero (b ∷ table) = pick (isOfRun b) (both (within 1 16 (b .run)) (runsWhole (b .run - 1) table)) (both (eqb (b .run) 0) (runsWhole 0 table))
+runsWhole zero (b ∷ table) = pick (isOfRun b) (both (within 1 longestRun (b .run)) (runsWhole (b .run - 1) table)) (both (eqb (b .run) 0) (runsWhole 0 table))
 runsWhole (suc left) (b ∷ table) = both (isOfRun b) (both (eqb (b .run) 0) (runsWhole left table))
 
 -- all of a state's; "all below N" with that, since superblocks from N on are unused
@@ -103,10 +103,10 @@ runsValid s = runsWhole 0 (s .table)
 -- all but the setup numbers
 unfoldable pub restValid : State → List ℕ → Bool
 restValid s order =
-    both (allBelow (λ k. superblockValid (s .setup) order k (superblockAt s k)) 64)
-    (both (allBelow (λ k. unusedFrom (s .setup .superblocks) k (superblockAt s k)) 64)
+    both (allBelow (λ k. superblockValid (s .setup) order k (superblockAt s k)) tableLength)
+    (both (allBelow (λ k. unusedFrom (s .setup .superblocks) k (superblockAt s k)) tableLength)
     (both (emptinessInvariant s)
-    (both (allBelow (λ k. sparseIfGlobal (s .setup) (superblockAt s k)) 64)
+    (both (allBelow (λ k. sparseIfGlobal (s .setup) (superblockAt s k)) tableLength)
     (both (namesValid s)
     (both (totalsValid s)
     (both (ranksValid s)

@@ -3,36 +3,37 @@
 ghost use mathlib.Core.Path.{_≡_};
 ghost use Rattle.check_state.specs.FirstRefusal.{firstRefusal};
 use heap_rules::State;
+use refusal_rules::STATE_INVALID;
 
 // The refusals that all calls on a state share: 13 for setup numbers, 12, the rest of 13; 0 where none applies. Of the rest, what is asked
 // of each superblock alone comes first: it is the longer part.
 pub fn first_refusal(s: State, order: &[u16]) -> u8
     ensures { λ r. ⌜ r ≡ firstRefusal s (now (order .entry)) ⌝ }
 {
-    let first = check_limits::setup_refusal(13, s.setup, order);
+    let first = check_limits::setup_refusal(STATE_INVALID, s.setup, order);
     if first != 0 {
         return first;
     }
     let table = s.table;
     if !check_superblock::each_valid(s.setup, table, order) {
-        return 13;
+        return STATE_INVALID;
     }
     let kept = s.totals;
     let counted = check_recount::recount(table);
     if !check_totals::same_totals(kept, counted) {
-        return 13;
+        return STATE_INVALID;
     }
     if !check_invariant::emptiness_invariant(s.setup, counted) {
-        return 13;
+        return STATE_INVALID;
     }
     if !check_names::names_valid(s) {
-        return 13;
+        return STATE_INVALID;
     }
     if !check_ranks::ranks_valid(s) {
-        return 13;
+        return STATE_INVALID;
     }
     if !check_runs::runs_valid(table) {
-        return 13;
+        return STATE_INVALID;
     }
     0
 }

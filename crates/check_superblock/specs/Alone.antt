@@ -6,7 +6,7 @@ use lib.ListN.{getD}
 use Rattle.base_laws.specs.Sums.{both, allBelow}
 use Rattle.heap_rules.specs.declared.Superblock.{Superblock}
 use Rattle.heap_rules.specs.declared.Setup.{Setup}
-use Rattle.heap_rules.specs.Table.{blank}
+use Rattle.heap_rules.specs.Table.{tableLength, blank}
 use Rattle.check_rules.specs.Check.{superblockValid, unusedFrom, sparseIfGlobal}
 
 -- what the check asks of superblock k alone
@@ -15,4 +15,4 @@ aloneValid u order k b = both (superblockValid u order k b) (both (unusedFrom (u
 
 -- and so each superblock
 unfoldable pub eachValid : Setup → List Superblock → List ℕ → Bool
-eachValid u table order = allBelow (λ k. aloneValid u order k (getD table k blank)) 64
+eachValid u table order = allBelow (λ k. aloneValid u order k (getD table k blank)) tableLength

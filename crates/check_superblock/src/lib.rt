@@ -2,15 +2,21 @@
 ghost use mathlib.Core.Path.{_≡_};
 ghost use Rattle.check_rules.specs.Check.{isPartOfRun, sparseIfGlobal};
 ghost use Rattle.check_superblock.specs.Alone.{aloneValid, eachValid};
+use class_rules::CLASSES;
+use heap_rules::RUN_OWNER;
 use heap_rules::Setup;
 use heap_rules::Superblock;
+use heap_rules::TABLE_LENGTH;
+
+// The superblocks of a table, in the width of their numbers.
+const SUPERBLOCKS: u8 = TABLE_LENGTH as u8;
 
 // Each superblock of the table passes.
-pub fn each_valid(setup: Setup, table: [Superblock; 64], order: &[u16]) -> bool
+pub fn each_valid(setup: Setup, table: [Superblock; TABLE_LENGTH], order: &[u16]) -> bool
     ensures { λ r. ⌜ r ≡ eachValid setup table (now (order .entry)) ⌝ }
 {
     let mut k: u8 = 0;
-    while k < 64 {
+    while k < SUPERBLOCKS {
         let i = k as usize;
         let b = table[i];
         if !alone_valid(setup, order, k, b) {
@@ -38,7 +44,7 @@ fn alone_valid(setup: Setup, order: &[u16], k: u8, b: Superblock) -> bool
     if setup.processors < b.owner {
         return false;
     }
-    if b.class >= 27 {
+    if b.class >= CLASSES {
         return false;
     }
     if !sparse_if_global(setup, b) {
@@ -52,7 +58,7 @@ fn alone_valid(setup: Setup, order: &[u16], k: u8, b: Superblock) -> bool
 fn is_run_member(b: Superblock) -> bool
     ensures { λ r. ⌜ r ≡ isPartOfRun b ⌝ }
 {
-    if b.owner != 254 {
+    if b.owner != RUN_OWNER {
         return false;
     }
     heap_tests::is_part_of_run(b)

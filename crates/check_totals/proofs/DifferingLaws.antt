@@ -15,6 +15,7 @@ use Rattle.base_laws.proofs.TestLaws.{T-of-true, equal-of-iff}
 use Rattle.base_laws.proofs.SumLaws.{sum-below-zero, sum-below-suc, sum-of-zeros, term-le-sum}
 use Rattle.base_laws.proofs.NumberLists.{equal-of-same-numbers, same-numbers-refl}
 use Rattle.heap_rules.specs.declared.Totals.{Totals}
+use Rattle.heap_rules.specs.Totals.{totalCount}
 use Rattle.check_rules.specs.Check.{sameTotals}
 use Rattle.check_totals.specs.Differing.{differing}
 
@@ -57,12 +58,12 @@ module _ (a b : List ℕ) (n : ℕ) (long-a : length a ≡ n) (long-b : length b
       sum-of-zeros (λ k. one (not (eqb (getD a k 0) (getD b k 0)))) n (λ k l. ap (λ (x : Bool). one (not x)) (eq-eqb (getD a k 0) (getD b k 0) (ap (λ (l : List ℕ). getD l k 0) e)))
 
 -- for as many numbers as there are totals
-pub same-numbers-is-none-differing : (a b : List ℕ) (m i : ℕ) → length a ≡ 243 → length b ≡ 243 → m ≡ differing a b i → i ≤ 243 → 243 ≤ i → eqb m 0 ≡ sameNumbers a b
+pub same-numbers-is-none-differing : (a b : List ℕ) (m i : ℕ) → length a ≡ totalCount → length b ≡ totalCount → m ≡ differing a b i → i ≤ totalCount → totalCount ≤ i → eqb m 0 ≡ sameNumbers a b
 same-numbers-is-none-differing a b m i long-a long-b e h g =
-    let c : m ≡ differing a b 243 = e ∙ ap (differing a b) (le-antisymm h g) in
+    let c : m ≡ differing a b totalCount = e ∙ ap (differing a b) (le-antisymm h g) in
     equal-of-iff (eqb m 0) (sameNumbers a b)
-    (λ t. same-numbers-of-none-differing a b 243 long-a long-b (sym c ∙ eqb→eq m 0 t))
-    (λ t. T-of-true _ (eq-eqb m 0 (c ∙ none-differing-of-same-numbers a b 243 long-a long-b t)))
+    (λ t. same-numbers-of-none-differing a b totalCount long-a long-b (sym c ∙ eqb→eq m 0 t))
+    (λ t. T-of-true _ (eq-eqb m 0 (c ∙ none-differing-of-same-numbers a b totalCount long-a long-b t)))
 
 -- ---- both kinds of totals
 module _ (t r : Totals) (same : Bool) (e : same ≡ sameNumbers (t .superblocks) (r .superblocks)) where

@@ -2,7 +2,9 @@
 ghost use mathlib.Core.Path.{_≡_};
 ghost use lib.ListN.{length};
 ghost use Rattle.base_laws.specs.Lists.{sameNumbers};
+ghost use Rattle.heap_rules.specs.Totals.{totalCount};
 ghost use Rattle.check_rules.specs.Check.{sameTotals};
+use heap_rules::TOTAL_COUNT;
 use heap_rules::Totals;
 
 // The totals are equal.
@@ -21,13 +23,13 @@ pub fn same_totals(kept: Totals, counted: Totals) -> bool
 
 // The numbers are equal: how many differ is counted, without a branch in the loop. A reference does not tell the proof how long its array is,
 // so the lengths are asked for.
-fn same_superblocks(a: &[u8; 243], b: &[u8; 243]) -> bool
-    requires { ⌜ (length (now a) ≡ 243) × (length (now b) ≡ 243) ⌝ }
+fn same_superblocks(a: &[u8; TOTAL_COUNT], b: &[u8; TOTAL_COUNT]) -> bool
+    requires { ⌜ (length (now a) ≡ totalCount) × (length (now b) ≡ totalCount) ⌝ }
     ensures { λ r. ⌜ r ≡ sameNumbers (now (a .entry)) (now (b .entry)) ⌝ }
 {
     let mut differ: u8 = 0;
     let mut i: usize = 0;
-    while i < 243 {
+    while i < TOTAL_COUNT {
         if a[i] != b[i] {
             differ += 1;
         }
@@ -36,13 +38,13 @@ fn same_superblocks(a: &[u8; 243], b: &[u8; 243]) -> bool
     differ == 0
 }
 
-fn same_live(a: &[u16; 243], b: &[u16; 243]) -> bool
-    requires { ⌜ (length (now a) ≡ 243) × (length (now b) ≡ 243) ⌝ }
+fn same_live(a: &[u16; TOTAL_COUNT], b: &[u16; TOTAL_COUNT]) -> bool
+    requires { ⌜ (length (now a) ≡ totalCount) × (length (now b) ≡ totalCount) ⌝ }
     ensures { λ r. ⌜ r ≡ sameNumbers (now (a .entry)) (now (b .entry)) ⌝ }
 {
     let mut differ: u16 = 0;
     let mut j: usize = 0;
-    while j < 243 {
+    while j < TOTAL_COUNT {
         if a[j] != b[j] {
             differ += 1;
         }

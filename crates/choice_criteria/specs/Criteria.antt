@@ -4,7 +4,7 @@ use Prim.Native.Nat.{ℕ}
 use lib.Dec.{eqb, ltb}
 use Rattle.class_rules.specs.Classes.{blocksOf}
 use Rattle.heap_rules.specs.declared.Superblock.{Superblock}
-use Rattle.heap_rules.specs.Table.{isUnused}
+use Rattle.heap_rules.specs.Table.{unusedOwner, isUnused}
 use Rattle.heap_rules.specs.Counts.{belongs}
 use Rattle.choice_rules.specs.Choice.{hasFree, emptyInGlobal}
 use Rattle.choice_criteria.specs.declared.Criterion.{Criterion}
@@ -23,7 +23,7 @@ unfoldable pub ownerSought : Criterion → ℕ
 ownerSought (HasFree h c) = h
 ownerSought (Belongs h c) = h
 ownerSought Empty = 0
-ownerSought Unused = 255
+ownerSought Unused = unusedOwner
 
 unfoldable pub classFits : Criterion → ℕ → Bool
 classFits (HasFree h c) x = eqb x c

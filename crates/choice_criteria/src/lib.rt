@@ -1,6 +1,7 @@
 // What a choice of a superblock looks for: the owner, the class and the live count of those that meet its criterion.
 ghost use mathlib.Core.Path.{_≡_};
 ghost use Rattle.choice_criteria.specs.Criteria.{ownerSought, classFits, liveFits};
+use heap_rules::UNUSED_OWNER;
 
 // What a scan looks for. HasFree: of a heap and class, with a free block. Belongs: of a heap and class. Empty: of heap 0,
 // nothing live.
@@ -19,7 +20,7 @@ pub fn owner_sought(w: Criterion) -> u8
         Criterion::HasFree(heap, class) => heap,
         Criterion::Belongs(heap, class) => heap,
         Criterion::Empty => 0,
-        Criterion::Unused => 255,
+        Criterion::Unused => UNUSED_OWNER,
     }
 }
 

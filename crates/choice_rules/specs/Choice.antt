@@ -10,7 +10,7 @@ use Rattle.heap_rules.specs.declared.Superblock.{Superblock}
 use Rattle.heap_rules.specs.declared.State.{State}
 use Rattle.heap_rules.specs.declared.Found.{Found}
 use Rattle.heap_rules.specs.declared.Found.the-variants.{At, Nothing}
-use Rattle.heap_rules.specs.Table.{blank, liveIn, isUnused}
+use Rattle.heap_rules.specs.Table.{tableLength, blank, liveIn, isUnused}
 use Rattle.heap_rules.specs.Counts.{belongs}
 use Rattle.heap_rules.specs.Ranks.{isMoreRecent}
 
@@ -53,11 +53,11 @@ emptyInGlobal b = both (eqb (b .owner) 0) (eqb (liveIn b) 0)
 -- places 1 (h the processor's heap) and 2 (h = 0) of a take: the fullest, among these the last freed into; "Those not freed into since then
 -- follow, lower number first"
 unfoldable pub fullest : ℕ → ℕ → State → Found
-fullest h c s = chosenBelow (hasFree h c) fullerOrMoreRecent (s .table) 64
+fullest h c s = chosenBelow (hasFree h c) fullerOrMoreRecent (s .table) tableLength
 
 -- place 3
 unfoldable pub lowestEmpty : State → Found
-lowestEmpty s = chosenBelow emptyInGlobal neverPreferred (s .table) 64
+lowestEmpty s = chosenBelow emptyInGlobal neverPreferred (s .table) tableLength
 
 -- place 4
 unfoldable pub lowestUnused : State → Found
@@ -65,7 +65,7 @@ lowestUnused s = chosenBelow isUnused neverPreferred (s .table) (s .setup .super
 
 -- "heap i's class-c superblock with the fewest live, the lower number among equals"; "The emptiest for a move is still chosen by number"
 unfoldable pub emptiest : ℕ → ℕ → State → Found
-emptiest h c s = chosenBelow (belongs h c) fewerLive (s .table) 64
+emptiest h c s = chosenBelow (belongs h c) fewerLive (s .table) tableLength
 
 -- the first that is found
 abbrev pub orElse : Found → Found → Found

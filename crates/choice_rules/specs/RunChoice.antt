@@ -8,7 +8,7 @@ use Rattle.heap_rules.specs.declared.Superblock.{Superblock}
 use Rattle.heap_rules.specs.declared.State.{State}
 use Rattle.heap_rules.specs.declared.Found.{Found}
 use Rattle.heap_rules.specs.declared.Found.the-variants.{At, Nothing}
-use Rattle.heap_rules.specs.Table.{superblockAt, isUnused}
+use Rattle.heap_rules.specs.Table.{tableLength, superblockAt, isUnused}
 use Rattle.choice_rules.specs.Choice.{emptyInGlobal, orElse}
 
 -- "unused or empty in heap 0", of any class
@@ -26,4 +26,4 @@ lowestBelow test (suc k) = orElse (lowestBelow test k) (pick (test k) (At k) Not
 
 -- the first superblock of the lowest-numbered run of n superblocks
 unfoldable pub lowestRun : ℕ → State → Found
-lowestRun n s = lowestBelow (isFreeRun n s) 64
+lowestRun n s = lowestBelow (isFreeRun n s) tableLength

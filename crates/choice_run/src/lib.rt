@@ -4,6 +4,7 @@ ghost use Rattle.choice_rules.specs.RunChoice.{isAvailable, lowestRun};
 use heap_rules::Found;
 use heap_rules::State;
 use heap_rules::Superblock;
+use heap_rules::TABLE_LENGTH;
 
 // Unused, or empty in heap 0. The owner is looked at first, so that live blocks are seldom counted.
 fn is_available(b: Superblock) -> bool
@@ -25,7 +26,7 @@ pub fn lowest_run(s: State, n: usize) -> Found
         return Found::At(0);
     }
     let superblocks = s.setup.superblocks as usize;
-    let end = if superblocks < 64 { superblocks } else { 64 };
+    let end = if superblocks < TABLE_LENGTH { superblocks } else { TABLE_LENGTH };
     let mut row: usize = 0;
     let mut k: usize = 0;
     while k < end {

@@ -2,6 +2,7 @@
 // serves them all.
 ghost use mathlib.Core.Path.{_≡_};
 ghost use Prim.Native.Nat.{_≤_};
+ghost use Rattle.heap_rules.specs.Table.{tableLength};
 ghost use Rattle.choice_rules.specs.Choice.{chosenBelow, fullest as fullestOf, lowestEmpty, lowestUnused, emptiest as emptiestOf};
 ghost use Rattle.choice_criteria.specs.Criteria.{meetsCriterion};
 ghost use Rattle.choice_preference.specs.Preference.{preferredBy};
@@ -11,6 +12,7 @@ use choice_preference::Best;
 use heap_rules::Found;
 use heap_rules::State;
 use heap_rules::Superblock;
+use heap_rules::TABLE_LENGTH;
 
 // The best once superblock k, which is b and of the owner sought, was looked at: b where it meets the criterion and there was none yet or it
 // is preferred. Its live blocks are counted once, and only where its class fits.
@@ -38,8 +40,8 @@ fn best_after(w: Criterion, best: Best, k: usize, b: Superblock) -> Best
 }
 
 // The best of the superblocks below n that meet the criterion, the lower number among equals. Those of another owner cost one test.
-fn scan(table: [Superblock; 64], w: Criterion, n: usize) -> Found
-    requires { ⌜ n ≤ 64 ⌝ }
+fn scan(table: [Superblock; TABLE_LENGTH], w: Criterion, n: usize) -> Found
+    requires { ⌜ n ≤ tableLength ⌝ }
     ensures { λ r. ⌜ r ≡ chosenBelow (meetsCriterion w) (preferredBy w) table n ⌝ }
 {
     let owner = choice_criteria::owner_sought(w);
@@ -64,7 +66,7 @@ pub fn fullest(s: State, heap: u8, class: u8) -> Found
     ensures { λ r. ⌜ r ≡ fullestOf heap class s ⌝ }
 {
     let table = s.table;
-    scan(table, Criterion::HasFree(heap, class), 64)
+    scan(table, Criterion::HasFree(heap, class), TABLE_LENGTH)
 }
 
 // Heap 0's lowest-numbered superblock with nothing live.
@@ -72,7 +74,7 @@ pub fn lowest_empty(s: State) -> Found
     ensures { λ r. ⌜ r ≡ lowestEmpty s ⌝ }
 {
     let table = s.table;
-    scan(table, Criterion::Empty, 64)
+    scan(table, Criterion::Empty, TABLE_LENGTH)
 }
 
 // The lowest-numbered unused superblock below N.
@@ -81,8 +83,8 @@ pub fn lowest_unused(s: State) -> Found
 {
     let n = s.setup.superblocks as usize;
     let table = s.table;
-    if 64 < n {
-        return scan(table, Criterion::Unused, 64);
+    if TABLE_LENGTH < n {
+        return scan(table, Criterion::Unused, TABLE_LENGTH);
     }
     scan(table, Criterion::Unused, n)
 }
@@ -92,5 +94,5 @@ pub fn emptiest(s: State, heap: u8, class: u8) -> Found
     ensures { λ r. ⌜ r ≡ emptiestOf heap class s ⌝ }
 {
     let table = s.table;
-    scan(table, Criterion::Belongs(heap, class), 64)
+    scan(table, Criterion::Belongs(heap, class), TABLE_LENGTH)
 }

@@ -5,7 +5,7 @@ use mathlib.Core.List.{List, [], _∷_}
 use Prim.Native.Nat.{ℕ, _+_, _-_, _*_, _≤_, _<_, max}
 use lib.ListN.{length}
 use Rattle.base_laws.specs.Sums.{both}
-use Rattle.class_rules.specs.Classes.{blocksOf, isLong}
+use Rattle.class_rules.specs.Classes.{classCount, blocksOf, isLong}
 use Rattle.heap_rules.specs.declared.Setup.{Setup}
 use Rattle.heap_rules.specs.declared.State.{State}
 use Rattle.heap_rules.specs.Counts.{superblocksOfClass, ownersChanged, passedBetweenHeaps}
@@ -47,7 +47,7 @@ Along P before ledger (step ∷ steps) = P (before .answer .state) ledger × Alo
 -- "(q - p) × n × A is at most q × M + (q - p) × P × K × n", for each of the 27 classes
 unfoldable pub Bounded : Setup → State → (ℕ → ℕ) → Type 0
 Bounded u s peak =
-    (c : ℕ) → c < 27
+    (c : ℕ) → c < classCount
     → (u .q - u .p) * blocksOf c * superblocksOfClass c s ≤ u .q * peak c + (u .q - u .p) * u .processors * u .spare * blocksOf c
 
 -- "a refused call changes none", of a call with so many owners changed

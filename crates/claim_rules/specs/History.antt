@@ -7,10 +7,10 @@ use mathlib.Core.Logic.{_↔_}
 use mathlib.Core.List.{List, [], _∷_}
 use lib.Dec.{T, eqb, leb, ltb}
 use Rattle.base_laws.specs.Sums.{pick, both}
-use Rattle.class_rules.specs.Classes.{isLong, runLength}
+use Rattle.class_rules.specs.Classes.{superblockBytes, isLong, runLength}
 use Rattle.heap_rules.specs.declared.State.{State}
 use Rattle.heap_rules.specs.declared.Found.the-variants.{At}
-use Rattle.heap_rules.specs.Table.{superblockAt, liveIn}
+use Rattle.heap_rules.specs.Table.{tableLength, superblockAt, liveIn}
 use Rattle.choice_rules.specs.Choice.{hasFree, fullest}
 use Rattle.call_rules.specs.Calls.{Call, Take, Free, NamedTake, NamedFree, Drop}
 use Rattle.call_rules.specs.declared.Outcome.{Outcome}
@@ -30,7 +30,7 @@ pub data Event : Type 0 where
 -- s × 4096 to s × 4096 + 4095"; a run that is freed was freed into in none of its superblocks
 unfoldable pub eventOfBlock : (Entry → Bool) → List Entry → Event
 eventOfBlock test [] = neither
-eventOfBlock test (e ∷ ledger) = pick (test e) (pick (isLong (e .size)) neither (freedInto (e .address / 4096))) (eventOfBlock test ledger)
+eventOfBlock test (e ∷ ledger) = pick (test e) (pick (isLong (e .size)) neither (freedInto (e .address / superblockBytes))) (eventOfBlock test ledger)
 
 -- where the free is accepted
 unfoldable pub eventOfFree : (Entry → Bool) → List Entry → Outcome → Event
@@ -43,12 +43,13 @@ eventOfFree test ledger (Refused r) = neither
 -- take answered, which comes from place 1 where it was heap i's
 unfoldable pub eventOfTaken : State → ℕ → ℕ → Event
 eventOfTaken s i a =
-    pick (both (eqb (liveIn (superblockAt s (a / 4096))) 0) (not (eqb (superblockAt s (a / 4096) .owner) i))) (renewed (a / 4096)) neither
+    pick (both (eqb (liveIn (superblockAt s (a / superblockBytes))) 0) (not (eqb (superblockAt s (a / superblockBytes) .owner) i)))
+    (renewed (a / superblockBytes)) neither
 
 -- the superblocks of a long block's run get "no rank" (document 02, item 7)
 unfoldable pub eventOfTake : State → ℕ → ℕ → Outcome → Event
 eventOfTake s i size Ready = neither
-eventOfTake s i size (Address a) = pick (isLong size) (joinedRun (a / 4096) (runLength size)) (eventOfTaken s i a)
+eventOfTake s i size (Address a) = pick (isLong size) (joinedRun (a / superblockBytes) (runLength size)) (eventOfTaken s i a)
 eventOfTake s i size (Moves m) = neither
 eventOfTake s i size (Refused r) = neither
 
@@ -88,12 +89,13 @@ lastFree k (event ∷ earlier) = lastFreeAfter k event (lastFree k earlier)
 
 -- the ranked superblocks are those freed into since they were last renewed or joined a run, and the later the last free the lower the rank
 pub record RankedByLastFree (s : State) (events : List Event) : Type 0 where
-  pub unranked-iff : (k : ℕ) → k < 64 → (superblockAt s k .rank ≡ 0) ↔ (lastFree k events ≡ notSinceRenewal)
-  pub later-first : (k m x y : ℕ) → k < 64 → m < 64 → lastFree k events ≡ eventsAgo x → lastFree m events ≡ eventsAgo y → x < y → superblockAt s k .rank < superblockAt s m .rank
+  pub unranked-iff : (k : ℕ) → k < tableLength → (superblockAt s k .rank ≡ 0) ↔ (lastFree k events ≡ notSinceRenewal)
+  pub later-first : (k m x y : ℕ) → k < tableLength → m < tableLength → lastFree k events ≡ eventsAgo x → lastFree m events ≡ eventsAgo y
+      → x < y → superblockAt s k .rank < superblockAt s m .rank
 
 -- superblock m could be offered as well as k, of heap h and class c: it has a free block and is equally full
 abbrev pub EquallyFull : (h c k m : ℕ) → State → Type 0
-EquallyFull h c k m s = (m < 64) × T (hasFree h c (superblockAt s m)) × (liveIn (superblockAt s m) ≡ liveIn (superblockAt s k))
+EquallyFull h c k m s = (m < tableLength) × T (hasFree h c (superblockAt s m)) × (liveIn (superblockAt s m) ≡ liveIn (superblockAt s k))
 
 -- the first was freed into since it was last renewed, and later than the second was, if that was at all
 unfoldable pub FreedLater : LastFree → LastFree → Type 0

@@ -6,7 +6,8 @@ use mathlib.Core.List.{List, [], _∷_}
 use Prim.Native.Nat.{ℕ, _+_, _≤_, _<_}
 use lib.Dec.{T, eqb}
 use Rattle.base_laws.specs.Sums.{both, one}
-use Rattle.names_rules.specs.Names.{isHeld}
+use Rattle.names_rules.specs.Names.{nameCount, isHeld}
+use Rattle.refusal_rules.specs.Refusals.{nameUnavailable, nameNotHeld}
 use Rattle.heap_rules.specs.declared.Setup.{Setup}
 use Rattle.heap_rules.specs.declared.State.{State}
 use Rattle.call_rules.specs.declared.Outcome.{Outcome}
@@ -48,9 +49,9 @@ unfoldable pub NameRefusals : Setup → List Entry → Call → Outcome → Type
 NameRefusals u ledger (Take processor size) outcome = Unit {0}
 NameRefusals u ledger (Free processor address) outcome = Unit {0}
 NameRefusals u ledger (NamedTake processor name size) outcome =
-    (outcome ≡ Refused 14) ↔ ((1 ≤ processor) × (processor ≤ u .processors) × ((1023 < name) ⊎ (0 < entriesNamed name ledger)))
+    (outcome ≡ Refused nameUnavailable) ↔ ((1 ≤ processor) × (processor ≤ u .processors) × ((nameCount ≤ name) ⊎ (0 < entriesNamed name ledger)))
 NameRefusals u ledger (NamedFree processor name) outcome =
-    (outcome ≡ Refused 15) ↔ ((1 ≤ processor) × (processor ≤ u .processors) × (entriesNamed name ledger ≡ 0))
+    (outcome ≡ Refused nameNotHeld) ↔ ((1 ≤ processor) × (processor ≤ u .processors) × (entriesNamed name ledger ≡ 0))
 NameRefusals u ledger (Drop processor addresses) outcome = Unit {0}
 
 -- of each call of a list

@@ -2,13 +2,16 @@
 // name the definitions of crate class_rules.
 ghost use mathlib.Core.Path.{_≡_};
 ghost use Rattle.class_rules.specs.Classes.{classOf, isLong, runLength};
+use class_rules::CLASSES;
+use class_rules::LARGEST_CLASS_SIZE;
+use class_rules::SUPERBLOCK_BYTES;
 
 // The smallest class that holds a size; 27 where none does.
 pub fn class_of(size: u16) -> u8
     ensures { λ r. ⌜ r ≡ classOf size ⌝ }
 {
-    if size > 2048 {
-        return 27;
+    if size > LARGEST_CLASS_SIZE {
+        return CLASSES;
     }
     let index = ((size + 7) / 8) as usize;
     CLASS_BY_SIZE[index]
@@ -18,14 +21,17 @@ pub fn class_of(size: u16) -> u8
 pub fn is_long(size: u16) -> bool
     ensures { λ r. ⌜ r ≡ isLong size ⌝ }
 {
-    2048 < size
+    LARGEST_CLASS_SIZE < size
 }
+
+// The last offset in a superblock.
+const LAST_OFFSET: u32 = SUPERBLOCK_BYTES - 1;
 
 // How many superblocks a long size takes: size / 4096 rounded up.
 pub fn run_length(size: u16) -> u8
     ensures { λ r. ⌜ r ≡ runLength size ⌝ }
 {
-    ((size as u32 + 4095) / 4096) as u8
+    ((size as u32 + LAST_OFFSET) / SUPERBLOCK_BYTES) as u8
 }
 
 // The class of each multiple of 8 up to 2048, with that size beside it: a size has the class of its size rounded up.

@@ -1,10 +1,34 @@
 -- The 27 size classes of document 01, "Superblocks, classes and setup". Assumes nothing.
-use Prim.Native.Nat.{ℕ, zero, suc, _+_, _/_}
+use Prim.Native.Nat.{ℕ, zero, suc, _+_, _-_, _/_}
 use mathlib.Core.Bool.{Bool}
 use mathlib.Core.List.{List, [], _∷_}
 use lib.ListN.{getD}
 use lib.Dec.{leb, ltb}
 use Rattle.base_laws.specs.Sums.{pick}
+
+-- "Class 0 to 26"
+abbrev pub classCount : ℕ
+classCount = 27
+
+-- "A superblock is S = 4096 bytes."
+abbrev pub superblockBytes : ℕ
+superblockBytes = 4096
+
+-- the most blocks that a superblock has: those of class 0, "16/256"
+abbrev pub mostBlocks : ℕ
+mostBlocks = 256
+
+-- the largest size that a class holds: "A size of 1 to 2048 takes the smallest class that holds it."
+abbrev pub largestClassSize : ℕ
+largestClassSize = 2048
+
+-- the largest size that is lawful: "A size of 2049 to 65535 takes .. [a] run of neighbouring superblocks" (document 02, item 7)
+abbrev pub largestSize : ℕ
+largestSize = 65535
+
+-- "runs are whole and at most 16 long" (document 02, item 7): the run of the largest size
+abbrev pub longestRun : ℕ
+longestRun = 16
 
 -- the printed block sizes, by class
 unfoldable pub sizes : List ℕ
@@ -33,12 +57,12 @@ classOf s = firstAtLeast s sizes
 
 -- "A size of 2049 to 65535 takes .. [a] run of neighbouring superblocks" (document 02, item 7): no class holds it
 unfoldable pub isLong : ℕ → Bool
-isLong s = ltb 2048 s
+isLong s = ltb largestClassSize s
 
 -- how many superblocks a long block takes: "as many as size / 4096 rounded up"
 unfoldable pub runLength : ℕ → ℕ
-runLength s = (s + 4095) / 4096
+runLength s = (s + (superblockBytes - 1)) / superblockBytes
 
 -- what is left for refusal 3: "As a size has 16 bits, refusal 3 can no longer be met"
 unfoldable pub isTooLarge : ℕ → Bool
-isTooLarge s = ltb 65535 s
+isTooLarge s = ltb largestSize s

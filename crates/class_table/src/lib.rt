@@ -1,9 +1,11 @@
 // The table of size classes: block size and blocks in a superblock of 4096 bytes. The code for the class of a size is in crate class_of_size.
 ghost use mathlib.Core.Path.{_≡_};
 ghost use Prim.Native.Nat.{_≤_};
-ghost use Rattle.class_rules.specs.Classes.{sizeOf, blocksOf};
+ghost use Rattle.class_rules.specs.Classes.{mostBlocks, sizeOf, blocksOf};
+use class_rules::CLASS_COUNT;
+use class_rules::CLASSES;
 
-const SIZES: [u16; 27] = [
+const SIZES: [u16; CLASS_COUNT] = [
     16,
     24,
     32,
@@ -33,7 +35,7 @@ const SIZES: [u16; 27] = [
     2048,
 ];
 
-const COUNTS: [u16; 27] = [
+const COUNTS: [u16; CLASS_COUNT] = [
     256,
     170,
     128,
@@ -67,7 +69,7 @@ const COUNTS: [u16; 27] = [
 pub fn block_size(class: u8) -> u16
     ensures { λ r. ⌜ r ≡ sizeOf class ⌝ }
 {
-    if class >= 27 {
+    if class >= CLASSES {
         return 0;
     }
     let c = class as usize;
@@ -76,9 +78,9 @@ pub fn block_size(class: u8) -> u16
 
 // How many blocks a superblock of a class has; 0 where there is no such class.
 pub fn block_count(class: u8) -> u16
-    ensures { λ r. ⌜ (r ≡ blocksOf class) × (r ≤ 256) ⌝ }
+    ensures { λ r. ⌜ (r ≡ blocksOf class) × (r ≤ mostBlocks) ⌝ }
 {
-    if class >= 27 {
+    if class >= CLASSES {
         return 0;
     }
     let c = class as usize;

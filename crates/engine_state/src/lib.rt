@@ -9,6 +9,8 @@ use call_rules::CallHeader;
 use call_rules::Outcome;
 use heap_rules::Setup;
 use heap_rules::State;
+use order_rules::PLACES_EACH;
+use refusal_rules::SETUP_OUT_OF_LIMITS;
 
 // A new state with its first N × 256 order places 0; or refusal 1, then 12.
 pub fn setup(u: Setup, order: &mut [u16]) -> Answer
@@ -16,11 +18,11 @@ pub fn setup(u: Setup, order: &mut [u16]) -> Answer
     ensures number_and_values { λ r. ⌜ HasNumberAndValuesOf (r .outcome) (setupOf u (now (order .entry)) .answer .outcome) ⌝ }
     ensures passes { λ r. ⌜ PassesIfAccepted (r .outcome) (r .state) (now (order .exit)) ⌝ }
 {
-    let first = check_limits::setup_refusal(1, u, order);
+    let first = check_limits::setup_refusal(SETUP_OUT_OF_LIMITS, u, order);
     if first != 0 {
         return call_outcomes::refuse(call_states::no_state(), first);
     }
-    order_renewal::clear_order(order, u.superblocks as usize * 256);
+    order_renewal::clear_order(order, u.superblocks as usize * PLACES_EACH);
     let s = call_states::new_state(u);
     Answer {
         outcome: Outcome::Ready,

@@ -6,7 +6,7 @@ use lib.ListN.{length}
 use lib.Dec.{eqb, leb}
 use Rattle.base_laws.specs.Sums.{both, one, sumBelow, allBelow}
 use Rattle.marks_rules.specs.Marks.{markBit, liveCount, noMarkFrom}
-use Rattle.order_rules.specs.Order.{place}
+use Rattle.order_rules.specs.Order.{placesEach, place}
 
 -- how many of the places 0 .. m - 1 hold j, where place p holds v p
 unfoldable pub occurrences : (ℕ → ℕ) → ℕ → ℕ → ℕ
@@ -18,7 +18,7 @@ filledPlaces live n = n - liveCount live
 
 -- the filled places of superblock s stand in the storage that is lent
 unfoldable pub placesInStorage : List ℕ → List ℕ → ℕ → ℕ → Bool
-placesInStorage order live s n = leb (s * 256 + filledPlaces live n) (length order)
+placesInStorage order live s n = leb (s * placesEach + filledPlaces live n) (length order)
 
 -- "the filled order places hold each unmarked block below n just once", and a marked one in none:
 -- the times that a block below n stands there, and its mark, make 1

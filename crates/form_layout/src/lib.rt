@@ -6,6 +6,24 @@ ghost use Rattle.form_rules.specs.Form.{tableOffset, placesOffset, placeCount, 
 use bytes_reader::byte_at;
 use bytes_reader::four_at;
 use bytes_reader::two_at;
+use heap_rules::TABLE_LENGTH;
+use heap_rules::TOTAL_COUNT;
+use names_rules::NAME_COUNT;
+
+// The bytes of a superblock.
+pub const RECORD_BYTES: usize = 36;
+
+// Where the names begin, counted from the first superblock.
+pub const NAMES_OFFSET: usize = TABLE_LENGTH * RECORD_BYTES;
+
+// Where the totals begin: a name has two bytes.
+pub const TOTALS_OFFSET: usize = NAMES_OFFSET + 2 * NAME_COUNT;
+
+// Where they end: one byte for the superblocks of a heap and class, two for their live blocks.
+const TOTALS_END: usize = TOTALS_OFFSET + 3 * TOTAL_COUNT;
+
+// Where the order places begin: the four bytes of L come before them.
+const PLACES_OFFSET: usize = TOTALS_END + 4;
 
 // Where the superblocks begin: a take and a named free have two bytes fewer before them than a free and a named take, and a drop has
 // its addresses there, four bytes each.
@@ -24,15 +42,14 @@ pub fn table_offset(bytes: &[u8]) -> usize
 
 // ---- the order places
 
-// Where they begin: in all but a setup 64 superblocks of 36 bytes, 1024 names of two bytes, 243 totals of one byte, 243 of two and the
-// four bytes of L come before.
+// Where they begin: in all but a setup the superblocks, the names, the totals and the four bytes of L come before.
 pub fn places_offset(bytes: &[u8]) -> usize
     ensures { λ r. ⌜ (r ≡ placesOffset (now (bytes .entry))) × (r ≤ 267234) ⌝ }
 {
     if byte_at(bytes, 0) == 0 {
         return 10;
     }
-    table_offset(bytes) + 5085
+    table_offset(bytes) + PLACES_OFFSET
 }
 
 // How many are lent: the four bytes before them.
@@ -44,7 +61,7 @@ pub fn place_count(bytes: &[u8]) -> usize
         return lent as usize;
     }
     let at = table_offset(bytes);
-    let lent = four_at(bytes, at + 5081);
+    let lent = four_at(bytes, at + TOTALS_END);
     lent as usize
 }
 

@@ -5,8 +5,12 @@ ghost use Rattle.form_rules.specs.Form.{superblockIn, stateIn};
 use bytes_lists::position_after;
 use bytes_reader::byte_at;
 use bytes_reader::eight_at;
+use form_layout::NAMES_OFFSET;
+use form_layout::RECORD_BYTES;
+use form_layout::TOTALS_OFFSET;
 use heap_rules::State;
 use heap_rules::Superblock;
+use heap_rules::TABLE_LENGTH;
 
 // The superblock at a position.
 fn superblock_in(bytes: &[u8], at: usize) -> Superblock
@@ -41,15 +45,15 @@ pub fn state_at(bytes: &[u8], at: usize) -> State
         rank: 0,
         run: 0,
     };
-    let mut table = [none; 64];
+    let mut table = [none; TABLE_LENGTH];
     let mut k = 0;
-    while k < 64 {
-        let b = superblock_in(bytes, position_after(bytes, at, 36 * k));
+    while k < TABLE_LENGTH {
+        let b = superblock_in(bytes, position_after(bytes, at, RECORD_BYTES * k));
         table[k] = b;
         k += 1;
     }
-    let names = form_names::names_at(bytes, position_after(bytes, at, 2304));
-    let totals = form_totals::totals_at(bytes, position_after(bytes, at, 4352));
+    let names = form_names::names_at(bytes, position_after(bytes, at, NAMES_OFFSET));
+    let totals = form_totals::totals_at(bytes, position_after(bytes, at, TOTALS_OFFSET));
     let setup = form_call::setup_in(bytes);
     State {
         setup,

@@ -13,6 +13,7 @@ use Rattle.base_laws.proofs.FieldArrays.{declared-array-of-field-array}
 use Rattle.heap_rules.specs.declared.Superblock.{Superblock}
 use Rattle.heap_rules.specs.declared.State.{State}
 use Rattle.heap_rules.specs.Table.{blank}
+use Rattle.heap_rules.specs.Totals.{totalCount}
 use Rattle.heap_laws.proofs.StateFacts.{Shape}
 use Rattle.heap_rules.proofs.Superblock as B
 use Rattle.heap_rules.proofs.State as S
@@ -36,6 +37,6 @@ shape-of-state s vals g =
       length-is = t .1 .0 .1;
       marks-length = λ k l. marks-length-of-each (s .table) (t .0) (t .1 .1) k (rw (t .1 .0 .1) l);
       names-length = length-of-length-map (λ (x : ℕ). x) (s .names) 1024 (g .1 .1 .1 .1 .0 .1 .0 .1);
-      superblock-totals-length = length-of-length-map (λ (x : ℕ). x) (s .totals .superblocks) 243 (g .1 .1 .1 .1 .1 .0 .1 .1 .0 .1 .0 .1);
-      live-totals-length = length-of-length-map (λ (x : ℕ). x) (s .totals .live) 243 (g .1 .1 .1 .1 .1 .0 .1 .1 .1 .0 .1 .0 .1);
+      superblock-totals-length = length-of-length-map (λ (x : ℕ). x) (s .totals .superblocks) totalCount (g .1 .1 .1 .1 .1 .0 .1 .1 .0 .1 .0 .1);
+      live-totals-length = length-of-length-map (λ (x : ℕ). x) (s .totals .live) totalCount (g .1 .1 .1 .1 .1 .0 .1 .1 .1 .0 .1 .0 .1);
     }

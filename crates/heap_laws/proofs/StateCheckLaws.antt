@@ -29,7 +29,7 @@ use Rattle.move_rules.specs.Moves.{bothConditions, mustMove}
 use Rattle.check_rules.specs.Check.{within, withinLimits, isPartOfRun, isUnowned, isOwned, superblockValid, unusedFrom, emptinessInvariant, sparseIfGlobal, namesValid, ranksValid, runsValid, restValid, passes}
 use Rattle.check_rules.proofs.ClauseLaws.{clauses-of-rest, rest-of-clauses, limits-of-passes, rest-of-passes, passes-of-limits-and-rest}
 use Rattle.heap_laws.proofs.StateFacts.{Shape, WithinLimits, Unused, Unowned, Owned, Sparse, Sound, NamesSound, SoundWith, SoundAfterFrees}
-use Rattle.heap_rules.specs.Totals.{TotalsKept}
+use Rattle.heap_rules.specs.Totals.{totalCount, TotalsKept}
 use Rattle.heap_laws.proofs.TotalsLaws.{totals-kept-of-valid, totals-valid-of-kept, length-recounted-superblocks, length-recounted-live}
 use Rattle.heap_laws.proofs.CountLaws.{superblock-at-replaced, superblock-at-others, owner-and-class-of-belongs, superblocks-of-new-state}
 
@@ -306,8 +306,8 @@ new-state-shape u =
       length-is = length-replicate 64 unused;
       marks-length = λ k l. ap (λ (b : Superblock). length (b .live)) (superblock-at-new-state-unused u k l);
       names-length = length-replicate 1024 notHeld;
-      superblock-totals-length = length-replicate {A = ℕ} 243 0;
-      live-totals-length = length-replicate {A = ℕ} 243 0;
+      superblock-totals-length = length-replicate {A = ℕ} totalCount 0;
+      live-totals-length = length-replicate {A = ℕ} totalCount 0;
     }
 
 -- a superblock replaced by one with four numbers of marks keeps the shape

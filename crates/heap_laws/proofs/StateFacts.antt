@@ -14,7 +14,7 @@ use Rattle.heap_rules.specs.declared.Setup.{Setup}
 use Rattle.heap_rules.specs.declared.State.{State}
 use Rattle.heap_rules.specs.Table.{blank, superblockAt, liveIn, isOfRun, withOwner, isLiveBlock}
 use Rattle.heap_rules.specs.Counts.{belongs, superblocksOf, blocksIn, liveOf, superblocksOfClass, liveOfClass}
-use Rattle.heap_rules.specs.Totals.{TotalsKept}
+use Rattle.heap_rules.specs.Totals.{totalCount, TotalsKept}
 use Rattle.move_rules.specs.Moves.{mustMove}
 use Rattle.check_rules.specs.Check.{rankedCount}
 use Rattle.heap_rules.specs.Runs.{RunAt}
@@ -37,8 +37,8 @@ pub record Shape (s : State) : Type 0 where
   pub length-is : length (s .table) ≡ 64
   pub marks-length : (k : ℕ) → k < 64 → length (superblockAt s k .live) ≡ 4
   pub names-length : length (s .names) ≡ 1024
-  pub superblock-totals-length : length (s .totals .superblocks) ≡ 243
-  pub live-totals-length : length (s .totals .live) ≡ 243
+  pub superblock-totals-length : length (s .totals .superblocks) ≡ totalCount
+  pub live-totals-length : length (s .totals .live) ≡ totalCount
 
 -- setup numbers within their limits
 pub record WithinLimits (u : Setup) : Type 0 where

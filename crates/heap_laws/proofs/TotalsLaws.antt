@@ -170,11 +170,11 @@ pub recounted-live-le-16384 : (table : List Superblock) (x : ℕ) → getD (reco
 unfolding recounted
 recounted-live-le-16384 table x = counted-below-at-most liveIn 256 table 64 (λ b. live-count-le-256 (b .live)) x
 
-pub length-recounted-superblocks : (table : List Superblock) → length (recounted table .superblocks) ≡ 243
+pub length-recounted-superblocks : (table : List Superblock) → length (recounted table .superblocks) ≡ totalCount
 unfolding recounted
 length-recounted-superblocks table = length-counted-below (λ b. 1) table 64
 
-pub length-recounted-live : (table : List Superblock) → length (recounted table .live) ≡ 243
+pub length-recounted-live : (table : List Superblock) → length (recounted table .live) ≡ totalCount
 unfolding recounted
 length-recounted-live table = length-counted-below liveIn table 64
 

@@ -8,11 +8,11 @@ use Rattle.base_laws.specs.Sums.{pick, both, one, sumBelow}
 use Rattle.class_rules.specs.Classes.{blocksOf}
 use Rattle.heap_rules.specs.declared.Superblock.{Superblock}
 use Rattle.heap_rules.specs.declared.State.{State}
-use Rattle.heap_rules.specs.Table.{blank, liveIn, isOfHeap, superblockAt}
+use Rattle.heap_rules.specs.Table.{tableLength, blank, liveIn, isOfHeap, superblockAt}
 
 -- the sum over the 64 superblocks
 unfoldable pub total : (Superblock → ℕ) → List Superblock → ℕ
-total f table = sumBelow (λ k. f (getD table k blank)) 64
+total f table = sumBelow (λ k. f (getD table k blank)) tableLength
 
 -- heap h's superblock of class c
 unfoldable pub belongs : ℕ → ℕ → Superblock → Bool
@@ -52,10 +52,10 @@ liveOfClass c s = total (λ b. pick (isOwnedOfClass c b) (liveIn b) 0) (s .table
 
 -- the superblocks whose owners differ between two states: "A superblock is moved by a free when its owners before and after it differ."
 unfoldable pub ownersChanged : State → State → ℕ
-ownersChanged s t = sumBelow (λ k. one (not (eqb (superblockAt s k .owner) (superblockAt t k .owner)))) 64
+ownersChanged s t = sumBelow (λ k. one (not (eqb (superblockAt s k .owner) (superblockAt t k .owner)))) tableLength
 
 -- the superblocks of a heap that are another's then: "the q and reported moves of a free or drop [count] only those that pass between heaps"
 -- (document 02, item 7)
 unfoldable pub passedBetweenHeaps : State → State → ℕ
 passedBetweenHeaps s t =
-    sumBelow (λ k. one (both (both (isOfHeap (superblockAt s k)) (isOfHeap (superblockAt t k))) (not (eqb (superblockAt s k .owner) (superblockAt t k .owner))))) 64
+    sumBelow (λ k. one (both (both (isOfHeap (superblockAt s k)) (isOfHeap (superblockAt t k))) (not (eqb (superblockAt s k .owner) (superblockAt t k .owner))))) tableLength

@@ -10,7 +10,7 @@ use Rattle.base_laws.specs.Sums.{pick, both, either, one}
 use Rattle.base_laws.specs.Lists.{listed}
 use Rattle.heap_rules.specs.declared.Superblock.{Superblock}
 use Rattle.heap_rules.specs.declared.State.{State}
-use Rattle.heap_rules.specs.Table.{blank, superblockAt, withRank}
+use Rattle.heap_rules.specs.Table.{tableLength, blank, superblockAt, withRank}
 
 -- the superblock was freed into since it was last renewed
 unfoldable pub isRanked : Superblock → Bool
@@ -31,7 +31,7 @@ rankAfterRenewal k table m = pick (eqb m k) 0 (getD table m blank .rank - one (i
 
 -- the table with the rank of each superblock by a rule
 abbrev pub withRanks : (ℕ → ℕ) → List Superblock → List Superblock
-withRanks rank table = listed (λ m. withRank (rank m) (getD table m blank)) 64
+withRanks rank table = listed (λ m. withRank (rank m) (getD table m blank)) tableLength
 
 -- and the state: totals and names take no notice of ranks
 abbrev pub reranked : (ℕ → ℕ) → State → State
@@ -47,4 +47,4 @@ unranked k s = reranked (rankAfterRenewal k (s .table)) s
 
 -- no rank is above the number of superblocks
 abbrev pub RanksFit : State → Type 0
-RanksFit s = (m : ℕ) → m < 64 → superblockAt s m .rank ≤ 64
+RanksFit s = (m : ℕ) → m < tableLength → superblockAt s m .rank ≤ tableLength

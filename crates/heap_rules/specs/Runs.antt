@@ -2,8 +2,9 @@
 use Prim.Native.Nat.{ℕ, _+_, _≤_, _<_}
 use mathlib.Core.Path.{_≡_}
 use mathlib.Core.Bool.{true}
+use Rattle.class_rules.specs.Classes.{longestRun}
 use Rattle.heap_rules.specs.declared.State.{State}
-use Rattle.heap_rules.specs.Table.{superblockAt, isOfRun}
+use Rattle.heap_rules.specs.Table.{tableLength, superblockAt, isOfRun}
 
 -- superblock m is one of the n from k on
 abbrev pub InRun : ℕ → ℕ → ℕ → Type 0
@@ -13,7 +14,7 @@ InRun k n m = (k ≤ m) × (m < k + n)
 pub record RunAt (s : State) (k n : ℕ) : Type 0 where
   pub length-is : superblockAt s k .run ≡ n
   pub some : 1 ≤ n
-  pub at-most-16 : n ≤ 16
-  pub in-table : k + n ≤ 64
+  pub at-most-16 : n ≤ longestRun
+  pub in-table : k + n ≤ tableLength
   pub of-run : (m : ℕ) → k ≤ m → m < k + n → isOfRun (superblockAt s m) ≡ true
   pub others-carry-0 : (m : ℕ) → k < m → m < k + n → superblockAt s m .run ≡ 0

@@ -7,7 +7,7 @@ use Rattle.names_rules.specs.Names.{noNames}
 use Rattle.heap_rules.specs.declared.Superblock.{Superblock}
 use Rattle.heap_rules.specs.declared.Setup.{Setup}
 use Rattle.heap_rules.specs.declared.State.{State}
-use Rattle.heap_rules.specs.Table.{unused}
+use Rattle.heap_rules.specs.Table.{tableLength, unused}
 use Rattle.heap_rules.specs.Totals.{recounted, noTotals}
 
 -- the state with superblock k replaced
@@ -20,7 +20,7 @@ withNames s names = record { setup = s .setup; table = s .table; names = names; 
 
 -- "A new setup has every superblock unused"; "A new or refused setup holds no names" (document 02, item 2), and "has them at 0" (item 3)
 abbrev pub newState : Setup → State
-newState u = record { setup = u; table = replicate 64 unused; names = noNames; totals = noTotals }
+newState u = record { setup = u; table = replicate tableLength unused; names = noNames; totals = noTotals }
 
 -- five zeros, 64 unused superblocks, no names and totals of 0: what a refused setup hands back
 abbrev pub noState : State

@@ -7,22 +7,28 @@ use lib.ListN.{getD, replicate}
 use lib.Dec.{ltb}
 use Rattle.base_laws.specs.Sums.{pick, both}
 use Rattle.base_laws.specs.Lists.{increased}
+use Rattle.class_rules.specs.Classes.{classCount}
 use Rattle.heap_rules.specs.declared.Superblock.{Superblock}
 use Rattle.heap_rules.specs.declared.Totals.{Totals}
 use Rattle.heap_rules.specs.declared.State.{State}
-use Rattle.heap_rules.specs.Table.{blank, liveIn}
+use Rattle.heap_rules.specs.Table.{tableLength, blank, liveIn}
 use Rattle.heap_rules.specs.Counts.{superblocksOf, liveOf}
 
--- totals are kept of heap 0 and of the heaps of 8 processors, in each of 27 classes
-abbrev pub heapCount : ℕ
-heapCount = 9
+-- "P 1 to 8": the most processors that a setup has
+abbrev pub mostProcessors : ℕ
+mostProcessors = 8
 
+-- totals are kept of heap 0 and of the heap of each processor
+abbrev pub heapCount : ℕ
+heapCount = mostProcessors + 1
+
+-- and of each class
 abbrev pub totalCount : ℕ
-totalCount = heapCount * 27
+totalCount = heapCount * classCount
 
 -- where those of heap h and class c stand
 abbrev pub totalIndex : ℕ → ℕ → ℕ
-totalIndex h c = h * 27 + c
+totalIndex h c = h * classCount + c
 
 -- the superblocks of heap h and class c, as kept; and their live blocks
 unfoldable pub superblocksKept : ℕ → ℕ → State → ℕ
@@ -37,7 +43,7 @@ noTotals = record { superblocks = replicate totalCount 0; live = replicate total
 
 -- the superblock is of a heap and a class; an unused one is not
 unfoldable pub isCounted : Superblock → Bool
-isCounted b = both (ltb (b .owner) heapCount) (ltb (b .class) 27)
+isCounted b = both (ltb (b .owner) heapCount) (ltb (b .class) classCount)
 
 -- a number of the superblock, added at its heap and class
 unfoldable pub withCounted : (Superblock → ℕ) → Superblock → List ℕ → List ℕ
@@ -50,7 +56,7 @@ countedBelow f table (suc k) = withCounted f (getD table k blank) (countedBelow 
 
 -- "the recount" of a table: one for each superblock, and its live blocks
 unfoldable pub recounted : List Superblock → Totals
-recounted table = record { superblocks = countedBelow (λ b. 1) table 64; live = countedBelow liveIn table 64 }
+recounted table = record { superblocks = countedBelow (λ b. 1) table tableLength; live = countedBelow liveIn table tableLength }
 
 -- "equal to the recount"
 abbrev pub TotalsKept : State → Type 0
@@ -58,4 +64,4 @@ TotalsKept s = s .totals ≡ recounted (s .table)
 
 -- the same of each heap and class: the totals kept are its superblocks and its live blocks
 abbrev pub TotalsCounted : State → Type 0
-TotalsCounted s = (h c : ℕ) → h < heapCount → c < 27 → (superblocksKept h c s ≡ superblocksOf h c s) × (liveKept h c s ≡ liveOf h c s)
+TotalsCounted s = (h c : ℕ) → h < heapCount → c < classCount → (superblocksKept h c s ≡ superblocksOf h c s) × (liveKept h c s ≡ liveOf h c s)

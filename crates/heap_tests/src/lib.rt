@@ -3,13 +3,16 @@ ghost use mathlib.Core.Path.{_≡_};
 ghost use Prim.Native.Nat.{_≤_};
 ghost use lib.Dec.{eqb};
 ghost use Rattle.base_laws.specs.Sums.{both};
+ghost use Rattle.marks_rules.specs.Marks.{markCount};
 ghost use Rattle.heap_rules.specs.Table.{liveIn, isUnused, startsRun};
 ghost use Rattle.check_rules.specs.Check.{isPartOfRun, isUnowned};
+use heap_rules::RUN_OWNER;
 use heap_rules::Superblock;
+use heap_rules::UNUSED_OWNER;
 
 // How many of its blocks are live.
 pub fn live_in(b: Superblock) -> u32
-    ensures { λ r. ⌜ (r ≡ liveIn b) × (r ≤ 256) ⌝ }
+    ensures { λ r. ⌜ (r ≡ liveIn b) × (r ≤ markCount) ⌝ }
 {
     let live = b.live;
     marks_count::live_count(live)
@@ -29,14 +32,14 @@ fn is_bare(b: Superblock, owner: u8) -> bool
 pub fn is_unused(b: Superblock) -> bool
     ensures { λ r. ⌜ r ≡ isUnused b ⌝ }
 {
-    is_bare(b, 255)
+    is_bare(b, UNUSED_OWNER)
 }
 
 // Part of a long block's run: owner 254, class 0, nothing live.
 pub fn is_part_of_run(b: Superblock) -> bool
     ensures { λ r. ⌜ r ≡ isPartOfRun b ⌝ }
 {
-    is_bare(b, 254)
+    is_bare(b, RUN_OWNER)
 }
 
 // No heap owns it: it is unused, or part of a run. Its owner is one of the two at most, so that its live blocks are counted once at most.
@@ -53,5 +56,5 @@ pub fn is_unowned(b: Superblock) -> bool
 pub fn starts_run(b: Superblock) -> bool
     ensures { λ r. ⌜ r ≡ startsRun b ⌝ }
 {
-    b.owner == 254 && 0 < b.run
+    b.owner == RUN_OWNER && 0 < b.run
 }

@@ -25,7 +25,7 @@ use Rattle.heap_totals.specs.OneSuperblock.{indexOf, withoutCounted, cou
 
 -- ---- where a superblock is counted
 module _ (b : Superblock) (x : ℕ) (at : x ≡ indexOf (b .owner) (b .class)) where
-  counted-of-index : x < 243 → (isCounted b ≡ true) × (x ≡ totalIndex (b .owner) (b .class))
+  counted-of-index : x < totalCount → (isCounted b ≡ true) × (x ≡ totalIndex (b .owner) (b .class))
   unfolding indexOf isCounted
   counted-of-index l = go (both (ltb (b .owner) heapCount) (ltb (b .class) 27)) at
     where
@@ -33,7 +33,7 @@ module _ (b : Superblock) (x : ℕ) (at : x ≡ indexOf (b .owner) (b .class)) w
       go true e = (refl, e)
       go false e = absurd (let z : ⊥ = omega arith in z)
 
-  not-counted-of-no-index : 243 ≤ x → isCounted b ≡ false
+  not-counted-of-no-index : totalCount ≤ x → isCounted b ≡ false
   unfolding indexOf isCounted
   not-counted-of-no-index l = go (both (ltb (b .owner) heapCount) (ltb (b .class) 27)) refl at
     where
@@ -45,37 +45,37 @@ module _ (b : Superblock) (x : ℕ) (at : x ≡ indexOf (b .owner) (b .class)) w
           absurd (let z : ⊥ = omega arith in z)
       go false e q = refl
 
-  pub with-counted-of-index : (f : Superblock → ℕ) (l : List ℕ) (n : ℕ) → x < 243 → n ≡ f b → set l x (getD l x 0 + n) ≡ withCounted f b l
+  pub with-counted-of-index : (f : Superblock → ℕ) (l : List ℕ) (n : ℕ) → x < totalCount → n ≡ f b → set l x (getD l x 0 + n) ≡ withCounted f b l
   unfolding withCounted
   with-counted-of-index f l n below e =
       let i = counted-of-index below in
       rw (i .0, e, sym (i .1)) (sym (increased-is-set x (f b) l))
 
-  pub with-counted-of-no-index : (f : Superblock → ℕ) (l : List ℕ) → 243 ≤ x → l ≡ withCounted f b l
+  pub with-counted-of-no-index : (f : Superblock → ℕ) (l : List ℕ) → totalCount ≤ x → l ≡ withCounted f b l
   unfolding withCounted
   with-counted-of-no-index f l past = let e = not-counted-of-no-index past in rw e
 
-  without-counted-of-index : (f : Superblock → ℕ) (l : List ℕ) (n : ℕ) → x < 243 → n ≡ getD l x 0 - f b → set l x n ≡ withoutCounted f b l
+  without-counted-of-index : (f : Superblock → ℕ) (l : List ℕ) (n : ℕ) → x < totalCount → n ≡ getD l x 0 - f b → set l x n ≡ withoutCounted f b l
   unfolding withoutCounted
   without-counted-of-index f l n below e = let i = counted-of-index below in rw (i .0, e, sym (i .1))
 
   -- one of no heap or class is not counted
-  pub counted-in-of-no-index : (t : Totals) → 243 ≤ x → t ≡ countedIn b t
+  pub counted-in-of-no-index : (t : Totals) → totalCount ≤ x → t ≡ countedIn b t
   unfolding countedIn
   counted-in-of-no-index t l = ap₂ (λ (a d : List ℕ). record { superblocks = a; live = d }) (with-counted-of-no-index (λ y. 1) (t .superblocks) l) (with-counted-of-no-index liveIn (t .live) l)
 
-  pub counted-out-of-no-index : (t : Totals) → 243 ≤ x → t ≡ countedOut b t
+  pub counted-out-of-no-index : (t : Totals) → totalCount ≤ x → t ≡ countedOut b t
   unfolding countedOut withoutCounted
   counted-out-of-no-index t l = let e = not-counted-of-no-index l in rw e
 
   -- any other is, at its index
-  pub counted-in-of-index : (t : Totals) (n : ℕ) → x < 243 → n ≡ liveIn b
+  pub counted-in-of-index : (t : Totals) (n : ℕ) → x < totalCount → n ≡ liveIn b
       → record { superblocks = set (t .superblocks) x (getD (t .superblocks) x 0 + 1); live = set (t .live) x (getD (t .live) x 0 + n) } ≡ countedIn b t
   unfolding countedIn
   counted-in-of-index t n l e =
       ap₂ (λ (a d : List ℕ). record { superblocks = a; live = d }) (with-counted-of-index (λ y. 1) (t .superblocks) 1 l refl) (with-counted-of-index liveIn (t .live) n l e)
 
-  pub counted-out-of-index : (t : Totals) (m n live : ℕ) → x < 243 → m ≡ getD (t .superblocks) x 0 - 1 → live ≡ liveIn b → n ≡ getD (t .live) x 0 - live
+  pub counted-out-of-index : (t : Totals) (m n live : ℕ) → x < totalCount → m ≡ getD (t .superblocks) x 0 - 1 → live ≡ liveIn b → n ≡ getD (t .live) x 0 - live
       → record { superblocks = set (t .superblocks) x m; live = set (t .live) x n } ≡ countedOut b t
   unfolding countedOut
   counted-out-of-index t m n live l e d f =

@@ -4,6 +4,7 @@ use mathlib.Core.List.{List}
 use lib.ListN.{getD, set}
 use lib.Dec.{ltb}
 use Rattle.base_laws.specs.Sums.{pick, both}
+use Rattle.class_rules.specs.Classes.{classCount}
 use Rattle.heap_rules.specs.declared.Superblock.{Superblock}
 use Rattle.heap_rules.specs.declared.Totals.{Totals}
 use Rattle.heap_rules.specs.Table.{liveIn}
@@ -11,7 +12,7 @@ use Rattle.heap_rules.specs.Totals.{heapCount, totalCount, totalIndex, isCounte
 
 -- where the totals of a heap and class stand; past all of them where none are kept
 unfoldable pub indexOf : ℕ → ℕ → ℕ
-indexOf h c = pick (both (ltb h heapCount) (ltb c 27)) (totalIndex h c) totalCount
+indexOf h c = pick (both (ltb h heapCount) (ltb c classCount)) (totalIndex h c) totalCount
 
 -- a number of the superblock, taken away at its heap and class
 unfoldable pub withoutCounted : (Superblock → ℕ) → Superblock → List ℕ → List ℕ

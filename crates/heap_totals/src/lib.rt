@@ -1,31 +1,37 @@
 // The totals of a heap and class: where they stand, and one superblock counted in them or no longer.
 ghost use mathlib.Core.Path.{_≡_};
-ghost use Prim.Native.Nat.{ℕ, _-_, _≤_};
+ghost use Prim.Native.Nat.{ℕ, _-_, _*_, _≤_};
 ghost use lib.ListN.{getD};
+ghost use Rattle.class_rules.specs.Classes.{mostBlocks};
+ghost use Rattle.heap_rules.specs.Table.{tableLength};
 ghost use Rattle.heap_totals.specs.OneSuperblock.{indexOf, countedIn, countedOut};
+use class_rules::CLASS_COUNT;
+use class_rules::CLASSES;
+use heap_rules::HEAPS;
 use heap_rules::Superblock;
+use heap_rules::TOTAL_COUNT;
 use heap_rules::Totals;
 
 // Where the totals of a heap and class stand; 243 where none are kept of them.
 pub fn index_of(heap: u8, class: u8) -> usize
     ensures { λ r. ⌜ r ≡ indexOf heap class ⌝ }
 {
-    if 9 <= heap {
-        return 243;
+    if HEAPS <= heap {
+        return TOTAL_COUNT;
     }
-    if 27 <= class {
-        return 243;
+    if CLASSES <= class {
+        return TOTAL_COUNT;
     }
-    heap as usize * 27 + class as usize
+    heap as usize * CLASS_COUNT + class as usize
 }
 
 // The totals with superblock b counted.
 pub fn count_in(t: Totals, b: Superblock) -> Totals
-    requires { ⌜ ((x : ℕ) → getD (t .superblocks) x 0 ≤ 64) × ((x : ℕ) → getD (t .live) x 0 ≤ 16384) ⌝ }
+    requires { ⌜ ((x : ℕ) → getD (t .superblocks) x 0 ≤ tableLength) × ((x : ℕ) → getD (t .live) x 0 ≤ tableLength * mostBlocks) ⌝ }
     ensures { λ r. ⌜ r ≡ countedIn b t ⌝ }
 {
     let at = index_of(b.owner, b.class);
-    if 243 <= at {
+    if TOTAL_COUNT <= at {
         return t;
     }
     let mut r = t;
@@ -39,7 +45,7 @@ pub fn count_out(t: Totals, b: Superblock) -> Totals
     ensures { λ r. ⌜ r ≡ countedOut b t ⌝ }
 {
     let at = index_of(b.owner, b.class);
-    if 243 <= at {
+    if TOTAL_COUNT <= at {
         return t;
     }
     let mut r = t;

@@ -1,6 +1,9 @@
 // Reads one record from standard input and prints its key. A record that cannot be read whole has no key.
 ghost use Rattle.io.specs.Counts.{Counts};
+use heap_rules::TABLE_LENGTH;
+use key_replay::ROOM;
 use key_rules::Printed;
+use order_rules::PLACES_EACH;
 use program_stream::Input;
 
 // A record is at most 60000 bytes: one byte more is enough to know that it is too long, and the rest is not read.
@@ -15,8 +18,8 @@ fn main() {
 
 // The program's own order storage, and room for any key.
 fn print_key(record: &[u8]) {
-    let mut storage = [0u16; 16384];
-    let mut text = [0u8; 655360];
+    let mut storage = [0u16; TABLE_LENGTH * PLACES_EACH];
+    let mut text = [0u8; ROOM];
     let printed = key_replay::key(record, &mut storage, &mut text);
     match printed {
         Printed::Text(end) => print(&text, end),

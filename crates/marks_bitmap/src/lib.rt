@@ -2,16 +2,18 @@
 // Each function is total: no block has a number of 256 or above, so such a number is not live, and setting or clearing it changes nothing.
 ghost use mathlib.Core.Path.{_≡_};
 ghost use Rattle.marks_rules.specs.Marks.{isMarked, withMark, withoutMark};
+use marks_rules::BITS_OF_WORD;
+use marks_rules::MARK_COUNT;
 
 // Block j is live.
 pub fn is_live(live: [u64; 4], j: usize) -> bool
     ensures { λ r. ⌜ r ≡ isMarked live j ⌝ }
 {
-    if 256 <= j {
+    if MARK_COUNT <= j {
         return false;
     }
-    let i = j / 64;
-    let b = j % 64;
+    let i = j / BITS_OF_WORD;
+    let b = j % BITS_OF_WORD;
     (live[i] >> b) % 2 == 1
 }
 
@@ -19,11 +21,11 @@ pub fn is_live(live: [u64; 4], j: usize) -> bool
 pub fn set_live(live: [u64; 4], j: usize) -> [u64; 4]
     ensures { λ r. ⌜ r ≡ withMark live j ⌝ }
 {
-    if 256 <= j {
+    if MARK_COUNT <= j {
         return live;
     }
-    let i = j / 64;
-    let b = j % 64;
+    let i = j / BITS_OF_WORD;
+    let b = j % BITS_OF_WORD;
     let mut next = live;
     next[i] = live[i] | (1u64 << b);
     next
@@ -33,11 +35,11 @@ pub fn set_live(live: [u64; 4], j: usize) -> [u64; 4]
 pub fn clear_live(live: [u64; 4], j: usize) -> [u64; 4]
     ensures { λ r. ⌜ r ≡ withoutMark live j ⌝ }
 {
-    if 256 <= j {
+    if MARK_COUNT <= j {
         return live;
     }
-    let i = j / 64;
-    let b = j % 64;
+    let i = j / BITS_OF_WORD;
+    let b = j % BITS_OF_WORD;
     let mut next = live;
     next[i] = live[i] & !(1u64 << b);
     next

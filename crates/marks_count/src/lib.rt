@@ -1,11 +1,12 @@
 // Live marks taken together: how many there are, and whether any stands at a block or after it.
 ghost use mathlib.Core.Path.{_≡_};
 ghost use Prim.Native.Nat.{_≤_, _-_, _/_, _^_};
-ghost use Rattle.marks_rules.specs.Marks.{liveCount, noMarkFrom};
+ghost use Rattle.marks_rules.specs.Marks.{markCount, liveCount, noMarkFrom};
+use marks_rules::BITS_OF_WORD;
 
 // How many blocks are live: the ones in the four numbers.
 pub fn live_count(live: [u64; 4]) -> u32
-    ensures { λ r. ⌜ (r ≡ liveCount live) × (r ≤ 256) ⌝ }
+    ensures { λ r. ⌜ (r ≡ liveCount live) × (r ≤ markCount) ⌝ }
 {
     u64::count_ones(live[0])
         + u64::count_ones(live[1])
@@ -32,5 +33,5 @@ fn tail(w: u64, n: usize, start: usize) -> u64
         return w;
     }
     let m = n - start;
-    if m < 64 { w >> m } else { 0 }
+    if m < BITS_OF_WORD { w >> m } else { 0 }
 }

@@ -8,7 +8,7 @@ use Rattle.heap_rules.specs.declared.State.{State}
 use Rattle.heap_rules.specs.declared.Found.{Found}
 use Rattle.heap_rules.specs.declared.Found.the-variants.{At, Nothing}
 use Rattle.heap_rules.specs.declared.Moved.{Moved}
-use Rattle.heap_rules.specs.Table.{superblockAt, withOwner}
+use Rattle.heap_rules.specs.Table.{tableLength, superblockAt, withOwner}
 use Rattle.heap_rules.specs.States.{withSuperblock}
 use Rattle.heap_rules.specs.Counts.{blocksIn, liveOf}
 use Rattle.choice_rules.specs.Choice.{emptiest}
@@ -38,7 +38,7 @@ transfersUpTo (suc k) h c m s = pick (mustMove h c s) (transfersUpTo k h c (m + 
 -- "While u + K × n < a and q × u < (q - p) × a, heap i's class-c superblock with the fewest live .. passes to heap 0."
 -- 64 turns are enough, since a heap has no more superblocks.
 unfoldable pub excessTransferred : ℕ → ℕ → State → Moved
-excessTransferred h c s = transfersUpTo 64 h c 0 s
+excessTransferred h c s = transfersUpTo tableLength h c 0 s
 
 -- "If the owner is heap 0 the call ends." Else the moves, for the owner and the class.
 unfoldable pub invariantRestored : ℕ → ℕ → State → Moved

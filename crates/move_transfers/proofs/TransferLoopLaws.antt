@@ -13,7 +13,7 @@ use Rattle.heap_rules.specs.declared.Moved.{Moved}
 use Rattle.heap_rules.specs.declared.Found.{Found}
 use Rattle.heap_rules.specs.Table.{superblockAt, withOwner}
 use Rattle.heap_rules.specs.Counts.{superblocksOf, blocksIn}
-use Rattle.heap_rules.specs.Totals.{superblocksKept, liveKept, TotalsKept}
+use Rattle.heap_rules.specs.Totals.{heapCount, superblocksKept, liveKept, TotalsKept}
 use Rattle.heap_rules.specs.States.{withSuperblock}
 use Rattle.choice_rules.specs.Choice.{emptiest}
 use Rattle.move_rules.specs.Moves.{bothConditions, mustMove, transferred, foundTransferred, transfersUpTo, excessTransferred}
@@ -27,7 +27,7 @@ pub superblocks-total-le-64 : (s : State) (x : ℕ) → TotalsKept s → getD (s
 superblocks-total-le-64 s x kept = rw kept (recounted-superblocks-le-64 (s .table) x)
 
 -- the test, from the totals kept
-pub must-move-from-totals : (h c : ℕ) (s : State) (n : ℕ) (r : Bool) → h < 9 → c < 27 → TotalsKept s → n ≡ blocksOf c
+pub must-move-from-totals : (h c : ℕ) (s : State) (n : ℕ) (r : Bool) → h < heapCount → c < 27 → TotalsKept s → n ≡ blocksOf c
     → r ≡ bothConditions (s .setup .spare) (s .setup .p) (s .setup .q) n (getD (s .totals .superblocks) (h * 27 + c) 0 * n) (getD (s .totals .live) (h * 27 + c) 0) → r ≡ mustMove h c s
 unfolding mustMove blocksIn superblocksKept liveKept
 must-move-from-totals h c s n r lh lc kept p g = rw (← p, ← superblocks-kept-are-counted s h c lh lc kept, ← live-kept-is-counted s h c lh lc kept) g

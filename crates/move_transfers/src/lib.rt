@@ -2,20 +2,23 @@
 // heap 0.
 ghost use mathlib.Core.Path.{_≡_};
 ghost use Prim.Native.Nat.{_<_};
-ghost use Rattle.heap_rules.specs.Totals.{TotalsKept};
+ghost use Rattle.class_rules.specs.Classes.{classCount};
+ghost use Rattle.heap_rules.specs.Totals.{heapCount, TotalsKept};
 ghost use Rattle.move_rules.specs.Moves.{mustMove, transferred, foundTransferred, excessTransferred, invariantRestored};
+use class_rules::CLASS_COUNT;
 use heap_rules::Found;
 use heap_rules::Moved;
 use heap_rules::State;
 use heap_rules::Superblock;
+use heap_rules::TABLE_LENGTH;
 
 // The heap and class meet both conditions of the move rule, by the totals kept.
 fn must_move(s: State, heap: u8, class: u8) -> bool
-    requires { ⌜ (heap < 9) × (class < 27) × TotalsKept s ⌝ }
+    requires { ⌜ (heap < heapCount) × (class < classCount) × TotalsKept s ⌝ }
     ensures { λ r. ⌜ r ≡ mustMove heap class s ⌝ }
 {
     let n = class_table::block_count(class) as u32;
-    let at = heap as usize * 27 + class as usize;
+    let at = heap as usize * CLASS_COUNT + class as usize;
     let kept = s.totals;
     let a = kept.superblocks[at] as u32 * n;
     let u = kept.live[at] as u32;
@@ -28,7 +31,7 @@ fn transfer(s: State, k: usize) -> State
     requires { ⌜ TotalsKept s ⌝ }
     ensures { λ r. ⌜ r ≡ transferred k s ⌝ }
 {
-    if 64 <= k {
+    if TABLE_LENGTH <= k {
         return s;
     }
     let b = s.table[k];
@@ -56,7 +59,7 @@ fn transfer_found(s: State, found: Found) -> State
 
 // The moves of a processor heap and class: as many as the rule asks, not one.
 fn transfer_excess(s: State, heap: u8, class: u8) -> Moved
-    requires { ⌜ (0 < heap) × (heap < 9) × (class < 27) × TotalsKept s ⌝ }
+    requires { ⌜ (0 < heap) × (heap < heapCount) × (class < classCount) × TotalsKept s ⌝ }
     ensures { λ r. ⌜ r ≡ excessTransferred heap class s ⌝ }
 {
     let mut t = s;
@@ -71,7 +74,7 @@ fn transfer_excess(s: State, heap: u8, class: u8) -> Moved
 
 // The moves after frees in the heap and class; none where the heap is heap 0.
 pub fn restore_invariant(s: State, heap: u8, class: u8) -> Moved
-    requires { ⌜ (heap < 9) × (class < 27) × TotalsKept s ⌝ }
+    requires { ⌜ (heap < heapCount) × (class < classCount) × TotalsKept s ⌝ }
     ensures { λ r. ⌜ r ≡ invariantRestored heap class s ⌝ }
 {
     if heap == 0 {

@@ -7,17 +7,25 @@ use lib.ListN.{getD, set, replicate}
 use lib.Dec.{eqb, ltb}
 use Rattle.base_laws.specs.Sums.{pick, both, either}
 
+-- "Names are 0 to 1023."
+abbrev pub nameCount : ℕ
+nameCount = 1024
+
 -- what stands for a name that is not held: no block has this number
 abbrev pub notHeld : ℕ
 notHeld = 65535
 
+-- how many block numbers each superblock has
+abbrev pub numbersEach : ℕ
+numbersEach = 256
+
 -- the number of block j of superblock k
 abbrev pub blockNumber : ℕ → ℕ → ℕ
-blockNumber k j = k * 256 + j
+blockNumber k j = k * numbersEach + j
 
--- "Names are 0 to 1023."
+-- m is a name
 unfoldable pub isName : ℕ → Bool
-isName m = ltb m 1024
+isName m = ltb m nameCount
 
 -- the number of the block that name m points at
 unfoldable pub blockNamed : List ℕ → ℕ → ℕ
@@ -29,7 +37,7 @@ isHeld names m = both (isName m) (not (eqb (blockNamed names m) notHeld))
 
 -- "A new or refused setup holds no names"
 abbrev pub noNames : List ℕ
-noNames = replicate 1024 notHeld
+noNames = replicate nameCount notHeld
 
 -- "A name holds from its take": name m points at block b
 unfoldable pub withName : List ℕ → ℕ → ℕ → List ℕ

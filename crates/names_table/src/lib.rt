@@ -4,34 +4,36 @@ ghost use mathlib.Core.Path.{_≡_};
 ghost use mathlib.Core.Bool.{not};
 ghost use Rattle.base_laws.specs.Sums.{either};
 ghost use Rattle.names_rules.specs.Names.{isName, blockNamed, isHeld, withName, withoutBlock};
+use names_rules::NAME_COUNT;
+use names_rules::NOT_HELD;
 
-// How many names there are: 0 to 1023.
-const NAMES: u16 = 1024;
+// How many names there are, in the width of a name.
+const NAMES: u16 = NAME_COUNT as u16;
 
 // The number of the block that a name points at, 65535 where it is not held.
-pub fn block_named(names: [u16; 1024], name: u16) -> u16
+pub fn block_named(names: [u16; NAME_COUNT], name: u16) -> u16
     ensures { λ r. ⌜ r ≡ blockNamed names name ⌝ }
 {
     if NAMES <= name {
-        return 65535;
+        return NOT_HELD;
     }
     let i = name as usize;
     names[i]
 }
 
 // The name is held.
-pub fn is_held(names: [u16; 1024], name: u16) -> bool
+pub fn is_held(names: [u16; NAME_COUNT], name: u16) -> bool
     ensures { λ r. ⌜ r ≡ isHeld names name ⌝ }
 {
     if NAMES <= name {
         return false;
     }
     let i = name as usize;
-    names[i] != 65535
+    names[i] != NOT_HELD
 }
 
 // A take cannot have this name: it is held, or is no name.
-pub fn is_unavailable(names: [u16; 1024], name: u16) -> bool
+pub fn is_unavailable(names: [u16; NAME_COUNT], name: u16) -> bool
     ensures { λ r. ⌜ r ≡ either (not (isName name)) (isHeld names name) ⌝ }
 {
     if NAMES <= name {
@@ -41,7 +43,7 @@ pub fn is_unavailable(names: [u16; 1024], name: u16) -> bool
 }
 
 // The names with one that points at a block.
-pub fn bind(names: [u16; 1024], name: u16, block: u16) -> [u16; 1024]
+pub fn bind(names: [u16; NAME_COUNT], name: u16, block: u16) -> [u16; NAME_COUNT]
     ensures { λ r. ⌜ r ≡ withName names name block ⌝ }
 {
     if NAMES <= name {
@@ -54,14 +56,14 @@ pub fn bind(names: [u16; 1024], name: u16, block: u16) -> [u16; 1024]
 }
 
 // The names with none that points at a block.
-pub fn unbind_block(names: [u16; 1024], block: u16) -> [u16; 1024]
+pub fn unbind_block(names: [u16; NAME_COUNT], block: u16) -> [u16; NAME_COUNT]
     ensures { λ r. ⌜ r ≡ withoutBlock names block ⌝ }
 {
     let mut next = names;
     let mut i: usize = 0;
-    while i < 1024 {
+    while i < NAME_COUNT {
         let x = names[i];
-        let y = if x == block { 65535 } else { x };
+        let y = if x == block { NOT_HELD } else { x };
         next[i] = y;
         i += 1;
     }

@@ -3,14 +3,15 @@
 ghost use mathlib.Core.Path.{_≡_};
 ghost use Prim.Native.Nat.{min};
 ghost use Rattle.order_rules.specs.Order.{renewed, cleared};
+use order_rules::PLACES_EACH;
 
 // Puts n - 1 - j in place j of superblock s for each j below n, where it has n places: block 0 comes to be the last.
 pub fn renew_order(order: &mut [u16], s: u8, n: u16)
     ensures { λ _. ⌜ now (order .exit) ≡ renewed (now (order .entry)) s n ⌝ }
 {
-    let base = s as usize * 256;
+    let base = s as usize * PLACES_EACH;
     let m = n as usize;
-    if m > 256 {
+    if m > PLACES_EACH {
         return;
     }
     if base + m > order.len() {

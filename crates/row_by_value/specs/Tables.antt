@@ -4,8 +4,10 @@ use mathlib.Core.Bool.{Bool}
 use mathlib.Core.List.{List}
 use lib.Dec.{eqb}
 use Rattle.base_laws.specs.Sums.{pick}
+use Rattle.refusal_rules.specs.Refusals.{stateInvalid}
 use Rattle.heap_rules.specs.declared.Superblock.{Superblock}
 use Rattle.heap_rules.specs.declared.Setup.{Setup}
+use Rattle.heap_rules.specs.Table.{tableLength}
 use Rattle.call_rules.specs.declared.Answer.{Answer}
 use Rattle.call_rules.specs.declared.Outcome.{Outcome}
 use Rattle.call_rules.specs.declared.Outcome.the-variants.{Refused}
@@ -25,7 +27,7 @@ rowAfterCall r order = rowAfter (r .answer) (r .table) order
 
 -- a setup's refusals, the number for its numbers and then 12, then 13 for the row's length; 0 where none applies
 unfoldable pub rowFirstRefusal : ℕ → ℕ → List ℕ → Setup → ℕ
-rowFirstRefusal numbers n order u = pick (eqb (setupRefusal numbers u order) 0) (pick (eqb n 64) 0 13) (setupRefusal numbers u order)
+rowFirstRefusal numbers n order u = pick (eqb (setupRefusal numbers u order) 0) (pick (eqb n tableLength) 0 stateInvalid) (setupRefusal numbers u order)
 
 -- "A refusal carries its number alone"
 abbrev pub refusedCall : ℕ → Control → List Superblock → TableCall

@@ -10,18 +10,20 @@ use call_rules::Outcome;
 use heap_rules::Setup;
 use heap_rules::State;
 use heap_rules::Superblock;
+use heap_rules::TABLE_LENGTH;
+use refusal_rules::STATE_INVALID;
 use row_rules::Control;
 use row_rules::RowAnswer;
 
 // What is to be stored in the row where the call was accepted, the answer, and whether it was.
 pub struct TableCall {
-    pub table: [Superblock; 64],
+    pub table: [Superblock; TABLE_LENGTH],
     pub answer: RowAnswer,
     pub accepted: bool,
 }
 
 // The state that a control and a table make.
-pub fn state_of(control: Control, table: [Superblock; 64]) -> State
+pub fn state_of(control: Control, table: [Superblock; TABLE_LENGTH]) -> State
     ensures { λ r. ⌜ r ≡ stateOf control table ⌝ }
 {
     let setup = control.setup;
@@ -57,8 +59,8 @@ pub fn row_first_refusal(numbers: u8, n: usize, order: &[u16], u: Setup) -> u8
     if first != 0 {
         return first;
     }
-    if n != 64 {
-        return 13;
+    if n != TABLE_LENGTH {
+        return STATE_INVALID;
     }
     0
 }
@@ -71,7 +73,7 @@ fn accepted(outcome: Outcome) -> bool
 }
 
 // A refusal, with the control and the table as they are to be.
-pub fn refuse(number: u8, control: Control, table: [Superblock; 64]) -> TableCall
+pub fn refuse(number: u8, control: Control, table: [Superblock; TABLE_LENGTH]) -> TableCall
     ensures { λ r. ⌜ r ≡ refusedCall number control table ⌝ }
     ensures number_and_values { λ r. ⌜ HasNumberAndValuesOf (r .answer .outcome) (Refused number) ⌝ }
 {

@@ -8,6 +8,9 @@ ghost use Rattle.row_by_value.specs.Tables.{isAccepted, rowAfterCall};
 use call_rules::CallHeader;
 use heap_rules::Setup;
 use heap_rules::Superblock;
+use heap_rules::TABLE_LENGTH;
+use refusal_rules::SETUP_OUT_OF_LIMITS;
+use refusal_rules::STATE_INVALID;
 use row_by_value::TableCall;
 use row_rules::Control;
 use row_rules::RowAnswer;
@@ -16,13 +19,18 @@ use row_rules::RowAnswer;
 // with whether the call was accepted: a refused one stores nothing.
 
 // A setup where n records are lent.
-fn setup_table(n: usize, table: [Superblock; 64], order: &mut [u16], u: Setup) -> TableCall
+fn setup_table(
+    n: usize,
+    table: [Superblock; TABLE_LENGTH],
+    order: &mut [u16],
+    u: Setup,
+) -> TableCall
     ensures { λ r. ⌜ rowAfterCall r (now (order .exit)) ≡ setupOn n u table (now (order .entry)) ⌝ }
     ensures accepts { λ r. ⌜ r .accepted ≡ isAccepted (r .answer .outcome) ⌝ }
     ensures number_and_values { λ r. ⌜ HasNumberAndValuesOf (r .answer .outcome) (setupOn n u table (now (order .entry)) .outcome) ⌝ }
     ensures passes { λ r. ⌜ PassesIfAccepted (r .answer .outcome) (stateOf (r .answer .control) (r .table)) (now (order .exit)) ⌝ }
 {
-    let first = row_by_value::row_first_refusal(1, n, order, u);
+    let first = row_by_value::row_first_refusal(SETUP_OUT_OF_LIMITS, n, order, u);
     if first != 0 {
         let none = call_states::no_state();
         let zeros = row_by_value::control_of(none);
@@ -35,7 +43,7 @@ fn setup_table(n: usize, table: [Superblock; 64], order: &mut [u16], u: Setup) -
 // A take, a free, plain or named, or a drop, where n records are lent. Only a drop reads the addresses.
 fn call_table(
     n: usize,
-    table: [Superblock; 64],
+    table: [Superblock; TABLE_LENGTH],
     order: &mut [u16],
     control: Control,
     call: CallHeader,
@@ -48,7 +56,7 @@ fn call_table(
     ensures moves { λ r. ⌜ MovesAtMost (mostMoves (control .setup .q) (callWith call (now (addresses .entry)))) (r .answer .outcome) ⌝ }
 {
     let u = control.setup;
-    let first = row_by_value::row_first_refusal(13, n, order, u);
+    let first = row_by_value::row_first_refusal(STATE_INVALID, n, order, u);
     if first != 0 {
         return row_by_value::refuse(first, control, table);
     }

@@ -5,33 +5,34 @@ ghost use lib.ListN.{take};
 ghost use Rattle.call_rules.specs.Answers.{HasNumberAndValuesOf, PassesIfAccepted, MovesAtMost};
 ghost use Rattle.call_rules.specs.Calls.{callWith, mostMoves};
 ghost use Rattle.row_rules.specs.Row.{stateOf, rowSetup, rowCall};
-ghost use Rattle.row_rules.specs.Borrowed.{RecordsAfter, recordsAfter};
+ghost use Rattle.row_rules.specs.Borrowed.{recordCount, RecordsAfter, recordsAfter};
 use call_rules::CallHeader;
 use heap_rules::Setup;
 use heap_rules::Superblock;
 use row_rules::Control;
+use row_rules::RECORD_COUNT;
 use row_rules::RecordsAnswer;
 
 // As many as there are records.
 fn at_most(n: usize) -> usize
-    ensures { λ r. ⌜ (r ≡ min n 65) × (r ≤ 65) ⌝ }
+    ensures { λ r. ⌜ (r ≡ min n recordCount) × (r ≤ recordCount) ⌝ }
 {
-    if n <= 65 {
+    if n <= RECORD_COUNT {
         return n;
     }
-    65
+    RECORD_COUNT
 }
 
 // A take, a free, plain or named, or a drop on a row of the first n records.
 fn borrow_call(
     n: usize,
-    records: [Superblock; 65],
+    records: [Superblock; RECORD_COUNT],
     order: &mut [u16],
     control: Control,
     call: CallHeader,
     addresses: &[u32],
 ) -> RecordsAnswer
-    requires { ⌜ n ≤ 65 ⌝ }
+    requires { ⌜ n ≤ recordCount ⌝ }
     ensures { λ r. ⌜ record { returned = r; order = now (order .exit) } ≡ recordsAfter n records (rowCall control (take n records) (now (order .entry)) (callWith call (now (addresses .entry)))) ⌝ }
     ensures passes { λ r. ⌜ PassesIfAccepted (r .answer .outcome) (stateOf (r .answer .control) (take n (r .records))) (now (order .exit)) ⌝ }
     ensures moves { λ r. ⌜ MovesAtMost (mostMoves (control .setup .q) (callWith call (now (addresses .entry)))) (r .answer .outcome) ⌝ }
@@ -45,7 +46,7 @@ fn borrow_call(
 // addresses.
 pub fn call_by_row(
     n: usize,
-    records: [Superblock; 65],
+    records: [Superblock; RECORD_COUNT],
     order: &mut [u16],
     control: Control,
     call: CallHeader,
@@ -61,8 +62,13 @@ pub fn call_by_row(
 }
 
 // A setup on a row of the first n records.
-fn borrow_setup(n: usize, records: [Superblock; 65], order: &mut [u16], u: Setup) -> RecordsAnswer
-    requires { ⌜ n ≤ 65 ⌝ }
+fn borrow_setup(
+    n: usize,
+    records: [Superblock; RECORD_COUNT],
+    order: &mut [u16],
+    u: Setup,
+) -> RecordsAnswer
+    requires { ⌜ n ≤ recordCount ⌝ }
     ensures { λ r. ⌜ record { returned = r; order = now (order .exit) } ≡ recordsAfter n records (rowSetup u (take n records) (now (order .entry))) ⌝ }
     ensures passes { λ r. ⌜ PassesIfAccepted (r .answer .outcome) (stateOf (r .answer .control) (take n (r .records))) (now (order .exit)) ⌝ }
 {
@@ -74,7 +80,7 @@ fn borrow_setup(n: usize, records: [Superblock; 65], order: &mut [u16], u: Setup
 // A setup on a row of the first n records, of all 65 where n is above.
 pub fn setup_by_row(
     n: usize,
-    records: [Superblock; 65],
+    records: [Superblock; RECORD_COUNT],
     order: &mut [u16],
     u: Setup,
 ) -> RecordsAnswer

@@ -1,10 +1,15 @@
--- A row lent from the front of 65 records: one more than a row that is accepted.
-use Prim.Native.Nat.{ℕ}
+-- A row lent from the front of records: one more than a row that is accepted has.
+use Prim.Native.Nat.{ℕ, _+_}
 use mathlib.Core.List.{List, _++_}
 use lib.ListN.{drop}
 use Rattle.heap_rules.specs.declared.Superblock.{Superblock}
+use Rattle.heap_rules.specs.Table.{tableLength}
 use Rattle.row_rules.specs.Row.{RowAfter}
 use Rattle.row_rules.specs.declared.RecordsAnswer.{RecordsAnswer}
+
+-- the records
+abbrev pub recordCount : ℕ
+recordCount = tableLength + 1
 
 -- what a call leaves: the records with its answer, and all order places
 pub record RecordsAfter : Type 0 where

@@ -5,11 +5,12 @@ use mathlib.Core.List.{List}
 use lib.ListN.{length, replicate}
 use lib.Dec.{eqb, leb}
 use Rattle.base_laws.specs.Sums.{pick}
-use Rattle.order_rules.specs.Order.{cleared}
+use Rattle.order_rules.specs.Order.{placesEach, cleared}
+use Rattle.refusal_rules.specs.Refusals.{setupOutOfLimits, storageTooSmall, stateInvalid}
 use Rattle.heap_rules.specs.declared.Superblock.{Superblock}
 use Rattle.heap_rules.specs.declared.Setup.{Setup}
 use Rattle.heap_rules.specs.declared.State.{State}
-use Rattle.heap_rules.specs.Table.{unused}
+use Rattle.heap_rules.specs.Table.{tableLength, unused}
 use Rattle.heap_rules.specs.States.{noState, newState}
 use Rattle.check_rules.specs.Check.{withinLimits}
 use Rattle.call_rules.specs.declared.Outcome.{Outcome}
@@ -49,7 +50,8 @@ rowRefused r control row order = record { outcome = Refused r; control = control
 -- "an accepted setup writes them all": 64 unused superblocks, and the first N × 256 order places 0; "A new .. setup holds no names"
 -- (document 02, item 2) and "has them at 0", the totals (item 3)
 abbrev pub rowAcceptedSetup : Setup → List ℕ → RowAfter
-rowAcceptedSetup u order = record { outcome = Ready; control = controlOf (newState u); row = replicate 64 unused; order = cleared order (u .superblocks * 256) }
+rowAcceptedSetup u order =
+    record { outcome = Ready; control = controlOf (newState u); row = replicate tableLength unused; order = cleared order (u .superblocks * placesEach) }
 
 -- A setup where n records are lent: "setup 1, 12, then 13 for a lent row that is not 64 long (its contents are not checked ..)". "A
 -- refused setup hands back five zeros ..; a lent row it does not write." "A .. refused setup holds no names" (document 02, item 2) and
@@ -57,22 +59,22 @@ rowAcceptedSetup u order = record { outcome = Ready; control = controlOf (newSta
 unfoldable pub setupOn : ℕ → Setup → List Superblock → List ℕ → RowAfter
 setupOn n u row order =
     pick (withinLimits u)
-    (pick (leb (u .superblocks * 256) (length order))
-    (pick (eqb n 64) (rowAcceptedSetup u order)
-    (rowRefused 13 (controlOf noState) row order))
-    (rowRefused 12 (controlOf noState) row order))
-    (rowRefused 1 (controlOf noState) row order)
+    (pick (leb (u .superblocks * placesEach) (length order))
+    (pick (eqb n tableLength) (rowAcceptedSetup u order)
+    (rowRefused stateInvalid (controlOf noState) row order))
+    (rowRefused storageTooSmall (controlOf noState) row order))
+    (rowRefused setupOutOfLimits (controlOf noState) row order)
 
 -- A take or a free, plain or named, or a drop, where n records are lent: "13 for setup numbers, 12, the rest of 13", in which is "a lent row exactly
 -- 64 records long". What else is checked, and the call's own refusals, are those of the state.
 unfoldable pub callOn : ℕ → Control → List Superblock → List ℕ → Call → RowAfter
 callOn n control row order call =
     pick (withinLimits (control .setup))
-    (pick (leb (control .setup .superblocks * 256) (length order))
-    (pick (eqb n 64) (asRowAfter (callOf (stateOf control row) order call))
-    (rowRefused 13 control row order))
-    (rowRefused 12 control row order))
-    (rowRefused 13 control row order)
+    (pick (leb (control .setup .superblocks * placesEach) (length order))
+    (pick (eqb n tableLength) (asRowAfter (callOf (stateOf control row) order call))
+    (rowRefused stateInvalid control row order))
+    (rowRefused storageTooSmall control row order))
+    (rowRefused stateInvalid control row order)
 
 -- a setup on a lent row
 abbrev pub rowSetup : Setup → List Superblock → List ℕ → RowAfter
