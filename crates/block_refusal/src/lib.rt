@@ -96,7 +96,11 @@ fn refusal_past_table(superblocks: u8, address: u32) -> u8
     if end <= address {
         return ADDRESS_UNMAPPED;
     }
-    if address % SUPERBLOCK_BYTES % 16 == 0 { BLOCK_NOT_LIVE } else { ADDRESS_MISALIGNED }
+    if address % SUPERBLOCK_BYTES % 16 == 0 {
+        BLOCK_NOT_LIVE
+    } else {
+        ADDRESS_MISALIGNED
+    }
 }
 
 // The refusal that the address meets in a state. N is at most 64 in one that passes the check, so that what lies past the table is unmapped.

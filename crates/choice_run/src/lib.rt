@@ -26,7 +26,11 @@ pub fn lowest_run(s: State, n: usize) -> Found
         return Found::At(0);
     }
     let superblocks = s.setup.superblocks as usize;
-    let end = if superblocks < TABLE_LENGTH { superblocks } else { TABLE_LENGTH };
+    let end = if superblocks < TABLE_LENGTH {
+        superblocks
+    } else {
+        TABLE_LENGTH
+    };
     let mut row: usize = 0;
     let mut k: usize = 0;
     while k < end {
