@@ -1,1 +1,1 @@
-// Laws of setup, take, free and drop, in the page's words. The definitions are those of crate calls.
+// Laws of setup, take, free and drop, in the page's words. The definitions are those of crate call_rules.

@@ -1,5 +1,5 @@
 // The entries on a state: take and free, plain and of a block called by name, and drop, on a state by value and lent order storage of any
-// length. Each is the engine's one call, which checks the state handed in; none leaves a check to its caller. A setup is `engine`'s.
+// length. Each is the engine's one call, which checks the state handed in; none leaves a check to its caller. A setup is `engine_state`'s.
 ghost use mathlib.Core.Path.{_≡_};
 ghost use Prim.Native.Nat.{_*_};
 ghost use lib.ListN.{length};

@@ -1,5 +1,5 @@
 // The engine: setup, and any call on a state by value, with lent order storage of any length. It checks the state handed in and leaves no
-// check to its caller. The calls one by one stand in `entries`.
+// check to its caller. The calls one by one stand in `engine_entries`.
 ghost use mathlib.Core.Path.{_≡_};
 ghost use Rattle.call_rules.specs.Answers.{After, HasNumberAndValuesOf, PassesIfAccepted, MovesAtMost};
 ghost use Rattle.call_rules.specs.Setup.{setupOf};
