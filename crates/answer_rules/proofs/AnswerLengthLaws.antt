@@ -6,6 +6,7 @@ use native.Mathlib.Omega.{arith}
 use lib.ListN.{length, length-append, getD}
 use lib.Dec.{eqb}
 use Rattle.base_laws.specs.Sums.{pick, both}
+use Rattle.class_rules.specs.Classes.{classCount}
 use Rattle.text_rules.specs.Text.{decimal}
 use Rattle.text_rules.proofs.DigitLaws.{length-of-digits-le-most, length-of-digits-le-of-lt-pow, length-of-decimal-le-10, length-of-byte-decimal-le-3, length-of-u16-decimal-le-5}
 use Rattle.names_rules.specs.Names.{notHeld}
@@ -97,8 +98,8 @@ length-of-total-line-le-64 h c superblocks live a b =
 length-of-total-line-if-le-64 : (x superblocks live : ℕ) → x < 256 → length (totalLineIf x superblocks live) ≤ 64
 unfolding totalLineIf
 length-of-total-line-if-le-64 x superblocks live h =
-    length-of-line-if-le (both (eqb superblocks 0) (eqb live 0)) (totalLine (x / 27) (x % 27) superblocks live) 64
-    (length-of-total-line-le-64 (x / 27) (x % 27) superblocks live (omega arith) (omega arith))
+    length-of-line-if-le (both (eqb superblocks 0) (eqb live 0)) (totalLine (x / classCount) (x % classCount) superblocks live) 64
+    (length-of-total-line-le-64 (x / classCount) (x % classCount) superblocks live (omega arith) (omega arith))
 
 length-of-total-lines-le : (t : Totals) → length (totalLines t) ≤ totalCount * 64
 unfolding totalLines

@@ -6,6 +6,7 @@ use Prim.Native.Nat.{ℕ, _/_, _%_, _≤_}
 use lib.ListN.{getD}
 use lib.Dec.{eqb}
 use Rattle.base_laws.specs.Sums.{both}
+use Rattle.class_rules.specs.Classes.{classCount}
 use Rattle.text_rules.specs.Text.{pasted}
 use Rattle.heap_rules.specs.declared.Totals.{Totals}
 use Rattle.heap_rules.specs.Totals.{totalCount}
@@ -24,7 +25,7 @@ module _ (l₀ : List ℕ) {l : List ℕ} (at : ℕ) {r : ℕ} where
   total-line-if-of-zeros x superblocks live zeros d e p = rw (← d, e) p
 
   pub total-line-if-of-others : (x superblocks live : ℕ) (zeros : Bool) → zeros ≡ both (eqb superblocks 0) (eqb live 0) → zeros ≡ false
-      → record { end = r; buffer = l } ≡ pasted l₀ at (totalLine (x / 27) (x % 27) superblocks live)
+      → record { end = r; buffer = l } ≡ pasted l₀ at (totalLine (x / classCount) (x % classCount) superblocks live)
       → record { end = r; buffer = l } ≡ pasted l₀ at (totalLineIf x superblocks live)
   unfolding totalLineIf
   total-line-if-of-others x superblocks live zeros d e p = rw (← d, e) p

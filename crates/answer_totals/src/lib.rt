@@ -21,7 +21,7 @@ fn are_zero(superblocks: u8, live: u16) -> bool
     superblocks == 0 && live == 0
 }
 
-// The line of the totals at x, those of heap x / 27 and class x % 27, where one of them is not 0.
+// The line of the totals at x, those of heap x / CLASSES and class x % CLASSES, where one of them is not 0.
 fn total_line_if(out: &mut [u8], at: usize, x: u8, superblocks: u8, live: u16) -> usize
     ensures { λ r. ⌜ record { end = r; buffer = now (out .exit) } ≡ pasted (now (out .entry)) at (totalLineIf x superblocks live) ⌝ }
 {

@@ -6,7 +6,7 @@ use native.Mathlib.Decide.{decLt}
 use native.Mathlib.Omega.{arith}
 use borrow.Author.Tests.{lt-ltb, le-ltb}
 use Rattle.base_laws.proofs.Inequalities.{le-of-not-below}
-use Rattle.class_rules.specs.Classes.{sizeOf}
+use Rattle.class_rules.specs.Classes.{classCount, sizeOf}
 use Rattle.class_rules.proofs.ClassTableLaws.{size-of-ge-16, size-of-no-class}
 use Rattle.names_rules.specs.Names.{notHeld}
 use Rattle.heap_rules.specs.declared.State.{State}
@@ -26,9 +26,9 @@ block-of-by-class s a class j ec e = e ∙ ap (λ (n : ℕ). a % 4096 / sizeOf n
 
 -- the block's number: a block is one of 256, whatever the class
 block-of-offset-lt-256 : (a class : ℕ) → a % 4096 / sizeOf class < 256
-block-of-offset-lt-256 a class = go (decLt class 27)
+block-of-offset-lt-256 a class = go (decLt class classCount)
   where
-    go : Dec (class < 27) → a % 4096 / sizeOf class < 256
+    go : Dec (class < classCount) → a % 4096 / sizeOf class < 256
     go (yes h) =
         let g : 16 ≤ sizeOf class = size-of-ge-16 class h in
         let m : 256 * 16 ≤ 256 * sizeOf class = mul-le-mul-left 256 g in

@@ -34,7 +34,7 @@ pub fn block_at(s: State, address: u32) -> u16
     block_in(class, address)
 }
 
-// The number by which a name points at that block, superblock × 256 + block; 65535 past the table.
+// The number by which a name points at that block, superblock × NUMBERS_EACH + block; NOT_HELD past the table.
 pub fn block_number_at(s: State, address: u32) -> u16
     ensures { λ r. ⌜ r ≡ blockNumberAt s address ⌝ }
 {

@@ -11,21 +11,21 @@ use lib.Dec.{eqb, leb}
 use Rattle.base_laws.specs.Sums.{either}
 use Rattle.base_laws.proofs.TestLaws.{both-false-right, both-true-right}
 use Rattle.base_laws.proofs.Inequalities.{le-of-not-below}
-use Rattle.class_rules.specs.Classes.{sizes, counts, sizeOf, blocksOf}
+use Rattle.class_rules.specs.Classes.{classCount, sizes, counts, sizeOf, blocksOf}
 use Rattle.class_rules.proofs.ClassTableLaws.{size-of-ge-16, blocks-of-no-class}
 use Rattle.marks_rules.specs.Marks.{isMarked, noMarks, withMark}
 use Rattle.marks_laws.proofs.MarkLaws.{mark-of-mark-bit-one, mark-bit-of-empty-list, no-mark-of-mark-bit-zero, with-mark-same, with-mark-other, mark-bit-of-no-marks}
 use Rattle.heap_rules.specs.declared.Superblock.{Superblock}
 use Rattle.heap_rules.specs.declared.State.{State}
-use Rattle.heap_rules.specs.Table.{blank, isUnused, isOfRun, startsRun, liveBlocks}
+use Rattle.heap_rules.specs.Table.{blank, runOwner, isUnused, isOfRun, startsRun, liveBlocks}
 use Rattle.call_rules.specs.Free.{superblockHolding, blockOf, isUnmapped, isRunStart, isOffBlock, isMisaligned, isLiveAt, addressRefusal}
 use Rattle.call_rules.proofs.AddressRefusalLaws.{address-refusal-5, address-refusal-6, address-refusal-7}
 
 -- a class with no block size has no blocks
 pub blocks-of-size-0 : (class : ℕ) → sizeOf class ≡ 0 → blocksOf class ≡ 0
-blocks-of-size-0 class e = go (decLt class 27)
+blocks-of-size-0 class e = go (decLt class classCount)
   where
-    go : Dec (class < 27) → blocksOf class ≡ 0
+    go : Dec (class < classCount) → blocksOf class ≡ 0
     go (yes h) = absurd (let g = size-of-ge-16 class h in let z : ⊥ = omega arith in z)
     go (no f) = blocks-of-no-class class (le-of-not-below f)
 
@@ -79,13 +79,13 @@ module _ (s : State) (a : ℕ) (b : Superblock) (eb : superblockHolding s a ≡ 
   run-start-is-first-superblock r e q = rw (eq-eqb (a % 4096) 0 e, eb) (q ∙ sym (both-true-right (startsRun b)))
 
   -- and in either
-  pub is-misaligned-in-run : (t : Bool) → b .owner ≡ 254 → t ≡ isRunStart s a → not t ≡ isMisaligned s a
+  pub is-misaligned-in-run : (t : Bool) → b .owner ≡ runOwner → t ≡ isRunStart s a → not t ≡ isMisaligned s a
   unfolding isMisaligned isOfRun
-  is-misaligned-in-run t o e = rw (eb, eq-eqb (b .owner) 254 o, ← e)
+  is-misaligned-in-run t o e = rw (eb, eq-eqb (b .owner) runOwner o, ← e)
 
-  pub is-misaligned-of-class : (r : Bool) → (b .owner ≡ 254 → ⊥) → r ≡ isOffBlock s a → r ≡ isMisaligned s a
+  pub is-misaligned-of-class : (r : Bool) → (b .owner ≡ runOwner → ⊥) → r ≡ isOffBlock s a → r ≡ isMisaligned s a
   unfolding isMisaligned isOfRun
-  is-misaligned-of-class r f e = rw (eb, ne-eqb (b .owner) 254 f) e
+  is-misaligned-of-class r f e = rw (eb, ne-eqb (b .owner) runOwner f) e
 
   -- refusal 7: the block's mark, and of a run's first superblock block 0
   module _ (j : ℕ) (ej : j ≡ a % 4096 / sizeOf (b .class)) (t : Bool) (et : t ≡ startsRun b) where

@@ -10,7 +10,7 @@ use Rattle.marks_rules.specs.Marks.{withoutMark}
 use Rattle.names_rules.specs.Names.{withoutBlock}
 use Rattle.order_rules.specs.Order.{withPlace}
 use Rattle.heap_rules.specs.declared.State.{State}
-use Rattle.heap_rules.specs.Table.{superblockAt, liveIn, isOfRun}
+use Rattle.heap_rules.specs.Table.{runOwner, superblockAt, liveIn, isOfRun}
 use Rattle.heap_rules.specs.States.{withSuperblock, withNames}
 use Rattle.heap_rules.specs.Totals.{TotalsKept}
 use Rattle.heap_rules.specs.Ranks.{rankAfterFree, rankedLatest}
@@ -41,24 +41,24 @@ abbrev BlockOrRunFreed : State → ℕ → State
 BlockOrRunFreed s a = pick (isInRun s a) (runFreed (a / 4096) (superblockHolding s a .run) s) (markCleared (rankedLatest (a / 4096) s) a)
 
 -- in a run: "order places keep what they had"
-module _ (s : State) (a : ℕ) (o : superblockHolding s a .owner ≡ 254) where
+module _ (s : State) (a : ℕ) (o : superblockHolding s a .owner ≡ runOwner) where
   pub run-freed-alone : (t : State) → t ≡ runFreed (a / 4096) (superblockHolding s a .run) s → t ≡ BlockOrRunFreed s a
   unfolding isOfRun
-  run-freed-alone t e = rw (eq-eqb (superblockHolding s a .owner) 254 o) e
+  run-freed-alone t e = rw (eq-eqb (superblockHolding s a .owner) runOwner o) e
 
   pub no-place-written-for-run : (order : List ℕ) → order ≡ orderPushed s order a
   unfolding orderPushed isOfRun
-  no-place-written-for-run order = rw (eq-eqb (superblockHolding s a .owner) 254 o)
+  no-place-written-for-run order = rw (eq-eqb (superblockHolding s a .owner) runOwner o)
 
 -- in a superblock with a class
-module _ (s : State) (a : ℕ) (f : superblockHolding s a .owner ≡ 254 → ⊥) where
+module _ (s : State) (a : ℕ) (f : superblockHolding s a .owner ≡ runOwner → ⊥) where
   pub block-freed-alone : (ranked t : State) → ranked ≡ rankedLatest (a / 4096) s → t ≡ markCleared ranked a → t ≡ BlockOrRunFreed s a
   unfolding isOfRun
-  block-freed-alone ranked t er et = rw (ne-eqb (superblockHolding s a .owner) 254 f, ← er) et
+  block-freed-alone ranked t er et = rw (ne-eqb (superblockHolding s a .owner) runOwner f, ← er) et
 
   pub order-pushed-of-block : (order left : List ℕ) → left ≡ blockPushed s order a → left ≡ orderPushed s order a
   unfolding orderPushed isOfRun
-  order-pushed-of-block order left e = rw (ne-eqb (superblockHolding s a .owner) 254 f) e
+  order-pushed-of-block order left e = rw (ne-eqb (superblockHolding s a .owner) runOwner f) e
 
 -- and the block's name let go
 pub block-freed-by-steps : (s t : State) (a block : ℕ) (names : List ℕ) → block ≡ blockNumberAt s a → names ≡ withoutBlock (s .names) block → t ≡ BlockOrRunFreed s a → withNames t names ≡ blockFreed s a

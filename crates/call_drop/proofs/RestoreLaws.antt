@@ -9,6 +9,7 @@ use mir.Syntax.{w8}
 use mir.Val.{Fits}
 use lib.ListN.{length}
 use Rattle.base_laws.specs.Sums.{pick}
+use Rattle.class_rules.specs.Classes.{classCount}
 use Rattle.heap_rules.specs.declared.State.{State}
 use Rattle.heap_rules.specs.declared.Moved.{Moved}
 use Rattle.heap_rules.specs.Totals.{TotalsKept}
@@ -58,7 +59,7 @@ module _ (touched : ℕ → ℕ → Bool) (h : ℕ) (before : Moved) where
     unfolding classesRestored
     untouched-class-restored next f e = rw (add-one, e) (record { restored-are = rw f (so .restored-are); can-move = so .can-move })
 
-  pub all-classes-restored : (m : Moved) (c : ℕ) → ClassesRestored touched h before c m → c ≤ 27 → 27 ≤ c → m ≡ classesRestored touched h 27 before
+  pub all-classes-restored : (m : Moved) (c : ℕ) → ClassesRestored touched h before c m → c ≤ classCount → classCount ≤ c → m ≡ classesRestored touched h classCount before
   all-classes-restored m c so high low = so .restored-are ∙ ap (λ (n : ℕ). classesRestored touched h n before) (omega arith)
 
 -- ---- the heaps: those from 1 to below the heap have made theirs
@@ -73,14 +74,14 @@ module _ (touched : ℕ → ℕ → Bool) where
   no-heap-restored s long kept = record { heap-low = le-refl 1; restored-are = refl; can-move = record { length-is = long; totals = kept; moves-fit = omega (arith, outside-global-le-64 s) } }
 
   module _ (before m : Moved) (h : ℕ) (so : HeapsRestored touched before h m) where
-    pub heap-restored : (next : Moved) → next ≡ classesRestored touched h 27 m → HeapsRestored touched before (h + 1) next
+    pub heap-restored : (next : Moved) → next ≡ classesRestored touched h classCount m → HeapsRestored touched before (h + 1) next
     unfolding heapsRestored
     heap-restored next e = record {
       heap-low = omega arith;
       restored-are =
-          e ∙ ap (classesRestored touched h 27) (so .restored-are) ∙ ap (λ (n : ℕ). classesRestored touched n 27 (heapsRestored touched (h - 1) before)) (up (so .heap-low))
+          e ∙ ap (classesRestored touched h classCount) (so .restored-are) ∙ ap (λ (n : ℕ). classesRestored touched n classCount (heapsRestored touched (h - 1) before)) (up (so .heap-low))
           ∙ ap (λ (n : ℕ). heapsRestored touched n before) (same (so .heap-low));
-      can-move = rw e (classes-restored-keep CanMove can-move-after-pair touched h 27 m (so .can-move));
+      can-move = rw e (classes-restored-keep CanMove can-move-after-pair touched h classCount m (so .can-move));
     }
       where
         up : 1 ≤ h → h ≡ suc (h - 1)
@@ -101,8 +102,8 @@ module _ (touched told : ℕ → ℕ → Bool) where
       ap (λ (b : Bool). pick b (thenRestored h c (classesRestored told h c before)) (classesRestored told h c before)) (e c (le-refl (suc c)))
       ∙ ap (λ (m : Moved). pick (touched h c) (thenRestored h c m) m) (classes-restored-cong h c before (λ d l. e d (omega arith)))
 
-  pub heaps-restored-cong : (n : ℕ) (before : Moved) → ((h c : ℕ) → h ≤ n → c < 27 → told h c ≡ touched h c) → heapsRestored told n before ≡ heapsRestored touched n before
+  pub heaps-restored-cong : (n : ℕ) (before : Moved) → ((h c : ℕ) → h ≤ n → c < classCount → told h c ≡ touched h c) → heapsRestored told n before ≡ heapsRestored touched n before
   unfolding heapsRestored
   heaps-restored-cong zero before e = refl
   heaps-restored-cong (suc h) before e =
-      ap (classesRestored told (suc h) 27) (heaps-restored-cong h before (λ i c l. e i c (omega arith))) ∙ classes-restored-cong (suc h) 27 (heapsRestored touched h before) (λ d l. e (suc h) d (le-refl (suc h)) l)
+      ap (classesRestored told (suc h) classCount) (heaps-restored-cong h before (λ i c l. e i c (omega arith))) ∙ classes-restored-cong (suc h) classCount (heapsRestored touched h before) (λ d l. e (suc h) d (le-refl (suc h)) l)

@@ -10,9 +10,10 @@ use native.Mathlib.Omega.{arith}
 use lib.ListN.{length, getD, take, set, replicate, length-set, getD-replicate}
 use lib.Seq.{take-all, getD-set-same, getD-set-other}
 use Rattle.base_laws.specs.Sums.{either}
+use Rattle.class_rules.specs.Classes.{classCount}
 use Rattle.heap_rules.specs.declared.Superblock.{Superblock}
 use Rattle.heap_rules.specs.declared.State.{State}
-use Rattle.heap_rules.specs.Table.{superblockAt}
+use Rattle.heap_rules.specs.Table.{runOwner, superblockAt}
 use Rattle.heap_rules.specs.Counts.{belongs}
 use Rattle.heap_rules.specs.Totals.{heapCount, totalCount}
 use Rattle.heap_laws.proofs.CountLaws.{belongs-true, not-belongs-of-other-owner, not-belongs-of-other-class}
@@ -49,13 +50,13 @@ pub record ToldBelow (touched : List Bool) (s : State) (addresses : List ℕ) (i
 
 pub none-told : (s : State) (addresses : List ℕ) → ToldBelow (replicate totalCount false) s addresses 0
 unfolding isTouched
-none-told s addresses = record { length-is = refl; tells = λ h c lh lc. getD-replicate totalCount (h * 27 + c) false false (omega arith) }
+none-told s addresses = record { length-is = refl; tells = λ h c lh lc. getD-replicate totalCount (h * classCount + c) false false (omega arith) }
 
 -- two heaps and classes at one place are one
-same-pair : (h c owner class : ℕ) → c < 27 → class < 27 → h * 27 + c ≡ owner * 27 + class → (h ≡ owner) × (c ≡ class)
+same-pair : (h c owner class : ℕ) → c < classCount → class < classCount → h * classCount + c ≡ owner * classCount + class → (h ≡ owner) × (c ≡ class)
 same-pair h c owner class lc ll e = (omega arith, omega arith)
 
-not-belongs-elsewhere : (h c : ℕ) (b : Superblock) → (h * 27 + c ≡ b .owner * 27 + b .class → ⊥) → belongs h c b ≡ false
+not-belongs-elsewhere : (h c : ℕ) (b : Superblock) → (h * classCount + c ≡ b .owner * classCount + b .class → ⊥) → belongs h c b ≡ false
 not-belongs-elsewhere h c b n = go (ℕ-discrete (b .owner) h)
   where
     go : Dec (b .owner ≡ h) → belongs h c b ≡ false
@@ -66,10 +67,10 @@ module _ (s : State) (addresses : List ℕ) (i : ℕ) (safe : FreesSafe s addres
   module _ (owner class : ℕ) (eo : owner ≡ superblockAt s (getD addresses i 0 / 4096) .owner) (ec : class ≡ superblockAt s (getD addresses i 0 / 4096) .class) where
     module _ (of-heap : owner < heapCount) where
       -- it is of a heap, and so of no run
-      pub class-in-array : class < 27
-      class-in-array = rw ec (safe i l .of-heap-and-class (outside-run-of-owner (superblockHolding s (getD addresses i 0)) (λ (q : superblockHolding s (getD addresses i 0) .owner ≡ 254). omega (arith, eo))) .1)
+      pub class-in-array : class < classCount
+      class-in-array = rw ec (safe i l .of-heap-and-class (outside-run-of-owner (superblockHolding s (getD addresses i 0)) (λ (q : superblockHolding s (getD addresses i 0) .owner ≡ runOwner). omega (arith, eo))) .1)
 
-      pub pair-in-array : owner * 27 + class < totalCount
+      pub pair-in-array : owner * classCount + class < totalCount
       pair-in-array = let c = class-in-array in omega arith
 
     -- a superblock of a run is of no heap: the array stays
@@ -80,21 +81,21 @@ module _ (s : State) (addresses : List ℕ) (i : ℕ) (safe : FreesSafe s addres
           (told .tells h c lh lc ∙ sym (either-false-right (isTouched s (take i addresses) h c)));
     }
 
-    pub told-at-next : owner < heapCount → (touched : List Bool) → ToldBelow touched s addresses i → ToldBelow (set touched (owner * 27 + class) true) s addresses (i + 1)
+    pub told-at-next : owner < heapCount → (touched : List Bool) → ToldBelow touched s addresses i → ToldBelow (set touched (owner * classCount + class) true) s addresses (i + 1)
     told-at-next of-heap touched told = record {
-      length-is = length-set touched (owner * 27 + class) true ∙ told .length-is;
-      tells = λ h c lh lc. rw (add-one, is-touched-at-next s addresses i h c l) (go h c lh lc (ℕ-discrete (h * 27 + c) (owner * 27 + class)));
+      length-is = length-set touched (owner * classCount + class) true ∙ told .length-is;
+      tells = λ h c lh lc. rw (add-one, is-touched-at-next s addresses i h c l) (go h c lh lc (ℕ-discrete (h * classCount + c) (owner * classCount + class)));
     }
       where
         b : Superblock
         b = superblockHolding s (getD addresses i 0)
 
-        go : (h c : ℕ) → h < heapCount → c < 27 → Dec (h * 27 + c ≡ owner * 27 + class) → touchedIn (set touched (owner * 27 + class) true) h c ≡ either (isTouched s (take i addresses) h c) (belongs h c b)
+        go : (h c : ℕ) → h < heapCount → c < classCount → Dec (h * classCount + c ≡ owner * classCount + class) → touchedIn (set touched (owner * classCount + class) true) h c ≡ either (isTouched s (take i addresses) h c) (belongs h c b)
         go h c lh lc (yes e) =
             let at = same-pair h c owner class lc (class-in-array of-heap) e in
-            rw (e, getD-set-same touched (owner * 27 + class) true false (omega (arith, pair-in-array of-heap, told .length-is)), belongs-true h c b (sym (at .0 ∙ eo)) (sym (at .1 ∙ ec))) (sym (either-true-right (isTouched s (take i addresses) h c)))
+            rw (e, getD-set-same touched (owner * classCount + class) true false (omega (arith, pair-in-array of-heap, told .length-is)), belongs-true h c b (sym (at .0 ∙ eo)) (sym (at .1 ∙ ec))) (sym (either-true-right (isTouched s (take i addresses) h c)))
         go h c lh lc (no f) =
-            rw (getD-set-other touched (owner * 27 + class) (h * 27 + c) true false f, not-belongs-elsewhere h c b (λ e. f (e ∙ ap₂ (λ (x y : ℕ). x * 27 + y) (sym eo) (sym ec))))
+            rw (getD-set-other touched (owner * classCount + class) (h * classCount + c) true false f, not-belongs-elsewhere h c b (λ e. f (e ∙ ap₂ (λ (x y : ℕ). x * classCount + y) (sym eo) (sym ec))))
             (told .tells h c lh lc ∙ sym (either-false-right (isTouched s (take i addresses) h c)))
 
 pub told-at-end : (touched : List Bool) (s : State) (addresses : List ℕ) (i : ℕ) → ToldBelow touched s addresses i → length addresses ≤ i → TellsTouched touched s addresses

@@ -56,7 +56,7 @@ fn drop_all(s: State, order: &mut [u16], addresses: &[u32]) -> Answer
     }
 }
 
-// The heaps and classes of the superblocks that the addresses lie in, that of heap h and class c at h × 27 + c. A run is of none.
+// The heaps and classes of the superblocks that the addresses lie in, that of heap h and class c at h × CLASS_COUNT + c. A run is of none.
 fn touched_pairs(s: State, addresses: &[u32]) -> [bool; TOTAL_COUNT]
     requires { ⌜ FreesSafe s (now addresses) ⌝ }
     ensures { λ r. ⌜ TellsTouched r s (now (addresses .entry)) ⌝ }

@@ -15,7 +15,7 @@ use Rattle.class_rules.specs.Classes.{sizeOf}
 use Rattle.marks_rules.specs.Marks.{withoutMark}
 use Rattle.heap_rules.specs.declared.Superblock.{Superblock}
 use Rattle.heap_rules.specs.declared.State.{State}
-use Rattle.heap_rules.specs.Table.{blank, unused, superblockAt, isUnused, isOfRun, startsRun, liveBlocks, withRank, withoutMarkAt}
+use Rattle.heap_rules.specs.Table.{runOwner, blank, unused, superblockAt, isUnused, isOfRun, startsRun, liveBlocks, withRank, withoutMarkAt}
 use Rattle.heap_rules.specs.States.{withNames}
 use Rattle.heap_rules.specs.Totals.{recounted}
 use Rattle.heap_rules.specs.Ranks.{rankAfterFree, rankedLatest}
@@ -227,22 +227,22 @@ module _ (s : State) (t : List Superblock) (addresses : List ℕ) (i : ℕ) (so 
         pub run-of-address-fits : getD addresses i 0 / 4096 + getD t (getD addresses i 0 / 4096) blank .run ≤ 64
         run-of-address-fits = so .fit (a / 4096) below
 
-        pub none-refused-past-run : getD t (getD addresses i 0 / 4096) blank .owner ≡ 254 → (next without : List Superblock)
+        pub none-refused-past-run : getD t (getD addresses i 0 / 4096) blank .owner ≡ runOwner → (next without : List Superblock)
             → without ≡ tableWithoutRun (getD addresses i 0 / 4096) (getD t (getD addresses i 0 / 4096) blank .run) t → next ≡ without → NoneRefused s addresses (i + 1) next
         unfolding isOfRun
         none-refused-past-run o next without ew en =
             rw (en, ew)
             (one-more-passed z _
-            (rw (← run-freed-of-table s t (a / 4096) (b .run)) (same-of-long-freed (withTable s t) (allFreed s (take i addresses)) (so .same) a (eq-eqb (b .owner) 254 o) run-of-address-fits))
+            (rw (← run-freed-of-table s t (a / 4096) (b .run)) (same-of-long-freed (withTable s t) (allFreed s (take i addresses)) (so .same) a (eq-eqb (b .owner) runOwner o) run-of-address-fits))
             (runs-fit-without-run t (a / 4096) (b .run) (so .same .first-length) run-of-address-fits (so .fit)))
 
-        pub none-refused-past-block : (getD t (getD addresses i 0 / 4096) blank .owner ≡ 254 → ⊥) → (next : List Superblock) (now : Superblock)
+        pub none-refused-past-block : (getD t (getD addresses i 0 / 4096) blank .owner ≡ runOwner → ⊥) → (next : List Superblock) (now : Superblock)
             → now ≡ withoutMarkAt (getD t (getD addresses i 0 / 4096) blank) (getD addresses i 0 % 4096 / sizeOf (getD t (getD addresses i 0 / 4096) blank .class))
             → next ≡ set t (getD addresses i 0 / 4096) now → NoneRefused s addresses (i + 1) next
         unfolding isOfRun markCleared blockOf
         none-refused-past-block f next now ew en =
             rw (en, ew)
-            (one-more-passed z _ (same-of-block-freed (withTable s t) (allFreed s (take i addresses)) (so .same) a (ne-eqb (b .owner) 254 f) below)
+            (one-more-passed z _ (same-of-block-freed (withTable s t) (allFreed s (take i addresses)) (so .same) a (ne-eqb (b .owner) runOwner f) below)
             (runs-fit-of-replaced t (a / 4096) _ (so .same .first-length) below run-of-address-fits (so .fit)))
 
   pub none-refused-at-end : length addresses ≤ i → 0 ≡ firstAddressRefusal s addresses

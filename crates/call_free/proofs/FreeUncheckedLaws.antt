@@ -6,9 +6,10 @@ use Prim.Native.Nat.{ℕ, _+_, _/_, _≤_, _<_}
 use native.Mathlib.Omega.{arith}
 use borrow.Author.Tests.{ne-eqb, not-true, not-false}
 use Rattle.base_laws.proofs.TestLaws.{T-of-true}
+use Rattle.class_rules.specs.Classes.{classCount}
 use Rattle.heap_rules.specs.declared.State.{State}
 use Rattle.heap_rules.specs.declared.Moved.{Moved}
-use Rattle.heap_rules.specs.Table.{superblockAt}
+use Rattle.heap_rules.specs.Table.{runOwner, superblockAt}
 use Rattle.heap_rules.specs.Totals.{heapCount, TotalsKept}
 use Rattle.heap_rules.specs.Ranks.{RanksFit}
 use Rattle.move_rules.specs.Moves.{invariantRestored}
@@ -69,7 +70,7 @@ module _ (s : State) (order : List ℕ) (a : ℕ) (p : passes s order ≡ true) 
 
     pub freed-superblock : (superblockIndex a < 64)
         × (superblockIndex a + superblockHolding s a .run ≤ 64)
-        × (isInRun s a ≡ false → (superblockHolding s a .owner < heapCount) × (superblockHolding s a .class < 27))
+        × (isInRun s a ≡ false → (superblockHolding s a .owner < heapCount) × (superblockHolding s a .class < classCount))
         × TotalsKept s
         × RanksFit s
     freed-superblock = (
@@ -81,14 +82,14 @@ module _ (s : State) (order : List ℕ) (a : ℕ) (p : passes s order ≡ true) 
     )
 
 -- so, of its owner and class as the code reads them, where the owner is not that of a run
-module _ (s : State) (a owner : ℕ) (e : owner ≡ superblockAt s (a / 4096) .owner) (other : owner ≡ 254 → ⊥) (of-heap : isInRun s a ≡ false → (superblockHolding s a .owner < heapCount) × (superblockHolding s a .class < 27)) where
+module _ (s : State) (a owner : ℕ) (e : owner ≡ superblockAt s (a / 4096) .owner) (other : owner ≡ runOwner → ⊥) (of-heap : isInRun s a ≡ false → (superblockHolding s a .owner < heapCount) × (superblockHolding s a .class < classCount)) where
   outside-run : isInRun s a ≡ false
   outside-run = outside-run-of-owner (superblockHolding s a) (λ q. other (e ∙ q))
 
   pub freed-owner : owner < heapCount
   freed-owner = rw e (of-heap outside-run .0)
 
-  pub freed-class : (class : ℕ) → class ≡ superblockAt s (a / 4096) .class → class < 27
+  pub freed-class : (class : ℕ) → class ≡ superblockAt s (a / 4096) .class → class < classCount
   freed-class class f = rw f (of-heap outside-run .1)
 
 -- the totals of the state in which the block is free are the recount too
@@ -97,14 +98,14 @@ block-freed-totals-kept s t a kept e = rw e (block-freed-recounted s a kept)
 
 module _ (s : State) (order new : List ℕ) (a owner class : ℕ) (t : State) (e : owner ≡ superblockAt s (a / 4096) .owner) (g : new ≡ orderPushed s order a) (h : t ≡ blockFreed s a) where
   -- of a run
-  pub freed-at-of-run : owner ≡ 254 → record { answer = record { outcome = Moves 0; state = t }; order = new } ≡ freedAt s order a
+  pub freed-at-of-run : owner ≡ runOwner → record { answer = record { outcome = Moves 0; state = t }; order = new } ≡ freedAt s order a
   unfolding freedAt longFreedAt
   freed-at-of-run q =
       let inside = of-run-of-owner (superblockHolding s a) (sym e ∙ q) in
       rw (h, g, block-freed-in-run s a inside, order-pushed-in-run s a order inside, inside)
 
   -- of a block of a class, with the moves
-  pub freed-at-by-steps : (m : Moved) (count : ℕ) (next : State) → (owner ≡ 254 → ⊥) → class ≡ superblockAt s (a / 4096) .class → m ≡ invariantRestored owner class t → count ≡ m .moves → next ≡ m .state
+  pub freed-at-by-steps : (m : Moved) (count : ℕ) (next : State) → (owner ≡ runOwner → ⊥) → class ≡ superblockAt s (a / 4096) .class → m ≡ invariantRestored owner class t → count ≡ m .moves → next ≡ m .state
       → record { answer = record { outcome = Moves count; state = next }; order = new } ≡ freedAt s order a
   unfolding freedAt smallFreedAt
   freed-at-by-steps m count next other f i j k =

@@ -16,7 +16,7 @@ use Rattle.marks_rules.specs.Marks.{markBit, noMarks, withMark}
 use Rattle.names_rules.specs.Names.{blockNumber, withoutBlock}
 use Rattle.heap_rules.specs.declared.Superblock.{Superblock}
 use Rattle.heap_rules.specs.declared.State.{State}
-use Rattle.heap_rules.specs.Table.{blank, superblockAt, isOfRun, startsRun, liveBlocks}
+use Rattle.heap_rules.specs.Table.{runOwner, unusedOwner, blank, superblockAt, isOfRun, startsRun, liveBlocks}
 use Rattle.heap_rules.specs.Counts.{belongs, superblocksOfClass}
 use Rattle.heap_laws.proofs.StateFacts.{Shape}
 use Rattle.heap_laws.proofs.CountLaws.{not-belongs-of-other-owner}
@@ -53,7 +53,7 @@ outside-run-past-table s a long far = ap isOfRun (List·getD-eq-default (s .tabl
 
 -- each owner stays, or was that of a run's superblock and is that of an unused one
 abbrev pub OwnersKeptOrRunFreed : State → State → Type 0
-OwnersKeptOrRunFreed s t = (m : ℕ) → m < 64 → (superblockAt t m .owner ≡ superblockAt s m .owner) ⊎ ((superblockAt s m .owner ≡ 254) × (superblockAt t m .owner ≡ 255))
+OwnersKeptOrRunFreed s t = (m : ℕ) → m < 64 → (superblockAt t m .owner ≡ superblockAt s m .owner) ⊎ ((superblockAt s m .owner ≡ runOwner) × (superblockAt t m .owner ≡ unusedOwner))
 
 -- ---- the block at the address freed, in a state that passed before so many frees
 pub record AddressFreed (freed : ℕ → ℕ → ℕ) (s : State) (order : List ℕ) (a : ℕ) : Type 0 where
@@ -165,20 +165,20 @@ module _ (s t : State) (owners : OwnersKeptOrRunFreed s t) where
   unfolding isOfRun
   outside-run-kept long-after a e = go (decLt (superblockIndex a) 64)
     where
-      by-owners : (superblockHolding t a .owner ≡ superblockHolding s a .owner) ⊎ ((superblockHolding s a .owner ≡ 254) × (superblockHolding t a .owner ≡ 255)) → isInRun t a ≡ false
-      by-owners (inl same) = ap (λ (o : ℕ). eqb o 254) same ∙ e
-      by-owners (inr (was, now)) = ap (λ (o : ℕ). eqb o 254) now
+      by-owners : (superblockHolding t a .owner ≡ superblockHolding s a .owner) ⊎ ((superblockHolding s a .owner ≡ runOwner) × (superblockHolding t a .owner ≡ unusedOwner)) → isInRun t a ≡ false
+      by-owners (inl same) = ap (λ (o : ℕ). eqb o runOwner) same ∙ e
+      by-owners (inr (was, now)) = ap (λ (o : ℕ). eqb o runOwner) now
 
       go : Dec (superblockIndex a < 64) → isInRun t a ≡ false
       go (yes l) = by-owners (owners (superblockIndex a) l)
       go (no f) = outside-run-past-table t a long-after (le-of-not-below f)
 
   module _ (long : length (s .table) ≡ 64) (long-after : length (t .table) ≡ 64) (classes : (m : ℕ) → m < 64 → superblockAt t m .class ≡ superblockAt s m .class) where
-    pub same-belongs : (h c m : ℕ) → h < 254 → belongs h c (superblockAt t m) ≡ belongs h c (superblockAt s m)
+    pub same-belongs : (h c m : ℕ) → h < runOwner → belongs h c (superblockAt t m) ≡ belongs h c (superblockAt s m)
     unfolding belongs
     same-belongs h c m l = go (decLt m 64)
       where
-        by-owners : (superblockAt t m .class ≡ superblockAt s m .class) → (superblockAt t m .owner ≡ superblockAt s m .owner) ⊎ ((superblockAt s m .owner ≡ 254) × (superblockAt t m .owner ≡ 255))
+        by-owners : (superblockAt t m .class ≡ superblockAt s m .class) → (superblockAt t m .owner ≡ superblockAt s m .owner) ⊎ ((superblockAt s m .owner ≡ runOwner) × (superblockAt t m .owner ≡ unusedOwner))
             → belongs h c (superblockAt t m) ≡ belongs h c (superblockAt s m)
         by-owners class (inl e) = rw (e, class)
         by-owners class (inr (was, now)) =
@@ -195,9 +195,9 @@ module _ (s t : State) (owners : OwnersKeptOrRunFreed s t) where
 pub owners-kept-or-run-freed-then : (s r t : State) → OwnersKeptOrRunFreed s r → OwnersKeptOrRunFreed r t → OwnersKeptOrRunFreed s t
 owners-kept-or-run-freed-then s r t x y m l = go (x m l) (y m l)
   where
-    go : (superblockAt r m .owner ≡ superblockAt s m .owner) ⊎ ((superblockAt s m .owner ≡ 254) × (superblockAt r m .owner ≡ 255))
-        → (superblockAt t m .owner ≡ superblockAt r m .owner) ⊎ ((superblockAt r m .owner ≡ 254) × (superblockAt t m .owner ≡ 255))
-        → (superblockAt t m .owner ≡ superblockAt s m .owner) ⊎ ((superblockAt s m .owner ≡ 254) × (superblockAt t m .owner ≡ 255))
+    go : (superblockAt r m .owner ≡ superblockAt s m .owner) ⊎ ((superblockAt s m .owner ≡ runOwner) × (superblockAt r m .owner ≡ unusedOwner))
+        → (superblockAt t m .owner ≡ superblockAt r m .owner) ⊎ ((superblockAt r m .owner ≡ runOwner) × (superblockAt t m .owner ≡ unusedOwner))
+        → (superblockAt t m .owner ≡ superblockAt s m .owner) ⊎ ((superblockAt s m .owner ≡ runOwner) × (superblockAt t m .owner ≡ unusedOwner))
     go (inl p) (inl q) = inl (q ∙ p)
     go (inl p) (inr (was, now)) = inr (sym p ∙ was, now)
     go (inr (was, now)) (inl q) = inr (was, q ∙ now)

@@ -12,18 +12,18 @@ use lib.ListN.{length, List·getD-eq-default}
 use lib.Dec.{leb, ltb}
 use Rattle.base_laws.proofs.Inequalities.{le-of-not-below}
 use Rattle.base_laws.proofs.TestLaws.{pick-true, not-T-of-false, neither-left, neither-right}
-use Rattle.class_rules.specs.Classes.{sizeOf, blocksOf}
+use Rattle.class_rules.specs.Classes.{classCount, sizeOf, blocksOf}
 use Rattle.class_rules.proofs.OffsetLaws.{offset-lt-4096, block-of-offset}
 use Rattle.names_rules.specs.Names.{blockNumber}
 use Rattle.heap_rules.specs.declared.Superblock.{Superblock}
 use Rattle.heap_rules.specs.declared.State.{State}
-use Rattle.heap_rules.specs.Table.{blank, superblockAt, isUnused, isOfRun}
+use Rattle.heap_rules.specs.Table.{runOwner, blank, superblockAt, isUnused, isOfRun}
 use Rattle.heap_laws.proofs.StateFacts.{Unused, Unowned, Owned, SoundWith}
 use Rattle.heap_laws.proofs.StateCheckLaws.{is-unused-of-facts, unused-of-unowned}
 use Rattle.call_rules.specs.Take.{addressOf}
 use Rattle.call_rules.specs.Free.{superblockIndex, offsetOf, superblockHolding, blockOf, isUnmapped, isInRun, blockNumberAt}
 
-module _ (c k j : ℕ) (known : c < 27) (block : j < blocksOf c) where
+module _ (c k j : ℕ) (known : c < classCount) (block : j < blocksOf c) where
   pub address-superblock : addressOf k c j / 4096 ≡ k
   unfolding addressOf
   address-superblock = let o = offset-lt-4096 c known j block in omega arith
@@ -68,7 +68,7 @@ module _ {Invariant : ℕ → ℕ → State → Type 0} (s : State) (order : Lis
   mapped-is-owned outside = go (sound .each (superblockIndex a) mapped-below-64)
     where
       go : Unowned (superblockHolding s a) ⊎ Owned (s .setup) order (superblockIndex a) (superblockHolding s a) → Owned (s .setup) order (superblockIndex a) (superblockHolding s a)
-      go (inl u) = absurd (⊎-elim (λ e. mapped-not-unused (unused-of-unowned (superblockHolding s a) u e)) (λ e. eqb-false (superblockHolding s a .owner) 254 outside e) (u .owner))
+      go (inl u) = absurd (⊎-elim (λ e. mapped-not-unused (unused-of-unowned (superblockHolding s a) u e)) (λ e. eqb-false (superblockHolding s a .owner) runOwner outside e) (u .owner))
       go (inr o) = o
 
 -- an address is of the same class, and so of the same block, in states whose superblocks have the same classes

@@ -19,7 +19,7 @@ use Rattle.marks_laws.proofs.MarkLaws.{no-mark-of-mark-bit-zero}
 use Rattle.heap_rules.specs.declared.Superblock.{Superblock}
 use Rattle.heap_rules.specs.declared.Setup.{Setup}
 use Rattle.heap_rules.specs.declared.State.{State}
-use Rattle.heap_rules.specs.Table.{superblockAt, isUnused, isOfRun, startsRun, liveBlocks}
+use Rattle.heap_rules.specs.Table.{runOwner, unusedOwner, superblockAt, isUnused, isOfRun, startsRun, liveBlocks}
 use Rattle.heap_laws.proofs.StateFacts.{Unowned, Owned, SoundWith}
 use Rattle.heap_laws.proofs.StateCheckLaws.{is-unused-of-facts, unused-of-unowned, not-unused-of-owner}
 use Rattle.heap_laws.proofs.RunsKeptLaws.{outside-run-of-owner, starts-run-same, live-blocks-of-first, live-blocks-outside-run, of-run-of-owner, owner-of-run}
@@ -31,7 +31,7 @@ use Rattle.call_laws.proofs.DropRefusalConditions.{BlockStarts, address
 -- ---- what they read of a superblock
 -- but for its marks: whether it is unused, its class, whether it is of a run, and the length that it carries
 pub record SameReads (b d : Superblock) : Type 0 where
-  pub unused : eqb (d .owner) 255 ≡ eqb (b .owner) 255
+  pub unused : eqb (d .owner) unusedOwner ≡ eqb (b .owner) unusedOwner
   pub class : d .class ≡ b .class
   pub of-run : isOfRun d ≡ isOfRun b
   pub run : d .run ≡ b .run
@@ -60,19 +60,19 @@ SameMarks s t = (k b : ℕ) → k < 64 → b < 256 → markBit (superblockAt t k
 
 -- ---- in a state that passes but for the move rule
 -- a superblock is unused where no heap or run has it
-is-unused-by-owner : {I : ℕ → ℕ → State → Type 0} (s : State) (order : List ℕ) → SoundWith I s order → (k : ℕ) → k < 64 → isUnused (superblockAt s k) ≡ eqb (superblockAt s k .owner) 255
+is-unused-by-owner : {I : ℕ → ℕ → State → Type 0} (s : State) (order : List ℕ) → SoundWith I s order → (k : ℕ) → k < 64 → isUnused (superblockAt s k) ≡ eqb (superblockAt s k .owner) unusedOwner
 is-unused-by-owner s order sound k l = go (sound .each k l)
   where
-    owned : (superblockAt s k .owner ≡ 255 → ⊥) → isUnused (superblockAt s k) ≡ eqb (superblockAt s k .owner) 255
-    owned f = not-unused-of-owner (superblockAt s k) f ∙ sym (ne-eqb (superblockAt s k .owner) 255 f)
+    owned : (superblockAt s k .owner ≡ unusedOwner → ⊥) → isUnused (superblockAt s k) ≡ eqb (superblockAt s k .owner) unusedOwner
+    owned f = not-unused-of-owner (superblockAt s k) f ∙ sym (ne-eqb (superblockAt s k .owner) unusedOwner f)
 
-    by-owner : Unowned (superblockAt s k) → (superblockAt s k .owner ≡ 255) ⊎ (superblockAt s k .owner ≡ 254) → isUnused (superblockAt s k) ≡ eqb (superblockAt s k .owner) 255
-    by-owner u (inl e) = true-of-T _ (is-unused-of-facts (superblockAt s k) (unused-of-unowned (superblockAt s k) u e)) ∙ sym (eq-eqb (superblockAt s k .owner) 255 e)
-    by-owner u (inr e) = owned (λ (q : superblockAt s k .owner ≡ 255). omega arith)
+    by-owner : Unowned (superblockAt s k) → (superblockAt s k .owner ≡ unusedOwner) ⊎ (superblockAt s k .owner ≡ runOwner) → isUnused (superblockAt s k) ≡ eqb (superblockAt s k .owner) unusedOwner
+    by-owner u (inl e) = true-of-T _ (is-unused-of-facts (superblockAt s k) (unused-of-unowned (superblockAt s k) u e)) ∙ sym (eq-eqb (superblockAt s k .owner) unusedOwner e)
+    by-owner u (inr e) = owned (λ (q : superblockAt s k .owner ≡ unusedOwner). omega arith)
 
-    go : Unowned (superblockAt s k) ⊎ Owned (s .setup) order k (superblockAt s k) → isUnused (superblockAt s k) ≡ eqb (superblockAt s k .owner) 255
+    go : Unowned (superblockAt s k) ⊎ Owned (s .setup) order k (superblockAt s k) → isUnused (superblockAt s k) ≡ eqb (superblockAt s k .owner) unusedOwner
     go (inl u) = by-owner u (u .owner)
-    go (inr o) = owned (λ (q : superblockAt s k .owner ≡ 255). omega (arith, o .owner, sound .numbers .processors-high))
+    go (inr o) = owned (λ (q : superblockAt s k .owner ≡ unusedOwner). omega (arith, o .owner, sound .numbers .processors-high))
 
 -- an address of which 7 is met lies in no run
 pub outside-run-of-refused-7 : (s : State) (a : ℕ) → addressRefusal s a ≡ 7 → isInRun s a ≡ false

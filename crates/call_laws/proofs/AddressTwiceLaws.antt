@@ -15,7 +15,7 @@ use Rattle.class_rules.proofs.ClassTableLaws.{blocks-of-le-256}
 use Rattle.marks_rules.specs.Marks.{markBit}
 use Rattle.heap_rules.specs.declared.Superblock.{Superblock}
 use Rattle.heap_rules.specs.declared.State.{State}
-use Rattle.heap_rules.specs.Table.{superblockAt, isOfRun}
+use Rattle.heap_rules.specs.Table.{unusedOwner, superblockAt, isOfRun}
 use Rattle.heap_laws.proofs.StateFacts.{Shape, Unused, SoundWith}
 use Rattle.heap_laws.proofs.StateCheckLaws.{unused-is-unused}
 use Rattle.heap_laws.proofs.RunLaws.{Outside, side-of-range, outside-not-inside, runs-apart, run-at-of-same, run-below-superblocks}
@@ -65,7 +65,7 @@ module _ (freed : ℕ → ℕ → ℕ) (s : State) (order : List ℕ) (b : ℕ) 
     reads : (m : ℕ) → m < 64 → SameReads (superblockAt s m) (superblockAt small-after m)
     reads m l =
         record {
-          unused = ap (λ (o : ℕ). eqb o 255) (small-block-freed-owner freed s order b shape passed accepted small m l);
+          unused = ap (λ (o : ℕ). eqb o unusedOwner) (small-block-freed-owner freed s order b shape passed accepted small m l);
           class = effect .classes m l;
           of-run = effect .runs m l .0;
           run = effect .runs m l .1;

@@ -11,6 +11,7 @@ use borrow.Author.Tests.{eqb-true, eqb-false}
 use lib.ListN.{length, getD, take}
 use lib.Dec.{eqb}
 use Rattle.base_laws.specs.Sums.{pick, both, one, sumBelow}
+use Rattle.class_rules.specs.Classes.{classCount}
 use Rattle.base_laws.proofs.Inequalities.{le-of-not-below}
 use Rattle.base_laws.proofs.TestLaws.{neither-left, neither-right}
 use Rattle.base_laws.proofs.SumLaws.{sum-cong, sum-of-zeros, sum-le-of-terms-le}
@@ -18,7 +19,7 @@ use Rattle.base_laws.proofs.Counting.{sum-add, indicator-sum-inside, indicator-
 use Rattle.names_rules.specs.Names.{blockNumber}
 use Rattle.heap_rules.specs.declared.Superblock.{Superblock}
 use Rattle.heap_rules.specs.declared.State.{State}
-use Rattle.heap_rules.specs.Table.{superblockAt, isOfRun}
+use Rattle.heap_rules.specs.Table.{runOwner, unusedOwner, superblockAt, isOfRun}
 use Rattle.heap_rules.specs.Counts.{belongs, superblocksOfClass}
 use Rattle.heap_rules.specs.Totals.{heapCount, TotalsKept}
 use Rattle.heap_rules.specs.Ranks.{RanksFit}
@@ -48,17 +49,17 @@ freed-of-untouched s (a ∷ addresses) h c e =
     omega arith
 
 -- ---- each address is of one heap and class at most, so that all counts together are at most as many as the addresses
-one-class-of-superblock : (h : ℕ) (b : Superblock) → sumBelow (λ c. one (belongs h c b)) 27 ≤ one (eqb (b .owner) h)
+one-class-of-superblock : (h : ℕ) (b : Superblock) → sumBelow (λ c. one (belongs h c b)) classCount ≤ one (eqb (b .owner) h)
 unfolding belongs
 one-class-of-superblock h b = go (eqb (b .owner) h)
   where
-    below : Dec (b .class < 27) → sumBelow (λ c. one (eqb (b .class) c)) 27 ≤ 1
-    below (yes l) = let z = indicator-sum-inside (b .class) 27 l in omega arith
-    below (no f) = let z = indicator-sum-outside (b .class) 27 (le-of-not-below f) in omega arith
+    below : Dec (b .class < classCount) → sumBelow (λ c. one (eqb (b .class) c)) classCount ≤ 1
+    below (yes l) = let z = indicator-sum-inside (b .class) classCount l in omega arith
+    below (no f) = let z = indicator-sum-outside (b .class) classCount (le-of-not-below f) in omega arith
 
-    go : (t : Bool) → sumBelow (λ c. one (both t (eqb (b .class) c))) 27 ≤ one t
-    go true = below (decLt (b .class) 27)
-    go false = let z = sum-of-zeros (λ c. one (both false (eqb (b .class) c))) 27 (λ c l. refl) in omega arith
+    go : (t : Bool) → sumBelow (λ c. one (both t (eqb (b .class) c))) classCount ≤ one t
+    go true = below (decLt (b .class) classCount)
+    go false = let z = sum-of-zeros (λ c. one (both false (eqb (b .class) c))) classCount (λ c l. refl) in omega arith
 
 one-heap-of-superblock : (p : ℕ) (b : Superblock) → sumBelow (λ i. one (eqb (b .owner) (suc i))) p ≤ 1
 one-heap-of-superblock p b = let z = sum-from-heap-0 (λ h. one (eqb (b .owner) h)) p in let few = all-heaps (decLt (b .owner) (suc p)) in omega arith
@@ -69,29 +70,29 @@ one-heap-of-superblock p b = let z = sum-from-heap-0 (λ h. one (eqb (b .owner) 
 
 -- the addresses of the processor heaps 1 to p, in all classes
 abbrev pub freedOfHeaps : (ℕ → ℕ → ℕ) → ℕ → ℕ
-freedOfHeaps freed p = sumBelow (λ i. sumBelow (freed (suc i)) 27) p
+freedOfHeaps freed p = sumBelow (λ i. sumBelow (freed (suc i)) classCount) p
 
 pub freed-of-heaps-le-length : (s : State) (p : ℕ) (addresses : List ℕ) → freedOfHeaps (freedOf s addresses) p ≤ length addresses
 unfolding freedOf
 freed-of-heaps-le-length s p [] =
-    let z = sum-of-zeros (λ i. sumBelow (λ c. freedOf s [] (suc i) c) 27) p (λ i l. sum-of-zeros (λ c. freedOf s [] (suc i) c) 27 (λ c lc. refl)) in omega arith
+    let z = sum-of-zeros (λ i. sumBelow (λ c. freedOf s [] (suc i) c) classCount) p (λ i l. sum-of-zeros (λ c. freedOf s [] (suc i) c) classCount (λ c lc. refl)) in omega arith
 freed-of-heaps-le-length s p (a ∷ addresses) = let l = freed-of-heaps-le-length s p addresses in let f = first in omega (arith, split)
   where
-    split : freedOfHeaps (freedOf s (a ∷ addresses)) p ≡ sumBelow (λ i. sumBelow (λ c. one (belongs (suc i) c (superblockHolding s a))) 27) p + sumBelow (λ i. sumBelow (freedOf s addresses (suc i)) 27) p
+    split : freedOfHeaps (freedOf s (a ∷ addresses)) p ≡ sumBelow (λ i. sumBelow (λ c. one (belongs (suc i) c (superblockHolding s a))) classCount) p + sumBelow (λ i. sumBelow (freedOf s addresses (suc i)) classCount) p
     split =
-        sum-cong (λ i. sumBelow (freedOf s (a ∷ addresses) (suc i)) 27) (λ i. sumBelow (λ c. one (belongs (suc i) c (superblockHolding s a))) 27 + sumBelow (freedOf s addresses (suc i)) 27) p
-        (λ i l. sum-add (λ c. one (belongs (suc i) c (superblockHolding s a))) (freedOf s addresses (suc i)) 27)
-        ∙ sum-add (λ i. sumBelow (λ c. one (belongs (suc i) c (superblockHolding s a))) 27) (λ i. sumBelow (freedOf s addresses (suc i)) 27) p
+        sum-cong (λ i. sumBelow (freedOf s (a ∷ addresses) (suc i)) classCount) (λ i. sumBelow (λ c. one (belongs (suc i) c (superblockHolding s a))) classCount + sumBelow (freedOf s addresses (suc i)) classCount) p
+        (λ i l. sum-add (λ c. one (belongs (suc i) c (superblockHolding s a))) (freedOf s addresses (suc i)) classCount)
+        ∙ sum-add (λ i. sumBelow (λ c. one (belongs (suc i) c (superblockHolding s a))) classCount) (λ i. sumBelow (freedOf s addresses (suc i)) classCount) p
 
-    first : sumBelow (λ i. sumBelow (λ c. one (belongs (suc i) c (superblockHolding s a))) 27) p ≤ 1
+    first : sumBelow (λ i. sumBelow (λ c. one (belongs (suc i) c (superblockHolding s a))) classCount) p ≤ 1
     first =
-        let few = sum-le-of-terms-le (λ i. sumBelow (λ c. one (belongs (suc i) c (superblockHolding s a))) 27) (λ i. one (eqb (superblockHolding s a .owner) (suc i))) p (λ i l. one-class-of-superblock (suc i) (superblockHolding s a)) in
+        let few = sum-le-of-terms-le (λ i. sumBelow (λ c. one (belongs (suc i) c (superblockHolding s a))) classCount) (λ i. one (eqb (superblockHolding s a .owner) (suc i))) p (λ i l. one-class-of-superblock (suc i) (superblockHolding s a)) in
         let one-heap = one-heap-of-superblock p (superblockHolding s a) in
         omega arith
 
 -- ---- the frees keep which superblocks are a heap's
 pub freed-of-same : (s t : State) → length (s .table) ≡ 64 → length (t .table) ≡ 64 → OwnersKeptOrRunFreed s t → ((m : ℕ) → m < 64 → superblockAt t m .class ≡ superblockAt s m .class)
-    → (addresses : List ℕ) (h c : ℕ) → h < 254 → freedOf t addresses h c ≡ freedOf s addresses h c
+    → (addresses : List ℕ) (h c : ℕ) → h < runOwner → freedOf t addresses h c ≡ freedOf s addresses h c
 unfolding freedOf
 freed-of-same s t long long-after owners classes [] h c l = refl
 freed-of-same s t long long-after owners classes (a ∷ addresses) h c l =
@@ -133,7 +134,7 @@ pub record AllFreed (freed : ℕ → ℕ → ℕ) (s : State) (order addresses :
 
 -- one more for the first of them, in the counts before and after it
 counted-with-first : (freed : ℕ → ℕ → ℕ) (s t : State) (a : ℕ) (addresses : List ℕ) → length (s .table) ≡ 64 → length (t .table) ≡ 64 → OwnersKeptOrRunFreed s t
-    → ((m : ℕ) → m < 64 → superblockAt t m .class ≡ superblockAt s m .class) → (h c : ℕ) → h < 254
+    → ((m : ℕ) → m < 64 → superblockAt t m .class ≡ superblockAt s m .class) → (h c : ℕ) → h < runOwner
     → oneMoreFreed (superblockHolding s a .owner) (superblockHolding s a .class) freed h c + freedOf t addresses h c ≡ freed h c + (one (belongs h c (superblockHolding s a)) + freedOf s addresses h c)
 unfolding oneMoreFreed belongs
 counted-with-first freed s t a addresses long long-after owners classes h c l = omega (arith, freed-of-same s t long long-after owners classes addresses h c l)
@@ -175,7 +176,7 @@ run-fits s k sound l = go (isOfRun (superblockAt s k)) refl (ℕ-discrete (super
 
 -- the superblock at an address is of a heap and a class
 abbrev pub OfHeapAndClass : State → ℕ → Type 0
-OfHeapAndClass s a = (superblockHolding s a .owner < heapCount) × (superblockHolding s a .class < 27)
+OfHeapAndClass s a = (superblockHolding s a .owner < heapCount) × (superblockHolding s a .class < classCount)
 
 -- outside runs it was before the frees where it is after them
 of-heap-and-class-before : (s t : State) (a : ℕ) → superblockIndex a < 64 → OwnersKeptOrRunFreed s t → ((m : ℕ) → m < 64 → superblockAt t m .class ≡ superblockAt s m .class)
@@ -183,11 +184,11 @@ of-heap-and-class-before : (s t : State) (a : ℕ) → superblockIndex a < 64 �
 unfolding isOfRun
 of-heap-and-class-before s t a l owners classes there outside = go (owners (superblockIndex a) l)
   where
-    go : (superblockHolding t a .owner ≡ superblockHolding s a .owner) ⊎ ((superblockHolding s a .owner ≡ 254) × (superblockHolding t a .owner ≡ 255)) → OfHeapAndClass s a
+    go : (superblockHolding t a .owner ≡ superblockHolding s a .owner) ⊎ ((superblockHolding s a .owner ≡ runOwner) × (superblockHolding t a .owner ≡ unusedOwner)) → OfHeapAndClass s a
     go (inl e) =
-        let is = there (ap (λ (o : ℕ). eqb o 254) e ∙ outside) in
-        (subst (λ (h : ℕ). h < heapCount) e (is .0), subst (λ (c : ℕ). c < 27) (classes (superblockIndex a) l) (is .1))
-    go (inr (was, now)) = absurd (eqb-false (superblockHolding s a .owner) 254 outside was)
+        let is = there (ap (λ (o : ℕ). eqb o runOwner) e ∙ outside) in
+        (subst (λ (h : ℕ). h < heapCount) e (is .0), subst (λ (c : ℕ). c < classCount) (classes (superblockIndex a) l) (is .1))
+    go (inr (was, now)) = absurd (eqb-false (superblockHolding s a .owner) runOwner outside was)
 
 -- each address of a drop that meets no refusal lies in the table, in a superblock that a heap owns where it was in no run before the drop; in the state before its free
 -- the run that may begin there ends in the table, and that state keeps its totals and ranks

@@ -19,7 +19,7 @@ use Rattle.order_rules.specs.Order.{withPlace}
 use Rattle.order_laws.proofs.OrderLaws.{length-with-place}
 use Rattle.heap_rules.specs.declared.Superblock.{Superblock}
 use Rattle.heap_rules.specs.declared.State.{State}
-use Rattle.heap_rules.specs.Table.{superblockAt, liveIn, liveBlocks, withoutMarkAt, withRank}
+use Rattle.heap_rules.specs.Table.{runOwner, superblockAt, liveIn, liveBlocks, withoutMarkAt, withRank}
 use Rattle.heap_rules.specs.States.{withNames}
 use Rattle.heap_rules.specs.Ranks.{rankAfterFree, reranked, rankedLatest}
 use Rattle.heap_rules.specs.Counts.{superblocksOfClass, liveOfClass, ownersChanged}
@@ -75,7 +75,7 @@ free-effect-of-reranked c k j moves rank s t names long e =
       block = e .block;
       setup = e .setup;
       class-before = sym (reranked-class rank s long k) ∙ e .class-before;
-      owned-before = subst (λ (o : ℕ). o < 254) (reranked-owner rank s long k) (e .owned-before);
+      owned-before = subst (λ (o : ℕ). o < runOwner) (reranked-owner rank s long k) (e .owned-before);
       was-marked = sym (bits k j) ∙ e .was-marked;
       not-marked = e .not-marked;
       marks = λ m b lm apart small. e .marks m b lm apart small ∙ bits m b;
@@ -115,7 +115,7 @@ module _ (freed : ℕ → ℕ → ℕ) (s : State) (order : List ℕ) (a : ℕ) 
   pub freed-superblock-owner-le : superblockHolding s a .owner ≤ s .setup .processors
   freed-superblock-owner-le = mapped-is-owned s order a (passed .sound) (mapped-of-no-refusal s a accepted) small .owner
 
-  owned : superblockHolding s a .owner < 254
+  owned : superblockHolding s a .owner < runOwner
   owned = let o = freed-superblock-owner-le in omega (arith, passed .sound .numbers .processors-high)
 
   block : blockOf s a < blocksOf (superblockHolding s a .class)
@@ -175,7 +175,7 @@ module _ (freed : ℕ → ℕ → ℕ) (s : State) (order : List ℕ) (a : ℕ) 
         freed = freed;
         passed = ready-passed;
         below = freed-superblock-below;
-        owned = subst (λ (o : ℕ). o < 254) (sym (reranked-owner rank s (shape .length-is) k)) owned;
+        owned = subst (λ (o : ℕ). o < runOwner) (sym (reranked-owner rank s (shape .length-is) k)) owned;
         block = subst (λ (c : ℕ). blockOf s a < blocksOf c) (sym (reranked-class rank s (shape .length-is) k)) block;
         marked = ap (λ (x : List ℕ). markBit x (blockOf s a)) (reranked-live rank s (shape .length-is) k) ∙ freed-block-is-live .marked;
       }

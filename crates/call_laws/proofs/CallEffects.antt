@@ -7,11 +7,11 @@ use lib.ListN.{length}
 use lib.Dec.{T, eqb}
 use Rattle.base_laws.specs.Sums.{pick}
 use Prim.Native.Nat.{ℕ, suc, _+_, _*_, _≤_, _<_}
-use Rattle.class_rules.specs.Classes.{blocksOf, classOf, runLength}
+use Rattle.class_rules.specs.Classes.{classCount, blocksOf, classOf, runLength}
 use Rattle.marks_rules.specs.Marks.{markBit}
 use Rattle.names_rules.specs.Names.{isHeld}
 use Rattle.heap_rules.specs.declared.State.{State}
-use Rattle.heap_rules.specs.Table.{unused, superblockAt, liveIn, isOfRun, runPart, withRank}
+use Rattle.heap_rules.specs.Table.{runOwner, unused, superblockAt, liveIn, isOfRun, runPart, withRank}
 use Rattle.heap_rules.specs.Ranks.{rankAfterFree, rankAfterRenewal}
 use Rattle.heap_rules.specs.Counts.{superblocksOf, superblocksOfClass, liveOfClass, ownersChanged, passedBetweenHeaps}
 use Rattle.heap_rules.specs.declared.Found.the-variants.{At, Nothing}
@@ -113,14 +113,14 @@ pub record NamedLongFreeAccepted (s : State) (order : List ℕ) (i m : ℕ) : Ty
 -- "an accepted take answers the address of a block that was not marked, in a superblock of the size's class, marks exactly it, and changes at most one owner"
 pub record TakeEffect (i c k j : ℕ) (s t : State) : Type 0 where
   pub below : k < s .setup .superblocks
-  pub class-lt-27 : c < 27
+  pub class-lt-27 : c < classCount
   pub block : j < blocksOf c
   pub setup : t .setup ≡ s .setup
   -- the others keep all but their ranks
   pub others : (m : ℕ) → (m ≡ k → ⊥) → superblockAt t m ≡ withRank (superblockAt t m .rank) (superblockAt s m)
   pub owner : superblockAt t k .owner ≡ i
   pub class : superblockAt t k .class ≡ c
-  pub before : (liveIn (superblockAt s k) ≡ 0) ⊎ ((superblockAt s k .class ≡ c) × (superblockAt s k .owner < 254))
+  pub before : (liveIn (superblockAt s k) ≡ 0) ⊎ ((superblockAt s k .class ≡ c) × (superblockAt s k .owner < runOwner))
   -- the superblock is of no run, before and after, and no run changes
   pub outside-run : isOfRun (superblockAt s k) ≡ false
   pub runs : RunsKept s t
@@ -138,11 +138,11 @@ pub record TakeEffect (i c k j : ℕ) (s t : State) : Type 0 where
 -- Block j of superblock k, of class c, is freed, with so many moves.
 pub record FreeEffect (c k j moves : ℕ) (s t : State) : Type 0 where
   pub below : k < s .setup .superblocks
-  pub class-lt-27 : c < 27
+  pub class-lt-27 : c < classCount
   pub block : j < blocksOf c
   pub setup : t .setup ≡ s .setup
   pub class-before : superblockAt s k .class ≡ c
-  pub owned-before : superblockAt s k .owner < 254
+  pub owned-before : superblockAt s k .owner < runOwner
   pub was-marked : markBit (superblockAt s k .live) j ≡ 1
   pub not-marked : markBit (superblockAt t k .live) j ≡ 0
   pub marks : (m b : ℕ) → m < 64 → ((m ≡ k) × (b ≡ j) → ⊥) → b < 256 → markBit (superblockAt t m .live) b ≡ markBit (superblockAt s m .live) b

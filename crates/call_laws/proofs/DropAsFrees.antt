@@ -11,13 +11,14 @@ use borrow.Author.Tests.{leb-true, eqb-true, eq-eqb, ne-eqb}
 use lib.ListN.{length, List·getD-eq-default}
 use lib.Dec.{eqb, leb}
 use Rattle.base_laws.specs.Sums.{pick, both, either}
+use Rattle.class_rules.specs.Classes.{classCount}
 use Rattle.base_laws.proofs.Inequalities.{le-of-not-below}
 use Rattle.base_laws.proofs.TestLaws.{T-of-true, pick-true, pick-false}
 use Rattle.marks_rules.specs.Marks.{markBit}
 use Rattle.heap_rules.specs.declared.Superblock.{Superblock}
 use Rattle.heap_rules.specs.declared.State.{State}
 use Rattle.heap_rules.specs.declared.Moved.{Moved}
-use Rattle.heap_rules.specs.Table.{blank, unused, superblockAt}
+use Rattle.heap_rules.specs.Table.{unusedOwner, blank, unused, superblockAt}
 use Rattle.heap_rules.specs.Counts.{belongs}
 use Rattle.check_rules.specs.Check.{withinLimits, restValid, passes}
 use Rattle.move_rules.specs.Moves.{invariantRestored}
@@ -63,11 +64,11 @@ module _ (touched : ℕ → ℕ → Bool) where
   classes-untouched h zero m none = refl
   classes-untouched h (suc n) m none = pick-false (touched h n) _ _ (none n (le-refl (suc n))) ∙ classes-untouched h n m (λ c l. none c (omega arith))
 
-  heaps-untouched : (n : ℕ) (m : Moved) → ((h c : ℕ) → 1 ≤ h → h ≤ n → c < 27 → touched h c ≡ false) → heapsRestored touched n m ≡ m
+  heaps-untouched : (n : ℕ) (m : Moved) → ((h c : ℕ) → 1 ≤ h → h ≤ n → c < classCount → touched h c ≡ false) → heapsRestored touched n m ≡ m
   unfolding heapsRestored
   heaps-untouched zero m none = refl
   heaps-untouched (suc n) m none =
-      classes-untouched (suc n) 27 _ (λ c l. none (suc n) c (omega arith) (le-refl (suc n)) l) ∙ heaps-untouched n m (λ h c low high l. none h c low (omega arith) l)
+      classes-untouched (suc n) classCount _ (λ c l. none (suc n) c (omega arith) (le-refl (suc n)) l) ∙ heaps-untouched n m (λ h c low high l. none h c low (omega arith) l)
 
   module _ (i d : ℕ) (is : touched i d ≡ true) (only : (h c : ℕ) → ((h ≡ i) × (c ≡ d) → ⊥) → touched h c ≡ false) where
     one-class-touched : (n : ℕ) (m : Moved) → d < n → classesRestored touched i n m ≡ thenRestored i d m
@@ -81,16 +82,16 @@ module _ (touched : ℕ → ℕ → Bool) where
             ∙ ap₂ (λ (c : ℕ) (x : Moved). thenRestored i c x) e (classes-untouched i n m (λ c lc. only i c (λ q. let z : c ≡ d = q .1 in omega arith)))
         go (no f) rest = pick-false (touched i n) _ _ (only i n (λ q. f (q .1))) ∙ rest (omega arith)
 
-    one-pair-touched : (n : ℕ) (m : Moved) → 1 ≤ i → i ≤ n → d < 27 → heapsRestored touched n m ≡ thenRestored i d m
+    one-pair-touched : (n : ℕ) (m : Moved) → 1 ≤ i → i ≤ n → d < classCount → heapsRestored touched n m ≡ thenRestored i d m
     unfolding heapsRestored
     one-pair-touched zero m low high known = absurd (let z : ⊥ = omega arith in z)
     one-pair-touched (suc n) m low high known = go (ℕ-discrete (suc n) i) (one-pair-touched n m low)
       where
-        go : Dec (suc n ≡ i) → (i ≤ n → d < 27 → heapsRestored touched n m ≡ thenRestored i d m) → classesRestored touched (suc n) 27 (heapsRestored touched n m) ≡ thenRestored i d m
+        go : Dec (suc n ≡ i) → (i ≤ n → d < classCount → heapsRestored touched n m ≡ thenRestored i d m) → classesRestored touched (suc n) classCount (heapsRestored touched n m) ≡ thenRestored i d m
         go (yes e) rest =
-            ap₂ (λ (h : ℕ) (x : Moved). classesRestored touched h 27 x) e (heaps-untouched n m (λ h c l g k. only h c (λ q. let z : h ≡ i = q .0 in omega arith)))
-            ∙ one-class-touched 27 m known
-        go (no f) rest = classes-untouched (suc n) 27 _ (λ c l. only (suc n) c (λ q. f (q .0))) ∙ rest (omega arith) known
+            ap₂ (λ (h : ℕ) (x : Moved). classesRestored touched h classCount x) e (heaps-untouched n m (λ h c l g k. only h c (λ q. let z : h ≡ i = q .0 in omega arith)))
+            ∙ one-class-touched classCount m known
+        go (no f) rest = classes-untouched (suc n) classCount _ (λ c l. only (suc n) c (λ q. f (q .0))) ∙ rest (omega arith) known
 
 -- ---- a drop of one address
 module _ (s : State) (order : List ℕ) (a : ℕ) (passed : Passed s order) (accepted : addressRefusal s a ≡ 0) where
@@ -185,11 +186,11 @@ drop-of-one-is-free s order i a =
 same-places-of-free : (c k j moves : ℕ) (s t : State) → FreeEffect c k j moves s t → SamePlaces s t
 same-places-of-free c k j moves s t e = record { setup = e .setup; each = λ m l. record { unused = kept m (e .owners m l); class = e .classes m l; of-run = e .runs m l .0; run = e .runs m l .1 } }
   where
-    kept : (m : ℕ) → (superblockAt t m .owner ≡ superblockAt s m .owner) ⊎ ((superblockAt s m .owner ≡ superblockAt s k .owner) × (superblockAt t m .owner ≡ 0)) → eqb (superblockAt t m .owner) 255 ≡ eqb (superblockAt s m .owner) 255
-    kept m (inl same) = ap (λ (o : ℕ). eqb o 255) same
+    kept : (m : ℕ) → (superblockAt t m .owner ≡ superblockAt s m .owner) ⊎ ((superblockAt s m .owner ≡ superblockAt s k .owner) × (superblockAt t m .owner ≡ 0)) → eqb (superblockAt t m .owner) unusedOwner ≡ eqb (superblockAt s m .owner) unusedOwner
+    kept m (inl same) = ap (λ (o : ℕ). eqb o unusedOwner) same
     kept m (inr (was, now)) =
-        ne-eqb (superblockAt t m .owner) 255 (λ (q : superblockAt t m .owner ≡ 255). omega arith)
-        ∙ sym (ne-eqb (superblockAt s m .owner) 255 (λ (q : superblockAt s m .owner ≡ 255). omega (arith, e .owned-before)))
+        ne-eqb (superblockAt t m .owner) unusedOwner (λ (q : superblockAt t m .owner ≡ unusedOwner). omega arith)
+        ∙ sym (ne-eqb (superblockAt s m .owner) unusedOwner (λ (q : superblockAt s m .owner ≡ unusedOwner). omega (arith, e .owned-before)))
 
 -- a free with its moves in one state, and the block freed in another with the same places and marks, leave such states again
 same-marks-after : (c d k j i moves more : ℕ) (s t s′ t′ : State) → j ≡ i → FreeEffect c k j moves s s′ → FreeEffect d k i more t t′ → SameMarks s t → SameMarks s′ t′

@@ -10,7 +10,7 @@ use Rattle.marks_rules.specs.Marks.{markBit}
 use Rattle.names_rules.specs.Names.{blockNumber}
 use Rattle.heap_rules.specs.declared.Superblock.{Superblock}
 use Rattle.heap_rules.specs.declared.State.{State}
-use Rattle.heap_rules.specs.Table.{superblockAt, liveBlocks, withOwner}
+use Rattle.heap_rules.specs.Table.{runOwner, superblockAt, liveBlocks, withOwner}
 use Rattle.heap_laws.proofs.StateFacts.{Shape}
 use Rattle.heap_laws.proofs.RunsKeptLaws.{outside-run-of-owner, live-blocks-outside-run}
 use Rattle.call_rules.specs.Free.{superblockIndex, superblockHolding, blockOf, isInRun, addressRefusal, orderPushed, blockFreed}
@@ -115,7 +115,7 @@ last-freed-ranked-1 freed s order (x ∷ earlier) a shape passed outside ok =
     last-freed-ranked-1 _ (blockFreed s x) (orderPushed s order x) earlier a (here .shape) (here .passed) (outside-run-kept s (blockFreed s x) (here .owners) (here .shape .length-is) a outside) (first .1)
 
 -- ---- the moves: what does not depend on which heap the owner is stays
-transfers-keep : {A : Type 0} (of : Superblock → A) → ((b : Superblock) → b .owner < 254 → of (withOwner 0 b) ≡ of b) → (touched : ℕ → ℕ → Bool) (s t : State) (n : ℕ) → Transfers touched s t n → (m : ℕ) → m < 64
+transfers-keep : {A : Type 0} (of : Superblock → A) → ((b : Superblock) → b .owner < runOwner → of (withOwner 0 b) ≡ of b) → (touched : ℕ → ℕ → Bool) (s t : State) (n : ℕ) → Transfers touched s t n → (m : ℕ) → m < 64
     → of (superblockAt t m) ≡ of (superblockAt s m)
 transfers-keep of kept touched s t n moves m l = ⊎-elim (λ e. ap of e) (λ w. ap of (w .3) ∙ kept (superblockAt s m) (w .1)) (moves .each m l)
 
@@ -124,7 +124,7 @@ module _ (s : State) (order : List ℕ) (i : ℕ) (addresses : List ℕ) (shape 
   abbrev after : State
   after = dropOf s order i addresses .answer .state
 
-  drop-keeps : {A : Type 0} (of : Superblock → A) → ((b : Superblock) → b .owner < 254 → of (withOwner 0 b) ≡ of b) → (m : ℕ) → m < 64 → of (superblockAt after m) ≡ of (superblockAt (allFreed s addresses) m)
+  drop-keeps : {A : Type 0} (of : Superblock → A) → ((b : Superblock) → b .owner < runOwner → of (withOwner 0 b) ≡ of b) → (m : ℕ) → m < 64 → of (superblockAt after m) ≡ of (superblockAt (allFreed s addresses) m)
   drop-keeps of kept m l =
       ap (λ (t : State). of (superblockAt t m)) (drop-state-is s order i addresses shape acc)
       ∙ transfers-keep of kept _ _ _ _ (drop-transfers s order addresses shape (acc .passed) (acc .no-refusal)) m l
@@ -142,11 +142,11 @@ module _ (s : State) (order : List ℕ) (i : ℕ) (addresses : List ℕ) (shape 
       ∙ frees-keep-other-marks (λ x. x .live) clears-its-mark m b inside small (λ h c. 0) s order addresses shape (passed-after-no-frees s order (acc .passed)) (acc .no-refusal) other
 
   -- long blocks as well: each block of the list is no longer live ..
-  of-heap-keeps-live-blocks : (b : ℕ) (x : Superblock) → x .owner < 254 → markBit (liveBlocks (withOwner 0 x)) b ≡ markBit (liveBlocks x) b
+  of-heap-keeps-live-blocks : (b : ℕ) (x : Superblock) → x .owner < runOwner → markBit (liveBlocks (withOwner 0 x)) b ≡ markBit (liveBlocks x) b
   of-heap-keeps-live-blocks b x l =
       ap (λ (y : List ℕ). markBit y b)
-      (live-blocks-outside-run (withOwner 0 x) (outside-run-of-owner (withOwner 0 x) (λ (q : withOwner 0 x .owner ≡ 254). omega arith))
-      ∙ sym (live-blocks-outside-run x (outside-run-of-owner x (λ (q : x .owner ≡ 254). omega arith))))
+      (live-blocks-outside-run (withOwner 0 x) (outside-run-of-owner (withOwner 0 x) (λ (q : withOwner 0 x .owner ≡ runOwner). omega arith))
+      ∙ sym (live-blocks-outside-run x (outside-run-of-owner x (λ (q : x .owner ≡ runOwner). omega arith))))
 
   pub drop-frees-blocks : (m b : ℕ) → m < 64 → b < 256 → ListsBlock s addresses (blockNumber m b) → markBit (liveBlocks (superblockAt after m)) b ≡ 0
   drop-frees-blocks m b inside small h =

@@ -10,11 +10,12 @@ use borrow.Author.Tests.{eqb-true, eqb-false}
 use lib.ListN.{length, getD, take}
 use lib.Dec.{T, eqb}
 use Rattle.base_laws.specs.Sums.{pick, sumBelow}
+use Rattle.class_rules.specs.Classes.{classCount}
 use Rattle.base_laws.proofs.TestLaws.{T-of-true}
 use Rattle.heap_rules.specs.declared.Superblock.{Superblock}
 use Rattle.heap_rules.specs.declared.Setup.{Setup}
 use Rattle.heap_rules.specs.declared.State.{State}
-use Rattle.heap_rules.specs.Table.{superblockAt, withOwner}
+use Rattle.heap_rules.specs.Table.{runOwner, unusedOwner, superblockAt, withOwner}
 use Rattle.heap_rules.specs.Counts.{superblocksOfClass, passedBetweenHeaps}
 use Rattle.heap_rules.specs.Totals.{TotalsKept}
 use Rattle.heap_rules.specs.Ranks.{RanksFit}
@@ -76,8 +77,8 @@ pub record DropEffect (addresses : List ℕ) (moves : ℕ) (s t : State) : Type 
   -- an owner stays, or was a processor heap's that lost a block of that class, and is 0, or was a run's, and the superblock is unused
   pub owners : (k : ℕ) → k < 64
       → (superblockAt t k .owner ≡ superblockAt s k .owner)
-      ⊎ (((0 < superblockAt s k .owner) × (superblockAt s k .owner < 254) × T (isTouched s addresses (superblockAt s k .owner) (superblockAt s k .class)) × (superblockAt t k .owner ≡ 0))
-      ⊎ ((superblockAt s k .owner ≡ 254) × (superblockAt t k .owner ≡ 255)))
+      ⊎ (((0 < superblockAt s k .owner) × (superblockAt s k .owner < runOwner) × T (isTouched s addresses (superblockAt s k .owner) (superblockAt s k .class)) × (superblockAt t k .owner ≡ 0))
+      ⊎ ((superblockAt s k .owner ≡ runOwner) × (superblockAt t k .owner ≡ unusedOwner)))
   -- "an accepted one changes exactly as many owners as it reports moves", where "the q and reported moves of a free or drop [count] only those that pass between heaps" (item 7)
   pub passed-between-heaps : passedBetweenHeaps s t ≡ moves
   -- "a drop moves at most q superblocks for each address"
@@ -94,15 +95,15 @@ module _ (s : State) (order addresses : List ℕ) (shape : Shape s) (start : Pas
 
   -- ---- the moves
   abbrev bound : ℕ
-  bound = sumBelow (λ i. sumBelow (freedOf s addresses (suc i)) 27) (s .setup .processors)
+  bound = sumBelow (λ i. sumBelow (freedOf s addresses (suc i)) classCount) (s .setup .processors)
 
   abbrev Below : ℕ → ℕ → Type 0
-  Below i d = (1 ≤ i) × (i ≤ s .setup .processors) × (d < 27)
+  Below i d = (1 ≤ i) × (i ≤ s .setup .processors) × (d < classCount)
 
   restored : PairsRestored (isTouched s addresses) (freedOf s addresses) (allFreed s addresses) (allPushed s order addresses) Below bound (dropMoves s addresses)
   restored =
       subst (PairsRestored (isTouched s addresses) (freedOf s addresses) (allFreed s addresses) (allPushed s order addresses) Below bound) (sym (drop-moves-by-heaps s addresses))
-      (subst (λ (p : ℕ). PairsRestored (isTouched s addresses) (freedOf s addresses) (allFreed s addresses) (allPushed s order addresses) (λ i d. (1 ≤ i) × (i ≤ p) × (d < 27)) (sumBelow (λ i. sumBelow (freedOf s addresses (suc i)) 27) p) (heapsRestored (isTouched s addresses) p (record { moves = 0; state = allFreed s addresses })))
+      (subst (λ (p : ℕ). PairsRestored (isTouched s addresses) (freedOf s addresses) (allFreed s addresses) (allPushed s order addresses) (λ i d. (1 ≤ i) × (i ≤ p) × (d < classCount)) (sumBelow (λ i. sumBelow (freedOf s addresses (suc i)) classCount) p) (heapsRestored (isTouched s addresses) p (record { moves = 0; state = allFreed s addresses })))
       (ap (λ (u : Setup). u .processors) (drop-frees .setup))
       (all-pairs-restored (isTouched s addresses) (freedOf s addresses) (allFreed s addresses) (allPushed s order addresses) (freed-of-untouched s addresses) (drop-frees .shape) freed-passed))
 
@@ -130,7 +131,7 @@ module _ (s : State) (order addresses : List ℕ) (shape : Shape s) (start : Pas
   abbrev Each : ℕ → Type 0
   Each k =
       (superblockAt after k ≡ superblockAt before k)
-      ⊎ ((0 < superblockAt before k .owner) × (superblockAt before k .owner < 254) × T (isTouched s addresses (superblockAt before k .owner) (superblockAt before k .class)) × (superblockAt after k ≡ withOwner 0 (superblockAt before k)))
+      ⊎ ((0 < superblockAt before k .owner) × (superblockAt before k .owner < runOwner) × T (isTouched s addresses (superblockAt before k .owner) (superblockAt before k .class)) × (superblockAt after k ≡ withOwner 0 (superblockAt before k)))
 
   -- no superblock passes between heaps by the frees, and one that a move passes on was a heap's and is heap 0's
   passed-by-moves : passedBetweenHeaps s after ≡ dropMoves s addresses .moves
@@ -139,12 +140,12 @@ module _ (s : State) (order addresses : List ℕ) (shape : Shape s) (start : Pas
       ∙ passed-between-heaps-is-owners-changed before after (λ k l. of-heaps k (drop-transfers .each k l))
       ∙ drop-transfers .changed
     where
-      same-heap : (k : ℕ) → (superblockAt before k .owner ≡ superblockAt s k .owner) ⊎ ((superblockAt s k .owner ≡ 254) × (superblockAt before k .owner ≡ 255))
-          → (superblockAt s k .owner ≡ superblockAt before k .owner) ⊎ ((254 ≤ superblockAt s k .owner) × (254 ≤ superblockAt before k .owner))
+      same-heap : (k : ℕ) → (superblockAt before k .owner ≡ superblockAt s k .owner) ⊎ ((superblockAt s k .owner ≡ runOwner) × (superblockAt before k .owner ≡ unusedOwner))
+          → (superblockAt s k .owner ≡ superblockAt before k .owner) ⊎ ((runOwner ≤ superblockAt s k .owner) × (runOwner ≤ superblockAt before k .owner))
       same-heap k (inl e) = inl (sym e)
       same-heap k (inr (was, now)) = inr (omega arith, omega arith)
 
-      of-heaps : (k : ℕ) → Each k → (superblockAt after k .owner ≡ superblockAt before k .owner) ⊎ ((superblockAt before k .owner < 254) × (superblockAt after k .owner < 254))
+      of-heaps : (k : ℕ) → Each k → (superblockAt after k .owner ≡ superblockAt before k .owner) ⊎ ((superblockAt before k .owner < runOwner) × (superblockAt after k .owner < runOwner))
       of-heaps k (inl e) = inl (ap (λ (b : Superblock). b .owner) e)
       of-heaps k (inr w) = let zero : superblockAt after k .owner ≡ 0 = ap (λ (b : Superblock). b .owner) (w .3) in inr (w .1, omega arith)
 
@@ -166,16 +167,16 @@ module _ (s : State) (order addresses : List ℕ) (shape : Shape s) (start : Pas
       class-kept k (inl e) = ap (λ (b : Superblock). b .class) e
       class-kept k (inr w) = ap (λ (b : Superblock). b .class) (w .3)
 
-      owner-now : (k : ℕ) → k < 64 → Each k → (superblockAt before k .owner ≡ superblockAt s k .owner) ⊎ ((superblockAt s k .owner ≡ 254) × (superblockAt before k .owner ≡ 255))
+      owner-now : (k : ℕ) → k < 64 → Each k → (superblockAt before k .owner ≡ superblockAt s k .owner) ⊎ ((superblockAt s k .owner ≡ runOwner) × (superblockAt before k .owner ≡ unusedOwner))
           → (superblockAt after k .owner ≡ superblockAt s k .owner)
-          ⊎ (((0 < superblockAt s k .owner) × (superblockAt s k .owner < 254) × T (isTouched s addresses (superblockAt s k .owner) (superblockAt s k .class)) × (superblockAt after k .owner ≡ 0))
-          ⊎ ((superblockAt s k .owner ≡ 254) × (superblockAt after k .owner ≡ 255)))
+          ⊎ (((0 < superblockAt s k .owner) × (superblockAt s k .owner < runOwner) × T (isTouched s addresses (superblockAt s k .owner) (superblockAt s k .class)) × (superblockAt after k .owner ≡ 0))
+          ⊎ ((superblockAt s k .owner ≡ runOwner) × (superblockAt after k .owner ≡ unusedOwner)))
       owner-now k l (inl e) (inl q) = inl (ap (λ (b : Superblock). b .owner) e ∙ q)
       owner-now k l (inl e) (inr (was, now)) = inr (inr (was, ap (λ (b : Superblock). b .owner) e ∙ now))
       owner-now k l (inr w) (inl q) =
           inr (inl (
             subst (λ (o : ℕ). 0 < o) q (w .0),
-            subst (λ (o : ℕ). o < 254) q (w .1),
+            subst (λ (o : ℕ). o < runOwner) q (w .1),
             subst (λ (o : ℕ). T (isTouched s addresses o (superblockAt s k .class))) q (subst (λ (c : ℕ). T (isTouched s addresses (superblockAt before k .owner) c)) (drop-frees .classes k l) (w .2)),
             ap (λ (b : Superblock). b .owner) (w .3),
           ))

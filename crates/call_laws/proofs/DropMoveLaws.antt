@@ -6,6 +6,7 @@ use Prim.Native.Nat.{ℕ, zero, suc, _+_, _≤_}
 use native.Mathlib.Omega.{arith}
 use lib.ListN.{length, length-set}
 use Rattle.base_laws.proofs.TestLaws.{pick-elim}
+use Rattle.class_rules.specs.Classes.{classCount}
 use Rattle.heap_rules.specs.declared.State.{State}
 use Rattle.heap_rules.specs.declared.Moved.{Moved}
 use Rattle.heap_rules.specs.Totals.{TotalsKept}
@@ -31,7 +32,7 @@ module _ (P : Moved → Type 0) (kept : (h c : ℕ) (before : Moved) → P befor
   pub heaps-restored-keep : (n : ℕ) (before : Moved) → P before → P (heapsRestored touched n before)
   unfolding heapsRestored
   heaps-restored-keep zero before p = p
-  heaps-restored-keep (suc h) before p = classes-restored-keep (suc h) 27 (heapsRestored touched h before) (heaps-restored-keep h before p)
+  heaps-restored-keep (suc h) before p = classes-restored-keep (suc h) classCount (heapsRestored touched h before) (heaps-restored-keep h before p)
 
 -- ---- the totals are kept
 pub then-restored-keeps-totals : (h c : ℕ) (before : Moved) → TotalsKept (before .state) → TotalsKept (thenRestored h c before .state)

@@ -16,7 +16,7 @@ use Rattle.base_laws.proofs.TestLaws.{pick-true, pick-false}
 use Rattle.marks_rules.specs.Marks.{markBit, noMarks}
 use Rattle.marks_laws.proofs.MarkLaws.{mark-bit-one-of-mark, mark-bit-zero-of-no-mark, mark-of-mark-bit-one, no-mark-of-mark-bit-zero, with-mark-same}
 use Rattle.heap_rules.specs.declared.State.{State}
-use Rattle.heap_rules.specs.Table.{startsRun, liveBlocks}
+use Rattle.heap_rules.specs.Table.{runOwner, startsRun, liveBlocks}
 use Rattle.heap_laws.proofs.StateFacts.{Unused}
 use Rattle.heap_laws.proofs.RunsKeptLaws.{of-run-of-owner, live-blocks-of-first}
 use Rattle.call_rules.specs.declared.Outcome.the-variants.{Refused}
@@ -83,7 +83,7 @@ module _ (s : State) (a : ℕ) where
   )
 
 -- ---- an address in a long block's run (document 02, item 7)
-module _ (s : State) (a : ℕ) (inside : a < s .setup .superblocks * 4096) (home : superblockHolding s a .owner ≡ 254) where
+module _ (s : State) (a : ℕ) (inside : a < s .setup .superblocks * 4096) (home : superblockHolding s a .owner ≡ runOwner) where
   -- the address is the start of the run
   abbrev IsStart : Type 0
   IsStart = (0 < superblockHolding s a .run) × (offsetOf a ≡ 0)

@@ -12,7 +12,7 @@ use Rattle.base_laws.proofs.Inequalities.{le-of-not-below}
 use Rattle.base_laws.proofs.TestLaws.{true-not-false}
 use Rattle.heap_rules.specs.declared.Superblock.{Superblock}
 use Rattle.heap_rules.specs.declared.State.{State}
-use Rattle.heap_rules.specs.Table.{blank, unused, superblockAt, isOfRun, withRank}
+use Rattle.heap_rules.specs.Table.{runOwner, blank, unused, superblockAt, isOfRun, withRank}
 use Rattle.heap_laws.proofs.StateFacts.{Shape}
 use Rattle.heap_rules.specs.Runs.{InRun, RunAt}
 use Rattle.heap_laws.proofs.StateCheckLaws.{unowned-of-owner}
@@ -60,7 +60,7 @@ same-of-runs e = (ap isOfRun e, ap (λ (x : Superblock). x .run) e)
 module _ (freed : ℕ → ℕ → ℕ) (s : State) (order : List ℕ) (b : ℕ) (shape : Shape s) (passed : PassedAfterFrees freed s order)
     (accepted : addressRefusal s b ≡ 0) where
   -- a superblock that no heap owns has no rank, so that a block's free changes nothing of it
-  small-free-keeps-unowned : isInRun s b ≡ false → (m : ℕ) → m < 64 → 254 ≤ superblockAt s m .owner
+  small-free-keeps-unowned : isInRun s b ≡ false → (m : ℕ) → m < 64 → runOwner ≤ superblockAt s m .owner
       → superblockAt (smallBlockFreed s b) m ≡ superblockAt s m
   small-free-keeps-unowned small m l high =
       small-block-freed-others freed s order b shape passed accepted small m l other
@@ -89,7 +89,7 @@ module _ (freed : ℕ → ℕ → ℕ) (s : State) (order : List ℕ) (b : ℕ) 
   other-run-is-kept : (k n m : ℕ) → RunAt s k n → (b ≡ k * 4096 → ⊥) → InRun k n m → superblockAt (blockFreed s b) m ≡ superblockAt s m
   other-run-is-kept k n m run other inside = go (isInRun s b) refl
     where
-      owner : superblockAt s m .owner ≡ 254
+      owner : superblockAt s m .owner ≡ runOwner
       owner = owner-of-run (superblockAt s m) (run .of-run m (inside .0) (inside .1))
 
       starts-at-address : (long : isInRun s b ≡ true) → InRun (superblockIndex b) (superblockHolding s b .run) m → b ≡ k * 4096
@@ -203,7 +203,7 @@ module _ (s : State) (order : List ℕ) (i : ℕ) (addresses : List ℕ) (shape 
   state-is = drop-state-is s order i addresses shape acc
 
   -- its moves pass on superblocks of processor heaps, and change no other
-  moves-keep-unowned : (m : ℕ) → m < 64 → 254 ≤ superblockAt before m .owner → superblockAt after m ≡ superblockAt before m
+  moves-keep-unowned : (m : ℕ) → m < 64 → runOwner ≤ superblockAt before m .owner → superblockAt after m ≡ superblockAt before m
   moves-keep-unowned m l high =
       ap (λ (t : State). superblockAt t m) state-is ∙ ⊎-elim (λ same. same) (λ w. absurd (let z : ⊥ = omega (arith, w .1) in z)) (moves .each m l)
 
@@ -213,10 +213,10 @@ module _ (s : State) (order : List ℕ) (i : ℕ) (addresses : List ℕ) (shape 
       of-run-of-owner (superblockAt s m)
       (⊎-elim (λ same. sym same ∙ owner-before) (λ h. h .0) (drop-frees s order addresses shape (acc .passed) (acc .no-refusal) .owners m l))
     where
-      owner-after : superblockAt (dropMoves s addresses .state) m .owner ≡ 254
+      owner-after : superblockAt (dropMoves s addresses .state) m .owner ≡ runOwner
       owner-after = sym (ap (λ (t : State). superblockAt t m .owner) state-is) ∙ owner-of-run (superblockAt after m) e
 
-      owner-before : superblockAt before m .owner ≡ 254
+      owner-before : superblockAt before m .owner ≡ runOwner
       owner-before =
           ⊎-elim (λ same. sym (ap (λ (x : Superblock). x .owner) same) ∙ owner-after)
           (λ w. absurd (let z : ⊥ = omega (arith, owner-after, ap (λ (x : Superblock). x .owner) (w .3)) in z)) (moves .each m l)

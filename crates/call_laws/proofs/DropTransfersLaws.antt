@@ -10,6 +10,7 @@ use native.Mathlib.Omega.{arith}
 use borrow.Author.Tests.{eq-eqb}
 use lib.Dec.{T, eqb}
 use Rattle.base_laws.specs.Sums.{pick, one, sumBelow}
+use Rattle.class_rules.specs.Classes.{classCount}
 use Rattle.base_laws.proofs.TestLaws.{T-of-true}
 use Rattle.base_laws.proofs.SumLaws.{sum-cong}
 use Rattle.base_laws.proofs.Counting.{sum-add}
@@ -17,7 +18,7 @@ use Rattle.heap_rules.specs.declared.Superblock.{Superblock}
 use Rattle.heap_rules.specs.declared.Setup.{Setup}
 use Rattle.heap_rules.specs.declared.State.{State}
 use Rattle.heap_rules.specs.declared.Moved.{Moved}
-use Rattle.heap_rules.specs.Table.{superblockAt, withOwner}
+use Rattle.heap_rules.specs.Table.{runOwner, superblockAt, withOwner}
 use Rattle.heap_rules.specs.Counts.{belongs, superblocksOfClass, liveOfClass, ownersChanged}
 use Rattle.move_rules.specs.Moves.{invariantRestored}
 use Rattle.heap_laws.proofs.StateFacts.{Shape, Sparse, TransferredFrom}
@@ -36,7 +37,7 @@ pub record Transfers (touched : ℕ → ℕ → Bool) (s t : State) (n : ℕ) : 
   -- a superblock is as it was, or it was that of a touched processor heap and class, and only its owner has become 0
   pub each : (k : ℕ) → k < 64
       → (superblockAt t k ≡ superblockAt s k)
-      ⊎ ((0 < superblockAt s k .owner) × (superblockAt s k .owner < 254) × T (touched (superblockAt s k .owner) (superblockAt s k .class)) × (superblockAt t k ≡ withOwner 0 (superblockAt s k)))
+      ⊎ ((0 < superblockAt s k .owner) × (superblockAt s k .owner < runOwner) × T (touched (superblockAt s k .owner) (superblockAt s k .class)) × (superblockAt t k ≡ withOwner 0 (superblockAt s k)))
   pub changed : ownersChanged s t ≡ n
   -- no class changes its number of superblocks or live blocks
   pub owned : (d : ℕ) → superblocksOfClass d t ≡ superblocksOfClass d s
@@ -45,13 +46,13 @@ pub record Transfers (touched : ℕ → ℕ → Bool) (s t : State) (n : ℕ) : 
 transfers-self : (touched : ℕ → ℕ → Bool) (s : State) → Transfers touched s s 0
 transfers-self touched s = record { setup = refl; names = refl; each = λ k l. inl refl; changed = owners-changed-self s; owned = λ d. refl; live = λ d. refl }
 
-module _ (touched : ℕ → ℕ → Bool) (s r t : State) (n m h c : ℕ) (before : Transfers touched s r n) (from : TransferredFrom h c r t) (pos : 0 < h) (low : h < 254) (touches : T (touched h c)) (changed : ownersChanged r t ≡ m) where
+module _ (touched : ℕ → ℕ → Bool) (s r t : State) (n m h c : ℕ) (before : Transfers touched s r n) (from : TransferredFrom h c r t) (pos : 0 < h) (low : h < runOwner) (touches : T (touched h c)) (changed : ownersChanged r t ≡ m) where
   -- a superblock that has passed on before is heap 0's, so the ones that pass on now are as they were
   abbrev Kept : ℕ → Type 0
   Kept k = superblockAt r k ≡ superblockAt s k
 
   abbrev PassedOn : ℕ → Type 0
-  PassedOn k = (0 < superblockAt s k .owner) × (superblockAt s k .owner < 254) × T (touched (superblockAt s k .owner) (superblockAt s k .class)) × (superblockAt r k ≡ withOwner 0 (superblockAt s k))
+  PassedOn k = (0 < superblockAt s k .owner) × (superblockAt s k .owner < runOwner) × T (touched (superblockAt s k .owner) (superblockAt s k .class)) × (superblockAt r k ≡ withOwner 0 (superblockAt s k))
 
   not-twice : (k : ℕ) → T (belongs h c (superblockAt r k)) → PassedOn k → ⊥
   not-twice k mine w =
@@ -61,19 +62,19 @@ module _ (touched : ℕ → ℕ → Bool) (s r t : State) (n m h c : ℕ) (befor
 
   next-each : (k : ℕ) → k < 64
       → (superblockAt t k ≡ superblockAt s k)
-      ⊎ ((0 < superblockAt s k .owner) × (superblockAt s k .owner < 254) × T (touched (superblockAt s k .owner) (superblockAt s k .class)) × (superblockAt t k ≡ withOwner 0 (superblockAt s k)))
+      ⊎ ((0 < superblockAt s k .owner) × (superblockAt s k .owner < runOwner) × T (touched (superblockAt s k .owner) (superblockAt s k .class)) × (superblockAt t k ≡ withOwner 0 (superblockAt s k)))
   next-each k l = go (from .each k l) (before .each k l)
     where
       go : (superblockAt t k ≡ superblockAt r k) ⊎ (T (belongs h c (superblockAt r k)) × Sparse (r .setup) (superblockAt r k) × (superblockAt t k ≡ withOwner 0 (superblockAt r k))) → Kept k ⊎ PassedOn k
           → (superblockAt t k ≡ superblockAt s k)
-          ⊎ ((0 < superblockAt s k .owner) × (superblockAt s k .owner < 254) × T (touched (superblockAt s k .owner) (superblockAt s k .class)) × (superblockAt t k ≡ withOwner 0 (superblockAt s k)))
+          ⊎ ((0 < superblockAt s k .owner) × (superblockAt s k .owner < runOwner) × T (touched (superblockAt s k .owner) (superblockAt s k .class)) × (superblockAt t k ≡ withOwner 0 (superblockAt s k)))
       go (inl same) (inl q) = inl (same ∙ q)
       go (inl same) (inr w) = inr (w .0, w .1, w .2, same ∙ w .3)
       go (inr x) (inl q) =
           let own = owner-and-class-of-belongs h c (superblockAt r k) (x .0) in
           let owner : superblockAt s k .owner ≡ h = sym (ap (λ (b : Superblock). b .owner) q) ∙ own .0 in
           let class : superblockAt s k .class ≡ c = sym (ap (λ (b : Superblock). b .class) q) ∙ own .1 in
-          inr (subst (λ (i : ℕ). 0 < i) (sym owner) pos, subst (λ (i : ℕ). i < 254) (sym owner) low, rw (owner, class) touches, x .2 ∙ ap (withOwner 0) q)
+          inr (subst (λ (i : ℕ). 0 < i) (sym owner) pos, subst (λ (i : ℕ). i < runOwner) (sym owner) low, rw (owner, class) touches, x .2 ∙ ap (withOwner 0) q)
       go (inr x) (inr w) = absurd (not-twice k (x .0) w)
 
   abbrev differs : State → State → ℕ → ℕ
@@ -126,14 +127,14 @@ module _ (touched : ℕ → ℕ → Bool) (freed : ℕ → ℕ → ℕ) (s : Sta
       record { left = r .left; transfers = r .transfers; shape = r .shape; passed = r .passed; left-le = r .left-le; none-left = λ i d w. r .none-left i d (f i d w); moves-bound = subst (λ (y : ℕ). m .moves ≤ s .setup .q * y) e (r .moves-bound) }
 
   -- one pair more
-  module _ (Done : ℕ → ℕ → Type 0) (b : ℕ) (m : Moved) (h c : ℕ) (pos : 0 < h) (high : h ≤ s .setup .processors) (known : c < 27) (r : PairsRestored touched freed s order Done b m) where
+  module _ (Done : ℕ → ℕ → Type 0) (b : ℕ) (m : Moved) (h c : ℕ) (pos : 0 < h) (high : h ≤ s .setup .processors) (known : c < classCount) (r : PairsRestored touched freed s order Done b m) where
     abbrev WithPair : ℕ → ℕ → Type 0
     WithPair i d = Done i d ⊎ ((i ≡ h) × (d ≡ c))
 
     in-range : h ≤ m .state .setup .processors
     in-range = subst (λ (u : Setup). h ≤ u .processors) (sym (r .transfers .setup)) high
 
-    low : h < 254
+    low : h < runOwner
     low = let p = r .passed .sound .numbers .processors-high in let l = in-range in omega arith
 
     facts : InvariantRestored h c (r .left h c) (m .state) (invariantRestored h c (m .state))
@@ -181,7 +182,7 @@ module _ (touched : ℕ → ℕ → Bool) (freed : ℕ → ℕ → ℕ) (s : Sta
 
   module _ (untouched : (h c : ℕ) → touched h c ≡ false → freed h c ≡ 0) where
     -- the classes of a heap
-    classes-restored : (Done : ℕ → ℕ → Type 0) (b : ℕ) (m : Moved) (h : ℕ) → 0 < h → h ≤ s .setup .processors → (c : ℕ) → c ≤ 27 → PairsRestored touched freed s order Done b m
+    classes-restored : (Done : ℕ → ℕ → Type 0) (b : ℕ) (m : Moved) (h : ℕ) → 0 < h → h ≤ s .setup .processors → (c : ℕ) → c ≤ classCount → PairsRestored touched freed s order Done b m
         → PairsRestored touched freed s order (λ i d. Done i d ⊎ ((i ≡ h) × (d < c))) (b + sumBelow (freed h) c) (classesRestored touched h c m)
     unfolding classesRestored sumBelow
     classes-restored Done b m h pos high zero few r =
@@ -197,22 +198,22 @@ module _ (touched : ℕ → ℕ → Bool) (freed : ℕ → ℕ → ℕ) (s : Sta
 
     -- the heaps
     abbrev Below : ℕ → ℕ → ℕ → Type 0
-    Below n i d = (1 ≤ i) × (i ≤ n) × (d < 27)
+    Below n i d = (1 ≤ i) × (i ≤ n) × (d < classCount)
 
     heaps-restored : (m : Moved) (n : ℕ) → n ≤ s .setup .processors → PairsRestored touched freed s order (Below 0) 0 m
-        → PairsRestored touched freed s order (Below n) (sumBelow (λ i. sumBelow (freed (suc i)) 27) n) (heapsRestored touched n m)
+        → PairsRestored touched freed s order (Below n) (sumBelow (λ i. sumBelow (freed (suc i)) classCount) n) (heapsRestored touched n m)
     unfolding heapsRestored sumBelow
     heaps-restored m zero few r = r
     heaps-restored m (suc n) few r =
-        pairs-weakened (λ i d. Below n i d ⊎ ((i ≡ suc n) × (d < 27))) (Below (suc n)) _ _ _ (λ i d w. last i d w (decLt i (suc n))) refl
-        (classes-restored (Below n) (sumBelow (λ i. sumBelow (freed (suc i)) 27) n) (heapsRestored touched n m) (suc n) (omega arith) few 27 (le-refl 27) (heaps-restored m n (omega arith) r))
+        pairs-weakened (λ i d. Below n i d ⊎ ((i ≡ suc n) × (d < classCount))) (Below (suc n)) _ _ _ (λ i d w. last i d w (decLt i (suc n))) refl
+        (classes-restored (Below n) (sumBelow (λ i. sumBelow (freed (suc i)) classCount) n) (heapsRestored touched n m) (suc n) (omega arith) few classCount (le-refl classCount) (heaps-restored m n (omega arith) r))
       where
-        last : (i d : ℕ) → Below (suc n) i d → Dec (i < suc n) → Below n i d ⊎ ((i ≡ suc n) × (d < 27))
+        last : (i d : ℕ) → Below (suc n) i d → Dec (i < suc n) → Below n i d ⊎ ((i ≡ suc n) × (d < classCount))
         last i d w (yes x) = inl (w .0, omega arith, w .2)
         last i d w (no f) = inr (let l = w .1 in omega arith, w .2)
 
     -- all of them, from a state that passed before these frees: what is left passes
-    pub all-pairs-restored : Shape s → PassedAfterFrees freed s order → PairsRestored touched freed s order (Below (s .setup .processors)) (sumBelow (λ i. sumBelow (freed (suc i)) 27) (s .setup .processors)) (heapsRestored touched (s .setup .processors) (record { moves = 0; state = s }))
+    pub all-pairs-restored : Shape s → PassedAfterFrees freed s order → PairsRestored touched freed s order (Below (s .setup .processors)) (sumBelow (λ i. sumBelow (freed (suc i)) classCount) (s .setup .processors)) (heapsRestored touched (s .setup .processors) (record { moves = 0; state = s }))
     all-pairs-restored shape passed =
         heaps-restored (record { moves = 0; state = s }) (s .setup .processors) (le-refl (s .setup .processors))
         (record { left = freed; transfers = transfers-self touched s; shape = shape; passed = passed; left-le = λ i d. le-refl (freed i d); none-left = λ i d w. absurd (let z : ⊥ = omega (arith, w .0, w .1) in z); moves-bound = zero-le })

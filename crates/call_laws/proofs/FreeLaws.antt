@@ -15,7 +15,7 @@ use Rattle.marks_rules.specs.Marks.{markBit}
 use Rattle.names_rules.specs.Names.{blockNumber, withoutBlock}
 use Rattle.heap_rules.specs.declared.Setup.{Setup}
 use Rattle.heap_rules.specs.declared.State.{State}
-use Rattle.heap_rules.specs.Table.{superblockAt}
+use Rattle.heap_rules.specs.Table.{runOwner, superblockAt}
 use Rattle.heap_rules.specs.Counts.{ownersChanged, passedBetweenHeaps}
 use Rattle.move_rules.specs.Moves.{invariantRestored}
 use Rattle.heap_laws.proofs.StateFacts.{Shape, TransferredFrom}
@@ -71,9 +71,9 @@ pub free-passed-between-heaps : (c k j moves : ℕ) (s t : State) → FreeEffect
 free-passed-between-heaps c k j moves s t e = passed-between-heaps-is-owners-changed s t (λ m l. of-heaps m (e .owners m l)) ∙ e .changed
   where
     of-heaps : (m : ℕ) → (superblockAt t m .owner ≡ superblockAt s m .owner) ⊎ ((superblockAt s m .owner ≡ superblockAt s k .owner) × (superblockAt t m .owner ≡ 0))
-        → (superblockAt t m .owner ≡ superblockAt s m .owner) ⊎ ((superblockAt s m .owner < 254) × (superblockAt t m .owner < 254))
+        → (superblockAt t m .owner ≡ superblockAt s m .owner) ⊎ ((superblockAt s m .owner < runOwner) × (superblockAt t m .owner < runOwner))
     of-heaps m (inl same) = inl same
-    of-heaps m (inr (was, now)) = inr (subst (λ (o : ℕ). o < 254) (sym was) (e .owned-before), omega arith)
+    of-heaps m (inr (was, now)) = inr (subst (λ (o : ℕ). o < runOwner) (sym was) (e .owned-before), omega arith)
 
 -- the moves of heap h and class c, after a block of theirs is freed
 freed-then-transferred : (c k j h moves : ℕ) (s r t : State) → FreeEffect c k j 0 s r → ((m : ℕ) → m < 64 → superblockAt r m .owner ≡ superblockAt s m .owner) → k < 64 → superblockAt s k .owner ≡ h
@@ -100,7 +100,7 @@ freed-then-transferred c k j h moves s r t e same l mine from changed bound =
       owned = λ d. from .owned d ∙ e .owned d;
       live-of-class = e .live-of-class ∙ ap suc (sym (from .live c));
       live-of-others = λ d apart. from .live d ∙ e .live-of-others d apart;
-      runs = λ m lm. let kept = runs-kept-by-transfers h c r t from (subst (λ (o : ℕ). o < 254) mine (e .owned-before)) m lm in (kept .0 ∙ e .runs m lm .0, kept .1 ∙ e .runs m lm .1);
+      runs = λ m lm. let kept = runs-kept-by-transfers h c r t from (subst (λ (o : ℕ). o < runOwner) mine (e .owned-before)) m lm in (kept .0 ∙ e .runs m lm .0, kept .1 ∙ e .runs m lm .1);
     }
   where
     bits : (m : ℕ) → m < 64 → (b : ℕ) → markBit (superblockAt t m .live) b ≡ markBit (superblockAt r m .live) b

@@ -26,7 +26,7 @@ use Rattle.heap_rules.specs.declared.Superblock.{Superblock}
 use Rattle.heap_rules.specs.declared.State.{State}
 use Rattle.heap_rules.specs.declared.Found.{Found}
 use Rattle.heap_rules.specs.declared.Found.the-variants.{At, Nothing}
-use Rattle.heap_rules.specs.Table.{blank, unused, superblockAt, liveIn, isOfRun, withOwner, withoutMarkAt}
+use Rattle.heap_rules.specs.Table.{runOwner, unusedOwner, blank, unused, superblockAt, liveIn, isOfRun, withOwner, withoutMarkAt}
 use Rattle.heap_rules.specs.Ranks.{rankAfterFree, reranked, rankedLatest, unranked}
 use Rattle.base_laws.proofs.ListedLaws.{length-listed}
 use Rattle.heap_laws.proofs.RerankedLaws.{reranked-class, reranked-live, reranked-keeps}
@@ -327,7 +327,7 @@ module _ (freed : ℕ → ℕ → ℕ) (s : State) (order : List ℕ) (a : ℕ) 
           ∙ pushed (small-block-freed-pushes freed s order a shape passed accepted e) (eqb (superblockIndex a) k) refl
 
   -- a superblock that holds an address without refusal is not unused
-  not-of-unused : superblockHolding s a .owner ≡ 255 → ⊥
+  not-of-unused : superblockHolding s a .owner ≡ unusedOwner → ⊥
   not-of-unused q = go (isInRun s a) refl
     where
       go : (r : Bool) → isInRun s a ≡ r → ⊥
@@ -349,8 +349,8 @@ module _ (freed : ℕ → ℕ → ℕ) (s t : State) (order : List ℕ) (a : ℕ
   unfolding isOfRun
   in-run-since = go (since .owners (superblockIndex a) (address-freed freed t order a shape passed accepted .below))
     where
-      go : (superblockHolding t a .owner ≡ superblockHolding s a .owner) ⊎ ((superblockHolding s a .owner ≡ 254) × (superblockHolding t a .owner ≡ 255)) → isInRun t a ≡ isInRun s a
-      go (inl e) = ap (λ (o : ℕ). eqb o 254) e
+      go : (superblockHolding t a .owner ≡ superblockHolding s a .owner) ⊎ ((superblockHolding s a .owner ≡ runOwner) × (superblockHolding t a .owner ≡ unusedOwner)) → isInRun t a ≡ isInRun s a
+      go (inl e) = ap (λ (o : ℕ). eqb o runOwner) e
       go (inr (was, now)) = absurd (not-of-unused freed t order a shape passed accepted now)
 
   block-since : blockOf t a ≡ blockOf s a
@@ -436,7 +436,7 @@ module _ (s : State) (order : List ℕ) (i size k : ℕ) (shape : Shape s) (acc 
       by-live none false q e =
           record { class = was-class (take-effect s order i size k shape acc .before); stays = ap (λ (x : After). x .order) e; last = ap (λ (x : After). x .answer .outcome) e }
         where
-          was-class : (liveIn (superblockAt s k) ≡ 0) ⊎ ((superblockAt s k .class ≡ classOf size) × (superblockAt s k .owner < 254)) → superblockAt s k .class ≡ classOf size
+          was-class : (liveIn (superblockAt s k) ≡ 0) ⊎ ((superblockAt s k .class ≡ classOf size) × (superblockAt s k .owner < runOwner)) → superblockAt s k .class ≡ classOf size
           was-class (inl z) = absurd (eqb-false (liveIn (superblockAt s k)) 0 q z)
           was-class (inr h) = h .0
 

@@ -9,9 +9,11 @@ use borrow.Author.Tests.{eqb-true, eqb-false}
 use lib.ListN.{length}
 use lib.Dec.{eqb}
 use Rattle.base_laws.specs.Sums.{pick}
+use Rattle.class_rules.specs.Classes.{classCount}
 use Rattle.heap_rules.specs.declared.Setup.{Setup}
 use Rattle.heap_rules.specs.declared.State.{State}
 use Rattle.heap_rules.specs.declared.Moved.{Moved}
+use Rattle.heap_rules.specs.Table.{runOwner}
 use Rattle.heap_rules.specs.Counts.{ownersChanged}
 use Rattle.move_rules.specs.Moves.{excessTransferred, invariantRestored}
 use Rattle.heap_laws.proofs.StateFacts.{Shape, WithinLimits, InvariantBeforeFrees, TransferredFrom}
@@ -32,7 +34,7 @@ invariant-restored-of-heap-0 : (h c freed : ℕ) (s : State) → length (s .tabl
 invariant-restored-of-heap-0 h c freed s long e =
     record { from = transferred-from-self h c s long; moves-bound = zero-le; changed = owners-changed-self s; invariant = λ pos. absurd (let z : ⊥ = omega arith in z) }
 
-module _ (h c freed : ℕ) (s : State) (long : length (s .table) ≡ 64) (numbers : WithinLimits (s .setup)) (low : h < 254) (before : 1 ≤ h → InvariantBeforeFrees freed h c s) where
+module _ (h c freed : ℕ) (s : State) (long : length (s .table) ≡ 64) (numbers : WithinLimits (s .setup)) (low : h < runOwner) (before : 1 ≤ h → InvariantBeforeFrees freed h c s) where
   invariant-restored-of-moves : 0 < h → InvariantRestored h c freed s (excessTransferred h c s)
   invariant-restored-of-moves pos =
       record {
@@ -51,8 +53,8 @@ module _ (h c freed : ℕ) (s : State) (long : length (s .table) ≡ 64) (number
       go false e = invariant-restored-of-moves (pos-of-ne-zero (eqb-false h 0 e))
 
 -- from a state that passed before these frees, heap h and class c being one of its own
-module _ (freed : ℕ → ℕ → ℕ) (s : State) (order : List ℕ) (shape : Shape s) (passed : PassedAfterFrees freed s order) (h c : ℕ) (high : h ≤ s .setup .processors) (known : c < 27) where
-  low : h < 254
+module _ (freed : ℕ → ℕ → ℕ) (s : State) (order : List ℕ) (shape : Shape s) (passed : PassedAfterFrees freed s order) (h c : ℕ) (high : h ≤ s .setup .processors) (known : c < classCount) where
+  low : h < runOwner
   low = let p = passed .sound .numbers .processors-high in omega arith
 
   pub restored-facts : InvariantRestored h c (freed h c) s (invariantRestored h c s)

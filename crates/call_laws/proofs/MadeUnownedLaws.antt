@@ -14,7 +14,7 @@ use Rattle.class_rules.specs.Classes.{blocksOf}
 use Rattle.heap_rules.specs.declared.Superblock.{Superblock}
 use Rattle.heap_rules.specs.declared.Setup.{Setup}
 use Rattle.heap_rules.specs.declared.State.{State}
-use Rattle.heap_rules.specs.Table.{superblockAt, liveIn}
+use Rattle.heap_rules.specs.Table.{runOwner, superblockAt, liveIn}
 use Rattle.heap_rules.specs.States.{withSuperblock}
 use Rattle.heap_rules.specs.Counts.{total, belongs, isOwnedOfClass, oneIfBelongs, liveIfBelongs, superblocksOf, blocksIn, liveOf, superblocksOfClass, liveOfClass}
 use Rattle.heap_rules.specs.Ranks.{isRanked}
@@ -43,7 +43,7 @@ move-rule-goes-by-counts h c s t e f g none must =
 pub record BecomesUnowned (s : State) (k : ℕ) (b : Superblock) : Type 0 where
   pub shape : Shape s
   pub in-table : k < 64
-  pub owner-before : (superblockAt s k .owner ≡ 0) ⊎ (254 ≤ superblockAt s k .owner)
+  pub owner-before : (superblockAt s k .owner ≡ 0) ⊎ (runOwner ≤ superblockAt s k .owner)
   pub live-before : liveIn (superblockAt s k) ≡ 0
   pub unowned : Unowned b
   pub marks-length : length (b .live) ≡ 4
@@ -55,7 +55,7 @@ module _ (s : State) (k : ℕ) (b : Superblock) (becomes : BecomesUnowned s k b)
   here : superblockAt after k ≡ b
   here = superblock-at-replaced s k b (becomes .shape .length-is) (becomes .in-table)
 
-  owner-after : 254 ≤ b .owner
+  owner-after : runOwner ≤ b .owner
   owner-after = ⊎-elim (λ e. omega arith) (λ e. omega arith) (becomes .unowned .owner)
 
   -- what holds of b and of each other superblock holds of each
@@ -73,10 +73,10 @@ module _ (s : State) (k : ℕ) (b : Superblock) (becomes : BecomesUnowned s k b)
   total-same : (f : Superblock → ℕ) → f b ≡ f (superblockAt s k) → total f (after .table) ≡ total f (s .table)
   total-same f e = omega (arith, total-with-superblock f s k b (becomes .shape .length-is) (becomes .in-table))
 
-  not-of-heap : (h : ℕ) → 1 ≤ h → h < 254 → superblockAt s k .owner ≡ h → ⊥
+  not-of-heap : (h : ℕ) → 1 ≤ h → h < runOwner → superblockAt s k .owner ≡ h → ⊥
   not-of-heap h low high e = ⊎-elim (λ z. omega arith) (λ z. omega arith) (becomes .owner-before)
 
-  pub made-unowned-superblocks-of : (h c : ℕ) → 1 ≤ h → h < 254 → superblocksOf h c after ≡ superblocksOf h c s
+  pub made-unowned-superblocks-of : (h c : ℕ) → 1 ≤ h → h < runOwner → superblocksOf h c after ≡ superblocksOf h c s
   unfolding superblocksOf
   made-unowned-superblocks-of h c low high =
       total-same (oneIfBelongs h c)

@@ -21,7 +21,7 @@ use Rattle.filled_rules.proofs.PlacesValidLaws.{places-valid-after-free}
 use Rattle.filled_rules.proofs.OwnPlacesOnly.{places-valid-other-with-place}
 use Rattle.heap_rules.specs.declared.Superblock.{Superblock}
 use Rattle.heap_rules.specs.declared.State.{State}
-use Rattle.heap_rules.specs.Table.{blank, superblockAt, liveIn, isOfRun, isOfHeap, withoutMarkAt}
+use Rattle.heap_rules.specs.Table.{runOwner, blank, superblockAt, liveIn, isOfRun, isOfHeap, withoutMarkAt}
 use Rattle.heap_rules.specs.States.{withSuperblock}
 use Rattle.heap_rules.specs.Counts.{total, belongs, isOwnedOfClass, oneIfBelongs, liveIfBelongs, superblocksOf, blocksIn, liveOf, superblocksOfClass, liveOfClass, ownersChanged}
 use Rattle.heap_laws.proofs.StateFacts.{Shape, Unused, Unowned, Owned, Sparse, RunsKept, InvariantBeforeFrees, SoundAfterFrees}
@@ -37,7 +37,7 @@ pub record LiveBlock (s : State) (order : List ℕ) (k j : ℕ) : Type 0 where
   pub freed : ℕ → ℕ → ℕ
   pub passed : PassedAfterFrees freed s order
   pub below : k < s .setup .superblocks
-  pub owned : superblockAt s k .owner < 254
+  pub owned : superblockAt s k .owner < runOwner
   pub block : j < blocksOf (superblockAt s k .class)
   pub marked : markBit (superblockAt s k .live) j ≡ 1
 

@@ -10,7 +10,7 @@ use borrow.Author.Tests.{eq-eqb, ltb-true, lt-leb, not-false}
 use lib.Dec.{T, leb, ltb}
 use Rattle.base_laws.specs.Sums.{pick, both, either}
 use Rattle.base_laws.proofs.TestLaws.{T-of-true, true-of-T, both-left, pick-true, pick-false, neither-left, neither-right}
-use Rattle.class_rules.specs.Classes.{sizes, sizeOf, blocksOf, classOf}
+use Rattle.class_rules.specs.Classes.{classCount, sizes, sizeOf, blocksOf, classOf}
 use Rattle.class_rules.proofs.ClassTableLaws.{blocks-of-le-256}
 use Rattle.class_rules.proofs.OffsetLaws.{offset-lt-4096, offset-mod-size}
 use Rattle.marks_rules.specs.Marks.{markBit, noMarks, withMark}
@@ -20,7 +20,7 @@ use Rattle.names_rules.specs.Names.{blockNumber, isName, blockNamed, isHeld, wi
 use Rattle.names_laws.proofs.NameLaws.{held-facts, block-named-with-name, block-named-with-other-name, length-with-name, not-held-without-block, block-named-without-other-block}
 use Rattle.filled_rules.proofs.PlacesValidLaws.{no-mark-from-of-places-valid}
 use Rattle.heap_rules.specs.declared.State.{State}
-use Rattle.heap_rules.specs.Table.{superblockAt, isUnused, isOfRun, startsRun, liveBlocks}
+use Rattle.heap_rules.specs.Table.{runOwner, unusedOwner, superblockAt, isUnused, isOfRun, startsRun, liveBlocks}
 use Rattle.heap_rules.specs.States.{withNames}
 use Rattle.heap_rules.specs.Counts.{superblocksOf, superblocksOfClass, liveOfClass, ownersChanged}
 use Rattle.check_rules.specs.Check.{namesValid}
@@ -312,10 +312,10 @@ module _ (s : State) (order : List ℕ) (shape : Shape s) (passed : Passed s ord
     marked : markBit (superblockAt s k .live) j ≡ 1
     marked = ap (λ (x : List ℕ). markBit x j) (sym (live-blocks-outside-run (superblockAt s k) outside)) ∙ live-mark
 
-    owned : superblockAt s k .owner < 254
+    owned : superblockAt s k .owner < runOwner
     owned = go (passed .sound .each k in-table)
       where
-        go : Unowned (superblockAt s k) ⊎ Owned (s .setup) order k (superblockAt s k) → superblockAt s k .owner < 254
+        go : Unowned (superblockAt s k) ⊎ Owned (s .setup) order k (superblockAt s k) → superblockAt s k .owner < runOwner
         go (inl u) = absurd (let z : ⊥ = omega (arith, marked, unmarked-of-unowned u) in z)
         go (inr o) = omega (arith, o .owner, passed .sound .numbers .processors-high)
 
@@ -335,7 +335,7 @@ module _ (s : State) (order : List ℕ) (shape : Shape s) (passed : Passed s ord
           shape = shape;
           freed = λ h c. 0;
           passed = passed-after-no-frees s order passed;
-          below = owned-below-superblocks s order (passed .sound) k in-table (λ (e : superblockAt s k .owner ≡ 255). omega (arith, owned));
+          below = owned-below-superblocks s order (passed .sound) k in-table (λ (e : superblockAt s k .owner ≡ unusedOwner). omega (arith, owned));
           owned = owned;
           block = in-class;
           marked = marked;
@@ -371,7 +371,7 @@ module _ (s : State) (order : List ℕ) (k j : ℕ) (live : LiveBlock s order k 
   block-in-table : k < 64
   block-in-table = omega (arith, live .below, live .passed .sound .numbers .superblocks-high)
 
-  pub live-class-lt-27 : superblockAt s k .class < 27
+  pub live-class-lt-27 : superblockAt s k .class < classCount
   live-class-lt-27 = owned-of-owner s order (live .passed .sound) k block-in-table (live .owned) .class
 
   holding : superblockIndex a ≡ k
@@ -382,10 +382,10 @@ module _ (s : State) (order : List ℕ) (k j : ℕ) (live : LiveBlock s order k 
   live-block-mapped =
       ap₂ either
       (lt-leb (s .setup .superblocks * 4096) a (let o = offset-lt-4096 class live-class-lt-27 j (live .block) in let l = live .below in omega arith))
-      (ap (λ (n : ℕ). isUnused (superblockAt s n)) holding ∙ not-unused-of-owner (superblockAt s k) (λ (e : superblockAt s k .owner ≡ 255). omega (arith, live .owned)))
+      (ap (λ (n : ℕ). isUnused (superblockAt s n)) holding ∙ not-unused-of-owner (superblockAt s k) (λ (e : superblockAt s k .owner ≡ unusedOwner). omega (arith, live .owned)))
 
   live-block-outside-run : isInRun s a ≡ false
-  live-block-outside-run = ap (λ (n : ℕ). isOfRun (superblockAt s n)) holding ∙ outside-run-of-owner (superblockAt s k) (λ (e : superblockAt s k .owner ≡ 254). omega (arith, live .owned))
+  live-block-outside-run = ap (λ (n : ℕ). isOfRun (superblockAt s n)) holding ∙ outside-run-of-owner (superblockAt s k) (λ (e : superblockAt s k .owner ≡ runOwner). omega (arith, live .owned))
 
   live-block-aligned : isMisaligned s a ≡ false
   unfolding isMisaligned isOffBlock
@@ -414,14 +414,14 @@ module _ (s : State) (order : List ℕ) (k : ℕ) (passed : Passed s order) (bel
   unfolding startsRun
   start-of-run = true-of-T _ (both-left (isOfRun (superblockAt s k)) _ (T-of-true _ starts))
 
-  start-owner : superblockAt s k .owner ≡ 254
+  start-owner : superblockAt s k .owner ≡ runOwner
   start-owner = owner-of-run (superblockAt s k) start-of-run
 
   start-class : superblockAt s k .class ≡ 0
   start-class = unowned-of-owner s order (passed .sound) k below (let e = start-owner in omega arith) .class
 
   start-below : k < s .setup .superblocks
-  start-below = owned-below-superblocks s order (passed .sound) k below (λ (e : superblockAt s k .owner ≡ 255). omega (arith, start-owner))
+  start-below = owned-below-superblocks s order (passed .sound) k below (λ (e : superblockAt s k .owner ≡ unusedOwner). omega (arith, start-owner))
 
   at-start : superblockIndex (k * 4096) ≡ k
   at-start = omega arith
@@ -433,7 +433,7 @@ module _ (s : State) (order : List ℕ) (k : ℕ) (passed : Passed s order) (bel
   unfolding isUnmapped
   start-mapped =
       ap₂ either (lt-leb (s .setup .superblocks * 4096) (k * 4096) (let l = start-below in omega arith))
-      (ap (λ (n : ℕ). isUnused (superblockAt s n)) at-start ∙ not-unused-of-owner (superblockAt s k) (λ (e : superblockAt s k .owner ≡ 255). omega (arith, start-owner)))
+      (ap (λ (n : ℕ). isUnused (superblockAt s n)) at-start ∙ not-unused-of-owner (superblockAt s k) (λ (e : superblockAt s k .owner ≡ unusedOwner). omega (arith, start-owner)))
 
   start-aligned : isMisaligned s (k * 4096) ≡ false
   unfolding isMisaligned isRunStart

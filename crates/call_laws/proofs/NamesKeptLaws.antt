@@ -18,7 +18,7 @@ use Rattle.names_rules.specs.Names.{notHeld, blockNumber, withName, withoutBloc
 use Rattle.names_laws.proofs.NameLaws.{test-of-named, each-held-of-tests, each-held-with-name, each-held-without-block, no-two-with-name, no-two-without-block}
 use Rattle.heap_rules.specs.declared.Superblock.{Superblock}
 use Rattle.heap_rules.specs.declared.State.{State}
-use Rattle.heap_rules.specs.Table.{blank, superblockAt, isOfRun, startsRun, liveBlocks, isLiveBlock}
+use Rattle.heap_rules.specs.Table.{runOwner, blank, superblockAt, isOfRun, startsRun, liveBlocks, isLiveBlock}
 use Rattle.heap_rules.specs.States.{withNames}
 use Rattle.choice_rules.specs.RunChoice.{isAvailable}
 use Rattle.check_rules.specs.Check.{namesValid}
@@ -46,7 +46,7 @@ module _ (s : State) (b : ℕ) where
       go (no f) =
           let none : superblockAt s (b / 256) ≡ blank = List·getD-eq-default (s .table) blank (omega arith) in
           let clear : markBit (liveBlocks (superblockAt s (b / 256))) (b % 256) ≡ 0 =
-          ap (λ (x : Superblock). markBit (liveBlocks x) (b % 256)) none ∙ ap (λ (x : List ℕ). markBit x (b % 256)) (live-blocks-outside-run blank (outside-run-of-owner blank (λ (q : blank .owner ≡ 254). omega arith))) ∙ mark-bit-of-empty-list (b % 256) in
+          ap (λ (x : Superblock). markBit (liveBlocks x) (b % 256)) none ∙ ap (λ (x : List ℕ). markBit x (b % 256)) (live-blocks-outside-run blank (outside-run-of-owner blank (λ (q : blank .owner ≡ runOwner). omega arith))) ∙ mark-bit-of-empty-list (b % 256) in
           absurd (let z : ⊥ = omega (arith, mark-of-live-block t) in z)
 
 -- a block of the table by superblock and block
@@ -119,7 +119,7 @@ module _ (k n : ℕ) (s t : State) (effect : LongTakeEffect k n s t) where
   none-live-in-available : (b : Superblock) → T (isAvailable b) → (j : ℕ) → j < 256 → markBit (liveBlocks b) j ≡ 0
   none-live-in-available b available j l =
       let facts = facts-of-is-available b available in
-      let outside = outside-run-of-owner b (λ (q : b .owner ≡ 254). ⊎-elim (λ u. omega (arith, u .owner)) (λ h. omega (arith, h .0)) facts) in
+      let outside = outside-run-of-owner b (λ (q : b .owner ≡ runOwner). ⊎-elim (λ u. omega (arith, u .owner)) (λ h. omega (arith, h .0)) facts) in
       ap (λ (x : List ℕ). markBit x j) (live-blocks-outside-run b outside) ∙ marks-clear-of-live-count-zero (b .live) (⊎-elim (λ u. u .live) (λ h. h .1) facts) j l
 
   pub live-blocks-after-long-take : (b : ℕ) → T (isLiveBlock s b) → T (isLiveBlock t b)

@@ -21,7 +21,7 @@ use Rattle.heap_rules.specs.declared.Setup.{Setup}
 use Rattle.heap_rules.specs.declared.State.{State}
 use Rattle.heap_rules.specs.declared.Found.{Found}
 use Rattle.heap_rules.specs.declared.Found.the-variants.{At, Nothing}
-use Rattle.heap_rules.specs.Table.{superblockAt, liveIn, isUnused, liveBlocks}
+use Rattle.heap_rules.specs.Table.{unusedOwner, superblockAt, liveIn, isUnused, liveBlocks}
 use Rattle.heap_rules.specs.States.{noState}
 use Rattle.heap_rules.specs.Ranks.{rankedLatest}
 use Rattle.choice_rules.specs.Choice.{fullest, lowestEmpty, lowestUnused, orElse}
@@ -99,13 +99,13 @@ module _ (s : State) (order : List ℕ) (passed : Passed s order) where
   fullest-below-superblocks h c k l e =
       let best = best-of-fullest h c s k e in
       let w = facts-of-has-free h c (superblockAt s k) (best .meets-criterion) in
-      owned-below-superblocks s order (passed .sound) k (best .below) (λ (q : superblockAt s k .owner ≡ 255). omega (arith, w .0, passed .sound .numbers .processors-high))
+      owned-below-superblocks s order (passed .sound) k (best .below) (λ (q : superblockAt s k .owner ≡ unusedOwner). omega (arith, w .0, passed .sound .numbers .processors-high))
 
   lowest-empty-below-superblocks : (k : ℕ) → lowestEmpty s ≡ At k → k < s .setup .superblocks
   lowest-empty-below-superblocks k e =
       let best = best-of-lowest-empty s k e in
       let w = facts-of-empty-in-global (superblockAt s k) (best .meets-criterion) in
-      owned-below-superblocks s order (passed .sound) k (best .below) (λ (q : superblockAt s k .owner ≡ 255). omega (arith, w .0))
+      owned-below-superblocks s order (passed .sound) k (best .below) (λ (q : superblockAt s k .owner ≡ unusedOwner). omega (arith, w .0))
 
   pub other-places-below-superblocks : (c k : ℕ) → otherPlaces c s ≡ At k → k < s .setup .superblocks
   unfolding otherPlaces

@@ -20,7 +20,7 @@ use Rattle.heap_rules.specs.declared.Setup.{Setup}
 use Rattle.heap_rules.specs.declared.State.{State}
 use Rattle.heap_rules.specs.declared.Found.{Found}
 use Rattle.heap_rules.specs.declared.Found.the-variants.{At, Nothing}
-use Rattle.heap_rules.specs.Table.{isUnused, isOfRun, startsRun, liveBlocks}
+use Rattle.heap_rules.specs.Table.{runOwner, isUnused, isOfRun, startsRun, liveBlocks}
 use Rattle.heap_rules.specs.States.{noState}
 use Rattle.choice_rules.specs.Choice.{fullest}
 use Rattle.choice_rules.specs.RunChoice.{lowestRun}
@@ -107,13 +107,13 @@ pub record Mapped (s : State) (a : ℕ) : Type 0 where
 -- no block starts at the address: "offset in the superblock is no multiple of the block size, or block n or above", or, in a long block's run, it is "any other address" than the
 -- start of the run (document 02, item 7)
 pub data OffBlock (s : State) (a : ℕ) : Type 0 where
-  off-blocks-of-class : (superblockHolding s a .owner ≡ 254 → ⊥) → (offsetOf a % sizeOf (superblockHolding s a .class) ≡ 0 → ⊥) ⊎ (blocksOf (superblockHolding s a .class) ≤ blockOf s a) → OffBlock s a
-  inside-run : superblockHolding s a .owner ≡ 254 → ((0 < superblockHolding s a .run) × (offsetOf a ≡ 0) → ⊥) → OffBlock s a
+  off-blocks-of-class : (superblockHolding s a .owner ≡ runOwner → ⊥) → (offsetOf a % sizeOf (superblockHolding s a .class) ≡ 0 → ⊥) ⊎ (blocksOf (superblockHolding s a .class) ≤ blockOf s a) → OffBlock s a
+  inside-run : superblockHolding s a .owner ≡ runOwner → ((0 < superblockHolding s a .run) × (offsetOf a ≡ 0) → ⊥) → OffBlock s a
 
 -- a block may start there: one of the class, or the long block, whose "address is the start of the run"
 pub data OnBlock (s : State) (a : ℕ) : Type 0 where
-  on-block-of-class : (superblockHolding s a .owner ≡ 254 → ⊥) → offsetOf a % sizeOf (superblockHolding s a .class) ≡ 0 → blockOf s a < blocksOf (superblockHolding s a .class) → OnBlock s a
-  on-run-start : superblockHolding s a .owner ≡ 254 → 0 < superblockHolding s a .run → offsetOf a ≡ 0 → OnBlock s a
+  on-block-of-class : (superblockHolding s a .owner ≡ runOwner → ⊥) → offsetOf a % sizeOf (superblockHolding s a .class) ≡ 0 → blockOf s a < blocksOf (superblockHolding s a .class) → OnBlock s a
+  on-run-start : superblockHolding s a .owner ≡ runOwner → 0 < superblockHolding s a .run → offsetOf a ≡ 0 → OnBlock s a
 
 -- 6
 pub record Misaligned (s : State) (order : List ℕ) (i a : ℕ) : Type 0 where
@@ -345,25 +345,25 @@ module _ (s : State) (order : List ℕ) (i : ℕ) where
     unfolding isOffBlock
     decides-is-off-block = decides-either (not (eqb rest 0)) (leb (blocksOf (superblockHolding s a .class)) (blockOf s a)) (decides-differs rest 0) (decides-le (blocksOf (superblockHolding s a .class)) (blockOf s a))
 
-    decides-is-run-start : superblockHolding s a .owner ≡ 254 → Decides (isRunStart s a) ((0 < superblockHolding s a .run) × (offsetOf a ≡ 0)) ((0 < superblockHolding s a .run) × (offsetOf a ≡ 0) → ⊥)
+    decides-is-run-start : superblockHolding s a .owner ≡ runOwner → Decides (isRunStart s a) ((0 < superblockHolding s a .run) × (offsetOf a ≡ 0)) ((0 < superblockHolding s a .run) × (offsetOf a ≡ 0) → ⊥)
     unfolding isRunStart startsRun isOfRun
     decides-is-run-start o =
-        decides-fact (both (both (eqb (superblockHolding s a .owner) 254) (ltb 0 (superblockHolding s a .run))) (eqb (offsetOf a) 0))
+        decides-fact (both (both (eqb (superblockHolding s a .owner) runOwner) (ltb 0 (superblockHolding s a .run))) (eqb (offsetOf a) 0))
         (λ t.
-        let b = both-left (both (eqb (superblockHolding s a .owner) 254) (ltb 0 (superblockHolding s a .run))) _ t in (
-          ltb→lt 0 (superblockHolding s a .run) (both-right (eqb (superblockHolding s a .owner) 254) _ b),
-          eqb→eq (offsetOf a) 0 (both-right (both (eqb (superblockHolding s a .owner) 254) (ltb 0 (superblockHolding s a .run))) _ t),
+        let b = both-left (both (eqb (superblockHolding s a .owner) runOwner) (ltb 0 (superblockHolding s a .run))) _ t in (
+          ltb→lt 0 (superblockHolding s a .run) (both-right (eqb (superblockHolding s a .owner) runOwner) _ b),
+          eqb→eq (offsetOf a) 0 (both-right (both (eqb (superblockHolding s a .owner) runOwner) (ltb 0 (superblockHolding s a .run))) _ t),
         ))
         (λ h.
-        both-make (both (eqb (superblockHolding s a .owner) 254) (ltb 0 (superblockHolding s a .run))) _
-        (both-make (eqb (superblockHolding s a .owner) 254) _ (T-of-true _ (eq-eqb (superblockHolding s a .owner) 254 o)) (lt→ltb 0 (superblockHolding s a .run) (h .0)))
+        both-make (both (eqb (superblockHolding s a .owner) runOwner) (ltb 0 (superblockHolding s a .run))) _
+        (both-make (eqb (superblockHolding s a .owner) runOwner) _ (T-of-true _ (eq-eqb (superblockHolding s a .owner) runOwner o)) (lt→ltb 0 (superblockHolding s a .run) (h .0)))
         (T-of-true _ (eq-eqb (offsetOf a) 0 (h .1))))
 
     pub decides-is-misaligned : Decides (isMisaligned s a) (OffBlock s a) (OnBlock s a)
     unfolding isMisaligned
     decides-is-misaligned = go (isInRun s a) refl
       where
-        of-class : isInRun s a ≡ false → superblockHolding s a .owner ≡ 254 → ⊥
+        of-class : isInRun s a ≡ false → superblockHolding s a .owner ≡ runOwner → ⊥
         of-class e o = true-not-false (isInRun s a) (of-run-of-owner (superblockHolding s a) o) e
 
         go : (x : Bool) → isInRun s a ≡ x → Decides (pick x (not (isRunStart s a)) (isOffBlock s a)) (OffBlock s a) (OnBlock s a)
@@ -371,7 +371,7 @@ module _ (s : State) (order : List ℕ) (i : ℕ) where
             let o = owner-of-run (superblockHolding s a) e in
             by-run o (isRunStart s a) (decides-is-run-start o)
           where
-            by-run : superblockHolding s a .owner ≡ 254 → (y : Bool) → Decides y ((0 < superblockHolding s a .run) × (offsetOf a ≡ 0)) ((0 < superblockHolding s a .run) × (offsetOf a ≡ 0) → ⊥)
+            by-run : superblockHolding s a .owner ≡ runOwner → (y : Bool) → Decides y ((0 < superblockHolding s a .run) × (offsetOf a ≡ 0)) ((0 < superblockHolding s a .run) × (offsetOf a ≡ 0) → ⊥)
                 → Decides (not y) (OffBlock s a) (OnBlock s a)
             by-run o true d = record { says = on-run-start o (d .says .0) (d .says .1); not-both = not-off-and-on-block }
             by-run o false d = record { says = inside-run o (d .says); not-both = not-off-and-on-block }
@@ -446,7 +446,7 @@ module _ (s : State) (order : List ℕ) (i : ℕ) where
     free-refused-7 = free-refused-iff-condition 7
 
     -- in a run an address is refused 6, or a long block starts there, which is live
-    pub run-never-refused-7 : superblockHolding s a .owner ≡ 254 → freeOf s order i a .answer .outcome ≡ Refused 7 → ⊥
+    pub run-never-refused-7 : superblockHolding s a .owner ≡ runOwner → freeOf s order i a .answer .outcome ≡ Refused 7 → ⊥
     unfolding startsRun
     run-never-refused-7 o e = go (free-refused-7 .0 e) (free-refused-7 .0 e .aligned)
       where

@@ -11,6 +11,7 @@ use borrow.Author.Tests.{eqb-true, ltb-true, lt-ltb, not-false}
 use lib.ListN.{length, List·getD-eq-default}
 use lib.Dec.{T, eqb, ltb}
 use Rattle.base_laws.specs.Sums.{pick, one}
+use Rattle.class_rules.specs.Classes.{classCount}
 use Rattle.base_laws.proofs.Inequalities.{le-of-not-below}
 use Rattle.base_laws.proofs.TestLaws.{T-of-true, true-of-T, both-left, both-right, pick-true}
 use Rattle.base_laws.proofs.SumLaws.{sum-cong}
@@ -22,7 +23,7 @@ use Rattle.heap_rules.specs.declared.Superblock.{Superblock}
 use Rattle.heap_rules.specs.declared.Setup.{Setup}
 use Rattle.heap_rules.specs.declared.Totals.{Totals}
 use Rattle.heap_rules.specs.declared.State.{State}
-use Rattle.heap_rules.specs.Table.{blank, unused, superblockAt, liveIn, isOfRun, startsRun, liveBlocks, isLiveBlock}
+use Rattle.heap_rules.specs.Table.{runOwner, unusedOwner, blank, unused, superblockAt, liveIn, isOfRun, startsRun, liveBlocks, isLiveBlock}
 use Rattle.heap_rules.specs.Counts.{total, belongs, isOwnedOfClass, oneIfBelongs, liveIfBelongs, superblocksOf, liveOf, superblocksOfClass, liveOfClass}
 use Rattle.heap_rules.specs.Totals.{TotalsKept}
 use Rattle.check_rules.specs.Check.{namesValid, runsValid}
@@ -93,7 +94,7 @@ module _ (freed : ℕ → ℕ → ℕ) (s : State) (order : List ℕ) (a : ℕ) 
   part-lt-64 : (m : ℕ) → InRun k n m → m < 64
   part-lt-64 m inside = let h = inside .1 in omega (arith, freed-run .in-table)
 
-  part-owner : (m : ℕ) → InRun k n m → superblockAt s m .owner ≡ 254
+  part-owner : (m : ℕ) → InRun k n m → superblockAt s m .owner ≡ runOwner
   part-owner m inside = owner-of-run (superblockAt s m) (freed-run .of-run m (inside .0) (inside .1))
 
   part-unowned : (m : ℕ) → InRun k n m → Unowned (superblockAt s m)
@@ -106,7 +107,7 @@ module _ (freed : ℕ → ℕ → ℕ) (s : State) (order : List ℕ) (a : ℕ) 
   first-inside : InRun k n k
   first-inside = (omega arith, omega (arith, freed-run .some))
 
-  pub freed-run-owner : superblockHolding s a .owner ≡ 254
+  pub freed-run-owner : superblockHolding s a .owner ≡ runOwner
   freed-run-owner = part-owner k first-inside
 
   pub freed-run-no-marks : (b : ℕ) → b < 256 → markBit (superblockHolding s a .live) b ≡ 0
@@ -159,8 +160,8 @@ module _ (freed : ℕ → ℕ → ℕ) (s : State) (order : List ℕ) (a : ℕ) 
   long-block-freed-class = each-after (λ m b. b .class ≡ superblockAt s m .class) (λ m inside. sym (part-unowned m inside .class)) (λ m l. refl)
 
   -- an owner stays, or was 254 and is 255
-  pub long-block-freed-owner : (m : ℕ) → m < 64 → (superblockAt (longBlockFreed s a) m .owner ≡ superblockAt s m .owner) ⊎ ((superblockAt s m .owner ≡ 254) × (superblockAt (longBlockFreed s a) m .owner ≡ 255))
-  long-block-freed-owner = each-after (λ m b. (b .owner ≡ superblockAt s m .owner) ⊎ ((superblockAt s m .owner ≡ 254) × (b .owner ≡ 255))) (λ m inside. inr (part-owner m inside, refl)) (λ m l. inl refl)
+  pub long-block-freed-owner : (m : ℕ) → m < 64 → (superblockAt (longBlockFreed s a) m .owner ≡ superblockAt s m .owner) ⊎ ((superblockAt s m .owner ≡ runOwner) × (superblockAt (longBlockFreed s a) m .owner ≡ unusedOwner))
+  long-block-freed-owner = each-after (λ m b. (b .owner ≡ superblockAt s m .owner) ⊎ ((superblockAt s m .owner ≡ runOwner) × (b .owner ≡ unusedOwner))) (λ m inside. inr (part-owner m inside, refl)) (λ m l. inl refl)
 
   -- a run has no marks, before and after
   pub long-block-freed-marks : (m b : ℕ) → m < 64 → b < 256 → markBit (superblockAt (longBlockFreed s a) m .live) b ≡ markBit (superblockAt s m .live) b
@@ -178,14 +179,14 @@ module _ (freed : ℕ → ℕ → ℕ) (s : State) (order : List ℕ) (a : ℕ) 
   total-same f same = sum-cong (λ m. f (superblockAt after m)) (λ m. f (superblockAt s m)) 64 (each-after (λ m b. f b ≡ f (superblockAt s m)) same (λ m l. refl))
 
   -- none of its superblocks counts for a heap, before and after
-  not-of-heap : (h c m : ℕ) → h < 254 → InRun k n m → (belongs h c unused ≡ false) × (belongs h c (superblockAt s m) ≡ false)
+  not-of-heap : (h c m : ℕ) → h < runOwner → InRun k n m → (belongs h c unused ≡ false) × (belongs h c (superblockAt s m) ≡ false)
   not-of-heap h c m l inside = (not-belongs-of-other-owner h c unused (λ (q : unused .owner ≡ h). omega arith), not-belongs-of-other-owner h c (superblockAt s m) (λ (q : superblockAt s m .owner ≡ h). omega (arith, part-owner m inside)))
 
-  long-block-freed-superblocks-of : (h c : ℕ) → h < 254 → superblocksOf h c after ≡ superblocksOf h c s
+  long-block-freed-superblocks-of : (h c : ℕ) → h < runOwner → superblocksOf h c after ≡ superblocksOf h c s
   unfolding superblocksOf oneIfBelongs
   long-block-freed-superblocks-of h c l = total-same (oneIfBelongs h c) (λ m inside. let z = not-of-heap h c m l inside in ap one (z .0 ∙ sym (z .1)))
 
-  long-block-freed-live-of : (h c : ℕ) → h < 254 → liveOf h c after ≡ liveOf h c s
+  long-block-freed-live-of : (h c : ℕ) → h < runOwner → liveOf h c after ≡ liveOf h c s
   unfolding liveOf liveIfBelongs
   long-block-freed-live-of h c l = total-same (liveIfBelongs h c) (λ m inside. let z = not-of-heap h c m l inside in rw (z .0, z .1))
 
@@ -213,7 +214,7 @@ module _ (freed : ℕ → ℕ → ℕ) (s : State) (order : List ℕ) (a : ℕ) 
         setup = setup-same;
         run = made-unused;
         others = others-kept;
-        passed-between-heaps = none-passed-between-heaps s after (each-after (λ m b. (b .owner ≡ superblockAt s m .owner) ⊎ ((254 ≤ superblockAt s m .owner) ⊎ (254 ≤ b .owner))) (λ m inside. inr (inr (omega arith))) (λ m l. inl refl));
+        passed-between-heaps = none-passed-between-heaps s after (each-after (λ m b. (b .owner ≡ superblockAt s m .owner) ⊎ ((runOwner ≤ superblockAt s m .owner) ⊎ (runOwner ≤ b .owner))) (λ m inside. inr (inr (omega arith))) (λ m l. inl refl));
         owned = long-block-freed-owned-of;
         live = long-block-freed-live-of-class;
       }
@@ -255,9 +256,9 @@ module _ (freed : ℕ → ℕ → ℕ) (s : State) (order : List ℕ) (a : ℕ) 
             (each-after (λ m b. b .owner ≡ 0 → Sparse (s .setup) b) (λ m inside (zero : unused .owner ≡ 0). absurd (let z : ⊥ = omega arith in z)) (passed .sound .sparse));
       }
     where
-      holds : (h c : ℕ) → 1 ≤ h → h ≤ s .setup .processors → c < 27 → InvariantBeforeFrees (freed h c) h c after
+      holds : (h c : ℕ) → 1 ≤ h → h ≤ s .setup .processors → c < classCount → InvariantBeforeFrees (freed h c) h c after
       holds h c low high known =
-          let l : h < 254 = omega (arith, passed .sound .numbers .processors-high) in
+          let l : h < runOwner = omega (arith, passed .sound .numbers .processors-high) in
           invariant-before-frees-cong (freed h c) h c s after setup-same (long-block-freed-superblocks-of h c l) (long-block-freed-live-of h c l) (passed .sound .invariant h c low high known)
 
   -- the block of the run is the only one of its superblocks

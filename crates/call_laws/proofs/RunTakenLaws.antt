@@ -19,7 +19,7 @@ use Rattle.marks_laws.proofs.MarkLaws.{live-count-of-no-marks}
 use Rattle.heap_rules.specs.declared.Superblock.{Superblock}
 use Rattle.heap_rules.specs.declared.Setup.{Setup}
 use Rattle.heap_rules.specs.declared.State.{State}
-use Rattle.heap_rules.specs.Table.{blank, superblockAt, liveIn, isOfRun, runPart, withRank}
+use Rattle.heap_rules.specs.Table.{runOwner, unusedOwner, blank, superblockAt, liveIn, isOfRun, runPart, withRank}
 use Rattle.heap_rules.specs.States.{withSuperblock}
 use Rattle.heap_rules.specs.Counts.{superblocksOfClass, liveOfClass}
 use Rattle.heap_rules.specs.Ranks.{rankAfterRenewal, reranked, unranked}
@@ -45,14 +45,14 @@ use Rattle.heap_rules.specs.Runs.{InRun}
 
 -- ---- a superblock that is "unused or empty in heap 0"
 module _ (b : Superblock) (available : Available b) where
-  owner-of-available : (b .owner ≡ 0) ⊎ (b .owner ≡ 255)
+  owner-of-available : (b .owner ≡ 0) ⊎ (b .owner ≡ unusedOwner)
   owner-of-available = ⊎-elim (λ u. inr (u .owner)) (λ h. inl (h .0)) available
 
   pub live-of-available : liveIn b ≡ 0
   live-of-available = ⊎-elim (λ u. u .live) (λ h. h .1) available
 
   pub available-outside-run : isOfRun b ≡ false
-  available-outside-run = outside-run-of-owner b (λ (q : b .owner ≡ 254). ⊎-elim (λ e. omega arith) (λ e. omega arith) owner-of-available)
+  available-outside-run = outside-run-of-owner b (λ (q : b .owner ≡ runOwner). ⊎-elim (λ e. omega arith) (λ e. omega arith) owner-of-available)
 
 -- the rank is no part of it
 available-with-rank : (r : ℕ) (b : Superblock) → Available b → Available (withRank r b)

@@ -12,14 +12,14 @@ use Rattle.base_laws.proofs.SumLaws.{sum-of-zeros}
 use Rattle.base_laws.proofs.ReplacedElement.{sum-set-indexed}
 use Rattle.heap_rules.specs.declared.Superblock.{Superblock}
 use Rattle.heap_rules.specs.declared.State.{State}
-use Rattle.heap_rules.specs.Table.{blank, superblockAt, liveIn, isOfHeap}
+use Rattle.heap_rules.specs.Table.{runOwner, blank, superblockAt, liveIn, isOfHeap}
 use Rattle.heap_rules.specs.States.{withSuperblock}
 use Rattle.heap_rules.specs.Counts.{isOwnedOfClass, ownersChanged}
 
 -- what a superblock adds to a class's counts over all heaps
-pub owned-of-class-true : (c : ℕ) (b : Superblock) → b .owner < 254 → b .class ≡ c → isOwnedOfClass c b ≡ true
+pub owned-of-class-true : (c : ℕ) (b : Superblock) → b .owner < runOwner → b .class ≡ c → isOwnedOfClass c b ≡ true
 unfolding isOwnedOfClass isOfHeap
-owned-of-class-true c b l e = ap₂ both (lt-ltb (b .owner) 254 l) (eq-eqb (b .class) c e)
+owned-of-class-true c b l e = ap₂ both (lt-ltb (b .owner) runOwner l) (eq-eqb (b .class) c e)
 
 pub owned-of-class-false : (c : ℕ) (b : Superblock) → (b .class ≡ c → ⊥) → isOwnedOfClass c b ≡ false
 unfolding isOwnedOfClass
@@ -30,9 +30,9 @@ owned-of-class-false c b f = ap (both (isOfHeap b)) (ne-eqb (b .class) c f) ∙ 
     neither false = refl
 
 -- one that no heap owns is of no class
-pub unowned-of-no-class : (c : ℕ) (b : Superblock) → 254 ≤ b .owner → isOwnedOfClass c b ≡ false
+pub unowned-of-no-class : (c : ℕ) (b : Superblock) → runOwner ≤ b .owner → isOwnedOfClass c b ≡ false
 unfolding isOwnedOfClass isOfHeap
-unowned-of-no-class c b l = ap (λ (x : Bool). both x (eqb (b .class) c)) (le-ltb (b .owner) 254 l)
+unowned-of-no-class c b l = ap (λ (x : Bool). both x (eqb (b .class) c)) (le-ltb (b .owner) runOwner l)
 
 -- nothing live adds nothing, to any class
 pub no-live-adds-nothing : (c : ℕ) (b : Superblock) → liveIn b ≡ 0 → pick (isOwnedOfClass c b) (liveIn b) 0 ≡ 0

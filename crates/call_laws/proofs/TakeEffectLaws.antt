@@ -12,7 +12,7 @@ use lib.Seq.{getD-set-same, getD-set-other}
 use lib.Dec.{T}
 use Rattle.base_laws.specs.Sums.{pick, one}
 use Rattle.base_laws.proofs.SumLaws.{sum-cong}
-use Rattle.class_rules.specs.Classes.{blocksOf}
+use Rattle.class_rules.specs.Classes.{classCount, blocksOf}
 use Rattle.class_rules.proofs.ClassTableLaws.{blocks-of-le-256}
 use Rattle.marks_rules.specs.Marks.{markBit, liveCount, withMark}
 use Rattle.marks_laws.proofs.MarkLaws.{with-mark-same, with-mark-other, live-count-with-mark, length-with-mark}
@@ -21,7 +21,7 @@ use Rattle.filled_rules.proofs.PlacesValidLaws.{last-filled-below-n, last-fille
 use Rattle.filled_rules.proofs.OwnPlacesOnly.{places-valid-cong}
 use Rattle.heap_rules.specs.declared.Superblock.{Superblock}
 use Rattle.heap_rules.specs.declared.State.{State}
-use Rattle.heap_rules.specs.Table.{blank, superblockAt, liveIn, isOfRun, withMarkAt, withRank}
+use Rattle.heap_rules.specs.Table.{runOwner, unusedOwner, blank, superblockAt, liveIn, isOfRun, withMarkAt, withRank}
 use Rattle.heap_rules.specs.States.{withSuperblock}
 use Rattle.heap_rules.specs.Counts.{total, oneIfBelongs, liveIfBelongs, isOwnedOfClass, superblocksOf, blocksIn, liveOf, superblocksOfClass, liveOfClass}
 use Rattle.move_rules.specs.Moves.{bothConditions, mustMove}
@@ -51,7 +51,7 @@ pub record TakeResult (i c k j : ℕ) (s t : State) (places : List ℕ) : Type 0
   pub ranks : (m : ℕ) → superblockAt t m .rank ≡ superblockAt s m .rank
 
 module _ (s : State) (order : List ℕ) (i c k : ℕ) (b : Superblock) (places : List ℕ)
-    (shape : Shape s) (passed : Passed s order) (low : 1 ≤ i) (high : i ≤ s .setup .processors) (known : c < 27) (gives : TakeSource s order i c k b places) where
+    (shape : Shape s) (passed : Passed s order) (low : 1 ≤ i) (high : i ≤ s .setup .processors) (known : c < classCount) (gives : TakeSource s order i c k b places) where
   abbrev j : ℕ
   j = lastBlockOf places k b
 
@@ -101,7 +101,7 @@ module _ (s : State) (order : List ℕ) (i c k : ℕ) (b : Superblock) (places :
   total-after : (f : Superblock → ℕ) → total f (after .table) + f old ≡ total f (s .table) + f new
   total-after f = total-with-superblock f s k new (shape .length-is) in-table
 
-  new-owner-lt-254 : new .owner < 254
+  new-owner-lt-254 : new .owner < runOwner
   new-owner-lt-254 = omega (arith, gives .owner, high, passed .sound .numbers .processors-high)
 
   -- a superblock of heap i and class c counts for no other pair
@@ -113,10 +113,10 @@ module _ (s : State) (order : List ℕ) (i c k : ℕ) (b : Superblock) (places :
       go (no n) = (one-if-belongs-other-owner h d x (λ q. n (sym q ∙ e)), live-if-belongs-other-owner h d x (λ q. n (sym q ∙ e)))
 
   -- one of heap 0 or of nobody counts for no processor heap
-  counts-for-no-processor-heap : (h d : ℕ) → 1 ≤ h → h ≤ s .setup .processors → (old .owner ≡ 0) ⊎ (old .owner ≡ 255) → (oneIfBelongs h d old ≡ 0) × (liveIfBelongs h d old ≡ 0)
+  counts-for-no-processor-heap : (h d : ℕ) → 1 ≤ h → h ≤ s .setup .processors → (old .owner ≡ 0) ⊎ (old .owner ≡ unusedOwner) → (oneIfBelongs h d old ≡ 0) × (liveIfBelongs h d old ≡ 0)
   counts-for-no-processor-heap h d l m e = (one-if-belongs-other-owner h d old (differs e), live-if-belongs-other-owner h d old (differs e))
     where
-      differs : (old .owner ≡ 0) ⊎ (old .owner ≡ 255) → old .owner ≡ h → ⊥
+      differs : (old .owner ≡ 0) ⊎ (old .owner ≡ unusedOwner) → old .owner ≡ h → ⊥
       differs (inl z) q = omega arith
       differs (inr z) q = omega (arith, passed .sound .numbers .processors-high)
 
@@ -132,7 +132,7 @@ module _ (s : State) (order : List ℕ) (i c k : ℕ) (b : Superblock) (places :
   unfolding liveOf
   live-of-after h d = total-after (liveIfBelongs h d)
 
-  invariant-of-others : (h d : ℕ) → 1 ≤ h → h ≤ s .setup .processors → d < 27 → ((h ≡ i) × (d ≡ c) → ⊥) → T (mustMove h d after) → ⊥
+  invariant-of-others : (h d : ℕ) → 1 ≤ h → h ≤ s .setup .processors → d < classCount → ((h ≡ i) × (d ≡ c) → ⊥) → T (mustMove h d after) → ⊥
   unfolding mustMove blocksIn
   invariant-of-others h d l m ld f t =
       let x = old-counts-for-no-other-pair h d l m f in
@@ -155,7 +155,7 @@ module _ (s : State) (order : List ℕ) (i c k : ℕ) (b : Superblock) (places :
       passed .sound .invariant i c low high known (must-move-of-conditions i c s (omega arith) (omega arith))
 
   -- places 2 to 4: heap i's other superblocks of the class are full, so no more than one superblock's blocks are free
-  invariant-of-acquired : (old .owner ≡ 0) ⊎ (old .owner ≡ 255) → superblocksOf i c s * blocksOf c ≤ liveOf i c s → T (mustMove i c after) → ⊥
+  invariant-of-acquired : (old .owner ≡ 0) ⊎ (old .owner ≡ unusedOwner) → superblocksOf i c s * blocksOf c ≤ liveOf i c s → T (mustMove i c after) → ⊥
   unfolding blocksIn
   invariant-of-acquired e full t =
       let m = conditions-of-must-move i c after t .0 in
@@ -194,7 +194,7 @@ module _ (s : State) (order : List ℕ) (i c k : ℕ) (b : Superblock) (places :
     sparse = λ m l e. at-sparse m l e (ℕ-discrete m k);
   }
     where
-      at-held : (h d : ℕ) → 1 ≤ h → h ≤ s .setup .processors → d < 27 → Dec (h ≡ i) → Dec (d ≡ c) → T (mustMove h d after) → ⊥
+      at-held : (h d : ℕ) → 1 ≤ h → h ≤ s .setup .processors → d < classCount → Dec (h ≡ i) → Dec (d ≡ c) → T (mustMove h d after) → ⊥
       at-held h d l m ld (yes p) (yes q) t = invariant-here (subst (λ (x : ℕ). T (mustMove i x after)) q (subst (λ (x : ℕ). T (mustMove x d after)) p t))
       at-held h d l m ld (yes p) (no f) t = invariant-of-others h d l m ld (λ x. f (x .1)) t
       at-held h d l m ld (no f) e t = invariant-of-others h d l m ld (λ x. f (x .0)) t
@@ -226,7 +226,7 @@ module _ (s : State) (order : List ℕ) (i c k : ℕ) (b : Superblock) (places :
   owned-others : (d : ℕ) → (d ≡ c → ⊥) → superblocksOfClass d after ≤ superblocksOfClass d s
   owned-others d f = omega (arith, owned-after d, ap one (new-not-of-other-class d f))
 
-  owned-not-more : old .owner < 254 → old .class ≡ c → superblocksOfClass c after ≤ superblocksOfClass c s
+  owned-not-more : old .owner < runOwner → old .class ≡ c → superblocksOfClass c after ≤ superblocksOfClass c s
   owned-not-more f e = omega (arith, owned-after c, ap one (owned-of-class-true c old f e), ap one new-of-class)
 
   none-in-global-after : superblocksOf 0 c s ≡ 0 → superblocksOf 0 c after ≡ 0
@@ -257,7 +257,7 @@ module _ (s : State) (order : List ℕ) (i c k : ℕ) (b : Superblock) (places :
   runs-kept m l = go (ℕ-discrete m k)
     where
       new-outside-run : isOfRun new ≡ false
-      new-outside-run = outside-run-of-owner new (λ (q : new .owner ≡ 254). omega (arith, new-owner-lt-254))
+      new-outside-run = outside-run-of-owner new (λ (q : new .owner ≡ runOwner). omega (arith, new-owner-lt-254))
 
       go : Dec (m ≡ k) → (isOfRun (superblockAt after m) ≡ isOfRun (superblockAt s m)) × (superblockAt after m .run ≡ superblockAt s m .run)
       go (yes e) =
@@ -329,7 +329,7 @@ take-effect-of-reranked i c k j rank s t long e =
       others = λ m f. e .others m f ∙ ap (withRank (superblockAt t m .rank)) (superblock-keeps-all-but-rank rank s long m);
       owner = e .owner;
       class = e .class;
-      before = ⊎-elim (λ z. inl (sym (live-in k) ∙ z)) (λ h. inr (sym (reranked-class rank s long k) ∙ h .0, subst (λ (x : ℕ). x < 254) (reranked-owner rank s long k) (h .1))) (e .before);
+      before = ⊎-elim (λ z. inl (sym (live-in k) ∙ z)) (λ h. inr (sym (reranked-class rank s long k) ∙ h .0, subst (λ (x : ℕ). x < runOwner) (reranked-owner rank s long k) (h .1))) (e .before);
       outside-run = sym (reranked-of-run rank s long k) ∙ e .outside-run;
       runs = λ m l. (e .runs m l .0 ∙ reranked-of-run rank s long m, e .runs m l .1 ∙ reranked-run rank s long m);
       not-marked = sym (bits j) ∙ e .not-marked;

@@ -11,7 +11,7 @@ use lib.Dec.{eqb, leb}
 use Rattle.base_laws.specs.Sums.{pick}
 use Rattle.base_laws.proofs.TestLaws.{T-of-true}
 use Rattle.base_laws.proofs.Decides.{true-of-decides, false-of-decides}
-use Rattle.class_rules.specs.Classes.{classOf, isLong, runLength, isTooLarge}
+use Rattle.class_rules.specs.Classes.{classCount, classOf, isLong, runLength, isTooLarge}
 use Rattle.class_rules.proofs.ClassLaws.{class-of-lt-27, decides-long, le-2048-of-not-long, decides-too-large}
 use Rattle.heap_rules.specs.declared.Superblock.{Superblock}
 use Rattle.heap_rules.specs.declared.Setup.{Setup}
@@ -200,7 +200,7 @@ of-ranked P s t i k (inl h) x y = subst P (sym (h .1)) x
 of-ranked P s t i k (inr h) x y = subst P (sym (h .1)) y
 
 module _ (s : State) (order : List ℕ) (i size k : ℕ) (shape : Shape s) (acc : TakeAccepted s order i size k) where
-  class-lt-27 : classOf size < 27
+  class-lt-27 : classOf size < classCount
   class-lt-27 = class-of-lt-27 size (acc .size-le-2048)
 
   unranked-if-empty-is : (superblockAt s k .owner ≡ i → ⊥) → (Renews s i k × (unrankedIfEmpty k s ≡ unranked k s)) ⊎ (RenewsNot s i k × (unrankedIfEmpty k s ≡ s))

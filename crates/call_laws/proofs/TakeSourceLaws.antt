@@ -13,7 +13,7 @@ use Rattle.base_laws.specs.Sums.{pick}
 use Rattle.base_laws.proofs.Inequalities.{le-of-not-below}
 use Rattle.base_laws.proofs.TestLaws.{pick-elim}
 use Rattle.base_laws.proofs.ListedLaws.{length-listed}
-use Rattle.class_rules.specs.Classes.{blocksOf}
+use Rattle.class_rules.specs.Classes.{classCount, blocksOf}
 use Rattle.class_rules.proofs.ClassTableLaws.{blocks-of-le-256, blocks-of-pos}
 use Rattle.marks_rules.specs.Marks.{markBit, liveCount}
 use Rattle.marks_laws.proofs.MarkLaws.{marks-clear-of-live-count-zero, mark-bit-of-no-marks, live-count-of-no-marks}
@@ -25,7 +25,7 @@ use Rattle.heap_rules.specs.declared.Superblock.{Superblock}
 use Rattle.heap_rules.specs.declared.State.{State}
 use Rattle.heap_rules.specs.declared.Found.{Found}
 use Rattle.heap_rules.specs.declared.Found.the-variants.{At, Nothing}
-use Rattle.heap_rules.specs.Table.{blank, superblockAt, liveIn, isOfRun, withOwner, withMarkAt}
+use Rattle.heap_rules.specs.Table.{runOwner, unusedOwner, blank, superblockAt, liveIn, isOfRun, withOwner, withMarkAt}
 use Rattle.heap_rules.specs.States.{withSuperblock}
 use Rattle.heap_rules.specs.Counts.{superblocksOf, liveOf}
 use Rattle.heap_rules.specs.Totals.{recounted}
@@ -99,21 +99,21 @@ pub record TakeSource (s : State) (order : List ℕ) (i c k : ℕ) (b : Superblo
   -- no other superblock's places are touched
   pub length-is : length places ≡ length order
   pub others : (m p : ℕ) → (m ≡ k → ⊥) → p < 256 → place places m p ≡ place order m p
-  pub before : (liveIn (superblockAt s k) ≡ 0) ⊎ ((superblockAt s k .class ≡ c) × (superblockAt s k .owner < 254))
+  pub before : (liveIn (superblockAt s k) ≡ 0) ⊎ ((superblockAt s k .class ≡ c) × (superblockAt s k .owner < runOwner))
   -- it was heap i's of the class, or no processor heap's, and then heap i's superblocks of the class are full
-  pub source : ((superblockAt s k .owner ≡ i) × (superblockAt s k .class ≡ c)) ⊎ (((superblockAt s k .owner ≡ 0) ⊎ (superblockAt s k .owner ≡ 255)) × (superblocksOf i c s * blocksOf c ≤ liveOf i c s))
+  pub source : ((superblockAt s k .owner ≡ i) × (superblockAt s k .class ≡ c)) ⊎ (((superblockAt s k .owner ≡ 0) ⊎ (superblockAt s k .owner ≡ unusedOwner)) × (superblocksOf i c s * blocksOf c ≤ liveOf i c s))
   -- it was a superblock of the class, or heap 0 has none of the class
-  pub supply : ((superblockAt s k .owner < 254) × (superblockAt s k .class ≡ c)) ⊎ (superblocksOf 0 c s ≡ 0)
+  pub supply : ((superblockAt s k .owner < runOwner) × (superblockAt s k .class ≡ c)) ⊎ (superblocksOf 0 c s ≡ 0)
 
 -- What places 2 to 4 offer for class c.
 pub record OfferedByOthers (s : State) (c k : ℕ) : Type 0 where
   pub below : k < s .setup .superblocks
-  pub owner : (superblockAt s k .owner ≡ 0) ⊎ (superblockAt s k .owner ≡ 255)
+  pub owner : (superblockAt s k .owner ≡ 0) ⊎ (superblockAt s k .owner ≡ unusedOwner)
   pub live : (liveIn (superblockAt s k) ≡ 0) ⊎ ((superblockAt s k .owner ≡ 0) × (superblockAt s k .class ≡ c) × (liveIn (superblockAt s k) < blocksOf (superblockAt s k .class)))
-  pub supply : ((superblockAt s k .owner < 254) × (superblockAt s k .class ≡ c)) ⊎ (superblocksOf 0 c s ≡ 0)
+  pub supply : ((superblockAt s k .owner < runOwner) × (superblockAt s k .class ≡ c)) ⊎ (superblocksOf 0 c s ≡ 0)
 
 module _ (s : State) (order : List ℕ) (shape : Shape s) (passed : Passed s order) where
-  owner-lt-254 : (m h : ℕ) → h ≤ s .setup .processors → superblockAt s m .owner ≡ h → superblockAt s m .owner < 254
+  owner-lt-254 : (m h : ℕ) → h ≤ s .setup .processors → superblockAt s m .owner ≡ h → superblockAt s m .owner < runOwner
   owner-lt-254 m h l e = omega (arith, passed .sound .numbers .processors-high)
 
   -- what one that is not of a run carries
@@ -127,14 +127,14 @@ module _ (s : State) (order : List ℕ) (shape : Shape s) (passed : Passed s ord
       let h = facts-of-has-free i c (superblockAt s k) (best .meets-criterion) in
       let somebody = owner-lt-254 k i l (h .0) in
       record {
-        below = owned-below-superblocks s order (passed .sound) k (best .below) (λ (q : superblockAt s k .owner ≡ 255). omega arith);
+        below = owned-below-superblocks s order (passed .sound) k (best .below) (λ (q : superblockAt s k .owner ≡ unusedOwner). omega arith);
         owner = h .0;
         class = h .1;
         room = subst (λ (d : ℕ). liveIn (superblockAt s k) < blocksOf d) (sym (h .1)) (h .2);
         marks-length = shape .marks-length k (best .below);
         places-valid = owned-of-owner s order (passed .sound) k (best .below) somebody .places;
         rank = refl;
-        outside-run = outside-run-of-owner (superblockAt s k) (λ (q : superblockAt s k .owner ≡ 254). omega arith);
+        outside-run = outside-run-of-owner (superblockAt s k) (λ (q : superblockAt s k .owner ≡ runOwner). omega arith);
         run = refl;
         marks = λ m lm. refl;
         length-is = refl;
@@ -157,7 +157,7 @@ module _ (s : State) (order : List ℕ) (shape : Shape s) (passed : Passed s ord
       none-free-of-fullest-nothing 0 c s e m l (has-free-of-facts 0 c (superblockAt s m) (h .0) (h .1) (subst (λ (d : ℕ). liveIn (superblockAt s m) < blocksOf d) (h .1) (free-block-in-global s order (passed .sound) m l (h .0)))))
 
   global-below-superblocks : (k : ℕ) → k < 64 → superblockAt s k .owner ≡ 0 → k < s .setup .superblocks
-  global-below-superblocks k l e = owned-below-superblocks s order (passed .sound) k l (λ (q : superblockAt s k .owner ≡ 255). omega arith)
+  global-below-superblocks k l e = owned-below-superblocks s order (passed .sound) k l (λ (q : superblockAt s k .owner ≡ unusedOwner). omega arith)
 
   offered-by-place-2 : (c k : ℕ) → fullest 0 c s ≡ At k → OfferedByOthers s c k
   offered-by-place-2 c k e =
@@ -191,7 +191,7 @@ module _ (s : State) (order : List ℕ) (shape : Shape s) (passed : Passed s ord
       go Nothing (At m) p q e = offered-by-place-3 c k p (q ∙ e)
       go Nothing Nothing p q e = offered-by-place-4 c k p e
 
-  module _ (i c k : ℕ) (known : c < 27) (none : fullest i c s ≡ Nothing) (offered : OfferedByOthers s c k) where
+  module _ (i c k : ℕ) (known : c < classCount) (none : fullest i c s ≡ Nothing) (offered : OfferedByOthers s c k) where
     in-table : k < 64
     in-table = omega (arith, offered .below, passed .sound .numbers .superblocks-high)
 
@@ -219,7 +219,7 @@ module _ (s : State) (order : List ℕ) (shape : Shape s) (passed : Passed s ord
       others = λ m p f l. renewed-other-superblock order k (blocksOf c) m p f l;
       before = inl (ap liveCount (reranked-live rank s long k) ∙ e);
       source = inr (⊎-elim (λ z. inl (reranked-owner rank s long k ∙ z)) (λ z. inr (reranked-owner rank s long k ∙ z)) (offered .owner), full-after);
-      supply = ⊎-elim (λ h. inl (subst (λ (x : ℕ). x < 254) (sym (reranked-owner rank s long k)) (h .0), reranked-class rank s long k ∙ h .1)) (λ z. inr (reranked-superblocks-of rank s long 0 c ∙ z)) (offered .supply);
+      supply = ⊎-elim (λ h. inl (subst (λ (x : ℕ). x < runOwner) (sym (reranked-owner rank s long k)) (h .0), reranked-class rank s long k ∙ h .1)) (λ z. inr (reranked-superblocks-of rank s long 0 c ∙ z)) (offered .supply);
     }
       where
         rank : ℕ → ℕ
@@ -251,7 +251,7 @@ module _ (s : State) (order : List ℕ) (shape : Shape s) (passed : Passed s ord
       supply = offered .supply;
     }
       where
-        somebody : superblockAt s k .owner < 254
+        somebody : superblockAt s k .owner < runOwner
         somebody = omega (arith, h .0)
 
     pub source-of-other-places : TakeSource (unrankedIfEmpty k s) order i c k (acquired i c (superblockAt s k)) (acquiredOrder c k (superblockAt s k) order)

@@ -13,13 +13,13 @@ use lib.Dec.{eqb, leb}
 use Rattle.base_laws.specs.Sums.{pick, sumBelow}
 use Rattle.base_laws.proofs.SumLaws.{sum-cong}
 use Rattle.base_laws.proofs.TestLaws.{T-of-true, pick-elim}
-use Rattle.class_rules.specs.Classes.{classOf, isLong, runLength, isTooLarge}
+use Rattle.class_rules.specs.Classes.{classCount, classOf, isLong, runLength, isTooLarge}
 use Rattle.names_rules.specs.Names.{isHeld}
 use Rattle.heap_rules.specs.declared.Setup.{Setup}
 use Rattle.heap_rules.specs.declared.State.{State}
 use Rattle.heap_rules.specs.declared.Found.{Found}
 use Rattle.heap_rules.specs.declared.Found.the-variants.{At, Nothing}
-use Rattle.heap_rules.specs.Table.{superblockAt}
+use Rattle.heap_rules.specs.Table.{runOwner, superblockAt}
 use Rattle.heap_rules.specs.Counts.{superblocksOf, liveOf, superblocksOfClass, liveOfClass}
 use Rattle.heap_rules.specs.Totals.{heapCount, totalCount, totalIndex, superblocksKept, liveKept, TotalsKept, TotalsCounted}
 use Rattle.heap_rules.specs.States.{noState, newState}
@@ -220,7 +220,7 @@ setup-state-is-new u order = go (withinLimits u) (leb (u .superblocks * 256) (le
     go false b = (noState .setup, refl)
 
 -- "a new or refused setup has them at 0" ..
-pub new-or-refused-setup-totals-are-0 : (u : Setup) (order : List ℕ) (h c : ℕ) → h < heapCount → c < 27
+pub new-or-refused-setup-totals-are-0 : (u : Setup) (order : List ℕ) (h c : ℕ) → h < heapCount → c < classCount
     → (superblocksKept h c (setupOf u order .answer .state) ≡ 0) × (liveKept h c (setupOf u order .answer .state) ≡ 0)
 unfolding superblocksKept liveKept
 new-or-refused-setup-totals-are-0 u order h c lh lc =
@@ -233,14 +233,14 @@ new-or-refused-setup-totals-kept u order = let new = setup-state-is-new u order 
 
 -- ---- heaps above P
 -- none has a superblock: in a state that passes their totals are 0 ..
-pub heaps-above-processors-have-0 : (s : State) (order : List ℕ) → Passed s order → (h c : ℕ) → s .setup .processors < h → h < heapCount → c < 27
+pub heaps-above-processors-have-0 : (s : State) (order : List ℕ) → Passed s order → (h c : ℕ) → s .setup .processors < h → h < heapCount → c < classCount
     → (superblocksKept h c s ≡ 0) × (liveKept h c s ≡ 0)
 heaps-above-processors-have-0 s order passed h c above lh lc =
     (superblocks-kept-above-processors s order (passed .sound) (passed .totals) h c above lh lc, live-kept-above-processors s order (passed .sound) (passed .totals) h c above lh lc)
 
 -- .. so also in that after an accepted call
 pub heaps-above-processors-have-0-after-call : (s : State) (order : List ℕ) (call : Call) → Shape s → numberOf (callOf s order call .answer .outcome) ≡ 0
-    → (h c : ℕ) → callOf s order call .answer .state .setup .processors < h → h < heapCount → c < 27
+    → (h c : ℕ) → callOf s order call .answer .state .setup .processors < h → h < heapCount → c < classCount
     → (superblocksKept h c (callOf s order call .answer .state) ≡ 0) × (liveKept h c (callOf s order call .answer .state) ≡ 0)
 heaps-above-processors-have-0-after-call s order call shape accepted h c above lh lc =
     let after = callOf s order call in
@@ -249,17 +249,17 @@ heaps-above-processors-have-0-after-call s order call shape accepted h c above l
     (superblocks-kept-above-processors (after .answer .state) (after .order) sound kept h c above lh lc, live-kept-above-processors (after .answer .state) (after .order) sound kept h c above lh lc)
 
 -- ---- a class's totals over heap 0 and the P processor heaps, in a state that passes
-module _ (s : State) (order : List ℕ) (passed : Passed s order) (c : ℕ) (lc : c < 27) where
+module _ (s : State) (order : List ℕ) (passed : Passed s order) (c : ℕ) (lc : c < classCount) where
   sum-over-heaps-cong : (f g : ℕ → ℕ) → ((h : ℕ) → h < heapCount → f h ≡ g h)
       → f 0 + sumBelow (λ i. f (suc i)) (s .setup .processors) ≡ g 0 + sumBelow (λ i. g (suc i)) (s .setup .processors)
   sum-over-heaps-cong f g each =
       let high = passed .sound .numbers .processors-high in
       ap₂ _+_ (each 0 (omega arith)) (sum-cong (λ i. f (suc i)) (λ i. g (suc i)) (s .setup .processors) (λ i l. each (suc i) (omega arith)))
 
-  few-processors : s .setup .processors < 254
+  few-processors : s .setup .processors < runOwner
   few-processors = omega (arith, passed .sound .numbers .processors-high)
 
-  owner-le-processors : (k : ℕ) → k < 64 → superblockAt s k .owner < 254 → superblockAt s k .owner ≤ s .setup .processors
+  owner-le-processors : (k : ℕ) → k < 64 → superblockAt s k .owner < runOwner → superblockAt s k .owner ≤ s .setup .processors
   owner-le-processors k l f = owned-of-owner s order (passed .sound) k l f .owner
 
   -- the superblock totals are the A of the bound ..

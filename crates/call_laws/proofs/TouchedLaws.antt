@@ -8,8 +8,10 @@ use native.Mathlib.Decide.{ℕ-discrete}
 use native.Mathlib.Omega.{arith}
 use lib.Dec.{T}
 use Rattle.base_laws.specs.Sums.{pick}
+use Rattle.class_rules.specs.Classes.{classCount}
 use Rattle.base_laws.proofs.TestLaws.{T-of-true, either-left, either-right, either-right-of-left-false}
 use Rattle.heap_rules.specs.declared.State.{State}
+use Rattle.heap_rules.specs.Table.{runOwner}
 use Rattle.heap_rules.specs.Counts.{belongs}
 use Rattle.heap_laws.proofs.CountLaws.{owner-and-class-of-belongs, belongs-of-owner-and-class}
 use Rattle.heap_laws.proofs.RunsKeptLaws.{outside-run-of-owner}
@@ -91,29 +93,29 @@ module _ (touched : ℕ → ℕ → Bool) where
           (pair-of-touched h n (touched h n) (subst (λ (d : ℕ). T (touched h d)) e t)))
       go (no f) rest = Memᴰ·append-left (pick (touched h n) (record { heap = h; class = n } ∷ []) []) (rest (omega arith))
 
-  touched-of-pair-listed : (n : ℕ) (p : Pair) → List·Memᴰ p (touchedPairs touched n) → (1 ≤ p .heap) × (p .heap ≤ n) × (p .class < 27) × T (touched (p .heap) (p .class))
+  touched-of-pair-listed : (n : ℕ) (p : Pair) → List·Memᴰ p (touchedPairs touched n) → (1 ≤ p .heap) × (p .heap ≤ n) × (p .class < classCount) × T (touched (p .heap) (p .class))
   unfolding touchedPairs
   touched-of-pair-listed zero p m = absurd (List·Memᴰ·not-nil m)
   touched-of-pair-listed (suc n) p m =
       ⊎-elim (λ x. let r = touched-of-pair-listed n p x in (r .0, (let l = r .1 in omega arith), r .2, r .3))
-      (λ x. let r = touched-of-class-listed (suc n) 27 p x in
+      (λ x. let r = touched-of-class-listed (suc n) classCount p x in
       let heap-is : p .heap ≡ suc n = r .0 in
       (omega arith, omega arith, r .1, r .2))
       (List·Memᴰ·append-cases (touchedPairs touched n) m)
 
-  pair-listed-of-touched : (n h c : ℕ) → 1 ≤ h → h ≤ n → c < 27 → T (touched h c) → PairAmong h c (touchedPairs touched n)
+  pair-listed-of-touched : (n h c : ℕ) → 1 ≤ h → h ≤ n → c < classCount → T (touched h c) → PairAmong h c (touchedPairs touched n)
   unfolding touchedPairs
   pair-listed-of-touched zero h c low high l t = absurd (let z : ⊥ = omega arith in z)
   pair-listed-of-touched (suc n) h c low high l t = go (ℕ-discrete h (suc n)) (λ k. pair-listed-of-touched n h c low k l t)
     where
-      go : Dec (h ≡ suc n) → (h ≤ n → PairAmong h c (touchedPairs touched n)) → PairAmong h c (touchedPairs touched n ++ touchedClasses touched (suc n) 27)
+      go : Dec (h ≡ suc n) → (h ≤ n → PairAmong h c (touchedPairs touched n)) → PairAmong h c (touchedPairs touched n ++ touchedClasses touched (suc n) classCount)
       go (yes e) rest =
           Memᴰ·append-right (touchedPairs touched n)
-          (subst (λ (g : ℕ). PairAmong h c (touchedClasses touched g 27)) e (class-listed-of-touched h 27 c l t))
-      go (no f) rest = Memᴰ·append-left (touchedClasses touched (suc n) 27) (rest (omega arith))
+          (subst (λ (g : ℕ). PairAmong h c (touchedClasses touched g classCount)) e (class-listed-of-touched h classCount c l t))
+      go (no f) rest = Memᴰ·append-left (touchedClasses touched (suc n) classCount) (rest (omega arith))
 
   -- the pairs are those of the processor heaps 1 to n and the 27 classes that are touched; heap 0 is none
-  pub touched-pair-iff : (n h c : ℕ) → PairAmong h c (touchedPairs touched n) ↔ ((1 ≤ h) × (h ≤ n) × (c < 27) × T (touched h c))
+  pub touched-pair-iff : (n h c : ℕ) → PairAmong h c (touchedPairs touched n) ↔ ((1 ≤ h) × (h ≤ n) × (c < classCount) × T (touched h c))
   touched-pair-iff n h c = (touched-of-pair-listed n (record { heap = h; class = c }), λ t. pair-listed-of-touched n h c (t .0) (t .1) (t .2) (t .3))
 
 -- ---- "heaps then classes rising"
@@ -162,10 +164,10 @@ module _ (touched : ℕ → ℕ → Bool) where
   unfolding touchedPairs Rising Before
   touched-pairs-rising zero = tt
   touched-pairs-rising (suc n) =
-      rising-append (touchedPairs touched n) (touchedClasses touched (suc n) 27) (touched-pairs-rising n) (touched-classes-rising (suc n) 27)
+      rising-append (touchedPairs touched n) (touchedClasses touched (suc n) classCount) (touched-pairs-rising n) (touched-classes-rising (suc n) classCount)
       (λ p q m k.
       let high = touched-of-pair-listed touched n p m .1 in
-      let heap-is : q .heap ≡ suc n = touched-of-class-listed touched (suc n) 27 q k .0 in
+      let heap-is : q .heap ≡ suc n = touched-of-class-listed touched (suc n) classCount q k .0 in
       inl (omega arith))
 
   -- so that none comes twice

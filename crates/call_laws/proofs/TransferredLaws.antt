@@ -11,13 +11,14 @@ use lib.ListN.{length}
 use borrow.Author.Tests.{eq-eqb}
 use lib.Dec.{T, eqb, eqb→eq}
 use Rattle.base_laws.specs.Sums.{pick, both, one}
+use Rattle.class_rules.specs.Classes.{classCount}
 use Rattle.base_laws.proofs.TestLaws.{false-of-not-T, both-left, both-right, pick-elim}
 use Rattle.heap_rules.specs.declared.Superblock.{Superblock}
 use Rattle.heap_rules.specs.declared.Setup.{Setup}
 use Rattle.heap_rules.specs.declared.Totals.{Totals}
 use Rattle.heap_rules.specs.declared.State.{State}
 use Rattle.marks_rules.specs.Marks.{markBit, liveCount}
-use Rattle.heap_rules.specs.Table.{superblockAt, isOfRun, withOwner, isLiveBlock}
+use Rattle.heap_rules.specs.Table.{runOwner, unusedOwner, superblockAt, isOfRun, withOwner, isLiveBlock}
 use Rattle.heap_rules.specs.Counts.{belongs, superblocksOf, blocksIn, liveOf}
 use Rattle.check_rules.specs.Check.{namesValid}
 use Rattle.heap_laws.proofs.StateFacts.{Shape, WithinLimits, Unused, Unowned, Owned, Sparse, RanksSound, RunsKept, InvariantBeforeFrees, SoundAfterFrees, TransferredFrom}
@@ -90,7 +91,7 @@ passed-after-no-frees s order p =
       room = p .room;
     }
 
-pub passed-of-no-frees-left : (freed : ℕ → ℕ → ℕ) (s : State) (order : List ℕ) → ((h c : ℕ) → 1 ≤ h → h ≤ s .setup .processors → c < 27 → freed h c ≡ 0) → PassedAfterFrees freed s order → Passed s order
+pub passed-of-no-frees-left : (freed : ℕ → ℕ → ℕ) (s : State) (order : List ℕ) → ((h c : ℕ) → 1 ≤ h → h ≤ s .setup .processors → c < classCount → freed h c ≡ 0) → PassedAfterFrees freed s order → Passed s order
 passed-of-no-frees-left freed s order none p =
     record {
       sound = record {
@@ -108,7 +109,7 @@ passed-of-no-frees-left freed s order none p =
     }
 
 -- as many frees of each heap in another way of counting
-pub passed-after-frees-cong : (f g : ℕ → ℕ → ℕ) (s : State) (order : List ℕ) → ((h c : ℕ) → h < 254 → f h c ≡ g h c) → PassedAfterFrees f s order → PassedAfterFrees g s order
+pub passed-after-frees-cong : (f g : ℕ → ℕ → ℕ) (s : State) (order : List ℕ) → ((h c : ℕ) → h < runOwner → f h c ≡ g h c) → PassedAfterFrees f s order → PassedAfterFrees g s order
 passed-after-frees-cong f g s order same p =
     record {
       sound = record {
@@ -178,7 +179,7 @@ module _ (h c : ℕ) (s t : State) (m : TransferredFrom h c s t) where
       go (inr (mine, sparse, now)) = subst (λ (b : Superblock). P k b) (sym now) (pass k l (owner-and-class-of-belongs h c (superblockAt s k) mine .0) sparse (before k l))
 
   -- the moves that end where the rule is no longer met leave a state in which no frees of the heap and class are left to follow up
-  pub sound-after-transfers : (freed : ℕ → ℕ → ℕ) (order : List ℕ) → h < 254 → SoundAfterFrees freed s order → (1 ≤ h → InvariantBeforeFrees 0 h c t) → SoundAfterFrees (noneFreed h c freed) t order
+  pub sound-after-transfers : (freed : ℕ → ℕ → ℕ) (order : List ℕ) → h < runOwner → SoundAfterFrees freed s order → (1 ≤ h → InvariantBeforeFrees 0 h c t) → SoundAfterFrees (noneFreed h c freed) t order
   sound-after-transfers freed order low before done =
       record {
         numbers = subst WithinLimits (sym (m .setup)) (before .numbers);
@@ -195,30 +196,30 @@ module _ (h c : ℕ) (s t : State) (m : TransferredFrom h c s t) where
       passes-on k mine (inl u) = absurd (not-unowned k mine u)
       passes-on k mine (inr o) = inr (record { owner = zero-le; class = o .class; places = o .places })
 
-      other : (i d : ℕ) → 1 ≤ i → i ≤ s .setup .processors → d < 27 → ((i ≡ h) × (d ≡ c) → ⊥) → InvariantBeforeFrees (noneFreed h c freed i d) i d t
+      other : (i d : ℕ) → 1 ≤ i → i ≤ s .setup .processors → d < classCount → ((i ≡ h) × (d ≡ c) → ⊥) → InvariantBeforeFrees (noneFreed h c freed i d) i d t
       other i d low high known apart =
           subst (λ (n : ℕ). InvariantBeforeFrees n i d t) (sym (none-freed-of-others h c freed i d apart))
           (invariant-before-frees-cong (freed i d) i d s t (m .setup) (m .others i d low apart .0) (m .others i d low apart .1) (before .invariant i d low high known))
 
-      held-now : (i d : ℕ) → 1 ≤ i → i ≤ s .setup .processors → d < 27 → Dec (i ≡ h) → Dec (d ≡ c) → InvariantBeforeFrees (noneFreed h c freed i d) i d t
+      held-now : (i d : ℕ) → 1 ≤ i → i ≤ s .setup .processors → d < classCount → Dec (i ≡ h) → Dec (d ≡ c) → InvariantBeforeFrees (noneFreed h c freed i d) i d t
       held-now i d low high known (yes e) (yes g) =
           rw (e, g) (subst (λ (n : ℕ). InvariantBeforeFrees n h c t) (sym (none-freed-of-pair h c freed)) (done (subst (λ (x : ℕ). 1 ≤ x) e low)))
       held-now i d low high known (yes e) (no g) = other i d low high known (λ q. g (q .1))
       held-now i d low high known (no e) q = other i d low high known (λ r. e (r .0))
 
   -- heaps own what moves, before and after, so that no run changes
-  pub runs-kept-by-transfers : h < 254 → RunsKept s t
+  pub runs-kept-by-transfers : h < runOwner → RunsKept s t
   unfolding isOfRun
   runs-kept-by-transfers low k l = (go (transferred-owner h c s t m k l), transferred-keeps h c s t m k l (λ b. b .run) refl)
     where
       go : (superblockAt t k .owner ≡ superblockAt s k .owner) ⊎ ((superblockAt s k .owner ≡ h) × (superblockAt t k .owner ≡ 0)) → isOfRun (superblockAt t k) ≡ isOfRun (superblockAt s k)
-      go (inl e) = ap (λ (o : ℕ). eqb o 254) e
+      go (inl e) = ap (λ (o : ℕ). eqb o runOwner) e
       go (inr (was, now)) =
-          outside-run-of-owner (superblockAt t k) (λ (q : superblockAt t k .owner ≡ 254). omega arith)
-          ∙ sym (outside-run-of-owner (superblockAt s k) (λ (q : superblockAt s k .owner ≡ 254). omega arith))
+          outside-run-of-owner (superblockAt t k) (λ (q : superblockAt t k .owner ≡ runOwner). omega arith)
+          ∙ sym (outside-run-of-owner (superblockAt s k) (λ (q : superblockAt s k .owner ≡ runOwner). omega arith))
 
   -- names that point at live blocks still do
-  pub names-valid-after-transfers : length (s .table) ≡ 64 → h < 254 → T (namesValid s) → T (namesValid t)
+  pub names-valid-after-transfers : length (s .table) ≡ 64 → h < runOwner → T (namesValid s) → T (namesValid t)
   names-valid-after-transfers long low valid = names-valid-of-live-kept s t still-live (m .names) valid
     where
       still-live : (b : ℕ) → T (isLiveBlock s b) → T (isLiveBlock t b)
@@ -235,7 +236,7 @@ module _ (h c : ℕ) (s t : State) (m : TransferredFrom h c s t) where
       was-unowned : (k : ℕ) → k < 64 → Unowned (superblockAt t k) → Unowned (superblockAt s k)
       was-unowned k l u =
           record {
-            owner = ⊎-elim (λ e. subst (λ (o : ℕ). (o ≡ 255) ⊎ (o ≡ 254)) e (u .owner)) (λ h. absurd (not-of-heap-of-unowned (superblockAt t k) u (let z = h .1 in omega arith))) (transferred-owner h c s t m k l);
+            owner = ⊎-elim (λ e. subst (λ (o : ℕ). (o ≡ unusedOwner) ⊎ (o ≡ runOwner)) e (u .owner)) (λ h. absurd (not-of-heap-of-unowned (superblockAt t k) u (let z = h .1 in omega arith))) (transferred-owner h c s t m k l);
             class = sym (transferred-class h c s t m k l) ∙ u .class;
             live = sym (ap liveCount (transferred-live h c s t m k l)) ∙ u .live;
           }

@@ -4,6 +4,7 @@ use mathlib.Core.Bool.{Bool, true, false}
 use mathlib.Core.List.{List, [], _∷_, _++_}
 use Prim.Native.Nat.{ℕ, zero, suc}
 use Rattle.base_laws.specs.Sums.{pick}
+use Rattle.class_rules.specs.Classes.{classCount}
 use Rattle.heap_rules.specs.declared.State.{State}
 use Rattle.heap_rules.specs.declared.Moved.{Moved}
 use Rattle.call_rules.specs.Drop.{Pair, allFreed, isTouched, thenRestored, touchedClasses, touchedPairs, eachRestored, dropMoves}
@@ -27,8 +28,8 @@ heaps-restored-is-each : (touched : ℕ → ℕ → Bool) (n : ℕ) (before : Mo
 unfolding heapsRestored touchedPairs eachRestored
 heaps-restored-is-each touched zero before = refl
 heaps-restored-is-each touched (suc h) before =
-    classes-restored-is-each touched (suc h) 27 (heapsRestored touched h before) ∙ ap (eachRestored (touchedClasses touched (suc h) 27)) (heaps-restored-is-each touched h before)
-    ∙ sym (each-restored-append (touchedPairs touched h) (touchedClasses touched (suc h) 27) before)
+    classes-restored-is-each touched (suc h) classCount (heapsRestored touched h before) ∙ ap (eachRestored (touchedClasses touched (suc h) classCount)) (heaps-restored-is-each touched h before)
+    ∙ sym (each-restored-append (touchedPairs touched h) (touchedClasses touched (suc h) classCount) before)
 
 -- the moves of a drop, heap by heap and class by class
 pub drop-moves-by-heaps : (s : State) (addresses : List ℕ) → dropMoves s addresses ≡ heapsRestored (isTouched s addresses) (s .setup .processors) (record { moves = 0; state = allFreed s addresses })

@@ -13,7 +13,7 @@ use Rattle.base_laws.specs.Sums.{either, allBelow}
 use Rattle.base_laws.proofs.TestLaws.{T-of-true, equal-of-iff, both-left, both-right, both-false-right, either-right-of-left-false}
 use Rattle.base_laws.proofs.Inequalities.{mul-le-of-bounds}
 use Rattle.base_laws.proofs.SumLaws.{all-at, all-of-each, all-cong, all-false, all-true}
-use Rattle.class_rules.specs.Classes.{blocksOf}
+use Rattle.class_rules.specs.Classes.{classCount, blocksOf}
 use Rattle.heap_rules.specs.declared.Setup.{Setup}
 use Rattle.heap_rules.specs.declared.Totals.{Totals}
 use Rattle.heap_rules.specs.declared.State.{State}
@@ -60,15 +60,15 @@ module _ (u : Setup) (t : Totals) (h : ℕ) where
   class-invariants-step c r e f below = below-more (λ d. T (classInvariant u t h d)) c below (T-of-true _ (sym e ∙ not-false r f))
 
   module _ (low : 1 ≤ h) (high : h ≤ u .processors) where
-    heap-invariant-is-all-classes : heapInvariant u t h ≡ allBelow (classInvariant u t h) 27
+    heap-invariant-is-all-classes : heapInvariant u t h ≡ allBelow (classInvariant u t h) classCount
     unfolding heapInvariant
     heap-invariant-is-all-classes = simp (le-leb 1 h low, le-leb h (u .processors) high)
 
-    pub heap-invariant-false-of-class : (c : ℕ) (r : Bool) → c < 27 → r ≡ classInvariant u t h c → not r ≡ true → false ≡ heapInvariant u t h
-    heap-invariant-false-of-class c r l e f = all-false (classInvariant u t h) 27 c l (sym e ∙ not-true r f) ∙ sym heap-invariant-is-all-classes
+    pub heap-invariant-false-of-class : (c : ℕ) (r : Bool) → c < classCount → r ≡ classInvariant u t h c → not r ≡ true → false ≡ heapInvariant u t h
+    heap-invariant-false-of-class c r l e f = all-false (classInvariant u t h) classCount c l (sym e ∙ not-true r f) ∙ sym heap-invariant-is-all-classes
 
-    pub heap-invariant-of-all-classes : (c : ℕ) → 27 ≤ c → ((d : ℕ) → d < c → T (classInvariant u t h d)) → true ≡ heapInvariant u t h
-    heap-invariant-of-all-classes c l each = all-true (classInvariant u t h) 27 (λ d ld. each d (omega arith)) ∙ sym heap-invariant-is-all-classes
+    pub heap-invariant-of-all-classes : (c : ℕ) → classCount ≤ c → ((d : ℕ) → d < c → T (classInvariant u t h d)) → true ≡ heapInvariant u t h
+    heap-invariant-of-all-classes c l each = all-true (classInvariant u t h) classCount (λ d ld. each d (omega arith)) ∙ sym heap-invariant-is-all-classes
 
 -- ---- all heaps of which totals are kept
 module _ (u : Setup) (t : Totals) (h : ℕ) where
@@ -87,12 +87,12 @@ module _ (u : Setup) (t : Totals) (h : ℕ) where
 module _ (s : State) where
   -- heap h meets both conditions of the move rule in no class
   noClassMustMove : ℕ → Bool
-  noClassMustMove h = allBelow (λ c. not (mustMove h c s)) 27
+  noClassMustMove h = allBelow (λ c. not (mustMove h c s)) classCount
 
-  classes-by-recount : (h : ℕ) → h < heapCount → allBelow (classInvariant (s .setup) (recounted (s .table)) h) 27 ≡ noClassMustMove h
+  classes-by-recount : (h : ℕ) → h < heapCount → allBelow (classInvariant (s .setup) (recounted (s .table)) h) classCount ≡ noClassMustMove h
   unfolding pairInvariant mustMove blocksIn noClassMustMove
   classes-by-recount h lh =
-      all-cong (classInvariant (s .setup) (recounted (s .table)) h) (λ c. not (mustMove h c s)) 27
+      all-cong (classInvariant (s .setup) (recounted (s .table)) h) (λ c. not (mustMove h c s)) classCount
       (λ c lc. ap₂ (λ (m l : ℕ). not (bothConditions (s .setup .spare) (s .setup .p) (s .setup .q) (blocksOf c) (m * blocksOf c) l)) (recounted-superblocks s h c lh lc) (recounted-live s h c lh lc))
 
   module _ (few : s .setup .processors < heapCount) where
@@ -112,7 +112,7 @@ module _ (s : State) where
     unfolding totalsInvariant heapInvariant emptinessInvariant noClassMustMove
     totals-of-emptiness-invariant all = all-of-each (heapInvariant (s .setup) (recounted (s .table))) heapCount (λ h l. go h l (within 1 (s .setup .processors) h) refl)
       where
-        go : (h : ℕ) → h < heapCount → (b : Bool) → within 1 (s .setup .processors) h ≡ b → T (either (not b) (allBelow (classInvariant (s .setup) (recounted (s .table)) h) 27))
+        go : (h : ℕ) → h < heapCount → (b : Bool) → within 1 (s .setup .processors) h ≡ b → T (either (not b) (allBelow (classInvariant (s .setup) (recounted (s .table)) h) classCount))
         go h l true e =
             let w = T-of-true _ e in
             let low : 1 ≤ h = leb→le 1 h (both-left (leb 1 h) (leb h (s .setup .processors)) w) in

@@ -5,17 +5,17 @@ use Prim.Native.Nat.{_≤_, _<_}
 use borrow.Author.Tests.{eq-eqb, ne-eqb, lt-ltb, le-ltb}
 use Rattle.marks_rules.specs.Marks.{withMark}
 use Rattle.heap_rules.specs.declared.Superblock.{Superblock}
-use Rattle.heap_rules.specs.Table.{isOfRun, startsRun, liveBlocks}
+use Rattle.heap_rules.specs.Table.{runOwner, isOfRun, startsRun, liveBlocks}
 
 module _ (b : Superblock) where
-  pub live-blocks-of-first-of-run : b .owner ≡ 254 → 0 < b .run → 1 ∷ 0 ∷ 0 ∷ 0 ∷ [] ≡ liveBlocks b
+  pub live-blocks-of-first-of-run : b .owner ≡ runOwner → 0 < b .run → 1 ∷ 0 ∷ 0 ∷ 0 ∷ [] ≡ liveBlocks b
   unfolding liveBlocks startsRun isOfRun withMark
-  live-blocks-of-first-of-run o l = rw (eq-eqb (b .owner) 254 o, lt-ltb 0 (b .run) l)
+  live-blocks-of-first-of-run o l = rw (eq-eqb (b .owner) runOwner o, lt-ltb 0 (b .run) l)
 
-  pub live-blocks-of-no-length : b .owner ≡ 254 → b .run ≤ 0 → b .live ≡ liveBlocks b
+  pub live-blocks-of-no-length : b .owner ≡ runOwner → b .run ≤ 0 → b .live ≡ liveBlocks b
   unfolding liveBlocks startsRun isOfRun
-  live-blocks-of-no-length o l = rw (eq-eqb (b .owner) 254 o, le-ltb 0 (b .run) l)
+  live-blocks-of-no-length o l = rw (eq-eqb (b .owner) runOwner o, le-ltb 0 (b .run) l)
 
-  pub live-blocks-of-owner : (b .owner ≡ 254 → ⊥) → b .live ≡ liveBlocks b
+  pub live-blocks-of-owner : (b .owner ≡ runOwner → ⊥) → b .live ≡ liveBlocks b
   unfolding liveBlocks startsRun isOfRun
-  live-blocks-of-owner f = rw (ne-eqb (b .owner) 254 f)
+  live-blocks-of-owner f = rw (ne-eqb (b .owner) runOwner f)

@@ -19,7 +19,7 @@ use Rattle.marks_laws.proofs.BitLaws.{shl-one}
 use Rattle.marks_laws.proofs.MarkLaws.{length-with-mark, with-mark-same, with-mark-other, mark-bit-of-no-marks}
 use Rattle.heap_rules.specs.declared.Superblock.{Superblock}
 use Rattle.heap_rules.specs.declared.State.{State}
-use Rattle.heap_rules.specs.Table.{superblockAt}
+use Rattle.heap_rules.specs.Table.{runOwner, superblockAt}
 use Rattle.heap_rules.specs.Counts.{total}
 use Rattle.heap_rules.specs.Ranks.{isRanked}
 use Rattle.check_rules.specs.Check.{isUnowned, rankedCount, ranksValid}
@@ -32,7 +32,7 @@ abbrev pub rankOf : State → ℕ → ℕ
 rankOf s k = superblockAt s k .rank
 
 -- a superblock that a heap owns is neither unused nor part of a run
-pub not-unowned-of-owner : (b : Superblock) → b .owner < 254 → isUnowned b ≡ false
+pub not-unowned-of-owner : (b : Superblock) → b .owner < runOwner → isUnowned b ≡ false
 not-unowned-of-owner b l = false-of-not-T (isUnowned b) (λ t. not-of-heap-of-unowned b (facts-of-is-unowned b t) l)
 
 -- the superblocks below k: how many are ranked, and the highest rank; a mark for each rank met, and no rank met twice

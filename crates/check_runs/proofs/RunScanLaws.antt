@@ -12,7 +12,7 @@ use lib.Seq.{drop-cons}
 use Rattle.base_laws.specs.Sums.{pick, both}
 use Rattle.base_laws.proofs.TestLaws.{both-false-right}
 use Rattle.heap_rules.specs.declared.Superblock.{Superblock}
-use Rattle.heap_rules.specs.Table.{blank, isOfRun}
+use Rattle.heap_rules.specs.Table.{runOwner, blank, isOfRun}
 use Rattle.check_rules.specs.Check.{within, runsWhole}
 
 -- what the superblocks from k on say, with so many of a run still to come, is what the whole table says
@@ -34,13 +34,13 @@ unfolding runsWhole
 runs-whole-outside-run zero b rest l = refl
 runs-whole-outside-run (suc left) b rest l = absurd (let z : ⊥ = omega arith in z)
 
-is-of-run-true : (b : Superblock) → b .owner ≡ 254 → isOfRun b ≡ true
+is-of-run-true : (b : Superblock) → b .owner ≡ runOwner → isOfRun b ≡ true
 unfolding isOfRun
-is-of-run-true b e = eq-eqb (b .owner) 254 e
+is-of-run-true b e = eq-eqb (b .owner) runOwner e
 
-is-of-run-false : (b : Superblock) → (b .owner ≡ 254 → ⊥) → isOfRun b ≡ false
+is-of-run-false : (b : Superblock) → (b .owner ≡ runOwner → ⊥) → isOfRun b ≡ false
 unfolding isOfRun
-is-of-run-false b f = ne-eqb (b .owner) 254 f
+is-of-run-false b f = ne-eqb (b .owner) runOwner f
 
 length-is-0 : (b : Superblock) → b .run ≤ 0 → eqb (b .run) 0 ≡ true
 length-is-0 b h = eq-eqb (b .run) 0 (omega arith)
@@ -59,30 +59,30 @@ module _ (table : List Superblock) (left k : ℕ) (long : length table ≡ 64) (
 
   -- one of a run is still to come
   module _ (more : 0 < left) where
-    pub false-of-broken-run : (this .owner ≡ 254 → ⊥) → false ≡ runsWhole 0 table
+    pub false-of-broken-run : (this .owner ≡ runOwner → ⊥) → false ≡ runsWhole 0 table
     false-of-broken-run f = sym (all ∙ runs-whole-in-run left this _ more ∙ rw (is-of-run-false this f))
 
     pub false-of-length-in-run : 0 < this .run → false ≡ runsWhole 0 table
     false-of-length-in-run h = sym (all ∙ runs-whole-in-run left this _ more ∙ rw (length-is-not-0 this h, both-false-right))
 
-    pub step-in-run : (left' : ℕ) → this .owner ≡ 254 → this .run ≤ 0 → left' ≡ left - 1 → Scanned table left' (k + 1)
+    pub step-in-run : (left' : ℕ) → this .owner ≡ runOwner → this .run ≤ 0 → left' ≡ left - 1 → Scanned table left' (k + 1)
     step-in-run left' o z e = all ∙ runs-whole-in-run left this _ more ∙ rw (is-of-run-true this o, length-is-0 this z, e)
 
   -- none is
   module _ (none : left ≤ 0) where
-    pub false-of-no-length : this .owner ≡ 254 → this .run < 1 → false ≡ runsWhole 0 table
+    pub false-of-no-length : this .owner ≡ runOwner → this .run < 1 → false ≡ runsWhole 0 table
     false-of-no-length o z = sym (all ∙ runs-whole-outside-run left this _ none ∙ rw (is-of-run-true this o, lt-leb 1 (this .run) z))
 
-    pub false-of-above-16 : this .owner ≡ 254 → 16 < this .run → false ≡ runsWhole 0 table
+    pub false-of-above-16 : this .owner ≡ runOwner → 16 < this .run → false ≡ runsWhole 0 table
     false-of-above-16 o h = sym (all ∙ runs-whole-outside-run left this _ none ∙ rw (is-of-run-true this o, lt-leb (this .run) 16 h, both-false-right))
 
-    pub step-first-of-run : (left' : ℕ) → this .owner ≡ 254 → 1 ≤ this .run → this .run ≤ 16 → left' ≡ this .run - 1 → Scanned table left' (k + 1)
+    pub step-first-of-run : (left' : ℕ) → this .owner ≡ runOwner → 1 ≤ this .run → this .run ≤ 16 → left' ≡ this .run - 1 → Scanned table left' (k + 1)
     step-first-of-run left' o l h e = all ∙ runs-whole-outside-run left this _ none ∙ rw (is-of-run-true this o, le-leb 1 (this .run) l, le-leb (this .run) 16 h, e)
 
-    pub false-of-length-outside : (this .owner ≡ 254 → ⊥) → 0 < this .run → false ≡ runsWhole 0 table
+    pub false-of-length-outside : (this .owner ≡ runOwner → ⊥) → 0 < this .run → false ≡ runsWhole 0 table
     false-of-length-outside o h = sym (all ∙ runs-whole-outside-run left this _ none ∙ rw (is-of-run-false this o, length-is-not-0 this h))
 
-    pub step-outside : (left' : ℕ) → (this .owner ≡ 254 → ⊥) → this .run ≤ 0 → left' ≡ left → Scanned table left' (k + 1)
+    pub step-outside : (left' : ℕ) → (this .owner ≡ runOwner → ⊥) → this .run ≤ 0 → left' ≡ left → Scanned table left' (k + 1)
     step-outside left' o z e = all ∙ runs-whole-outside-run left this _ none ∙ rw (is-of-run-false this o, length-is-0 this z, e, (let q : left ≡ 0 = omega arith in q))
 
 -- at the table's end no superblock of a run may be still to come

@@ -11,11 +11,11 @@ use lib.Dec.{T, eqb, ltb}
 use Rattle.base_laws.specs.Sums.{both, either}
 use Rattle.base_laws.proofs.TestLaws.{T-of-true, both-false-right, both-true-right}
 use Rattle.base_laws.proofs.SumLaws.{all-false, all-true}
-use Rattle.class_rules.specs.Classes.{blocksOf}
+use Rattle.class_rules.specs.Classes.{classCount, blocksOf}
 use Rattle.filled_rules.specs.FilledPlaces.{placesValid}
 use Rattle.heap_rules.specs.declared.Superblock.{Superblock}
 use Rattle.heap_rules.specs.declared.Setup.{Setup}
-use Rattle.heap_rules.specs.Table.{blank, liveIn, isUnused, isOfRun}
+use Rattle.heap_rules.specs.Table.{runOwner, unusedOwner, blank, liveIn, isUnused, isOfRun}
 use Rattle.check_rules.specs.Check.{isPartOfRun, isUnowned, isOwned, superblockValid, unusedFrom, sparseIfGlobal}
 use Rattle.check_superblock.specs.Alone.{aloneValid, eachValid}
 
@@ -39,7 +39,7 @@ module _ (u : Setup) (order : List ℕ) (k : ℕ) (b : Superblock) (r : Bool) (u
   unfolding aloneValid superblockValid isUnowned unusedFrom isUnused
   alone-valid-of-unused e =
       let is : isUnused b ≡ true = sym unused ∙ e in
-      sym (simp (is, either-yes, sparse-of-bare u b 255 (both (eqb (b .class) 0) (eqb (liveIn b) 0)) (omega arith) is))
+      sym (simp (is, either-yes, sparse-of-bare u b unusedOwner (both (eqb (b .class) 0) (eqb (liveIn b) 0)) (omega arith) is))
 
   module _ (some : r ≡ false) where
     is-unused-false : isUnused b ≡ false
@@ -54,7 +54,7 @@ module _ (u : Setup) (order : List ℕ) (k : ℕ) (b : Superblock) (r : Bool) (u
       unfolding aloneValid superblockValid isUnowned unusedFrom isPartOfRun isOfRun
       alone-valid-of-part-of-run below e =
           let is : isPartOfRun b ≡ true = sym part ∙ e in
-          sym (simp (is-unused-false, is, lt-ltb k (u .superblocks) below, sparse-of-bare u b 254 (both (eqb (b .class) 0) (eqb (liveIn b) 0)) (omega arith) is))
+          sym (simp (is-unused-false, is, lt-ltb k (u .superblocks) below, sparse-of-bare u b runOwner (both (eqb (b .class) 0) (eqb (liveIn b) 0)) (omega arith) is))
 
       module _ (none : p ≡ false) where
         is-unowned-false : isUnowned b ≡ false
@@ -65,23 +65,23 @@ module _ (u : Setup) (order : List ℕ) (k : ℕ) (b : Superblock) (r : Bool) (u
         unfolding aloneValid superblockValid isOwned
         alone-valid-false-of-owner h = sym (simp (is-unowned-false, lt-leb (b .owner) (u .processors) h))
 
-        pub alone-valid-false-of-class : b .owner ≤ u .processors → 27 ≤ b .class → false ≡ aloneValid u order k b
+        pub alone-valid-false-of-class : b .owner ≤ u .processors → classCount ≤ b .class → false ≡ aloneValid u order k b
         unfolding aloneValid superblockValid isOwned
-        alone-valid-false-of-class o h = sym (simp (is-unowned-false, le-ltb (b .class) 27 h, both-false-right))
+        alone-valid-false-of-class o h = sym (simp (is-unowned-false, le-ltb (b .class) classCount h, both-false-right))
 
         pub alone-valid-false-of-not-sparse : (t : Bool) → t ≡ sparseIfGlobal u b → not t ≡ true → false ≡ aloneValid u order k b
         unfolding aloneValid
         alone-valid-false-of-not-sparse t e f = sym (simp (sym e ∙ not-true t f, both-false-right))
 
-        pub alone-valid-is-places-valid : (t g : Bool) → k < u .superblocks → b .owner ≤ u .processors → b .class < 27 → t ≡ sparseIfGlobal u b → not t ≡ false → g ≡ placesValid order (b .live) k (blocksOf (b .class))
+        pub alone-valid-is-places-valid : (t g : Bool) → k < u .superblocks → b .owner ≤ u .processors → b .class < classCount → t ≡ sparseIfGlobal u b → not t ≡ false → g ≡ placesValid order (b .live) k (blocksOf (b .class))
             → g ≡ aloneValid u order k b
         unfolding aloneValid superblockValid isOwned unusedFrom
-        alone-valid-is-places-valid t g below owner class e f h = h ∙ sym (simp (is-unowned-false, lt-ltb k (u .superblocks) below, le-leb (b .owner) (u .processors) owner, lt-ltb (b .class) 27 class, sym e ∙ not-false t f, both-true-right))
+        alone-valid-is-places-valid t g below owner class e f h = h ∙ sym (simp (is-unowned-false, lt-ltb k (u .superblocks) below, le-leb (b .owner) (u .processors) owner, lt-ltb (b .class) classCount class, sym e ∙ not-false t f, both-true-right))
 
 -- a superblock of another owner is part of no run
-pub no-part-of-run-of-owner : (b : Superblock) → (b .owner ≡ 254 → ⊥) → false ≡ isPartOfRun b
+pub no-part-of-run-of-owner : (b : Superblock) → (b .owner ≡ runOwner → ⊥) → false ≡ isPartOfRun b
 unfolding isPartOfRun isOfRun
-no-part-of-run-of-owner b f = sym (simp (ne-eqb (b .owner) 254 f))
+no-part-of-run-of-owner b f = sym (simp (ne-eqb (b .owner) runOwner f))
 
 -- heap 0's superblocks are sparse
 module _ (u : Setup) (b : Superblock) where

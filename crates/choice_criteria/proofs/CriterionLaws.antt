@@ -7,7 +7,7 @@ use Rattle.base_laws.specs.Sums.{both}
 use Rattle.base_laws.proofs.TestLaws.{both-true-right}
 use Rattle.class_rules.specs.Classes.{blocksOf}
 use Rattle.heap_rules.specs.declared.Superblock.{Superblock}
-use Rattle.heap_rules.specs.Table.{liveIn, isUnused}
+use Rattle.heap_rules.specs.Table.{unusedOwner, liveIn, isUnused}
 use Rattle.heap_rules.specs.Counts.{belongs}
 use Rattle.choice_rules.specs.Choice.{hasFree, emptyInGlobal}
 use Rattle.choice_criteria.specs.declared.Criterion.{Criterion}
@@ -67,7 +67,7 @@ module _ (w : Criterion) (e : w ≡ Empty) where
   live-of-empty n = rw e
 
 module _ (w : Criterion) (e : w ≡ Unused) where
-  pub owner-of-unused : 255 ≡ ownerSought w
+  pub owner-of-unused : unusedOwner ≡ ownerSought w
   unfolding ownerSought
   owner-of-unused = rw e
 

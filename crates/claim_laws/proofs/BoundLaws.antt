@@ -10,8 +10,9 @@ use lib.Dec.{T, ltb}
 use Rattle.base_laws.specs.Sums.{both, sumBelow}
 use Rattle.base_laws.proofs.SumLaws.{sum-le-of-terms-le, sum-scale, sum-le-mul}
 use Rattle.base_laws.proofs.Counting.{sum-add}
-use Rattle.class_rules.specs.Classes.{blocksOf}
+use Rattle.class_rules.specs.Classes.{classCount, blocksOf}
 use Rattle.heap_rules.specs.declared.State.{State}
+use Rattle.heap_rules.specs.Table.{runOwner}
 use Rattle.heap_rules.specs.Counts.{superblocksOf, blocksIn, liveOf, superblocksOfClass, liveOfClass}
 use Rattle.move_rules.specs.Moves.{bothConditions, mustMove}
 use Rattle.heap_laws.proofs.StateFacts.{Sound}
@@ -56,7 +57,7 @@ bound-in-claim-form d n q k p a m u l e h b =
     let y : q * u ≤ q * l = mul-le-mul-left q h in
     omega arith
 
-module _ (s : State) (order : List ℕ) (sound : Sound s order) (c : ℕ) (known : c < 27) where
+module _ (s : State) (order : List ℕ) (sound : Sound s order) (c : ℕ) (known : c < classCount) where
   heap-bound : (i : ℕ) → i < s .setup .processors
       → (s .setup .q - s .setup .p) * blocksOf c * superblocksOf (suc i) c s ≤ s .setup .q * liveOf (suc i) c s + (s .setup .q - s .setup .p) * (s .setup .spare * blocksOf c)
   unfolding mustMove blocksIn
@@ -67,7 +68,7 @@ module _ (s : State) (order : List ℕ) (sound : Sound s order) (c : ℕ) (known
       regroup : (d m n r : ℕ) → d * (m * n) ≤ r → d * n * m ≤ r
       regroup d m n r h = omega arith
 
-  few-processors : s .setup .processors < 254
+  few-processors : s .setup .processors < runOwner
   few-processors = let h = sound .numbers .processors-high in omega arith
 
   -- where heap 0 has none of the class, the class's superblocks are few for its live blocks

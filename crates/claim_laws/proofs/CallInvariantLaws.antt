@@ -11,7 +11,7 @@ use lib.ListN.{length}
 use lib.Dec.{T}
 use Rattle.base_laws.specs.Sums.{both}
 use Rattle.base_laws.proofs.Inequalities.{le-of-not-below}
-use Rattle.class_rules.specs.Classes.{blocksOf, classOf, isLong, runLength}
+use Rattle.class_rules.specs.Classes.{classCount, blocksOf, classOf, isLong, runLength}
 use Rattle.class_rules.proofs.ClassLaws.{class-of-too-large}
 use Rattle.names_rules.specs.Names.{blockNumber, isHeld, withName}
 use Rattle.heap_rules.specs.declared.Setup.{Setup}
@@ -62,7 +62,7 @@ pub record ListInvariant (u : Setup) (s : State) (order : List ℕ) (ledger : Li
 
 -- the next state: its setup is the same, and of each class there are no more superblocks, or none in heap 0
 list-invariant-next : (u : Setup) (s t : State) (order after-call : List ℕ) (ledger new : List Entry) (peak : ℕ → ℕ) → ListInvariant u s order ledger peak
-    → t .setup ≡ s .setup → Passed t after-call → Shape t → Listed t new → EachEntry (EntryAgrees t) new → ((c : ℕ) → c < 27 → (superblocksOfClass c t ≤ superblocksOfClass c s) ⊎ (superblocksOf 0 c t ≡ 0))
+    → t .setup ≡ s .setup → Passed t after-call → Shape t → Listed t new → EachEntry (EntryAgrees t) new → ((c : ℕ) → c < classCount → (superblocksOfClass c t ≤ superblocksOfClass c s) ⊎ (superblocksOf 0 c t ≡ 0))
     → ListInvariant u t after-call new (peakWith peak new)
 unfolding Bounded
 list-invariant-next u s t order after-call ledger new peak g e passed shape listed names owned =
@@ -87,7 +87,7 @@ list-invariant-next u s t order after-call ledger new peak g e passed shape list
           (owned c l);
     }
   where
-    fresh : (c : ℕ) → c < 27 → superblocksOf 0 c t ≡ 0
+    fresh : (c : ℕ) → c < classCount → superblocksOf 0 c t ≡ 0
         → (u .q - u .p) * blocksOf c * superblocksOfClass c t ≤ u .q * liveOfClass c t + (u .q - u .p) * u .processors * u .spare * blocksOf c
     fresh c l none =
         subst (λ (v : Setup). (v .q - v .p) * blocksOf c * superblocksOfClass c t ≤ v .q * liveOfClass c t + (v .q - v .p) * v .processors * v .spare * blocksOf c) (e ∙ g .setup)
@@ -117,11 +117,11 @@ record Taken (s : State) (ledger : List Entry) (size a k j : ℕ) (after : After
   shape : Shape (after .answer .state)
   passed : Passed (after .answer .state) (after .order)
   block : BlockTaken a k j s (after .answer .state)
-  none-before : (d : ℕ) → d ≤ 27 → entriesAt ledger a d ≡ 0
+  none-before : (d : ℕ) → d ≤ classCount → entriesAt ledger a d ≡ 0
   listed : (name : Name) → Listed (after .answer .state) (record { address = a; size = size; name = name } ∷ ledger)
   long : (name : Name) → 2048 < size → LongAgrees (after .answer .state) (record { address = a; size = size; name = name })
   -- of each class there are no more superblocks, or none in heap 0
-  owned : (c : ℕ) → c < 27 → (superblocksOfClass c (after .answer .state) ≤ superblocksOfClass c s) ⊎ (superblocksOf 0 c (after .answer .state) ≡ 0)
+  owned : (c : ℕ) → c < classCount → (superblocksOfClass c (after .answer .state) ≤ superblocksOfClass c s) ⊎ (superblocksOf 0 c (after .answer .state) ≡ 0)
 
 -- what a free, by an address or by a name that holds it, leaves where it is accepted
 record Freed (s : State) (ledger : List Entry) (a moves : ℕ) (after : After) : Type 0 where
@@ -137,12 +137,12 @@ record Freed (s : State) (ledger : List Entry) (a moves : ℕ) (after : After) :
   owned : (d : ℕ) → superblocksOfClass d (after .answer .state) ≡ superblocksOfClass d s
 
 -- an address with no block of a class and no long block is not in the ledger, of a class or of none
-none-at : (s : State) (ledger : List Entry) (a : ℕ) → Listed s ledger → ((d : ℕ) → d < 27 → liveAt s a d ≡ 0) → longAt s a ≡ 0 → (d : ℕ) → d ≤ 27 → entriesAt ledger a d ≡ 0
-none-at s ledger a listed blocks long d l = go (decLt d 27)
+none-at : (s : State) (ledger : List Entry) (a : ℕ) → Listed s ledger → ((d : ℕ) → d < classCount → liveAt s a d ≡ 0) → longAt s a ≡ 0 → (d : ℕ) → d ≤ classCount → entriesAt ledger a d ≡ 0
+none-at s ledger a listed blocks long d l = go (decLt d classCount)
   where
-    go : Dec (d < 27) → entriesAt ledger a d ≡ 0
+    go : Dec (d < classCount) → entriesAt ledger a d ≡ 0
     go (yes h) = listed .blocks a d h ∙ blocks d h
-    go (no f) = let q : d ≡ 27 = omega (arith, le-of-not-below f) in rw q (listed .runs a ∙ long)
+    go (no f) = let q : d ≡ classCount = omega (arith, le-of-not-below f) in rw q (listed .runs a ∙ long)
 
 module _ (u : Setup) (s : State) (order : List ℕ) (ledger : List Entry) (peak : ℕ → ℕ) (g : ListInvariant u s order ledger peak) where
   -- a refused call changes nothing, and adds nothing to the ledger

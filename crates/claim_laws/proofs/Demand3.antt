@@ -8,7 +8,7 @@ use native.Mathlib.Omega.{arith}
 use lib.ListN.{length}
 use lib.Dec.{T}
 use Rattle.base_laws.proofs.TestLaws.{true-of-T}
-use Rattle.class_rules.specs.Classes.{blocksOf}
+use Rattle.class_rules.specs.Classes.{classCount, blocksOf}
 use Rattle.order_rules.specs.Order.{cleared}
 use Rattle.order_laws.proofs.OrderLaws.{length-cleared}
 use Rattle.heap_rules.specs.declared.Setup.{Setup}
@@ -39,7 +39,7 @@ ledger-of-new-state u =
     record {
       blocks = λ a c l. entries-at-empty a c ∙ sym (live-at-of-new-state u a c);
       counted = λ c l. entries-of-empty c ∙ sym (live-of-class-of-new-state u c);
-      runs = λ a. entries-at-empty a 27 ∙ sym (long-at-of-new-state u a);
+      runs = λ a. entries-at-empty a classCount ∙ sym (long-at-of-new-state u a);
     }
 
 bound-of-new-state : (u : Setup) → Bounded u (newState u) (λ c. 0)

@@ -10,11 +10,11 @@ use borrow.Author.Tests.{ne-eqb}
 use lib.Dec.{T, eqb}
 use Rattle.base_laws.specs.Sums.{pick, both, either, one}
 use Rattle.base_laws.proofs.TestLaws.{not-T-of-false, false-of-not-T, both-left, both-right, both-make, either-left, either-right, neither-left, neither-right}
-use Rattle.class_rules.specs.Classes.{isLong}
+use Rattle.class_rules.specs.Classes.{classCount, isLong}
 use Rattle.class_rules.proofs.ClassLaws.{class-of-lt-27, le-2048-of-not-long}
 use Rattle.heap_rules.specs.declared.Superblock.{Superblock}
 use Rattle.heap_rules.specs.declared.State.{State}
-use Rattle.heap_rules.specs.Table.{superblockAt, withOwner}
+use Rattle.heap_rules.specs.Table.{runOwner, superblockAt, withOwner}
 use Rattle.heap_rules.specs.Counts.{ownersChanged, passedBetweenHeaps}
 use Rattle.heap_rules.specs.Runs.{RunAt}
 use Rattle.heap_laws.proofs.StateFacts.{Shape}
@@ -64,24 +64,24 @@ none-of-more-asked f g asks (e ∷ ledger) none =
     (none-of-more-asked f g asks ledger (neither-right (longWhere f e) (someEntry (longWhere f) ledger) none))
 
 -- where none is long, none is of no class
-none-of-no-class : (a : ℕ) (ledger : List Entry) → someEntry (longWhere (isAt a)) ledger ≡ false → entriesAt ledger a 27 ≡ 0
+none-of-no-class : (a : ℕ) (ledger : List Entry) → someEntry (longWhere (isAt a)) ledger ≡ false → entriesAt ledger a classCount ≡ 0
 unfolding someEntry entriesAt
 none-of-no-class a [] none = refl
 none-of-no-class a (e ∷ ledger) none =
     let first = here (isAt a e) (isLong (e .size)) (neither-left (longWhere (isAt a) e) (someEntry (longWhere (isAt a)) ledger) none) refl in
     omega (arith, none-of-no-class a ledger (neither-right (longWhere (isAt a) e) (someEntry (longWhere (isAt a)) ledger) none))
   where
-    here : (x y : Bool) → both x y ≡ false → isLong (e .size) ≡ y → one (both x (eqb (classOfEntry e) 27)) ≡ 0
+    here : (x y : Bool) → both x y ≡ false → isLong (e .size) ≡ y → one (both x (eqb (classOfEntry e) classCount)) ≡ 0
     here true y none q =
         let small = class-of-lt-27 (e .size) (le-2048-of-not-long (e .size) (q ∙ none)) in
-        ap one (ne-eqb (classOfEntry e) 27 (λ (p : classOfEntry e ≡ 27). omega arith))
+        ap one (ne-eqb (classOfEntry e) classCount (λ (p : classOfEntry e ≡ classCount). omega arith))
     here false y none q = refl
 
 -- where a run of the state starts at the address, the ledger has a long block there
 pub run-start-is-long : (s : State) (ledger : List Entry) (a k n : ℕ) → Listed s ledger → RunAt s k n → a ≡ k * 4096
     → someEntry (longWhere (isAt a)) ledger ≡ false → ⊥
 run-start-is-long s ledger a k n listed run at none =
-    let absent : entriesAt ledger (k * 4096) 27 ≡ 0 = ap (λ (b : ℕ). entriesAt ledger b 27) (sym at) ∙ none-of-no-class a ledger none in
+    let absent : entriesAt ledger (k * 4096) classCount ≡ 0 = ap (λ (b : ℕ). entriesAt ledger b classCount) (sym at) ∙ none-of-no-class a ledger none in
     omega (arith, listed .runs (k * 4096), long-at-of-run s k n run)
 
 -- ---- a drop with no long block at its addresses
@@ -127,10 +127,10 @@ drop-changes-passed-owners s order addresses ledger shape passed ok g none =
 
     go : (k : ℕ) → superblockAt before k .owner ≡ superblockAt s k .owner
         → (superblockAt after k ≡ superblockAt before k)
-        ⊎ ((0 < superblockAt before k .owner) × (superblockAt before k .owner < 254)
+        ⊎ ((0 < superblockAt before k .owner) × (superblockAt before k .owner < runOwner)
         × T (isTouched s addresses (superblockAt before k .owner) (superblockAt before k .class))
         × (superblockAt after k ≡ withOwner 0 (superblockAt before k)))
-        → (superblockAt after k .owner ≡ superblockAt s k .owner) ⊎ ((superblockAt s k .owner < 254) × (superblockAt after k .owner < 254))
+        → (superblockAt after k .owner ≡ superblockAt s k .owner) ⊎ ((superblockAt s k .owner < runOwner) × (superblockAt after k .owner < runOwner))
     go k kept (inl e) = inl (ap (λ (b : Superblock). b .owner) e ∙ kept)
     go k kept (inr w) =
         let zero : superblockAt after k .owner ≡ 0 = ap (λ (b : Superblock). b .owner) (w .3) in

@@ -11,7 +11,7 @@ use Rattle.base_laws.specs.Sums.{pick, both, one}
 use Rattle.base_laws.proofs.Inequalities.{le-of-not-below}
 use Rattle.base_laws.proofs.TestLaws.{T-of-true, true-of-T, true-not-false, both-left}
 use Rattle.base_laws.proofs.Decides.{true-of-decides, false-of-decides}
-use Rattle.class_rules.specs.Classes.{isLong}
+use Rattle.class_rules.specs.Classes.{classCount, isLong}
 use Rattle.class_rules.proofs.ClassLaws.{class-of-lt-27, decides-long}
 use Rattle.names_rules.specs.Names.{isHeld}
 use Rattle.heap_rules.specs.declared.State.{State}
@@ -69,7 +69,7 @@ module _ (a : ℕ) where
       go (no f) ih = rw (ne-eqb (e .address) a f) ih
 
   -- where the ledger counts no block of a class at the address, each there is long
-  long-of-no-class : (ledger : List Entry) → ((d : ℕ) → d < 27 → entriesAt ledger a d ≡ 0) → EachEntry (λ e. e .address ≡ a → isLong (e .size) ≡ true) ledger
+  long-of-no-class : (ledger : List Entry) → ((d : ℕ) → d < classCount → entriesAt ledger a d ≡ 0) → EachEntry (λ e. e .address ≡ a → isLong (e .size) ≡ true) ledger
   unfolding EachEntry entriesAt
   long-of-no-class [] none = tt
   long-of-no-class (e ∷ ledger) none = (λ q. long q (decLt 2048 (e .size)), long-of-no-class ledger (λ d l. omega (arith, none d l)))
@@ -147,7 +147,7 @@ module _ (freed : ℕ → ℕ → ℕ) (s : State) (order : List ℕ) (a : ℕ) 
       one-more-long-of-free (superblockIndex a) (superblockHolding s a .run) s (longBlockFreed s a)
       (long-block-freed-effect freed s order a shape passed accepted long)
 
-  pub long-block-in-ledger : isInRun s a ≡ true → 0 < entriesAt ledger a 27
+  pub long-block-in-ledger : isInRun s a ≡ true → 0 < entriesAt ledger a classCount
   long-block-in-ledger long =
       let k : ℕ = superblockIndex a in
       let more = long-at-one-more k (longBlockFreed s a) s (one-long-less long) a in
@@ -157,7 +157,7 @@ module _ (freed : ℕ → ℕ → ℕ) (s : State) (order : List ℕ) (a : ℕ) 
   pub event-of-long-block : isInRun s a ≡ true → eventOfBlock (isAt a) ledger ≡ neither
   event-of-long-block long = event-of-long-entry a ledger (long-of-no-class a ledger none)
     where
-      none : (d : ℕ) → d < 27 → entriesAt ledger a d ≡ 0
+      none : (d : ℕ) → d < classCount → entriesAt ledger a d ≡ 0
       none d l =
           agrees .listed .blocks a d l ∙ live-at-same (longBlockFreed s a) s a d l (one-long-less long .blocks-same d)
           ∙ ap (λ (b : ℕ). liveAt (longBlockFreed s a) b d) (freed-run-address freed s order a shape passed accepted long)

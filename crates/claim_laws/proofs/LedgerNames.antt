@@ -13,7 +13,7 @@ use lib.Dec.{T, eqb}
 use Rattle.base_laws.specs.Sums.{pick, both, one}
 use Rattle.base_laws.proofs.Inequalities.{le-of-not-below}
 use Rattle.base_laws.proofs.TestLaws.{T-of-true, true-of-T, both-false-right}
-use Rattle.class_rules.specs.Classes.{blocksOf}
+use Rattle.class_rules.specs.Classes.{classCount, blocksOf}
 use Rattle.class_rules.proofs.ClassTableLaws.{blocks-of-le-256}
 use Rattle.class_rules.proofs.ClassLaws.{class-of-le-27}
 use Rattle.class_rules.proofs.OffsetLaws.{offset-injective}
@@ -23,7 +23,7 @@ use Rattle.names_rules.specs.Names.{notHeld, blockNumber, blockNamed, isHeld, w
 use Rattle.names_laws.proofs.NameLaws.{held-facts, held-of-facts, held-cong, block-named-with-name, block-named-with-other-name, not-held-without-block, block-named-without-other-block}
 use Rattle.heap_rules.specs.declared.Superblock.{Superblock}
 use Rattle.heap_rules.specs.declared.State.{State}
-use Rattle.heap_rules.specs.Table.{blank, superblockAt, liveIn, isOfRun}
+use Rattle.heap_rules.specs.Table.{runOwner, blank, superblockAt, liveIn, isOfRun}
 use Rattle.check_rules.specs.Check.{namesValid}
 use Rattle.heap_laws.proofs.StateFacts.{Shape, SoundWith, RunsKept}
 use Rattle.heap_laws.proofs.StateCheckLaws.{names-sound-of-valid, unowned-of-owner}
@@ -124,7 +124,7 @@ module _ (i c k j : ℕ) (s t : State) (order : List ℕ) (shape : Shape s) (pas
           ap (λ (n : ℕ). markBit (superblockAt s n .live) (blockNamed (s .names) m % 256)) (sym q)
           ∙ held-block-is-live s order shape passed m held (ap (λ (n : ℕ). isOfRun (superblockAt s n)) q ∙ effect .outside-run) .marked
 
-      class : (liveIn (superblockAt s k) ≡ 0) ⊎ ((superblockAt s k .class ≡ c) × (superblockAt s k .owner < 254)) → superblockAt s k .class ≡ c
+      class : (liveIn (superblockAt s k) ≡ 0) ⊎ ((superblockAt s k .class ≡ c) × (superblockAt s k .owner < runOwner)) → superblockAt s k .class ≡ c
       class (inl z) =
           let clear = marks-clear-of-live-count-zero (superblockAt s k .live) z (blockNamed (s .names) m % 256) (omega arith) in
           absurd (let z : ⊥ = omega (arith, marked) in z)
@@ -251,7 +251,7 @@ module _ (a k j : ℕ) (s t : State) (taken : BlockTaken a k j s t) where
         at m (no f) = ne-eqb n m (λ q. f (sym q)) ∙ sym (not-held-at-taken m (other-block m f))
 
 -- ---- no entry is where the ledger counts none
-pub no-entry-at : (a : ℕ) (ledger : List Entry) → ((d : ℕ) → d ≤ 27 → entriesAt ledger a d ≡ 0) → EachEntry (λ e. e .address ≡ a → ⊥) ledger
+pub no-entry-at : (a : ℕ) (ledger : List Entry) → ((d : ℕ) → d ≤ classCount → entriesAt ledger a d ≡ 0) → EachEntry (λ e. e .address ≡ a → ⊥) ledger
 unfolding EachEntry entriesAt
 no-entry-at a [] none = tt
 no-entry-at a (e ∷ ledger) none = (apart, no-entry-at a ledger (λ d l. omega (arith, none d l)))

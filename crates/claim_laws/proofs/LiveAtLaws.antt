@@ -11,7 +11,7 @@ use lib.ListN.{getD-replicate}
 use lib.Dec.{eqb, ltb}
 use Rattle.base_laws.specs.Sums.{pick, both, one}
 use Rattle.base_laws.proofs.TestLaws.{one-of-equal, one-of-different}
-use Rattle.class_rules.specs.Classes.{sizeOf, blocksOf}
+use Rattle.class_rules.specs.Classes.{classCount, sizeOf, blocksOf}
 use Rattle.class_rules.proofs.ClassTableLaws.{size-of-ge-16, blocks-of-le-256}
 use Rattle.class_rules.proofs.OffsetLaws.{block-of-offset, offset-mod-size, offset-of-block}
 use Rattle.marks_rules.specs.Marks.{markBit}
@@ -19,7 +19,7 @@ use Rattle.marks_laws.proofs.MarkLaws.{marks-clear-of-live-count-zero}
 use Rattle.heap_rules.specs.declared.Superblock.{Superblock}
 use Rattle.heap_rules.specs.declared.State.{State}
 use Rattle.heap_rules.specs.declared.Setup.{Setup}
-use Rattle.heap_rules.specs.Table.{blank, unused, superblockAt, liveIn, isOfRun, startsRun, isOfHeap}
+use Rattle.heap_rules.specs.Table.{runOwner, blank, unused, superblockAt, liveIn, isOfRun, startsRun, isOfHeap}
 use Rattle.heap_rules.specs.States.{newState}
 use Rattle.heap_rules.specs.Counts.{isOwnedOfClass, liveOfClass}
 use Rattle.heap_laws.proofs.RunsKeptLaws.{outside-run-of-owner}
@@ -42,7 +42,7 @@ liveAt s a c =
 
 -- ---- one superblock
 module _ (c : ℕ) (b : Superblock) where
-  pub live-for-owned : (j : ℕ) → b .owner < 254 → b .class ≡ c → liveFor c b j ≡ markBit (b .live) j
+  pub live-for-owned : (j : ℕ) → b .owner < runOwner → b .class ≡ c → liveFor c b j ≡ markBit (b .live) j
   unfolding liveFor
   live-for-owned j l e = rw (owned-of-class-true c b l e)
 
@@ -51,7 +51,7 @@ module _ (c : ℕ) (b : Superblock) where
   live-for-other j f = rw (owned-of-class-false c b f)
 
   -- no heap owns it: nothing in it is of a class
-  pub live-for-unowned : (j : ℕ) → 254 ≤ b .owner → liveFor c b j ≡ 0
+  pub live-for-unowned : (j : ℕ) → runOwner ≤ b .owner → liveFor c b j ≡ 0
   unfolding liveFor
   live-for-unowned j l = rw (unowned-of-no-class c b l)
 
@@ -65,7 +65,7 @@ module _ (c : ℕ) (b : Superblock) where
 
 -- ---- addresses
 -- the block that an offset lies in is one of 256
-block-below : (c a : ℕ) → c < 27 → a % 4096 / sizeOf c < 256
+block-below : (c a : ℕ) → c < classCount → a % 4096 / sizeOf c < 256
 block-below c a known =
     let z : 16 ≤ sizeOf c = size-of-ge-16 c known in
     let m : 256 * 16 ≤ 256 * sizeOf c = mul-le-mul-left 256 z in
@@ -80,7 +80,7 @@ address-same : (a c d k j : ℕ) → a % 4096 % sizeOf d ≡ 0 → d ≡ c → a
 address-same a c d k j e p q r = rw (← p, ← q, ← r) (address-of-block-at a d e)
 
 -- the live blocks of a class go only by those of each superblock
-pub live-at-same : (s t : State) (a d : ℕ) → d < 27 → ((m b : ℕ) → m < 64 → b < 256 → liveFor d (superblockAt t m) b ≡ liveFor d (superblockAt s m) b) → liveAt t a d ≡ liveAt s a d
+pub live-at-same : (s t : State) (a d : ℕ) → d < classCount → ((m b : ℕ) → m < 64 → b < 256 → liveFor d (superblockAt t m) b ≡ liveFor d (superblockAt s m) b) → liveAt t a d ≡ liveAt s a d
 unfolding liveAt
 live-at-same s t a d l same = go (ltb (a / 4096) 64) (eqb (a % 4096 % sizeOf d) 0) refl
   where
@@ -91,7 +91,7 @@ live-at-same s t a d l same = go (ltb (a / 4096) 64) (eqb (a % 4096 % sizeOf d) 
     go false y p = refl
 
 -- and there are none at an address of a superblock that has none
-pub live-at-none : (s : State) (a d : ℕ) → d < 27 → ((b : ℕ) → b < 256 → liveFor d (superblockAt s (a / 4096)) b ≡ 0) → liveAt s a d ≡ 0
+pub live-at-none : (s : State) (a d : ℕ) → d < classCount → ((b : ℕ) → b < 256 → liveFor d (superblockAt s (a / 4096)) b ≡ 0) → liveAt s a d ≡ 0
 unfolding liveAt
 live-at-none s a d l none = rw (none (a % 4096 / sizeOf d) (block-below d a l)) (go (ltb (a / 4096) 64) (eqb (a % 4096 % sizeOf d) 0))
   where
@@ -103,7 +103,7 @@ live-at-none s a d l none = rw (none (a % 4096 / sizeOf d) (block-below d a l)) 
 -- ---- one live block more
 -- In state t block j of superblock k, of class c, is live; in s it is not, and no other block differs.
 pub record OneMoreLive (c k j : ℕ) (s t : State) : Type 0 where
-  pub class-lt-27 : c < 27
+  pub class-lt-27 : c < classCount
   pub below : k < 64
   pub block : j < blocksOf c
   pub not-live-before : liveFor c (superblockAt s k) j ≡ 0
@@ -115,14 +115,14 @@ pub record OneMoreLive (c k j : ℕ) (s t : State) : Type 0 where
   pub outside-run : isOfRun (superblockAt s k) ≡ false
   pub long-same : (a : ℕ) → longAt t a ≡ longAt s a
 
-pub live-at-of-address : (s : State) (c k j : ℕ) → c < 27 → k < 64 → j < blocksOf c → liveAt s (addressOf k c j) c ≡ liveFor c (superblockAt s k) j
+pub live-at-of-address : (s : State) (c k j : ℕ) → c < classCount → k < 64 → j < blocksOf c → liveAt s (addressOf k c j) c ≡ liveFor c (superblockAt s k) j
 unfolding liveAt
 live-at-of-address s c k j known below block =
     rw (address-superblock c k j known block, address-offset c k j known block, block-of-offset c known j, offset-mod-size c known j, lt-ltb k 64 below)
 
 module _ (c k j : ℕ) (s t : State) (more : OneMoreLive c k j s t) where
   -- in s nothing is live at the address, in any class
-  pub live-at-before-is-zero : (d : ℕ) → d < 27 → liveAt s (addressOf k c j) d ≡ 0
+  pub live-at-before-is-zero : (d : ℕ) → d < classCount → liveAt s (addressOf k c j) d ≡ 0
   live-at-before-is-zero d l = go (ℕ-discrete d c)
     where
       go : Dec (d ≡ c) → liveAt s (addressOf k c j) d ≡ 0
@@ -137,7 +137,7 @@ module _ (c k j : ℕ) (s t : State) (more : OneMoreLive c k j s t) where
       (ap (λ (x : ℕ). startsRun (superblockAt s x)) (address-superblock c k j (more .class-lt-27) (more .block)) ∙ ap (λ (x : Bool). both x (ltb 0 (superblockAt s k .run))) (more .outside-run))
 
   -- another address or class is as it was
-  live-at-of-others : (a d : ℕ) → d < 27 → ((d ≡ c) × (addressOf k c j ≡ a) → ⊥) → liveAt t a d ≡ liveAt s a d
+  live-at-of-others : (a d : ℕ) → d < classCount → ((d ≡ c) × (addressOf k c j ≡ a) → ⊥) → liveAt t a d ≡ liveAt s a d
   unfolding liveAt
   live-at-of-others a d l f = go (ltb (a / 4096) 64) (eqb (a % 4096 % sizeOf d) 0) refl refl
     where
@@ -150,7 +150,7 @@ module _ (c k j : ℕ) (s t : State) (more : OneMoreLive c k j s t) where
       go false y p q = refl
 
   -- t has one more, at that address
-  pub live-at-one-more : (a d : ℕ) → d < 27 → liveAt t a d ≡ liveAt s a d + one (both (eqb (addressOf k c j) a) (eqb c d))
+  pub live-at-one-more : (a d : ℕ) → d < classCount → liveAt t a d ≡ liveAt s a d + one (both (eqb (addressOf k c j) a) (eqb c d))
   live-at-one-more a d l = go (ℕ-discrete d c) (ℕ-discrete (addressOf k c j) a)
     where
       none : (x : Bool) → one (both x false) ≡ 0
@@ -181,24 +181,24 @@ live-of-class-one-more c s t here others d = go (ℕ-discrete d c)
     go (yes e) = rw e (let z : one (eqb c c) ≡ 1 = one-of-equal c in omega arith)
     go (no f) = let x = others d f in let z : one (eqb c d) ≡ 0 = one-of-different c d (λ q. f (sym q)) in omega arith
 
-module _ (i c k j : ℕ) (s t : State) (below : k < 64) (owner : i < 254) (e : TakeEffect i c k j s t) where
+module _ (i c k j : ℕ) (s t : State) (below : k < 64) (owner : i < runOwner) (e : TakeEffect i c k j s t) where
   -- the marks that superblock k had were of class c
   live-for-other-class-before-take : (d b : ℕ) → b < 256 → (d ≡ c → ⊥) → liveFor d (superblockAt s k) b ≡ 0
   live-for-other-class-before-take d b l f = go (e .before)
     where
-      go : (liveIn (superblockAt s k) ≡ 0) ⊎ ((superblockAt s k .class ≡ c) × (superblockAt s k .owner < 254)) → liveFor d (superblockAt s k) b ≡ 0
+      go : (liveIn (superblockAt s k) ≡ 0) ⊎ ((superblockAt s k .class ≡ c) × (superblockAt s k .owner < runOwner)) → liveFor d (superblockAt s k) b ≡ 0
       go (inl z) = live-for-clear d (superblockAt s k) b (marks-clear-of-live-count-zero (superblockAt s k .live) z b l)
       go (inr h) = live-for-other d (superblockAt s k) b (λ q. f (sym q ∙ h .0))
 
   live-for-before-take : (b : ℕ) → b < 256 → liveFor c (superblockAt s k) b ≡ markBit (superblockAt s k .live) b
   live-for-before-take b l = go (e .before)
     where
-      go : (liveIn (superblockAt s k) ≡ 0) ⊎ ((superblockAt s k .class ≡ c) × (superblockAt s k .owner < 254)) → liveFor c (superblockAt s k) b ≡ markBit (superblockAt s k .live) b
+      go : (liveIn (superblockAt s k) ≡ 0) ⊎ ((superblockAt s k .class ≡ c) × (superblockAt s k .owner < runOwner)) → liveFor c (superblockAt s k) b ≡ markBit (superblockAt s k .live) b
       go (inl z) = let m = marks-clear-of-live-count-zero (superblockAt s k .live) z b l in live-for-clear c (superblockAt s k) b m ∙ sym m
       go (inr h) = live-for-owned c (superblockAt s k) b (h .1) (h .0)
 
   live-for-after-take : (b : ℕ) → liveFor c (superblockAt t k) b ≡ markBit (superblockAt t k .live) b
-  live-for-after-take b = live-for-owned c (superblockAt t k) b (subst (λ (h : ℕ). h < 254) (sym (e .owner)) owner) (e .class)
+  live-for-after-take b = live-for-owned c (superblockAt t k) b (subst (λ (h : ℕ). h < runOwner) (sym (e .owner)) owner) (e .class)
 
   block-in : j < 256
   block-in = let b = blocks-of-le-256 c in let h = e .block in omega arith
@@ -238,9 +238,9 @@ module _ (c k j moves : ℕ) (s t : State) (below : k < 64) (e : FreeEffect c k 
   still-owned d m l = ap₂ both (go (e .owners m l)) (ap (λ (x : ℕ). eqb x d) (e .classes m l))
     where
       go : (superblockAt t m .owner ≡ superblockAt s m .owner) ⊎ ((superblockAt s m .owner ≡ superblockAt s k .owner) × (superblockAt t m .owner ≡ 0))
-          → ltb (superblockAt t m .owner) 254 ≡ ltb (superblockAt s m .owner) 254
-      go (inl q) = ap (λ (x : ℕ). ltb x 254) q
-      go (inr h) = ap (λ (x : ℕ). ltb x 254) (h .1) ∙ sym (lt-ltb (superblockAt s m .owner) 254 (subst (λ (x : ℕ). x < 254) (sym (h .0)) (e .owned-before)))
+          → ltb (superblockAt t m .owner) runOwner ≡ ltb (superblockAt s m .owner) runOwner
+      go (inl q) = ap (λ (x : ℕ). ltb x runOwner) q
+      go (inr h) = ap (λ (x : ℕ). ltb x runOwner) (h .1) ∙ sym (lt-ltb (superblockAt s m .owner) runOwner (subst (λ (x : ℕ). x < runOwner) (sym (h .0)) (e .owned-before)))
 
   live-for-others-of-free : (d m b : ℕ) → m < 64 → b < 256 → ((d ≡ c) × (m ≡ k) × (b ≡ j) → ⊥) → liveFor d (superblockAt s m) b ≡ liveFor d (superblockAt t m) b
   unfolding liveFor
@@ -269,7 +269,7 @@ module _ (c k j moves : ℕ) (s t : State) (below : k < 64) (e : FreeEffect c k 
         no-other-class = λ d b h f. live-for-other d (superblockAt t k) b (λ q. f (sym q ∙ class-after));
         others-same = live-for-others-of-free;
         live = live-of-class-one-more c t s (e .live-of-class) (λ d f. sym (e .live-of-others d f));
-        outside-run = e .runs k below .0 ∙ outside-run-of-owner (superblockAt s k) (λ (q : superblockAt s k .owner ≡ 254). omega (arith, e .owned-before));
+        outside-run = e .runs k below .0 ∙ outside-run-of-owner (superblockAt s k) (λ (q : superblockAt s k .owner ≡ runOwner). omega (arith, e .owned-before));
         long-same = λ a. sym (long-at-of-kept s t (e .runs) a);
       }
 

@@ -9,11 +9,12 @@ use native.Mathlib.Omega.{arith}
 use borrow.Author.Tests.{eq-eqb, ne-eqb, lt-ltb}
 use lib.Dec.{T, eqb}
 use Rattle.base_laws.specs.Sums.{pick, both, either, one}
+use Rattle.class_rules.specs.Classes.{classCount}
 use Rattle.base_laws.proofs.TestLaws.{both-false-right, both-true-right, pick-elim, one-of-different}
 use Rattle.marks_rules.specs.Marks.{markBit}
 use Rattle.heap_rules.specs.declared.Superblock.{Superblock}
 use Rattle.heap_rules.specs.declared.State.{State}
-use Rattle.heap_rules.specs.Table.{superblockAt, isOfRun, isOfHeap, withOwner}
+use Rattle.heap_rules.specs.Table.{runOwner, superblockAt, isOfRun, isOfHeap, withOwner}
 use Rattle.heap_rules.specs.Counts.{isOwnedOfClass, liveOfClass}
 use Rattle.heap_laws.proofs.StateFacts.{Shape, RunsKept}
 use Rattle.heap_laws.proofs.RunsKeptLaws.{outside-run-of-owner}
@@ -35,11 +36,11 @@ use Rattle.claim_laws.proofs.LedgerNames.{EntryAgrees, block-let-go-of-
 
 pub record Listed (s : State) (ledger : List Entry) : Type 0 where
   -- each block once, and nothing else
-  pub blocks : (a c : ℕ) → c < 27 → entriesAt ledger a c ≡ liveAt s a c
+  pub blocks : (a c : ℕ) → c < classCount → entriesAt ledger a c ≡ liveAt s a c
   -- so that each class has as many entries as live blocks
-  pub counted : (c : ℕ) → c < 27 → entriesOf c ledger ≡ liveOfClass c s
+  pub counted : (c : ℕ) → c < classCount → entriesOf c ledger ≡ liveOfClass c s
   -- each long block once, and nothing else that no class holds
-  pub runs : (a : ℕ) → entriesAt ledger a 27 ≡ longAt s a
+  pub runs : (a : ℕ) → entriesAt ledger a classCount ≡ longAt s a
 
 module _ (c k j : ℕ) (s t : State) (one-more-live : OneMoreLive c k j s t) (ledger : List Entry) where
   pub listed-added : (e : Entry) → e .address ≡ addressOf k c j → classOfEntry e ≡ c → Listed s ledger → Listed t (e ∷ ledger)
@@ -56,12 +57,12 @@ module _ (c k j : ℕ) (s t : State) (one-more-live : OneMoreLive c k j s t) (le
             ∙ ap (λ (x : ℕ). x + one (eqb c d)) (h .counted d l)
             ∙ sym (one-more-live .live d);
         runs = λ a.
-            let x = entries-at-added e ledger a 27 in
-            let y : one (both (isAt a e) (eqb (classOfEntry e) 27)) ≡ 0 = not-counted a e (ne-eqb (classOfEntry e) 27 (λ (q : classOfEntry e ≡ 27). omega (arith, one-more-live .class-lt-27))) in
+            let x = entries-at-added e ledger a classCount in
+            let y : one (both (isAt a e) (eqb (classOfEntry e) classCount)) ≡ 0 = not-counted a e (ne-eqb (classOfEntry e) classCount (λ (q : classOfEntry e ≡ classCount). omega (arith, one-more-live .class-lt-27))) in
             omega (arith, h .runs a, one-more-live .long-same a);
       }
     where
-      not-counted : (a : ℕ) (e : Entry) → eqb (classOfEntry e) 27 ≡ false → one (both (isAt a e) (eqb (classOfEntry e) 27)) ≡ 0
+      not-counted : (a : ℕ) (e : Entry) → eqb (classOfEntry e) classCount ≡ false → one (both (isAt a e) (eqb (classOfEntry e) classCount)) ≡ 0
       not-counted a e q = ap (λ (x : Bool). one (both (isAt a e) x)) q ∙ ap one (both-false-right (isAt a e))
 
   abbrev pub without-address : List Entry
@@ -70,15 +71,15 @@ module _ (c k j : ℕ) (s t : State) (one-more-live : OneMoreLive c k j s t) (le
   pub listed-removed : Listed t ledger → Listed s without-address
   listed-removed h = record { blocks = λ a d l. without a d l (ℕ-discrete (addressOf k c j) a); counted = one-live-less; runs = λ a. long-blocks a (ℕ-discrete (addressOf k c j) a) }
     where
-      long-blocks : (a : ℕ) → Dec (addressOf k c j ≡ a) → entriesAt without-address a 27 ≡ longAt s a
+      long-blocks : (a : ℕ) → Dec (addressOf k c j ≡ a) → entriesAt without-address a classCount ≡ longAt s a
       long-blocks a (yes e) =
-          ap (λ (x : ℕ). entriesAt without-address x 27) (sym e)
-          ∙ entries-at-removed (addressOf k c j) ledger 27
+          ap (λ (x : ℕ). entriesAt without-address x classCount) (sym e)
+          ∙ entries-at-removed (addressOf k c j) ledger classCount
           ∙ sym (long-at-before-is-zero c k j s t one-more-live)
           ∙ ap (longAt s) e
-      long-blocks a (no f) = entries-at-others-removed (addressOf k c j) ledger a 27 f ∙ h .runs a ∙ one-more-live .long-same a
+      long-blocks a (no f) = entries-at-others-removed (addressOf k c j) ledger a classCount f ∙ h .runs a ∙ one-more-live .long-same a
 
-      without : (a d : ℕ) → d < 27 → Dec (addressOf k c j ≡ a) → entriesAt without-address a d ≡ liveAt s a d
+      without : (a d : ℕ) → d < classCount → Dec (addressOf k c j ≡ a) → entriesAt without-address a d ≡ liveAt s a d
       without a d l (yes e) =
           ap (λ (x : ℕ). entriesAt without-address x d) (sym e)
           ∙ entries-at-removed (addressOf k c j) ledger d
@@ -91,7 +92,7 @@ module _ (c k j : ℕ) (s t : State) (one-more-live : OneMoreLive c k j s t) (le
           let o : one (both (eqb (addressOf k c j) a) (eqb c d)) ≡ 0 = ap (λ (x : Bool). one (both x (eqb c d))) (ne-eqb (addressOf k c j) a f) in
           omega arith
 
-      one-live-less : (d : ℕ) → d < 27 → entriesOf d without-address ≡ liveOfClass d s
+      one-live-less : (d : ℕ) → d < classCount → entriesOf d without-address ≡ liveOfClass d s
       one-live-less d l =
           let x = entries-of-removed (addressOf k c j) ledger d in
           let y = h .blocks (addressOf k c j) d l in
@@ -105,13 +106,13 @@ module _ (c k j : ℕ) (s t : State) (one-more-live : OneMoreLive c k j s t) (le
 -- ---- a long block taken or freed
 module _ (k : ℕ) (s t : State) (one-more-long : OneMoreLong k s t) (ledger : List Entry) where
   -- the blocks of a class stay, and there is none where it starts
-  live-at-kept : (a d : ℕ) → d < 27 → liveAt t a d ≡ liveAt s a d
+  live-at-kept : (a d : ℕ) → d < classCount → liveAt t a d ≡ liveAt s a d
   live-at-kept a d l = live-at-same s t a d l (one-more-long .blocks-same d)
 
-  pub live-at-run-is-zero : (d : ℕ) → d < 27 → liveAt s (k * 4096) d ≡ 0
+  pub live-at-run-is-zero : (d : ℕ) → d < classCount → liveAt s (k * 4096) d ≡ 0
   live-at-run-is-zero d l = live-at-none s (k * 4096) d l (λ b h. let q : k * 4096 / 4096 ≡ k = omega arith in rw q (one-more-long .no-class d b h))
 
-  pub listed-long-added : (e : Entry) → e .address ≡ k * 4096 → classOfEntry e ≡ 27 → Listed s ledger → Listed t (e ∷ ledger)
+  pub listed-long-added : (e : Entry) → e .address ≡ k * 4096 → classOfEntry e ≡ classCount → Listed s ledger → Listed t (e ∷ ledger)
   listed-long-added e at class h =
       record {
         blocks = λ a d l.
@@ -123,14 +124,14 @@ module _ (k : ℕ) (s t : State) (one-more-long : OneMoreLong k s t) (ledger : L
             let y : one (eqb (classOfEntry e) d) ≡ 0 = ap one (of-no-class d l) in
             omega (arith, h .counted d l, one-more-long .live d);
         runs = λ a.
-            entries-at-added e ledger a 27
-            ∙ ap₂ (λ (x y : ℕ). entriesAt ledger a 27 + one (both (eqb x a) (eqb y 27))) at class
-            ∙ ap (λ (x : Bool). entriesAt ledger a 27 + one x) (both-true-right (eqb (k * 4096) a))
+            entries-at-added e ledger a classCount
+            ∙ ap₂ (λ (x y : ℕ). entriesAt ledger a classCount + one (both (eqb x a) (eqb y classCount))) at class
+            ∙ ap (λ (x : Bool). entriesAt ledger a classCount + one x) (both-true-right (eqb (k * 4096) a))
             ∙ ap (λ (x : ℕ). x + one (eqb (k * 4096) a)) (h .runs a)
             ∙ sym (long-at-one-more k s t one-more-long a);
       }
     where
-      of-no-class : (d : ℕ) → d < 27 → eqb (classOfEntry e) d ≡ false
+      of-no-class : (d : ℕ) → d < classCount → eqb (classOfEntry e) d ≡ false
       of-no-class d l = ne-eqb (classOfEntry e) d (λ (q : classOfEntry e ≡ d). omega arith)
 
   abbrev pub without-run : List Entry
@@ -139,17 +140,17 @@ module _ (k : ℕ) (s t : State) (one-more-long : OneMoreLong k s t) (ledger : L
   pub listed-long-removed : Listed t ledger → Listed s without-run
   listed-long-removed h = record { blocks = λ a d l. same a d l (ℕ-discrete (k * 4096) a); counted = counted; runs = λ a. less a (ℕ-discrete (k * 4096) a) }
     where
-      same : (a d : ℕ) → d < 27 → Dec (k * 4096 ≡ a) → entriesAt without-run a d ≡ liveAt s a d
+      same : (a d : ℕ) → d < classCount → Dec (k * 4096 ≡ a) → entriesAt without-run a d ≡ liveAt s a d
       same a d l (yes e) = ap (λ (x : ℕ). entriesAt without-run x d) (sym e) ∙ entries-at-removed (k * 4096) ledger d ∙ sym (live-at-run-is-zero d l) ∙ ap (λ (x : ℕ). liveAt s x d) e
       same a d l (no f) = entries-at-others-removed (k * 4096) ledger a d f ∙ h .blocks a d l ∙ live-at-kept a d l
 
-      counted : (d : ℕ) → d < 27 → entriesOf d without-run ≡ liveOfClass d s
+      counted : (d : ℕ) → d < classCount → entriesOf d without-run ≡ liveOfClass d s
       counted d l =
           omega (arith, entries-of-removed (k * 4096) ledger d, h .blocks (k * 4096) d l, live-at-kept (k * 4096) d l, live-at-run-is-zero d l, h .counted d l, one-more-long .live d)
 
-      less : (a : ℕ) → Dec (k * 4096 ≡ a) → entriesAt without-run a 27 ≡ longAt s a
-      less a (yes e) = ap (λ (x : ℕ). entriesAt without-run x 27) (sym e) ∙ entries-at-removed (k * 4096) ledger 27 ∙ sym (long-at-before-run-is-zero k s t one-more-long) ∙ ap (longAt s) e
-      less a (no f) = omega (arith, entries-at-others-removed (k * 4096) ledger a 27 f, h .runs a, long-at-one-more k s t one-more-long a, one-of-different (k * 4096) a f)
+      less : (a : ℕ) → Dec (k * 4096 ≡ a) → entriesAt without-run a classCount ≡ longAt s a
+      less a (yes e) = ap (λ (x : ℕ). entriesAt without-run x classCount) (sym e) ∙ entries-at-removed (k * 4096) ledger classCount ∙ sym (long-at-before-run-is-zero k s t one-more-long) ∙ ap (longAt s) e
+      less a (no f) = omega (arith, entries-at-others-removed (k * 4096) ledger a classCount f, h .runs a, long-at-one-more k s t one-more-long a, one-of-different (k * 4096) a f)
 
 -- ---- several blocks freed, as a drop does
 -- the ledger without each of the addresses, one after another, is the one without all of them
@@ -236,7 +237,7 @@ module _ (touched : ℕ → ℕ → Bool) (s t : State) (n : ℕ) (moved : Trans
   pub transfers-class : (k : ℕ) → k < 64 → superblockAt t k .class ≡ superblockAt s k .class
   transfers-class k l = go (moved .each k l)
     where
-      go : (superblockAt t k ≡ superblockAt s k) ⊎ ((0 < superblockAt s k .owner) × (superblockAt s k .owner < 254) × T (touched (superblockAt s k .owner) (superblockAt s k .class)) × (superblockAt t k ≡ withOwner 0 (superblockAt s k)))
+      go : (superblockAt t k ≡ superblockAt s k) ⊎ ((0 < superblockAt s k .owner) × (superblockAt s k .owner < runOwner) × T (touched (superblockAt s k .owner) (superblockAt s k .class)) × (superblockAt t k ≡ withOwner 0 (superblockAt s k)))
           → superblockAt t k .class ≡ superblockAt s k .class
       go (inl e) = ap (λ (b : Superblock). b .class) e
       go (inr w) = ap (λ (b : Superblock). b .class) (w .3)
@@ -245,23 +246,23 @@ module _ (touched : ℕ → ℕ → Bool) (s t : State) (n : ℕ) (moved : Trans
   unfolding liveFor isOwnedOfClass isOfHeap
   live-for-kept c k j l = go (moved .each k l)
     where
-      go : (superblockAt t k ≡ superblockAt s k) ⊎ ((0 < superblockAt s k .owner) × (superblockAt s k .owner < 254) × T (touched (superblockAt s k .owner) (superblockAt s k .class)) × (superblockAt t k ≡ withOwner 0 (superblockAt s k)))
+      go : (superblockAt t k ≡ superblockAt s k) ⊎ ((0 < superblockAt s k .owner) × (superblockAt s k .owner < runOwner) × T (touched (superblockAt s k .owner) (superblockAt s k .class)) × (superblockAt t k ≡ withOwner 0 (superblockAt s k)))
           → liveFor c (superblockAt t k) j ≡ liveFor c (superblockAt s k) j
       go (inl e) = ap (λ (b : Superblock). liveFor c b j) e
       go (inr w) =
           ap (λ (b : Superblock). liveFor c b j) (w .3)
-          ∙ ap (λ (x : Bool). pick (both x (eqb (superblockAt s k .class) c)) (markBit (superblockAt s k .live) j) 0) (sym (lt-ltb (superblockAt s k .owner) 254 (w .1)))
+          ∙ ap (λ (x : Bool). pick (both x (eqb (superblockAt s k .class) c)) (markBit (superblockAt s k .live) j) 0) (sym (lt-ltb (superblockAt s k .owner) runOwner (w .1)))
 
   -- none is of a run, and each carries what it did
   pub transfers-runs : RunsKept s t
   unfolding isOfRun
   transfers-runs k l = go (moved .each k l)
     where
-      go : (superblockAt t k ≡ superblockAt s k) ⊎ ((0 < superblockAt s k .owner) × (superblockAt s k .owner < 254) × T (touched (superblockAt s k .owner) (superblockAt s k .class)) × (superblockAt t k ≡ withOwner 0 (superblockAt s k)))
+      go : (superblockAt t k ≡ superblockAt s k) ⊎ ((0 < superblockAt s k .owner) × (superblockAt s k .owner < runOwner) × T (touched (superblockAt s k .owner) (superblockAt s k .class)) × (superblockAt t k ≡ withOwner 0 (superblockAt s k)))
           → (isOfRun (superblockAt t k) ≡ isOfRun (superblockAt s k)) × (superblockAt t k .run ≡ superblockAt s k .run)
       go (inl e) = (ap isOfRun e, ap (λ (b : Superblock). b .run) e)
       go (inr w) = (
-        ap isOfRun (w .3) ∙ sym (outside-run-of-owner (superblockAt s k) (λ (q : superblockAt s k .owner ≡ 254). let l = w .1 in omega arith)),
+        ap isOfRun (w .3) ∙ sym (outside-run-of-owner (superblockAt s k) (λ (q : superblockAt s k .owner ≡ runOwner). let l = w .1 in omega arith)),
         ap (λ (b : Superblock). b .run) (w .3),
       )
 

@@ -8,6 +8,7 @@ use native.Mathlib.Omega.{arith}
 use borrow.Author.Tests.{eq-eqb, ne-eqb}
 use lib.Dec.{T, eqb, ltb}
 use Rattle.base_laws.specs.Sums.{both, either, one}
+use Rattle.class_rules.specs.Classes.{classCount}
 use Rattle.base_laws.proofs.Inequalities.{le-of-not-below}
 use Rattle.base_laws.proofs.TestLaws.{T-of-true, true-of-T, both-make, either-left, either-right}
 use Rattle.names_rules.specs.Names.{blockNamed, isHeld}
@@ -54,7 +55,7 @@ module _ (s : State) (m : ℕ) (held : T (isHeld (s .names) m)) (c : ℕ) where
 pub record AtHeldAddress (s : State) (ledger : List Entry) (m : ℕ) : Type 0 where
   pub class : ℕ
   pub once : entriesAt ledger (heldAddress s m) class ≡ 1
-  pub no-other : (d : ℕ) → d ≤ 27 → (d ≡ class → ⊥) → entriesAt ledger (heldAddress s m) d ≡ 0
+  pub no-other : (d : ℕ) → d ≤ classCount → (d ≡ class → ⊥) → entriesAt ledger (heldAddress s m) d ≡ 0
 
 module _ (u : Setup) (s : State) (order : List ℕ) (ledger : List Entry) (peak : ℕ → ℕ) (g : ListInvariant u s order ledger peak) where
   module _ (m : ℕ) (held : T (isHeld (s .names) m)) where
@@ -73,14 +74,14 @@ module _ (u : Setup) (s : State) (order : List ℕ) (ledger : List Entry) (peak 
     at-home = held-address-block s order m (g .shape) (g .passed) held .0
 
     -- no live block of class d is there, where its superblock has none
-    none-of-class : (d : ℕ) → d < 27 → ((b : ℕ) → liveFor d (superblockAt s home) b ≡ 0) → entriesAt ledger (heldAddress s m) d ≡ 0
+    none-of-class : (d : ℕ) → d < classCount → ((b : ℕ) → liveFor d (superblockAt s home) b ≡ 0) → entriesAt ledger (heldAddress s m) d ≡ 0
     none-of-class d l none =
         g .listed .blocks (heldAddress s m) d l ∙ live-at-none s (heldAddress s m) d l (λ b h. ap (λ (k : ℕ). liveFor d (superblockAt s k) b) at-home ∙ none b)
 
     in-run : isOfRun (superblockAt s home) ≡ true → AtHeldAddress s ledger m
     in-run e =
         record {
-          class = 27;
+          class = classCount;
           once =
               g .listed .runs (heldAddress s m) ∙ ap (longAt s) (held-address-of-run s order m (g .shape) (g .passed) held e)
               ∙ long-at-start s home home-below (held-block-is-run s order (g .shape) (g .passed) m held e .1);
@@ -96,7 +97,7 @@ module _ (u : Setup) (s : State) (order : List ℕ) (ledger : List Entry) (peak 
           once =
               g .listed .blocks (heldAddress s m) c known ∙ live-at-of-address s c home block known home-below (live .block)
               ∙ live-for-owned c (superblockAt s home) block (live .owned) refl ∙ live .marked;
-          no-other = λ d l other. other-class d l other (decLt d 27);
+          no-other = λ d l other. other-class d l other (decLt d classCount);
         }
       where
         live : LiveBlock s order home block
@@ -105,13 +106,13 @@ module _ (u : Setup) (s : State) (order : List ℕ) (ledger : List Entry) (peak 
         c : ℕ
         c = superblockAt s home .class
 
-        known : superblockAt s home .class < 27
+        known : superblockAt s home .class < classCount
         known = live-class-lt-27 s order home block live
 
-        other-class : (d : ℕ) → d ≤ 27 → (d ≡ superblockAt s home .class → ⊥) → Dec (d < 27) → entriesAt ledger (heldAddress s m) d ≡ 0
+        other-class : (d : ℕ) → d ≤ classCount → (d ≡ superblockAt s home .class → ⊥) → Dec (d < classCount) → entriesAt ledger (heldAddress s m) d ≡ 0
         other-class d l other (yes h) = none-of-class d h (λ b. live-for-other d (superblockAt s home) b (λ q. other (sym q)))
         other-class d l other (no f) =
-            let last : d ≡ 27 = omega (arith, le-of-not-below f) in
+            let last : d ≡ classCount = omega (arith, le-of-not-below f) in
             ap (entriesAt ledger (heldAddress s m)) last ∙ g .listed .runs (heldAddress s m)
             ∙ long-at-none s (heldAddress s m)
             (ap (λ (k : ℕ). startsRun (superblockAt s k)) at-home ∙ ap (λ (x : Bool). both x (ltb 0 (superblockAt s home .run))) e)

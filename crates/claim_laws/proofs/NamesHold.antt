@@ -10,6 +10,7 @@ use native.Mathlib.Omega.{arith}
 use borrow.Author.Tests.{eq-eqb, ne-eqb}
 use lib.Dec.{T, eqb}
 use Rattle.base_laws.specs.Sums.{both, one}
+use Rattle.class_rules.specs.Classes.{classCount}
 use Rattle.base_laws.proofs.Inequalities.{le-of-not-below}
 use Rattle.base_laws.proofs.TestLaws.{T-of-true, true-of-T}
 use Rattle.class_rules.proofs.ClassLaws.{class-of-le-27}
@@ -44,7 +45,7 @@ none-named-of-not-held s m free (e ∷ ledger) h =
 
 -- a held one it has as often as the held address in a class, where the address is in that class alone
 named-as-often-as-at : (s : State) (m : ℕ) → T (isHeld (s .names) m) → (c : ℕ) (ledger : List Entry) → EachEntry (EntryAgrees s) ledger
-    → ((d : ℕ) → d ≤ 27 → (d ≡ c → ⊥) → entriesAt ledger (heldAddress s m) d ≡ 0) → entriesNamed m ledger ≡ entriesAt ledger (heldAddress s m) c
+    → ((d : ℕ) → d ≤ classCount → (d ≡ c → ⊥) → entriesAt ledger (heldAddress s m) d ≡ 0) → entriesNamed m ledger ≡ entriesAt ledger (heldAddress s m) c
 unfolding EachEntry entriesNamed entriesAt
 named-as-often-as-at s m held c [] h none = refl
 named-as-often-as-at s m held c (e ∷ ledger) h none =

@@ -11,7 +11,7 @@ use lib.Dec.{eqb}
 use Rattle.base_laws.specs.Sums.{pick, both}
 use Rattle.base_laws.proofs.TestLaws.{both-false-right, pick-elim, pick-true, pick-false}
 use Rattle.base_laws.proofs.Decides.{true-of-decides, false-of-decides}
-use Rattle.class_rules.specs.Classes.{blocksOf, classOf, isLong, runLength}
+use Rattle.class_rules.specs.Classes.{classCount, blocksOf, classOf, isLong, runLength}
 use Rattle.class_rules.proofs.ClassLaws.{decides-long}
 use Rattle.heap_rules.specs.declared.Superblock.{Superblock}
 use Rattle.heap_rules.specs.declared.Setup.{Setup}
@@ -54,7 +54,7 @@ use Rattle.claim_laws.proofs.Demand3.{list-invariant-after-setup}
 
 -- ---- the event of a call, by its outcome
 -- a take of a block of a class that answered block j of superblock k, of class c
-module _ (s : State) (i size k c j : ℕ) (small : size ≤ 2048) (known : c < 27) (block : j < blocksOf c) where
+module _ (s : State) (i size k c j : ℕ) (small : size ≤ 2048) (known : c < classCount) (block : j < blocksOf c) where
   event-of-take-at : eventOfTake s i size (Address (addressOf k c j)) ≡ pick (both (eqb (liveIn (superblockAt s k)) 0) (not (eqb (superblockAt s k .owner) i))) (renewed k) neither
   unfolding eventOfTake eventOfTaken
   event-of-take-at =
@@ -111,7 +111,7 @@ module _ (freed : ℕ → ℕ → ℕ) (ledger part : List Entry) (same : SameEv
 
       long : isInRun s a ≡ true → RankedByLastFree (longBlockFreed s a) (eventOfBlock (isAt a) ledger ∷ events)
       long inside =
-          let whole = same a 27 (long-block-in-ledger freed s order a part shape passed ok agrees inside) in
+          let whole = same a classCount (long-block-in-ledger freed s order a part shape passed ok agrees inside) in
           let told = event-of-long-block freed s order a part shape passed ok agrees inside in
           subst (λ (x : Event). RankedByLastFree (longBlockFreed s a) (x ∷ events)) (sym told ∙ whole)
           (ranked-by-last-free-after-neither s (longBlockFreed s a) events (long-block-freed-ranks freed s order a shape passed ok inside) before)
@@ -157,7 +157,7 @@ module _ (s : State) (order : List ℕ) (ledger : List Entry) (events : List Eve
   ranked-after-event event after o e answered told h =
       subst (λ (x : Event). RankedByLastFree (after .answer .state) (x ∷ events)) (sym (ap event answered ∙ told)) h
 
-  after-take : (i size k c j : ℕ) (after : After) → size ≤ 2048 → k < 64 → c < 27 → j < blocksOf c → after .answer .outcome ≡ Address (addressOf k c j)
+  after-take : (i size k c j : ℕ) (after : After) → size ≤ 2048 → k < 64 → c < classCount → j < blocksOf c → after .answer .outcome ≡ Address (addressOf k c j)
       → TakeRanks i k s (after .answer .state) → RankedAfterEvent (eventOfTake s i size) after
   after-take i size k c j after small l known block e ranks = go ranks
     where

@@ -9,7 +9,7 @@ use lib.Dec.{eqb, eqb→eq}
 use Rattle.base_laws.proofs.Inequalities.{le-of-not-below}
 use Rattle.base_laws.proofs.SumLaws.{all-at}
 use Rattle.base_laws.specs.Sums.{allBelow}
-use Rattle.class_rules.specs.Classes.{sizes, sizeOf, classOf}
+use Rattle.class_rules.specs.Classes.{classCount, sizes, sizeOf, classOf}
 use Rattle.class_rules.proofs.ClassTableLaws.{size-of-no-class}
 use Rattle.class_rules.proofs.ClassLaws.{smaller-class-sizes-lt, size-le-size-of-class-of, class-of-unique, class-of-too-large}
 use Rattle.class_of_size.specs.SizeTable.{indexOf, roundedUp}
@@ -29,10 +29,10 @@ multiple-test c = eqb (sizeOf c % 8) 0
 
 pub block-size-is-multiple-of-8 : (c : ℕ) → sizeOf c % 8 ≡ 0
 unfolding multiple-test allBelow sizeOf sizes
-block-size-is-multiple-of-8 c = go (decLt c 27)
+block-size-is-multiple-of-8 c = go (decLt c classCount)
   where
-    go : Dec (c < 27) → sizeOf c % 8 ≡ 0
-    go (yes h) = eqb→eq (sizeOf c % 8) 0 (all-at multiple-test 27 tt c h)
+    go : Dec (c < classCount) → sizeOf c % 8 ≡ 0
+    go (yes h) = eqb→eq (sizeOf c % 8) 0 (all-at multiple-test classCount tt c h)
     go (no f) = subst (λ (b : ℕ). b % 8 ≡ 0) (sym (size-of-no-class c (le-of-not-below f))) refl
 
 -- so a block size below a size rounded up is below the size itself

@@ -6,7 +6,7 @@ use class_rules::CLASSES;
 use class_rules::LARGEST_CLASS_SIZE;
 use class_rules::SUPERBLOCK_BYTES;
 
-// The smallest class that holds a size; 27 where none does.
+// The smallest class that holds a size; CLASSES where none does.
 pub fn class_of(size: u16) -> u8
     ensures { λ r. ⌜ r ≡ classOf size ⌝ }
 {

@@ -8,7 +8,7 @@ use borrow.Author.Tests.{ltb-true, ltb-false}
 use lib.Dec.{ltb}
 use Rattle.base_laws.proofs.Inequalities.{le-of-not-below}
 use Rattle.base_laws.proofs.Decides.{Decides, decides, false-of-decides}
-use Rattle.class_rules.specs.Classes.{sizes, sizeOf, firstAtLeast, classOf, isLong, runLength, isTooLarge}
+use Rattle.class_rules.specs.Classes.{classCount, sizes, sizeOf, firstAtLeast, classOf, isLong, runLength, isTooLarge}
 use Rattle.class_rules.proofs.FirstAtLeastLaws.{le-first-at-least, before-first-at-least-lt, first-at-least-le-length}
 use Rattle.class_rules.proofs.ClassTableLaws.{size-of-le-2048}
 
@@ -16,11 +16,11 @@ pub smaller-class-sizes-lt : (s k : ℕ) → k < classOf s → sizeOf k < s
 unfolding classOf sizeOf
 smaller-class-sizes-lt s k h = before-first-at-least-lt s sizes k h
 
-pub class-of-le-27 : (s : ℕ) → classOf s ≤ 27
+pub class-of-le-27 : (s : ℕ) → classOf s ≤ classCount
 unfolding classOf sizes
 class-of-le-27 s = first-at-least-le-length s sizes
 
-class-of-holds-below-27 : (s : ℕ) → classOf s < 27 → s ≤ sizeOf (classOf s)
+class-of-holds-below-27 : (s : ℕ) → classOf s < classCount → s ≤ sizeOf (classOf s)
 unfolding classOf sizeOf sizes
 class-of-holds-below-27 s h = le-first-at-least s sizes h
 
@@ -28,15 +28,15 @@ size-of-class-26 : sizeOf 26 ≡ 2048
 unfolding sizeOf sizes
 size-of-class-26 = refl
 
-pub class-of-lt-27 : (s : ℕ) → s ≤ 2048 → classOf s < 27
-class-of-lt-27 s h = lt-of-not-le (λ (g : 27 ≤ classOf s). let b = smaller-class-sizes-lt s 26 g in let e = size-of-class-26 in omega arith)
+pub class-of-lt-27 : (s : ℕ) → s ≤ 2048 → classOf s < classCount
+class-of-lt-27 s h = lt-of-not-le (λ (g : classCount ≤ classOf s). let b = smaller-class-sizes-lt s 26 g in let e = size-of-class-26 in omega arith)
 
 pub size-le-size-of-class-of : (s : ℕ) → s ≤ 2048 → s ≤ sizeOf (classOf s)
 size-le-size-of-class-of s h = class-of-holds-below-27 s (class-of-lt-27 s h)
 
 -- no class holds a size above 2048
-pub class-of-too-large : (s : ℕ) → 2048 < s → classOf s ≡ 27
-class-of-too-large s h = le-antisymm (class-of-le-27 s) (le-of-not-below (λ (l : classOf s < 27). let b = class-of-holds-below-27 s l in let m = size-of-le-2048 (classOf s) in omega arith))
+pub class-of-too-large : (s : ℕ) → 2048 < s → classOf s ≡ classCount
+class-of-too-large s h = le-antisymm (class-of-le-27 s) (le-of-not-below (λ (l : classOf s < classCount). let b = class-of-holds-below-27 s l in let m = size-of-le-2048 (classOf s) in omega arith))
 
 -- a class that holds s, and below which none does, is the class of s
 pub class-of-unique : (s c : ℕ) → s ≤ sizeOf c → ((k : ℕ) → k < c → sizeOf k < s) → c ≡ classOf s

@@ -3,10 +3,10 @@ use mathlib.Core.Path.{_≡_}
 use Prim.Native.Nat.{ℕ, suc, _+_, _*_, _/_, _%_, _≤_, _<_}
 use native.Mathlib.Nat.{mul-div-cancel, mul-mod-left, div-add-mod', eq-of-mul-eq-mul-right, mul-le-mul-right}
 use native.Mathlib.Omega.{arith}
-use Rattle.class_rules.specs.Classes.{sizeOf, blocksOf}
+use Rattle.class_rules.specs.Classes.{classCount, sizeOf, blocksOf}
 use Rattle.class_rules.proofs.ClassTableLaws.{size-of-ge-16, blocks-fit-superblock}
 
-module _ (c : ℕ) (known : c < 27) where
+module _ (c : ℕ) (known : c < classCount) where
   size-positive : 0 < sizeOf c
   size-positive = let h = size-of-ge-16 c known in omega arith
 

@@ -26,7 +26,7 @@ totals-in-past-end b j past =
 pub totals-in-position-after : (b : List ℕ) (at i position : ℕ) (totals : Totals) → position ≡ positionAfter b at i → totals ≡ totalsIn b position → totals ≡ totalsIn b (at + i)
 totals-in-position-after b at i position totals p e = e ∙ ap (totalsIn b) p ∙ read-at-position-after (totalsIn b) _ b at i (totals-in-past-end b)
 
--- the totals are read once all 243 of each kind are
+-- the totals are read once all of each kind are
 pub totals-in-of-all-totals : (b : List ℕ) (at : ℕ) (superblocks live : List ℕ) (x : ℕ) → length superblocks ≡ totalCount → length live ≡ totalCount → take x superblocks ≡ listed (λ i. byteAt b (at + i)) x → take x live ≡ listed (λ i. twoAt b (at + (totalCount + 2 * i))) x → x ≤ totalCount → totalCount ≤ x → record { superblocks = superblocks; live = live } ≡ totalsIn b at
 unfolding totalsIn
 totals-in-of-all-totals b at superblocks live x long longer s l h g =

@@ -7,7 +7,7 @@ use bytes_reader::two_at;
 use heap_rules::TOTAL_COUNT;
 use heap_rules::Totals;
 
-// The 243 totals of superblocks that begin at a position, and behind them the 243 of live blocks.
+// The totals of superblocks that begin at a position, and behind them those of live blocks.
 pub fn totals_at(bytes: &[u8], at: usize) -> Totals
     ensures { λ r. ⌜ r ≡ totalsIn (now (bytes .entry)) at ⌝ }
 {

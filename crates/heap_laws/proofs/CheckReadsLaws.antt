@@ -9,7 +9,7 @@ use lib.Dec.{T, leb, ltb}
 use Rattle.base_laws.specs.Sums.{both, either, allBelow}
 use Rattle.base_laws.proofs.TestLaws.{T-of-true, true-of-T, both-false-right, either-left}
 use Rattle.base_laws.proofs.SumLaws.{all-at, all-cong}
-use Rattle.class_rules.specs.Classes.{blocksOf}
+use Rattle.class_rules.specs.Classes.{classCount, blocksOf}
 use Rattle.class_rules.proofs.ClassTableLaws.{blocks-of-le-256}
 use Rattle.order_laws.proofs.FirstPlaces.{SameFirst, same-first-place}
 use Rattle.filled_rules.proofs.StorageLengthLaws.{places-valid-cong-if-in-storage}
@@ -26,7 +26,7 @@ module _ (s : State) (x y : List ℕ) (h : SameFirst (s .setup .superblocks * 25
       go : (t : Bool) → ltb k (s .setup .superblocks) ≡ t → T (either t (isUnused b)) → superblockValid (s .setup) x k b ≡ superblockValid (s .setup) y k b
       go true e u =
           let l : k < s .setup .superblocks = ltb-true k (s .setup .superblocks) e in
-          ap (λ (g : Bool). either (isUnowned b) (both (leb (b .owner) (s .setup .processors)) (both (ltb (b .class) 27) g)))
+          ap (λ (g : Bool). either (isUnowned b) (both (leb (b .owner) (s .setup .processors)) (both (ltb (b .class) classCount) g)))
           (places-valid-cong-if-in-storage x y (b .live) k (blocksOf (b .class)) (omega (arith, h .first-covers, blocks-of-le-256 (b .class))) (omega (arith, h .second-covers, blocks-of-le-256 (b .class)))
           (λ p lp. same-first-place (s .setup .superblocks * 256) x y h k p (omega (arith, blocks-of-le-256 (b .class)))))
       go false e u = rw (true-of-T (isUnowned b) (either-left (isUnused b) (isPartOfRun b) u))

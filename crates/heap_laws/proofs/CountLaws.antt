@@ -18,7 +18,7 @@ use Rattle.marks_laws.proofs.MarkLaws.{live-count-le-256}
 use Rattle.heap_rules.specs.declared.Superblock.{Superblock}
 use Rattle.heap_rules.specs.declared.State.{State}
 use Rattle.heap_rules.specs.declared.Setup.{Setup}
-use Rattle.heap_rules.specs.Table.{blank, unused, superblockAt, liveIn, isOfHeap}
+use Rattle.heap_rules.specs.Table.{runOwner, unusedOwner, blank, unused, superblockAt, liveIn, isOfHeap}
 use Rattle.heap_rules.specs.States.{withSuperblock, newState}
 use Rattle.heap_rules.specs.Counts.{total, belongs, isOwnedOfClass, oneIfBelongs, liveIfBelongs, superblocksOf, liveOf, superblocksOfClass, liveOfClass}
 
@@ -133,16 +133,16 @@ live-of-at-least-each h c l s f =
     each false x g = omega arith
 
 -- ---- a class's counts by heaps
-pub facts-of-owned-of-class : (c : ℕ) (b : Superblock) → T (isOwnedOfClass c b) → (b .owner < 254) × (b .class ≡ c)
+pub facts-of-owned-of-class : (c : ℕ) (b : Superblock) → T (isOwnedOfClass c b) → (b .owner < runOwner) × (b .class ≡ c)
 unfolding isOwnedOfClass isOfHeap
 facts-of-owned-of-class c b t = (
-  ltb→lt (b .owner) 254 (both-left (ltb (b .owner) 254) (eqb (b .class) c) t),
-  eqb→eq (b .class) c (both-right (ltb (b .owner) 254) (eqb (b .class) c) t),
+  ltb→lt (b .owner) runOwner (both-left (ltb (b .owner) runOwner) (eqb (b .class) c) t),
+  eqb→eq (b .class) c (both-right (ltb (b .owner) runOwner) (eqb (b .class) c) t),
 )
 
-pub owned-of-class-of-facts : (c : ℕ) (b : Superblock) → b .owner < 254 → b .class ≡ c → T (isOwnedOfClass c b)
+pub owned-of-class-of-facts : (c : ℕ) (b : Superblock) → b .owner < runOwner → b .class ≡ c → T (isOwnedOfClass c b)
 unfolding isOwnedOfClass isOfHeap
-owned-of-class-of-facts c b l q = both-make (ltb (b .owner) 254) (eqb (b .class) c) (lt→ltb (b .owner) 254 l) (T-of-true _ (eq-eqb (b .class) c q))
+owned-of-class-of-facts c b l q = both-make (ltb (b .owner) runOwner) (eqb (b .class) c) (lt→ltb (b .owner) runOwner l) (T-of-true _ (eq-eqb (b .class) c q))
 
 -- heap 0 and the heaps after it
 pub sum-from-heap-0 : (f : ℕ → ℕ) (p : ℕ) → f 0 + sumBelow (λ i. f (suc i)) p ≡ sumBelow f (suc p)
@@ -166,13 +166,13 @@ sum-over-heaps-of-one p c b = go (ℕ-discrete (b .class) c) (decLe (b .owner) p
     go (yes e) (yes l) = hits e ∙ indicator-sum-inside (b .owner) (suc p) (omega arith) ∙ simp (le-leb (b .owner) p l, eq-eqb (b .class) c e)
     go (yes e) (no f) = hits e ∙ indicator-sum-outside (b .owner) (suc p) (lt-of-not-le f) ∙ simp (lt-leb (b .owner) p (lt-of-not-le f))
 
-owned-of-class-of-heaps : (p c : ℕ) (b : Superblock) → p < 254 → T (ownedByHeapsTo p c b) → T (isOwnedOfClass c b)
+owned-of-class-of-heaps : (p c : ℕ) (b : Superblock) → p < runOwner → T (ownedByHeapsTo p c b) → T (isOwnedOfClass c b)
 unfolding ownedByHeapsTo
 owned-of-class-of-heaps p c b q t =
     let l : b .owner ≤ p = leb→le (b .owner) p (both-left (leb (b .owner) p) (eqb (b .class) c) t) in
     owned-of-class-of-facts c b (omega arith) (eqb→eq (b .class) c (both-right (leb (b .owner) p) (eqb (b .class) c) t))
 
-heaps-of-owned-of-class : (p c : ℕ) (b : Superblock) → (b .owner < 254 → b .owner ≤ p) → T (isOwnedOfClass c b) → T (ownedByHeapsTo p c b)
+heaps-of-owned-of-class : (p c : ℕ) (b : Superblock) → (b .owner < runOwner → b .owner ≤ p) → T (isOwnedOfClass c b) → T (ownedByHeapsTo p c b)
 unfolding ownedByHeapsTo
 heaps-of-owned-of-class p c b h t =
     let o = facts-of-owned-of-class c b t in
@@ -193,7 +193,7 @@ total-over-heaps p s f g each =
     ∙ sym (sum-from-heap-0 (λ i. sumBelow (λ k. g i (superblockAt s k)) 64) p)
 
 -- where each superblock that a heap owns is owned by heap 0 to P, a class's superblocks are those of its heaps, and so are its live blocks
-module _ (p c : ℕ) (s : State) (q : p < 254) (h : (k : ℕ) → k < 64 → superblockAt s k .owner < 254 → superblockAt s k .owner ≤ p) where
+module _ (p c : ℕ) (s : State) (q : p < runOwner) (h : (k : ℕ) → k < 64 → superblockAt s k .owner < runOwner → superblockAt s k .owner ≤ p) where
   one-over-heaps : (k : ℕ) → k < 64 → one (isOwnedOfClass c (superblockAt s k)) ≡ sumBelow (λ i. oneIfBelongs i c (superblockAt s k)) (suc p)
   one-over-heaps k l =
       ap one (equal-of-iff (isOwnedOfClass c (superblockAt s k)) (ownedByHeapsTo p c (superblockAt s k)) (heaps-of-owned-of-class p c (superblockAt s k) (h k l)) (owned-of-class-of-heaps p c (superblockAt s k) q))
@@ -218,7 +218,7 @@ one-mono true false f = absurd (f tt)
 one-mono false b f = zero-le
 
 -- the live blocks in processor heaps are some of the class's
-pub live-of-heaps-le-live-of-class : (p c : ℕ) (s : State) → p < 254 → sumBelow (λ i. liveOf (suc i) c s) p ≤ liveOfClass c s
+pub live-of-heaps-le-live-of-class : (p c : ℕ) (s : State) → p < runOwner → sumBelow (λ i. liveOf (suc i) c s) p ≤ liveOfClass c s
 unfolding liveOf liveOfClass total
 live-of-heaps-le-live-of-class p c s q =
     subst (λ (x : ℕ). x ≤ sumBelow (λ k. pick (isOwnedOfClass c (superblockAt s k)) (liveIn (superblockAt s k)) 0) 64)
@@ -237,7 +237,7 @@ total-of-new-state : (f : Superblock → ℕ) (u : Setup) → f unused ≡ 0 →
 unfolding total
 total-of-new-state f u e = sum-of-zeros (λ k. f (superblockAt (newState u) k)) 64 (λ k l. ap f (getD-replicate 64 k unused blank l) ∙ e)
 
-pub superblocks-of-new-state : (u : Setup) (h c : ℕ) → h < 255 → superblocksOf h c (newState u) ≡ 0
+pub superblocks-of-new-state : (u : Setup) (h c : ℕ) → h < unusedOwner → superblocksOf h c (newState u) ≡ 0
 unfolding superblocksOf
 superblocks-of-new-state u h c l = total-of-new-state (oneIfBelongs h c) u (one-if-belongs-other-owner h c unused (λ (q : unused .owner ≡ h). omega arith))
 

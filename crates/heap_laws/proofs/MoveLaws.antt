@@ -22,7 +22,7 @@ use Rattle.heap_rules.specs.declared.State.{State}
 use Rattle.heap_rules.specs.declared.Found.{Found}
 use Rattle.heap_rules.specs.declared.Found.the-variants.{At, Nothing}
 use Rattle.heap_rules.specs.declared.Moved.{Moved}
-use Rattle.heap_rules.specs.Table.{blank, superblockAt, liveIn, isOfHeap, withOwner}
+use Rattle.heap_rules.specs.Table.{runOwner, blank, superblockAt, liveIn, isOfHeap, withOwner}
 use Rattle.heap_rules.specs.Counts.{total, belongs, isOwnedOfClass, oneIfBelongs, liveIfBelongs, superblocksOf, blocksIn, liveOf, superblocksOfClass, liveOfClass, ownersChanged}
 use Rattle.choice_rules.specs.Choice.{emptiest}
 use Rattle.move_rules.specs.Moves.{bothConditions, mustMove, transferred, foundTransferred, transfersUpTo, excessTransferred}
@@ -151,16 +151,16 @@ module _ (h c : ℕ) (s : State) (k : ℕ) (long : length (s .table) ≡ 64) (po
     transfer-live-of-other-pair = omega (arith, transfer-total (liveIfBelongs i d), other-pair-counts-zero .1, live-if-belongs-other-owner i d (withOwner 0 (superblockAt s k)) (zero-not-processor-heap i p))
 
   -- it stays one of its class
-  transfer-owned-of-class : h < 254 → (d : ℕ) → isOwnedOfClass d (superblockAt s k) ≡ isOwnedOfClass d (withOwner 0 (superblockAt s k))
+  transfer-owned-of-class : h < runOwner → (d : ℕ) → isOwnedOfClass d (superblockAt s k) ≡ isOwnedOfClass d (withOwner 0 (superblockAt s k))
   unfolding isOwnedOfClass isOfHeap
   transfer-owned-of-class l d =
-      ap (λ (x : Bool). both x (eqb (superblockAt s k .class) d)) (lt-ltb (superblockAt s k .owner) 254 (subst (λ (x : ℕ). x < 254) (sym (transfer-owner-and-class .0)) l))
+      ap (λ (x : Bool). both x (eqb (superblockAt s k .class) d)) (lt-ltb (superblockAt s k .owner) runOwner (subst (λ (x : ℕ). x < runOwner) (sym (transfer-owner-and-class .0)) l))
 
-  transfer-owned : h < 254 → (d : ℕ) → superblocksOfClass d (transferred k s) ≡ superblocksOfClass d s
+  transfer-owned : h < runOwner → (d : ℕ) → superblocksOfClass d (transferred k s) ≡ superblocksOfClass d s
   unfolding superblocksOfClass
   transfer-owned l d = omega (arith, transfer-total (λ b. one (isOwnedOfClass d b)), ap one (transfer-owned-of-class l d))
 
-  transfer-live-of-class : h < 254 → (d : ℕ) → liveOfClass d (transferred k s) ≡ liveOfClass d s
+  transfer-live-of-class : h < runOwner → (d : ℕ) → liveOfClass d (transferred k s) ≡ liveOfClass d s
   unfolding liveOfClass
   transfer-live-of-class l d = omega (arith, transfer-total (λ b. pick (isOwnedOfClass d b) (liveIn b) 0), ap (λ (x : Bool). pick x (liveIn (superblockAt s k)) 0) (transfer-owned-of-class l d))
 
@@ -217,7 +217,7 @@ unfolding ownersChanged
 owners-changed-self s =
     sum-of-zeros (λ k. one (not (eqb (superblockAt s k .owner) (superblockAt s k .owner)))) 64 (λ k l. ap (λ (x : Bool). one (not x)) (eq-eqb (superblockAt s k .owner) (superblockAt s k .owner) refl))
 
-module _ (h c : ℕ) (s t : State) (k : ℕ) (r : TransferredFrom h c s t) (pos : 0 < h) (low : h < 254) (must : T (mustMove h c t)) (e : emptiest h c t ≡ At k) where
+module _ (h c : ℕ) (s t : State) (k : ℕ) (r : TransferredFrom h c s t) (pos : 0 < h) (low : h < runOwner) (must : T (mustMove h c t)) (e : emptiest h c t ≡ At k) where
   next-owner-and-class : (superblockAt t k .owner ≡ h) × (superblockAt t k .class ≡ c)
   next-owner-and-class = transfer-owner-and-class h c t k (r .length-is) pos e
 
@@ -322,7 +322,7 @@ record MovesEnded (h c freed : ℕ) (s : State) (r : Moved) : Type 0 where
   after : AfterMoves h c freed s (r .moves) (r .state)
   invariant : T (mustMove h c (r .state)) → ⊥
 
-module _ (h c freed : ℕ) (s : State) (numbers : WithinLimits (s .setup)) (pos : 0 < h) (low : h < 254) where
+module _ (h c freed : ℕ) (s : State) (numbers : WithinLimits (s .setup)) (pos : 0 < h) (low : h < runOwner) where
   after-transfer : (m k : ℕ) (t : State) → AfterMoves h c freed s m t → T (mustMove h c t) → emptiest h c t ≡ At k → AfterMoves h c freed s (m + 1) (transferred k t)
   unfolding blocksIn
   after-transfer m k t r must e =
@@ -361,7 +361,7 @@ module _ (h c freed : ℕ) (s : State) (numbers : WithinLimits (s .setup)) (pos 
 
 -- The whole of the moves of heap h and class c, from a state s in which so many of its blocks were freed since the emptiness invariant
 -- of heap and class last held: before, u was higher by `freed`, so that a ≤ u + freed + K × n, or (q - p) × a ≤ q × (u + freed).
-module _ (h c freed : ℕ) (s : State) (long : length (s .table) ≡ 64) (numbers : WithinLimits (s .setup)) (pos : 0 < h) (low : h < 254)
+module _ (h c freed : ℕ) (s : State) (long : length (s .table) ≡ 64) (numbers : WithinLimits (s .setup)) (pos : 0 < h) (low : h < runOwner)
     (invariant-before : InvariantBeforeFrees freed h c s) where
   after-no-move : AfterMoves h c freed s 0 s
   after-no-move = record { from = transferred-from-self h c s long; changed = owners-changed-self s; bounded = go invariant-before; moves-bound = zero-le }

@@ -19,7 +19,7 @@ use Rattle.base_laws.proofs.Counting.{sum-le-of-terms-le-one}
 use Rattle.heap_rules.specs.declared.Superblock.{Superblock}
 use Rattle.heap_rules.specs.declared.Setup.{Setup}
 use Rattle.heap_rules.specs.declared.State.{State}
-use Rattle.heap_rules.specs.Table.{blank, superblockAt, liveIn, withRank}
+use Rattle.heap_rules.specs.Table.{runOwner, unusedOwner, blank, superblockAt, liveIn, withRank}
 use Rattle.heap_rules.specs.States.{newState}
 use Rattle.heap_rules.specs.Counts.{total}
 use Rattle.heap_rules.specs.Ranks.{isRanked, isMoreRecent, rankAfterFree, rankAfterRenewal, reranked, rankedLatest, unranked, RanksFit}
@@ -355,7 +355,7 @@ module _ (k : ℕ) (s : State) (m : ℕ) (l : m < 64) where
 unowned-with-rank : (r : ℕ) (b d : Superblock) → d ≡ withRank r b → Unowned d → Unowned b
 unowned-with-rank r b d e h =
     record {
-      owner = subst (λ (x : Superblock). (x .owner ≡ 255) ⊎ (x .owner ≡ 254)) e (h .owner);
+      owner = subst (λ (x : Superblock). (x .owner ≡ unusedOwner) ⊎ (x .owner ≡ runOwner)) e (h .owner);
       class = ap (λ (x : Superblock). x .class) (sym e) ∙ h .class;
       live = ap (λ (x : Superblock). liveIn x) (sym e) ∙ h .live;
     }

@@ -17,7 +17,7 @@ use Rattle.base_laws.proofs.TestLaws.{T-of-true, true-of-T, true-not-false, bot
 use Rattle.heap_rules.specs.declared.Superblock.{Superblock}
 use Rattle.heap_rules.specs.declared.Setup.{Setup}
 use Rattle.heap_rules.specs.declared.State.{State}
-use Rattle.heap_rules.specs.Table.{blank, superblockAt, isOfRun}
+use Rattle.heap_rules.specs.Table.{runOwner, unusedOwner, blank, superblockAt, isOfRun}
 use Rattle.heap_rules.specs.States.{newState}
 use Rattle.check_rules.specs.Check.{within, runsWhole, runsValid}
 use Rattle.heap_laws.proofs.StateFacts.{RunsSound}
@@ -316,7 +316,7 @@ runs-apart s k n m r j a b ka kb ma mb = go (decLt k m) (decLt m k)
     go (no f) (no g) = omega (arith, le-of-not-below f, le-of-not-below g)
 
 -- "all below N", where the superblocks from N on are unused
-pub run-below-superblocks : (s : State) (k n : ℕ) → RunAt s k n → ((m : ℕ) → m < 64 → s .setup .superblocks ≤ m → superblockAt s m .owner ≡ 255) → k + n ≤ s .setup .superblocks
+pub run-below-superblocks : (s : State) (k n : ℕ) → RunAt s k n → ((m : ℕ) → m < 64 → s .setup .superblocks ≤ m → superblockAt s m .owner ≡ unusedOwner) → k + n ≤ s .setup .superblocks
 unfolding isOfRun
 run-below-superblocks s k n r unused-from = le-of-not-below go
   where
@@ -325,7 +325,7 @@ run-below-superblocks s k n r unused-from = le-of-not-below go
         let some = r .some in
         let last = r .of-run (k + n - 1) (omega arith) (omega arith) in
         let owner = unused-from (k + n - 1) (omega (arith, r .in-table)) (omega arith) in
-        omega (arith, eqb→eq (superblockAt s (k + n - 1) .owner) 254 (T-of-true _ last))
+        omega (arith, eqb→eq (superblockAt s (k + n - 1) .owner) runOwner (T-of-true _ last))
 
 -- ---- states in which only the superblocks from k to k + n - 1 differ
 -- superblock m lies outside of these

@@ -12,7 +12,7 @@ use Rattle.base_laws.proofs.ListedLaws.{length-listed}
 use Rattle.marks_rules.specs.Marks.{noMarks, withMark}
 use Rattle.heap_rules.specs.declared.Superblock.{Superblock}
 use Rattle.heap_rules.specs.declared.State.{State}
-use Rattle.heap_rules.specs.Table.{blank, superblockAt, isOfRun, startsRun, liveBlocks, withRank}
+use Rattle.heap_rules.specs.Table.{runOwner, blank, superblockAt, isOfRun, startsRun, liveBlocks, withRank}
 use Rattle.heap_rules.specs.States.{withNames}
 use Rattle.heap_rules.specs.Ranks.{reranked}
 use Rattle.check_rules.specs.Check.{within, runsWhole, runsValid}
@@ -78,14 +78,14 @@ unfolding startsRun
 starts-run-same b d e g = rw (e, g)
 
 -- a superblock that a heap owns, or that is unused, is of no run
-pub outside-run-of-owner : (b : Superblock) → (b .owner ≡ 254 → ⊥) → isOfRun b ≡ false
+pub outside-run-of-owner : (b : Superblock) → (b .owner ≡ runOwner → ⊥) → isOfRun b ≡ false
 unfolding isOfRun
-outside-run-of-owner b f = ne-eqb (b .owner) 254 f
+outside-run-of-owner b f = ne-eqb (b .owner) runOwner f
 
-pub owner-of-run : (b : Superblock) → isOfRun b ≡ true → b .owner ≡ 254
+pub owner-of-run : (b : Superblock) → isOfRun b ≡ true → b .owner ≡ runOwner
 unfolding isOfRun
-owner-of-run b e = eqb-true (b .owner) 254 e
+owner-of-run b e = eqb-true (b .owner) runOwner e
 
-pub of-run-of-owner : (b : Superblock) → b .owner ≡ 254 → isOfRun b ≡ true
+pub of-run-of-owner : (b : Superblock) → b .owner ≡ runOwner → isOfRun b ≡ true
 unfolding isOfRun
-of-run-of-owner b e = eq-eqb (b .owner) 254 e
+of-run-of-owner b e = eq-eqb (b .owner) runOwner e

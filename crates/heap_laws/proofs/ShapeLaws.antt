@@ -1,4 +1,4 @@
--- What the type of a state says of its lists: 64 superblocks, each with four numbers of marks, 1024 names, and twice 243 totals. Assumes nothing.
+-- What the type of a state says of its lists: 64 superblocks, each with four numbers of marks, 1024 names, and two totals of each heap and class. Assumes nothing.
 use mathlib.Core.Path.{_≡_}
 use mathlib.Core.List.{List, [], _∷_}
 use Prim.Native.Nat.{ℕ, zero, suc, _<_}

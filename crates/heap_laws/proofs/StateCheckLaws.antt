@@ -13,7 +13,7 @@ use lib.Dec.{T, eqb, leb, ltb, leb→le, le→leb, ltb→lt, lt→ltb, eqb→eq,
 use Rattle.base_laws.specs.Sums.{both, either, allBelow}
 use Rattle.base_laws.proofs.TestLaws.{T-of-true, false-of-not-T, both-left, both-right, both-make, either-left, either-right, either-right-of-left-false}
 use Rattle.base_laws.proofs.SumLaws.{all-at, all-of-each}
-use Rattle.class_rules.specs.Classes.{blocksOf}
+use Rattle.class_rules.specs.Classes.{classCount, blocksOf}
 use Rattle.class_rules.proofs.ClassTableLaws.{blocks-of-le-256}
 use Rattle.marks_laws.proofs.MarkLaws.{live-count-of-no-marks}
 use Rattle.names_rules.specs.Names.{notHeld, noNames, eachHeld}
@@ -22,7 +22,7 @@ use Rattle.filled_rules.proofs.PlacesValidLaws.{live-count-le-of-places-valid}
 use Rattle.heap_rules.specs.declared.Superblock.{Superblock}
 use Rattle.heap_rules.specs.declared.Setup.{Setup}
 use Rattle.heap_rules.specs.declared.State.{State}
-use Rattle.heap_rules.specs.Table.{blank, unused, superblockAt, liveIn, isUnused, isOfRun, isLiveBlock}
+use Rattle.heap_rules.specs.Table.{runOwner, unusedOwner, blank, unused, superblockAt, liveIn, isUnused, isOfRun, isLiveBlock}
 use Rattle.heap_rules.specs.States.{withSuperblock, withNames, newState}
 use Rattle.heap_rules.specs.Counts.{superblocksOf, liveOf, blocksIn, belongs}
 use Rattle.move_rules.specs.Moves.{bothConditions, mustMove}
@@ -77,9 +77,9 @@ within-limits-of-facts u l =
 pub facts-of-is-unused : (b : Superblock) → T (isUnused b) → Unused b
 unfolding isUnused
 facts-of-is-unused b t =
-    let r = both-right (eqb (b .owner) 255) _ t in
+    let r = both-right (eqb (b .owner) unusedOwner) _ t in
     record {
-      owner = eqb→eq (b .owner) 255 (both-left (eqb (b .owner) 255) _ t);
+      owner = eqb→eq (b .owner) unusedOwner (both-left (eqb (b .owner) unusedOwner) _ t);
       class = eqb→eq (b .class) 0 (both-left (eqb (b .class) 0) _ r);
       live = eqb→eq (liveIn b) 0 (both-right (eqb (b .class) 0) _ r);
     }
@@ -87,21 +87,21 @@ facts-of-is-unused b t =
 pub is-unused-of-facts : (b : Superblock) → Unused b → T (isUnused b)
 unfolding isUnused
 is-unused-of-facts b h =
-    both-make (eqb (b .owner) 255) _ (T-of-true _ (eq-eqb (b .owner) 255 (h .owner)))
+    both-make (eqb (b .owner) unusedOwner) _ (T-of-true _ (eq-eqb (b .owner) unusedOwner (h .owner)))
     (both-make (eqb (b .class) 0) _ (T-of-true _ (eq-eqb (b .class) 0 (h .class))) (T-of-true _ (eq-eqb (liveIn b) 0 (h .live))))
 
 -- a superblock that a heap owns is not unused
-pub not-unused-of-owner : (b : Superblock) → (b .owner ≡ 255 → ⊥) → isUnused b ≡ false
+pub not-unused-of-owner : (b : Superblock) → (b .owner ≡ unusedOwner → ⊥) → isUnused b ≡ false
 not-unused-of-owner b f = false-of-not-T (isUnused b) (λ t. f (facts-of-is-unused b t .owner))
 
 -- unused, or part of a run
 pub unowned-of-unused : (b : Superblock) → Unused b → Unowned b
 unowned-of-unused b u = record { owner = inl (u .owner); class = u .class; live = u .live }
 
-pub unused-of-unowned : (b : Superblock) → Unowned b → b .owner ≡ 255 → Unused b
+pub unused-of-unowned : (b : Superblock) → Unowned b → b .owner ≡ unusedOwner → Unused b
 unused-of-unowned b u e = record { owner = e; class = u .class; live = u .live }
 
-pub not-of-heap-of-unowned : (b : Superblock) → Unowned b → b .owner < 254 → ⊥
+pub not-of-heap-of-unowned : (b : Superblock) → Unowned b → b .owner < runOwner → ⊥
 not-of-heap-of-unowned b u l = ⊎-elim (λ e. omega arith) (λ e. omega arith) (u .owner)
 
 pub facts-of-is-unowned : (b : Superblock) → T (isUnowned b) → Unowned b
@@ -112,9 +112,9 @@ facts-of-is-unowned b t = go (isUnused b) refl
     go true e = unowned-of-unused b (facts-of-is-unused b (T-of-true _ e))
     go false e =
         let r = either-right-of-left-false (isUnused b) _ t e in
-        let r1 = both-right (eqb (b .owner) 254) _ r in
+        let r1 = both-right (eqb (b .owner) runOwner) _ r in
         record {
-          owner = inr (eqb→eq (b .owner) 254 (both-left (eqb (b .owner) 254) _ r));
+          owner = inr (eqb→eq (b .owner) runOwner (both-left (eqb (b .owner) runOwner) _ r));
           class = eqb→eq (b .class) 0 (both-left (eqb (b .class) 0) _ r1);
           live = eqb→eq (liveIn b) 0 (both-right (eqb (b .class) 0) _ r1);
         }
@@ -124,7 +124,7 @@ unfolding isUnowned isPartOfRun isOfRun
 is-unowned-of-facts b h =
     ⊎-elim (λ e. either-left (isUnused b) _ (is-unused-of-facts b (unused-of-unowned b h e)))
     (λ e. either-right (isUnused b) _
-    (both-make (eqb (b .owner) 254) _ (T-of-true _ (eq-eqb (b .owner) 254 e))
+    (both-make (eqb (b .owner) runOwner) _ (T-of-true _ (eq-eqb (b .owner) runOwner e))
     (both-make (eqb (b .class) 0) _ (T-of-true _ (eq-eqb (b .class) 0 (h .class))) (T-of-true _ (eq-eqb (liveIn b) 0 (h .live))))))
     (h .owner)
 
@@ -144,8 +144,8 @@ module _ (u : Setup) (order : List ℕ) (k : ℕ) (b : Superblock) where
           let r1 = both-right (leb (b .owner) (u .processors)) _ r in
           inr (record {
             owner = leb→le (b .owner) (u .processors) (both-left (leb (b .owner) (u .processors)) _ r);
-            class = ltb→lt (b .class) 27 (both-left (ltb (b .class) 27) _ r1);
-            places = both-right (ltb (b .class) 27) _ r1;
+            class = ltb→lt (b .class) classCount (both-left (ltb (b .class) classCount) _ r1);
+            places = both-right (ltb (b .class) classCount) _ r1;
           })
 
   pub superblock-valid-of-unowned : Unowned b → T (superblockValid u order k b)
@@ -157,7 +157,7 @@ module _ (u : Setup) (order : List ℕ) (k : ℕ) (b : Superblock) where
   superblock-valid-of-owned h =
       either-right (isUnowned b) _
       (both-make (leb (b .owner) (u .processors)) _ (le→leb (b .owner) (u .processors) (h .owner))
-      (both-make (ltb (b .class) 27) _ (lt→ltb (b .class) 27 (h .class)) (h .places)))
+      (both-make (ltb (b .class) classCount) _ (lt→ltb (b .class) classCount (h .class)) (h .places)))
 
 unused-of-unused-from : (n k : ℕ) (b : Superblock) → T (unusedFrom n k b) → n ≤ k → Unused b
 unfolding unusedFrom
@@ -184,18 +184,18 @@ sparse-if-global-of-sparse u b h = go (ℕ-discrete (b .owner) 0)
     go (no f) = either-left (not (eqb (b .owner) 0)) _ (T-of-true _ (ap not (ne-eqb (b .owner) 0 f)))
 
 -- ---- the whole state
-not-must-move-of-emptiness-invariant : (s : State) → T (emptinessInvariant s) → (h c : ℕ) → 1 ≤ h → h ≤ s .setup .processors → c < 27 → T (mustMove h c s) → ⊥
+not-must-move-of-emptiness-invariant : (s : State) → T (emptinessInvariant s) → (h c : ℕ) → 1 ≤ h → h ≤ s .setup .processors → c < classCount → T (mustMove h c s) → ⊥
 unfolding emptinessInvariant
 not-must-move-of-emptiness-invariant s t zero c low high lc m = omega arith
 not-must-move-of-emptiness-invariant s t (suc i) c low high lc m =
     T-not (mustMove (suc i) c s)
-    (all-at (λ d. not (mustMove (suc i) d s)) 27 (all-at (λ j. allBelow (λ d. not (mustMove (suc j) d s)) 27) (s .setup .processors) t i high) c lc) m
+    (all-at (λ d. not (mustMove (suc i) d s)) classCount (all-at (λ j. allBelow (λ d. not (mustMove (suc j) d s)) classCount) (s .setup .processors) t i high) c lc) m
 
-emptiness-invariant-of-not-must-move : (s : State) → ((h c : ℕ) → 1 ≤ h → h ≤ s .setup .processors → c < 27 → T (mustMove h c s) → ⊥) → T (emptinessInvariant s)
+emptiness-invariant-of-not-must-move : (s : State) → ((h c : ℕ) → 1 ≤ h → h ≤ s .setup .processors → c < classCount → T (mustMove h c s) → ⊥) → T (emptinessInvariant s)
 unfolding emptinessInvariant
 emptiness-invariant-of-not-must-move s h =
-    all-of-each (λ j. allBelow (λ d. not (mustMove (suc j) d s)) 27) (s .setup .processors)
-    (λ i l. all-of-each (λ d. not (mustMove (suc i) d s)) 27 (λ c lc. not-T (mustMove (suc i) c s) (h (suc i) c (omega arith) l lc)))
+    all-of-each (λ j. allBelow (λ d. not (mustMove (suc j) d s)) classCount) (s .setup .processors)
+    (λ i l. all-of-each (λ d. not (mustMove (suc i) d s)) classCount (λ c lc. not-T (mustMove (suc i) c s) (h (suc i) c (omega arith) l lc)))
 
 -- the check's two parts, as the calls test them
 pub sound-of-limits-and-rest : (s : State) (order : List ℕ) → T (withinLimits (s .setup)) → T (restValid s order) → Sound s order
@@ -267,7 +267,7 @@ pub superblock-at-new-state-unused : (u : Setup) (k : ℕ) → k < 64 → superb
 superblock-at-new-state-unused u k l = getD-replicate 64 k unused blank l
 
 -- no heap of it must move
-new-state-not-must-move : (u : Setup) (h c : ℕ) → h < 255 → T (mustMove h c (newState u)) → ⊥
+new-state-not-must-move : (u : Setup) (h c : ℕ) → h < unusedOwner → T (mustMove h c (newState u)) → ⊥
 unfolding mustMove bothConditions blocksIn
 new-state-not-must-move u h c l m =
     let more = ltb→lt (liveOf h c (newState u) + u .spare * blocksOf c) (superblocksOf h c (newState u) * blocksOf c) (both-left (ltb (liveOf h c (newState u) + u .spare * blocksOf c) (superblocksOf h c (newState u) * blocksOf c)) _ m) in
@@ -293,7 +293,7 @@ new-state-sound u order t = record {
     owned : (k : ℕ) → k < 64 → superblockAt (newState u) k .owner ≡ 0 → ⊥
     owned k l e = omega (arith, free k l .owner)
 
-    none-must-move : (h c : ℕ) → 1 ≤ h → h ≤ u .processors → c < 27 → T (mustMove h c (newState u)) → ⊥
+    none-must-move : (h c : ℕ) → 1 ≤ h → h ≤ u .processors → c < classCount → T (mustMove h c (newState u)) → ⊥
     none-must-move h c low high lc m = new-state-not-must-move u h c (omega (arith, numbers .processors-high)) m
 
 pub new-state-names-valid : (u : Setup) → T (namesValid (newState u))
@@ -341,14 +341,14 @@ live-lt-blocks-of-sparse q p live n h = go (decLt live n)
 
 module _ {Invariant : ℕ → ℕ → State → Type 0} (s : State) (order : List ℕ) (sound : SoundWith Invariant s order) (k : ℕ) (l : k < 64) where
   -- a superblock that is not unused has a number below N
-  pub owned-below-superblocks : (superblockAt s k .owner ≡ 255 → ⊥) → k < s .setup .superblocks
+  pub owned-below-superblocks : (superblockAt s k .owner ≡ unusedOwner → ⊥) → k < s .setup .superblocks
   owned-below-superblocks f = go (decLt k (s .setup .superblocks))
     where
       go : Dec (k < s .setup .superblocks) → k < s .setup .superblocks
       go (yes h) = h
       go (no g) = absurd (f (sound .past-unused k l (omega arith) .owner))
 
-  pub owned-of-owner : superblockAt s k .owner < 254 → Owned (s .setup) order k (superblockAt s k)
+  pub owned-of-owner : superblockAt s k .owner < runOwner → Owned (s .setup) order k (superblockAt s k)
   owned-of-owner f = go (sound .each k l)
     where
       go : Unowned (superblockAt s k) ⊎ Owned (s .setup) order k (superblockAt s k) → Owned (s .setup) order k (superblockAt s k)
@@ -356,7 +356,7 @@ module _ {Invariant : ℕ → ℕ → State → Type 0} (s : State) (order : Lis
       go (inr o) = o
 
   -- it is unowned, or its owner is 0 to P
-  pub unowned-of-owner : 254 ≤ superblockAt s k .owner → Unowned (superblockAt s k)
+  pub unowned-of-owner : runOwner ≤ superblockAt s k .owner → Unowned (superblockAt s k)
   unowned-of-owner f = go (sound .each k l)
     where
       go : Unowned (superblockAt s k) ⊎ Owned (s .setup) order k (superblockAt s k) → Unowned (superblockAt s k)
@@ -364,7 +364,7 @@ module _ {Invariant : ℕ → ℕ → State → Type 0} (s : State) (order : Lis
       go (inr o) = absurd (let z : ⊥ = omega (arith, o .owner, sound .numbers .processors-high) in z)
 
   -- not more live than blocks
-  pub live-le-blocks-of-owned : superblockAt s k .owner < 254 → liveIn (superblockAt s k) ≤ blocksOf (superblockAt s k .class)
+  pub live-le-blocks-of-owned : superblockAt s k .owner < runOwner → liveIn (superblockAt s k) ≤ blocksOf (superblockAt s k .class)
   live-le-blocks-of-owned f = live-count-le-of-places-valid order (superblockAt s k .live) k (blocksOf (superblockAt s k .class)) (blocks-of-le-256 (superblockAt s k .class)) (owned-of-owner f .places)
 
   -- a sparse superblock has a free block

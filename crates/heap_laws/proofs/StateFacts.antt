@@ -6,13 +6,13 @@ use mathlib.Core.List.{List}
 use Prim.Native.Nat.{ℕ, _+_, _-_, _*_, _≤_, _<_}
 use lib.ListN.{length, getD}
 use lib.Dec.{T}
-use Rattle.class_rules.specs.Classes.{blocksOf}
+use Rattle.class_rules.specs.Classes.{classCount, blocksOf}
 use Rattle.names_rules.specs.Names.{notHeld, blockNamed}
 use Rattle.filled_rules.specs.FilledPlaces.{placesValid}
 use Rattle.heap_rules.specs.declared.Superblock.{Superblock}
 use Rattle.heap_rules.specs.declared.Setup.{Setup}
 use Rattle.heap_rules.specs.declared.State.{State}
-use Rattle.heap_rules.specs.Table.{blank, superblockAt, liveIn, isOfRun, withOwner, isLiveBlock}
+use Rattle.heap_rules.specs.Table.{runOwner, unusedOwner, blank, superblockAt, liveIn, isOfRun, withOwner, isLiveBlock}
 use Rattle.heap_rules.specs.Counts.{belongs, superblocksOf, blocksIn, liveOf, superblocksOfClass, liveOfClass}
 use Rattle.heap_rules.specs.Totals.{totalCount, TotalsKept}
 use Rattle.move_rules.specs.Moves.{mustMove}
@@ -55,20 +55,20 @@ pub record WithinLimits (u : Setup) : Type 0 where
 
 -- unused: owner 255, class 0, nothing live
 pub record Unused (b : Superblock) : Type 0 where
-  pub owner : b .owner ≡ 255
+  pub owner : b .owner ≡ unusedOwner
   pub class : b .class ≡ 0
   pub live : liveIn b ≡ 0
 
 -- no heap owns it: it is unused, or part of a run (document 02, item 7)
 pub record Unowned (b : Superblock) : Type 0 where
-  pub owner : (b .owner ≡ 255) ⊎ (b .owner ≡ 254)
+  pub owner : (b .owner ≡ unusedOwner) ⊎ (b .owner ≡ runOwner)
   pub class : b .class ≡ 0
   pub live : liveIn b ≡ 0
 
 -- a superblock that a heap owns: its owner, its class, its marks and order places
 pub record Owned (u : Setup) (order : List ℕ) (k : ℕ) (b : Superblock) : Type 0 where
   pub owner : b .owner ≤ u .processors
-  pub class : b .class < 27
+  pub class : b .class < classCount
   pub places : T (placesValid order (b .live) k (blocksOf (b .class)))
 
 -- a superblock of heap 0 is sparse
@@ -80,7 +80,7 @@ pub record SoundWith (Invariant : ℕ → ℕ → State → Type 0) (s : State) 
   pub numbers : WithinLimits (s .setup)
   pub each : (k : ℕ) → k < 64 → Unowned (superblockAt s k) ⊎ Owned (s .setup) order k (superblockAt s k)
   pub past-unused : (k : ℕ) → k < 64 → s .setup .superblocks ≤ k → Unused (superblockAt s k)
-  pub invariant : (h c : ℕ) → 1 ≤ h → h ≤ s .setup .processors → c < 27 → Invariant h c s
+  pub invariant : (h c : ℕ) → 1 ≤ h → h ≤ s .setup .processors → c < classCount → Invariant h c s
   pub sparse : (k : ℕ) → k < 64 → superblockAt s k .owner ≡ 0 → Sparse (s .setup) (superblockAt s k)
 
 -- with the emptiness invariant, which the move rule keeps

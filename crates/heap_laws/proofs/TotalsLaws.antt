@@ -12,6 +12,7 @@ use lib.Dec.{T, ltb, ltb→lt}
 use borrow.Author.Tests.{lt-ltb}
 use Rattle.base_laws.specs.Sums.{pick, one, sumBelow}
 use Rattle.base_laws.specs.Lists.{increased, sameNumbers}
+use Rattle.class_rules.specs.Classes.{classCount}
 use Rattle.base_laws.proofs.TestLaws.{T-of-true, false-of-not-T, not-T-of-false, both-left, both-right, both-make}
 use Rattle.base_laws.proofs.SumLaws.{sum-cong, sum-of-zeros}
 use Rattle.base_laws.proofs.NumberLists.{increased-at, increased-elsewhere, increased-at-most, length-increased, equal-of-same-numbers, same-numbers-refl}
@@ -29,16 +30,16 @@ use Rattle.heap_laws.proofs.StateFacts.{Unowned, Owned, Sound}
 use Rattle.heap_laws.proofs.CountLaws.{belongs-true, owner-and-class-of-belongs, superblocks-zero-of-none-belongs}
 
 -- ---- one superblock counted
-pub counted-heap-and-class : (b : Superblock) → isCounted b ≡ true → (b .owner < heapCount) × (b .class < 27)
+pub counted-heap-and-class : (b : Superblock) → isCounted b ≡ true → (b .owner < heapCount) × (b .class < classCount)
 unfolding isCounted
 counted-heap-and-class b e =
     let t = T-of-true _ e in
-    (ltb→lt (b .owner) heapCount (both-left (ltb (b .owner) heapCount) _ t), ltb→lt (b .class) 27 (both-right (ltb (b .owner) heapCount) (ltb (b .class) 27) t))
+    (ltb→lt (b .owner) heapCount (both-left (ltb (b .owner) heapCount) _ t), ltb→lt (b .class) classCount (both-right (ltb (b .owner) heapCount) (ltb (b .class) classCount) t))
 
 -- one that belongs to a heap and class of which totals are kept is counted
-pub counted-of-heap-and-class : (b : Superblock) → b .owner < heapCount → b .class < 27 → isCounted b ≡ true
+pub counted-of-heap-and-class : (b : Superblock) → b .owner < heapCount → b .class < classCount → isCounted b ≡ true
 unfolding isCounted
-counted-of-heap-and-class b h c = simp (lt-ltb (b .owner) heapCount h, lt-ltb (b .class) 27 c)
+counted-of-heap-and-class b h c = simp (lt-ltb (b .owner) heapCount h, lt-ltb (b .class) classCount c)
 
 pub length-with-counted : (f : Superblock → ℕ) (b : Superblock) (l : List ℕ) → length (withCounted f b l) ≡ length l
 unfolding withCounted
@@ -49,7 +50,7 @@ length-with-counted f b l = go (isCounted b)
     go false = refl
 
 -- what it adds to the total of heap h and class c: its number where it belongs to them
-pub with-counted-at : (f : Superblock → ℕ) (b : Superblock) (l : List ℕ) (h c : ℕ) → length l ≡ totalCount → h < heapCount → c < 27
+pub with-counted-at : (f : Superblock → ℕ) (b : Superblock) (l : List ℕ) (h c : ℕ) → length l ≡ totalCount → h < heapCount → c < classCount
     → getD (withCounted f b l) (totalIndex h c) 0 ≡ getD l (totalIndex h c) 0 + pick (belongs h c b) (f b) 0
 unfolding withCounted
 with-counted-at f b l h c long lh lc = go (isCounted b) refl (belongs h c b) refl
@@ -79,7 +80,7 @@ length-counted-below f table zero = length-replicate {A = ℕ} totalCount 0
 length-counted-below f table (suc k) = length-with-counted f (getD table k blank) (countedBelow f table k) ∙ length-counted-below f table k
 
 -- each total is the sum over the superblocks that belong to its heap and class
-pub counted-below-is-sum : (f : Superblock → ℕ) (table : List Superblock) (k h c : ℕ) → h < heapCount → c < 27
+pub counted-below-is-sum : (f : Superblock → ℕ) (table : List Superblock) (k h c : ℕ) → h < heapCount → c < classCount
     → getD (countedBelow f table k) (totalIndex h c) 0 ≡ sumBelow (λ i. pick (belongs h c (getD table i blank)) (f (getD table i blank)) 0) k
 unfolding countedBelow sumBelow
 counted-below-is-sum f table zero h c lh lc = getD-replicate totalCount (totalIndex h c) 0 0 (omega arith)
@@ -92,7 +93,7 @@ one-is-pick true = refl
 one-is-pick false = refl
 
 -- ---- the recount of a table is the counts that the rules speak of
-module _ (s : State) (h c : ℕ) (lh : h < heapCount) (lc : c < 27) where
+module _ (s : State) (h c : ℕ) (lh : h < heapCount) (lc : c < classCount) where
   pub recounted-superblocks : getD (recounted (s .table) .superblocks) (totalIndex h c) 0 ≡ superblocksOf h c s
   unfolding recounted superblocksOf total oneIfBelongs
   recounted-superblocks =
@@ -113,8 +114,8 @@ module _ (s : State) (h c : ℕ) (lh : h < heapCount) (lc : c < 27) where
   live-kept-is-counted k = ap (λ (t : Totals). getD (t .live) (totalIndex h c) 0) k ∙ recounted-live
 
 -- two lists of totals are equal where those of each heap and class are
-pub totals-equal-of-each : (l m : List ℕ) → length l ≡ totalCount → length m ≡ totalCount → ((h c : ℕ) → h < heapCount → c < 27 → getD l (totalIndex h c) 0 ≡ getD m (totalIndex h c) 0) → l ≡ m
-totals-equal-of-each l m a b each = ext-getD 0 l m (a ∙ sym b) (λ x lx. let i : totalIndex (x / 27) (x % 27) ≡ x = omega arith in rw i at (each (x / 27) (x % 27) (omega arith) (omega arith)))
+pub totals-equal-of-each : (l m : List ℕ) → length l ≡ totalCount → length m ≡ totalCount → ((h c : ℕ) → h < heapCount → c < classCount → getD l (totalIndex h c) 0 ≡ getD m (totalIndex h c) 0) → l ≡ m
+totals-equal-of-each l m a b each = ext-getD 0 l m (a ∙ sym b) (λ x lx. let i : totalIndex (x / classCount) (x % classCount) ≡ x = omega arith in rw i at (each (x / classCount) (x % classCount) (omega arith) (omega arith)))
 
 -- ---- the clause of the check
 pub totals-kept-of-valid : (s : State) → T (totalsValid s) → TotalsKept s
@@ -179,7 +180,7 @@ unfolding recounted
 length-recounted-live table = length-counted-below liveIn table 64
 
 -- "heaps above P have 0": no superblock of a state that passes is theirs
-module _ (s : State) (order : List ℕ) (sound : Sound s order) (kept : TotalsKept s) (h c : ℕ) (above : s .setup .processors < h) (lh : h < heapCount) (lc : c < 27) where
+module _ (s : State) (order : List ℕ) (sound : Sound s order) (kept : TotalsKept s) (h c : ℕ) (above : s .setup .processors < h) (lh : h < heapCount) (lc : c < classCount) where
   none-belongs-above-processors : (k : ℕ) → k < 64 → belongs h c (superblockAt s k) ≡ false
   none-belongs-above-processors k l = false-of-not-T _ (λ t. go (owner-and-class-of-belongs h c (superblockAt s k) t .0) (sound .each k l))
     where

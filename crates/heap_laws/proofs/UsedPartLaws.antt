@@ -11,10 +11,10 @@ use lib.Dec.{T, eqb, ltb, lt→ltb}
 use Rattle.base_laws.specs.Sums.{both, sumBelow, allBelow}
 use Rattle.base_laws.proofs.TestLaws.{T-of-true, both-left, both-right, both-make, both-false-right, either-left, either-right}
 use Rattle.base_laws.proofs.SumLaws.{sum-split, sum-of-zeros, all-at, all-of-each, all-cong}
-use Rattle.class_rules.specs.Classes.{blocksOf}
+use Rattle.class_rules.specs.Classes.{classCount, blocksOf}
 use Rattle.heap_rules.specs.declared.Superblock.{Superblock}
 use Rattle.heap_rules.specs.declared.State.{State}
-use Rattle.heap_rules.specs.Table.{blank, unused, superblockAt, isUnused}
+use Rattle.heap_rules.specs.Table.{runOwner, unusedOwner, blank, unused, superblockAt, isUnused}
 use Rattle.heap_rules.specs.Counts.{total, oneIfBelongs, liveIfBelongs, superblocksOf, liveOf, blocksIn}
 use Rattle.heap_rules.specs.Ranks.{isRanked}
 use Rattle.heap_rules.specs.Totals.{TotalsKept}
@@ -47,7 +47,7 @@ abbrev pub usedSuperblocksValid : State → List ℕ → Bool
 usedSuperblocksValid s order = allBelow (λ k. superblockValid (s .setup) order k (superblockAt s k)) (s .setup .superblocks)
 
 abbrev pub usedEmptinessInvariant : State → Bool
-usedEmptinessInvariant s = allBelow (λ i. allBelow (λ c. not (mustMoveBelow (s .setup .superblocks) (suc i) c s)) 27) (s .setup .processors)
+usedEmptinessInvariant s = allBelow (λ i. allBelow (λ c. not (mustMoveBelow (s .setup .superblocks) (suc i) c s)) classCount) (s .setup .processors)
 
 abbrev pub usedSparse : State → Bool
 usedSparse s = allBelow (λ k. sparseIfGlobal (s .setup) (superblockAt s k)) (s .setup .superblocks)
@@ -103,21 +103,21 @@ module _ (s : State) (table : s .table ≡ usedTable s) where
       let rest = sum-of-zeros (λ k. f (superblockAt s (n + k))) (64 - n) (λ k l. ap f (behind (n + k) (omega arith) (omega arith)) ∙ none) in
       ap (sumBelow (λ k. f (superblockAt s k))) (omega arith) ∙ parts ∙ omega (arith, rest)
 
-  must-move-of-used : (h c : ℕ) → h < 255 → s .setup .superblocks ≤ 64 → mustMoveBelow (s .setup .superblocks) h c s ≡ mustMove h c s
+  must-move-of-used : (h c : ℕ) → h < unusedOwner → s .setup .superblocks ≤ 64 → mustMoveBelow (s .setup .superblocks) h c s ≡ mustMove h c s
   unfolding mustMoveBelow mustMove blocksIn superblocksOf liveOf
   must-move-of-used h c low few =
       rw (
-        total-of-used (oneIfBelongs h c) (one-if-belongs-other-owner h c unused (λ (e : 255 ≡ h). omega arith)) few,
-        total-of-used (liveIfBelongs h c) (live-if-belongs-other-owner h c unused (λ (e : 255 ≡ h). omega arith)) few,
+        total-of-used (oneIfBelongs h c) (one-if-belongs-other-owner h c unused (λ (e : unusedOwner ≡ h). omega arith)) few,
+        total-of-used (liveIfBelongs h c) (live-if-belongs-other-owner h c unused (λ (e : unusedOwner ≡ h). omega arith)) few,
       )
 
-  heaps-of-used : s .setup .processors < 254 → s .setup .superblocks ≤ 64 → usedEmptinessInvariant s ≡ emptinessInvariant s
+  heaps-of-used : s .setup .processors < runOwner → s .setup .superblocks ≤ 64 → usedEmptinessInvariant s ≡ emptinessInvariant s
   unfolding emptinessInvariant
   heaps-of-used low few =
       let n = s .setup .superblocks in
-      all-cong (λ i. allBelow (λ c. not (mustMoveBelow n (suc i) c s)) 27) (λ i. allBelow (λ c. not (mustMove (suc i) c s)) 27) (s .setup .processors)
+      all-cong (λ i. allBelow (λ c. not (mustMoveBelow n (suc i) c s)) classCount) (λ i. allBelow (λ c. not (mustMove (suc i) c s)) classCount) (s .setup .processors)
       (λ i l.
-      all-cong (λ c. not (mustMoveBelow n (suc i) c s)) (λ c. not (mustMove (suc i) c s)) 27 (λ c m. ap not (must-move-of-used (suc i) c (omega arith) few)))
+      all-cong (λ c. not (mustMoveBelow n (suc i) c s)) (λ c. not (mustMove (suc i) c s)) classCount (λ c m. ap not (must-move-of-used (suc i) c (omega arith) few)))
 
   -- all 64 pass where the first N do, with right totals
   pub rest-of-used-part : (order : List ℕ) → T (withinLimits (s .setup)) → TotalsKept s → T (usedPartValid s order) → T (restValid s order)

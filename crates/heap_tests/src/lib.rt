@@ -28,14 +28,14 @@ fn is_bare(b: Superblock, owner: u8) -> bool
     false
 }
 
-// Owner 255, class 0, nothing live.
+// Of owner UNUSED_OWNER and class 0, nothing live.
 pub fn is_unused(b: Superblock) -> bool
     ensures { λ r. ⌜ r ≡ isUnused b ⌝ }
 {
     is_bare(b, UNUSED_OWNER)
 }
 
-// Part of a long block's run: owner 254, class 0, nothing live.
+// Part of a long block's run: of owner RUN_OWNER and class 0, nothing live.
 pub fn is_part_of_run(b: Superblock) -> bool
     ensures { λ r. ⌜ r ≡ isPartOfRun b ⌝ }
 {

@@ -10,6 +10,7 @@ use lib.ListN.{length, getD, set, length-set}
 use lib.Seq.{getD-set-same, getD-set-other, set-out}
 use lib.Dec.{ltb, ltb→lt}
 use Rattle.base_laws.specs.Sums.{pick, both}
+use Rattle.class_rules.specs.Classes.{classCount}
 use Rattle.base_laws.proofs.TestLaws.{T-of-true, both-left, both-right, not-T-of-false}
 use Rattle.base_laws.proofs.SumLaws.{term-le-sum}
 use Rattle.base_laws.proofs.ReplacedElement.{sum-set}
@@ -27,7 +28,7 @@ use Rattle.heap_totals.specs.OneSuperblock.{indexOf, withoutCounted, cou
 module _ (b : Superblock) (x : ℕ) (at : x ≡ indexOf (b .owner) (b .class)) where
   counted-of-index : x < totalCount → (isCounted b ≡ true) × (x ≡ totalIndex (b .owner) (b .class))
   unfolding indexOf isCounted
-  counted-of-index l = go (both (ltb (b .owner) heapCount) (ltb (b .class) 27)) at
+  counted-of-index l = go (both (ltb (b .owner) heapCount) (ltb (b .class) classCount)) at
     where
       go : (t : Bool) → x ≡ pick t (totalIndex (b .owner) (b .class)) totalCount → (t ≡ true) × (x ≡ totalIndex (b .owner) (b .class))
       go true e = (refl, e)
@@ -35,13 +36,13 @@ module _ (b : Superblock) (x : ℕ) (at : x ≡ indexOf (b .owner) (b .class)) w
 
   not-counted-of-no-index : totalCount ≤ x → isCounted b ≡ false
   unfolding indexOf isCounted
-  not-counted-of-no-index l = go (both (ltb (b .owner) heapCount) (ltb (b .class) 27)) refl at
+  not-counted-of-no-index l = go (both (ltb (b .owner) heapCount) (ltb (b .class) classCount)) refl at
     where
-      go : (t : Bool) → both (ltb (b .owner) heapCount) (ltb (b .class) 27) ≡ t → x ≡ pick t (totalIndex (b .owner) (b .class)) totalCount → t ≡ false
+      go : (t : Bool) → both (ltb (b .owner) heapCount) (ltb (b .class) classCount) ≡ t → x ≡ pick t (totalIndex (b .owner) (b .class)) totalCount → t ≡ false
       go true e q =
           let w = T-of-true _ e in
-          let h = ltb→lt (b .owner) heapCount (both-left (ltb (b .owner) heapCount) (ltb (b .class) 27) w) in
-          let c = ltb→lt (b .class) 27 (both-right (ltb (b .owner) heapCount) (ltb (b .class) 27) w) in
+          let h = ltb→lt (b .owner) heapCount (both-left (ltb (b .owner) heapCount) (ltb (b .class) classCount) w) in
+          let c = ltb→lt (b .class) classCount (both-right (ltb (b .owner) heapCount) (ltb (b .class) classCount) w) in
           absurd (let z : ⊥ = omega arith in z)
       go false e q = refl
 
@@ -118,7 +119,7 @@ pub counted-out-live-le : (b : Superblock) (t : Totals) (x : ℕ) → getD (coun
 unfolding countedOut
 counted-out-live-le b t x = without-counted-le liveIn b (t .live) x
 
-without-counted-at : (f : Superblock → ℕ) (b : Superblock) (l : List ℕ) (h c : ℕ) → length l ≡ totalCount → h < heapCount → c < 27
+without-counted-at : (f : Superblock → ℕ) (b : Superblock) (l : List ℕ) (h c : ℕ) → length l ≡ totalCount → h < heapCount → c < classCount
     → getD (withoutCounted f b l) (totalIndex h c) 0 ≡ getD l (totalIndex h c) 0 - pick (belongs h c b) (f b) 0
 unfolding withoutCounted
 without-counted-at f b l h c long lh lc = go (isCounted b) refl (belongs h c b) refl
@@ -152,7 +153,7 @@ module _ (f : Superblock → ℕ) (table : List Superblock) (k : ℕ) (b : Super
       without-long : length (withoutCounted f (getD table k blank) (countedBelow f table 64)) ≡ totalCount
       without-long = length-without-counted f (getD table k blank) (countedBelow f table 64) ∙ length-counted-below f table 64
 
-      each : (h c : ℕ) → h < heapCount → c < 27
+      each : (h c : ℕ) → h < heapCount → c < classCount
           → getD (countedBelow f (set table k b) 64) (totalIndex h c) 0 ≡ getD (withCounted f b (withoutCounted f (getD table k blank) (countedBelow f table 64))) (totalIndex h c) 0
       each h c lh lc =
           let g : Superblock → ℕ = λ x. pick (belongs h c x) (f x) 0 in

@@ -12,7 +12,7 @@ use heap_rules::Superblock;
 use heap_rules::TOTAL_COUNT;
 use heap_rules::Totals;
 
-// Where the totals of a heap and class stand; 243 where none are kept of them.
+// Where the totals of a heap and class stand; TOTAL_COUNT where none are kept of them.
 pub fn index_of(heap: u8, class: u8) -> usize
     ensures { λ r. ⌜ r ≡ indexOf heap class ⌝ }
 {

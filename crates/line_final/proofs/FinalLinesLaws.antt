@@ -5,6 +5,7 @@ use mathlib.Core.List.{List, [], _++_}
 use Prim.Native.Nat.{ℕ, suc, _+_, _≤_}
 use native.Mathlib.Nat.{le-antisymm}
 use native.Mathlib.Numerals.{add-one}
+use Rattle.class_rules.specs.Classes.{classCount}
 use Rattle.text_rules.specs.Text.{pasted, letters}
 use Rattle.text_rules.proofs.PasteLaws.{paste-then-paste}
 use Rattle.heap_rules.specs.declared.State.{State}
@@ -25,7 +26,7 @@ module _ (l₀ : List ℕ) {l : List ℕ} (at : ℕ) {r : ℕ} (s : State) where
   unfolding classLines
   class-lines-start h p = p
 
-  pub class-lines-end : (h c : ℕ) → c ≤ 27 → 27 ≤ c → record { end = r; buffer = l } ≡ pasted l₀ at (classLines h c s) → record { end = r; buffer = l } ≡ pasted l₀ at (classLines h 27 s)
+  pub class-lines-end : (h c : ℕ) → c ≤ classCount → classCount ≤ c → record { end = r; buffer = l } ≡ pasted l₀ at (classLines h c s) → record { end = r; buffer = l } ≡ pasted l₀ at (classLines h classCount s)
   class-lines-end h c a b p = p ∙ ap (λ (k : ℕ). pasted l₀ at (classLines h k s)) (le-antisymm a b)
 
   pub heap-lines-start : record { end = r; buffer = l } ≡ pasted l₀ at [] → record { end = r; buffer = l } ≡ pasted l₀ at (heapLines 0 s)
@@ -43,9 +44,9 @@ module _ (l₀ : List ℕ) {l : List ℕ} (at : ℕ) {r : ℕ} (s : State) where
     class-lines-step h c p q = rw add-one (paste-then-paste l₀ (classLines h c s) (heapLineIf h c s) at p q)
 
     pub heap-lines-step : (h : ℕ) → record { end = r; buffer = l } ≡ pasted l₀ at (heapLines h s)
-        → record { end = r₂; buffer = l₂ } ≡ pasted l r (classLines h 27 s) → record { end = r₂; buffer = l₂ } ≡ pasted l₀ at (heapLines (h + 1) s)
+        → record { end = r₂; buffer = l₂ } ≡ pasted l r (classLines h classCount s) → record { end = r₂; buffer = l₂ } ≡ pasted l₀ at (heapLines (h + 1) s)
     unfolding heapLines
-    heap-lines-step h p q = rw add-one (paste-then-paste l₀ (heapLines h s) (classLines h 27 s) at p q)
+    heap-lines-step h p q = rw add-one (paste-then-paste l₀ (heapLines h s) (classLines h classCount s) at p q)
 
     pub final-lines-of-heaps-runs-and-end : {l₃ : List ℕ} {r₃ : ℕ} (n : ℕ) → record { end = r; buffer = l } ≡ pasted l₀ at (heapLines n s) → n ≡ s .setup .processors + 1
         → record { end = r₂; buffer = l₂ } ≡ pasted l r (runLines 64 s) → record { end = r₃; buffer = l₃ } ≡ pasted l₂ r₂ (letters "end\n")

@@ -7,7 +7,7 @@ use mir.Syntax.{w8}
 use mir.Val.{Fits}
 use lib.ListN.{length, getD}
 use Rattle.base_laws.proofs.TestLaws.{T-of-true}
-use Rattle.class_rules.specs.Classes.{blocksOf}
+use Rattle.class_rules.specs.Classes.{classCount, blocksOf}
 use Rattle.heap_rules.specs.declared.State.{State}
 use Rattle.heap_rules.specs.declared.Moved.{Moved}
 use Rattle.heap_rules.specs.declared.Found.{Found}
@@ -27,8 +27,8 @@ pub superblocks-total-le-64 : (s : State) (x : ℕ) → TotalsKept s → getD (s
 superblocks-total-le-64 s x kept = rw kept (recounted-superblocks-le-64 (s .table) x)
 
 -- the test, from the totals kept
-pub must-move-from-totals : (h c : ℕ) (s : State) (n : ℕ) (r : Bool) → h < heapCount → c < 27 → TotalsKept s → n ≡ blocksOf c
-    → r ≡ bothConditions (s .setup .spare) (s .setup .p) (s .setup .q) n (getD (s .totals .superblocks) (h * 27 + c) 0 * n) (getD (s .totals .live) (h * 27 + c) 0) → r ≡ mustMove h c s
+pub must-move-from-totals : (h c : ℕ) (s : State) (n : ℕ) (r : Bool) → h < heapCount → c < classCount → TotalsKept s → n ≡ blocksOf c
+    → r ≡ bothConditions (s .setup .spare) (s .setup .p) (s .setup .q) n (getD (s .totals .superblocks) (h * classCount + c) 0 * n) (getD (s .totals .live) (h * classCount + c) 0) → r ≡ mustMove h c s
 unfolding mustMove blocksIn superblocksKept liveKept
 must-move-from-totals h c s n r lh lc kept p g = rw (← p, ← superblocks-kept-are-counted s h c lh lc kept, ← live-kept-is-counted s h c lh lc kept) g
 

@@ -10,7 +10,7 @@ use names_rules::NOT_HELD;
 // How many names there are, in the width of a name.
 const NAMES: u16 = NAME_COUNT as u16;
 
-// The number of the block that a name points at, 65535 where it is not held.
+// The number of the block that a name points at, NOT_HELD where it is not held.
 pub fn block_named(names: [u16; NAME_COUNT], name: u16) -> u16
     ensures { λ r. ⌜ r ≡ blockNamed names name ⌝ }
 {

@@ -4,6 +4,7 @@ use Prim.Native.Nat.{_≤_, _-_}
 use native.Mathlib.Omega.{arith}
 use lib.ListN.{length}
 use borrow.Author.Needs.{needs}
+use Rattle.heap_rules.specs.Totals.{totalCount}
 use Rattle.text_rules.specs.Text.{pasted}
 use Rattle.text_rules.proofs.PasteLaws.{paste-then-paste, paste-nothing-after}
 use Rattle.answer_rules.proofs.AnswerLineLaws.{texts-start, texts-step}
@@ -13,10 +14,10 @@ use Rattle.answer_totals.proofs.total_lines.Statement.{statement}
 use Rattle.answer_totals.proofs.total_lines.Tie as tie
 
 abbrev Inv-loop : tie.InvT-loop
-Inv-loop out₀ at totals end₀ x₀ out end x = (x ≤ 243) × (record { end = end; buffer = out } ≡ pasted out₀ end₀ (linesOfTotals totals x)) × (length out ≡ length out₀)
+Inv-loop out₀ at totals end₀ x₀ out end x = (x ≤ totalCount) × (record { end = end; buffer = out } ≡ pasted out₀ end₀ (linesOfTotals totals x)) × (length out ≡ length out₀)
 
 abbrev μ-loop : tie.MeasureT-loop
-μ-loop out₀ at totals end₀ x₀ out end x = 243 - x
+μ-loop out₀ at totals end₀ x₀ out end x = totalCount - x
 
 put-nothing-requires : tie.Need-put-nothing-requires Inv-loop μ-loop
 put-nothing-requires c κs = search needs

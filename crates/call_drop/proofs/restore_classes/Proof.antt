@@ -2,6 +2,7 @@
 use mathlib.Core.Logic.{⊎-elim}
 use Prim.Native.Nat.{_-_, _≤_}
 use native.Mathlib.Omega.{arith}
+use Rattle.class_rules.specs.Classes.{classCount}
 use Rattle.call_drop.specs.DropSteps.{touchedIn}
 use Rattle.call_drop.proofs.RestoreLaws.{ClassesRestored, no-class-restored, touched-class-restored, untouched-class-restored, all-classes-restored}
 use borrow.Author.Needs.{needs}
@@ -9,10 +10,10 @@ use Rattle.call_drop.proofs.restore_classes.Statement.{statement}
 use Rattle.call_drop.proofs.restore_classes.Tie as tie
 
 abbrev Inv-loop : tie.InvT-loop
-Inv-loop heap touched m₀ class₀ m class = (class ≤ 27) × ClassesRestored (touchedIn touched) heap m₀ class m
+Inv-loop heap touched m₀ class₀ m class = (class ≤ classCount) × ClassesRestored (touchedIn touched) heap m₀ class m
 
 abbrev μ-loop : tie.MeasureT-loop
-μ-loop heap touched m₀ class₀ m class = 27 - class
+μ-loop heap touched m₀ class₀ m class = classCount - class
 
 loop-holds : tie.Need-loop-holds Inv-loop μ-loop
 loop-holds c = (omega arith, search no-class-restored)

@@ -2,16 +2,17 @@
 use Prim.Native.Nat.{ℕ, _-_, _≤_, _<_}
 use native.Mathlib.Omega.{arith}
 use lib.Dec.{T}
+use Rattle.heap_rules.specs.Totals.{heapCount}
 use Rattle.check_invariant.specs.TotalsInvariant.{heapInvariant}
 use Rattle.check_invariant.proofs.EmptinessInvariantLaws.{totals-invariant-false-of-heap, heap-invariants-step, totals-invariant-of-all-heaps}
 use Rattle.check_invariant.proofs.emptiness_invariant.Statement.{statement}
 use Rattle.check_invariant.proofs.emptiness_invariant.Tie as tie
 
 abbrev Inv-loop : tie.InvT-loop
-Inv-loop setup superblocks live heap₀ heap = (heap ≤ 9) × ((i : ℕ) → i < heap → T (heapInvariant setup (record { superblocks = superblocks; live = live }) i))
+Inv-loop setup superblocks live heap₀ heap = (heap ≤ heapCount) × ((i : ℕ) → i < heap → T (heapInvariant setup (record { superblocks = superblocks; live = live }) i))
 
 abbrev μ-loop : tie.MeasureT-loop
-μ-loop setup superblocks live heap₀ heap = 9 - heap
+μ-loop setup superblocks live heap₀ heap = heapCount - heap
 
 loop-holds : tie.Need-loop-holds Inv-loop μ-loop
 loop-holds c = (omega arith, λ i l. absurd (let z : ⊥ = omega arith in z))

@@ -4,16 +4,17 @@ use mathlib.Core.Path.{_≡_}
 use mathlib.Core.Logic.{⊎-elim}
 use Prim.Native.Nat.{_-_, _≤_}
 use native.Mathlib.Omega.{arith}
+use Rattle.heap_rules.specs.Totals.{totalCount}
 use Rattle.check_totals.specs.Differing.{differing}
 use Rattle.check_totals.proofs.DifferingLaws.{none-differ-yet, one-more-differs, one-more-is-the-same, same-numbers-is-none-differing}
 use Rattle.check_totals.proofs.same_live.Statement.{statement}
 use Rattle.check_totals.proofs.same_live.Tie as tie
 
 abbrev Inv-loop : tie.InvT-loop
-Inv-loop a b differ₀ j₀ differ j = (j ≤ 243) × (differ ≤ j) × (differ ≡ differing a b j)
+Inv-loop a b differ₀ j₀ differ j = (j ≤ totalCount) × (differ ≤ j) × (differ ≡ differing a b j)
 
 abbrev μ-loop : tie.MeasureT-loop
-μ-loop a b differ₀ j₀ differ j = 243 - j
+μ-loop a b differ₀ j₀ differ j = totalCount - j
 
 loop-holds : tie.Need-loop-holds Inv-loop μ-loop
 loop-holds c = (omega arith, omega arith, none-differ-yet _ _)

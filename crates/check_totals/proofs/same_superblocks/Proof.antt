@@ -4,16 +4,17 @@ use mathlib.Core.Path.{_≡_}
 use mathlib.Core.Logic.{⊎-elim}
 use Prim.Native.Nat.{_-_, _≤_}
 use native.Mathlib.Omega.{arith}
+use Rattle.heap_rules.specs.Totals.{totalCount}
 use Rattle.check_totals.specs.Differing.{differing}
 use Rattle.check_totals.proofs.DifferingLaws.{none-differ-yet, one-more-differs, one-more-is-the-same, same-numbers-is-none-differing}
 use Rattle.check_totals.proofs.same_superblocks.Statement.{statement}
 use Rattle.check_totals.proofs.same_superblocks.Tie as tie
 
 abbrev Inv-loop : tie.InvT-loop
-Inv-loop a b differ₀ i₀ differ i = (i ≤ 243) × (differ ≤ i) × (differ ≡ differing a b i)
+Inv-loop a b differ₀ i₀ differ i = (i ≤ totalCount) × (differ ≤ i) × (differ ≡ differing a b i)
 
 abbrev μ-loop : tie.MeasureT-loop
-μ-loop a b differ₀ i₀ differ i = 243 - i
+μ-loop a b differ₀ i₀ differ i = totalCount - i
 
 loop-holds : tie.Need-loop-holds Inv-loop μ-loop
 loop-holds c = (omega arith, omega arith, none-differ-yet _ _)

@@ -8,16 +8,17 @@ use lib.ListN.{length, take, length-set}
 use Rattle.bytes_rules.specs.Bytes.{byteAt, twoAt}
 use Rattle.bytes_rules.proofs.PastEndLaws.{two-at-position-after}
 use Rattle.base_laws.specs.Lists.{listed}
+use Rattle.heap_rules.specs.Totals.{totalCount}
 use Rattle.base_laws.proofs.ListedLaws.{listed-none, listed-step}
 use Rattle.form_totals.proofs.TotalsInLaws.{byte-at-position-after, totals-in-of-all-totals}
 use Rattle.form_totals.proofs.totals_at.Statement.{statement}
 use Rattle.form_totals.proofs.totals_at.Tie as tie
 
 abbrev Inv-loop : tie.InvT-loop
-Inv-loop bytes at superblocks₀ live₀ x₀ superblocks live x = (x ≤ 243) × (length superblocks ≡ 243) × (length live ≡ 243) × (take x superblocks ≡ listed (λ i. byteAt bytes (at + i)) x) × (take x live ≡ listed (λ i. twoAt bytes (at + (243 + 2 * i))) x)
+Inv-loop bytes at superblocks₀ live₀ x₀ superblocks live x = (x ≤ totalCount) × (length superblocks ≡ totalCount) × (length live ≡ totalCount) × (take x superblocks ≡ listed (λ i. byteAt bytes (at + i)) x) × (take x live ≡ listed (λ i. twoAt bytes (at + (totalCount + 2 * i))) x)
 
 abbrev μ-loop : tie.MeasureT-loop
-μ-loop bytes at superblocks₀ live₀ x₀ superblocks live x = 243 - x
+μ-loop bytes at superblocks₀ live₀ x₀ superblocks live x = totalCount - x
 
 loop-holds : tie.Need-loop-holds Inv-loop μ-loop
 loop-holds c = (zero-le, refl, refl, listed-none _, listed-none _)
@@ -57,7 +58,7 @@ loop-less c = omega arith
 
 loop-again : tie.Need-loop-again Inv-loop μ-loop
 loop-again c =
-    let h : c .before .before .before .before .before .loop .x < 243 = omega arith in
+    let h : c .before .before .before .before .before .loop .x < totalCount = omega arith in
     (omega arith, search (needs, length-set), search (needs, length-set), search (listed-step, byte-at-position-after), search (listed-step, two-at-position-after))
 
 returns : tie.Need-returns Inv-loop μ-loop

@@ -4,6 +4,7 @@ use Prim.Native.Nat.{_≤_, _-_}
 use native.Mathlib.Omega.{arith}
 use lib.ListN.{length}
 use borrow.Author.Needs.{needs}
+use Rattle.class_rules.specs.Classes.{classCount}
 use Rattle.text_rules.specs.Text.{pasted}
 use Rattle.text_rules.proofs.PasteLaws.{paste-then-paste, paste-nothing-after}
 use Rattle.line_rules.specs.Lines.{classLines}
@@ -12,10 +13,10 @@ use Rattle.line_final.proofs.class_lines.Statement.{statement}
 use Rattle.line_final.proofs.class_lines.Tie as tie
 
 abbrev Inv-loop : tie.InvT-loop
-Inv-loop out₀ at heap s end₀ class₀ out end class = (class ≤ 27) × (record { end = end; buffer = out } ≡ pasted out₀ end₀ (classLines heap class s)) × (length out ≡ length out₀)
+Inv-loop out₀ at heap s end₀ class₀ out end class = (class ≤ classCount) × (record { end = end; buffer = out } ≡ pasted out₀ end₀ (classLines heap class s)) × (length out ≡ length out₀)
 
 abbrev μ-loop : tie.MeasureT-loop
-μ-loop out₀ at heap s end₀ class₀ out end class = 27 - class
+μ-loop out₀ at heap s end₀ class₀ out end class = classCount - class
 
 put-nothing-requires : tie.Need-put-nothing-requires Inv-loop μ-loop
 put-nothing-requires c κs = search needs
