@@ -3,8 +3,8 @@ use mathlib.Core.Path.{_≡_, sym, ap, _∙_}
 use mathlib.Core.List.{List}
 use Prim.Native.Nat.{ℕ}
 use Rattle.text_rules.specs.Text.{Pasted, pasted}
-use Rattle.call_rules.specs.declared.CallHeader.{CallHeader}
-use Rattle.call_rules.specs.declared.CallHeader.the-variants.{Take, Free, NamedTake, NamedFree, Drop}
+use Rattle.call_header.specs.declared.CallHeader.{CallHeader}
+use Rattle.call_header.specs.declared.CallHeader.the-variants.{Take, Free, NamedTake, NamedFree, Drop}
 use Rattle.call_rules.specs.declared.Outcome.{Outcome}
 use Rattle.line_rules.specs.Lines.{takeLine, freeLine, namedTakeLine, namedFreeLine, dropLine, callLine}
 

@@ -41,7 +41,7 @@ use denote.Triple.Table.{entered, cited}
 use denote.Triple.Walked.{Stays, gave-slice, stay-dropped, walkOf, goes-gave-slice, goes-dropped, Walks, ends-at, walked, walk-meets}
 use denote.Exit.{yes}
 use Rattle.heap_rules.specs.declared.Superblock.{Superblock}
-use Rattle.call_rules.specs.declared.CallHeader.{CallHeader}
+use Rattle.call_header.specs.declared.CallHeader.{CallHeader}
 use Rattle.row_rules.specs.declared.Control.{Control}
 use Rattle.row_rules.specs.declared.RowAnswer.{RowAnswer}
 use Rattle.call_rules.specs.Answers.{HasNumberAndValuesOf, PassesIfAccepted, MovesAtMost}
@@ -55,8 +55,8 @@ use Rattle.row_calls.proofs.LoadStoreLaws.{stored-call-is-row-call, sto
 use Rattle.heap_rules.proofs.Superblock as T
 use Rattle.row_rules.proofs.Control as Ctl
 use Rattle.row_rules.proofs.Control.Laws as Ctl′
-use Rattle.call_rules.proofs.CallHeader as K
-use Rattle.call_rules.proofs.CallHeader.Laws as K′
+use Rattle.call_header.proofs.CallHeader as K
+use Rattle.call_header.proofs.CallHeader.Laws as K′
 use Rattle.row_rules.proofs.RowAnswer as N
 use Rattle.row_rules.proofs.RowAnswer.Laws as N′
 use Rattle.row_by_value.proofs.TableCall as R
@@ -245,6 +245,6 @@ call-row-spec 𝓤 H 𝓜 𝓖 𝓡 =
     entered 𝓤 H (tripleOf 𝓤 H (𝓖 .A) f.signature (f.spec 𝓤 H (𝓖 .A) (𝓜 .mem) (𝓡 .run)))
     (tables 𝓤 H 𝓜 𝓡 code.env .C) (tables 𝓤 H 𝓜 𝓡 code.env .Λ) #call-row code.function (code.unfolded 𝓤 H 𝓜 𝓡)
     (call-row-meets 𝓤 H (𝓖 .A) (givenOf 𝓤 H 𝓜 𝓖) (𝓜 .mem) (𝓡 .run) (tablesOf 𝓤 H 𝓜 (tables 𝓤 H 𝓜 𝓡 code.env))
-    (cited 𝓤 H (Load 𝓤 H (𝓖 .A) (𝓜 .mem) (𝓡 .run)) 𝓜 𝓡 code.env #load load-def.routine code.calls-rowaccess·load (load-thm.met 𝓤 H 𝓜 𝓖 𝓡))
-    (cited 𝓤 H (Work 𝓤 H (𝓖 .A) (𝓜 .mem) (𝓡 .run)) 𝓜 𝓡 code.env #work work-def.routine code.calls-row·call-table (work-thm.met 𝓤 H 𝓜 𝓖 𝓡))
-    (cited 𝓤 H (Store 𝓤 H (𝓖 .A) (𝓜 .mem) (𝓡 .run)) 𝓜 𝓡 code.env #store store-def.routine code.calls-rowaccess·store (store-thm.met 𝓤 H 𝓜 𝓖 𝓡)))
+    (cited 𝓤 H (Load 𝓤 H (𝓖 .A) (𝓜 .mem) (𝓡 .run)) 𝓜 𝓡 code.env #load load-def.routine code.calls-row-access·load (load-thm.met 𝓤 H 𝓜 𝓖 𝓡))
+    (cited 𝓤 H (Work 𝓤 H (𝓖 .A) (𝓜 .mem) (𝓡 .run)) 𝓜 𝓡 code.env #work work-def.routine code.calls-row-calls·call-table (work-thm.met 𝓤 H 𝓜 𝓖 𝓡))
+    (cited 𝓤 H (Store 𝓤 H (𝓖 .A) (𝓜 .mem) (𝓡 .run)) 𝓜 𝓡 code.env #store store-def.routine code.calls-row-access·store (store-thm.met 𝓤 H 𝓜 𝓖 𝓡)))
