@@ -22,7 +22,7 @@ use Rattle.call_rules.specs.Drop.{dropOf}
 use Rattle.call_rules.specs.Calls.{callWith, callOf}
 use Rattle.call_header.specs.declared.CallHeader.the-variants as header
 use Rattle.record_rules.specs.declared.Command.{Command}
-use Rattle.record_rules.specs.Record.{addressesIn}
+use Rattle.record_rules.specs.Record.{addressesIn, callByte, callNumbers}
 use Rattle.record_rules.specs.declared.Command.the-variants.{Call, Refused}
 use Rattle.text_rules.specs.Text.{letters}
 use Rattle.line_rules.specs.Lines.{takeLine, freeLine, namedTakeLine, namedFreeLine, dropLine, callLine}
@@ -146,7 +146,8 @@ text-of-calls-on-no-state = refl
 room-enough : leb (60000 * 10 + 9 * 27 * 64 + 64 * 31 + 4) room ≡ true
 room-enough = refl
 
--- ---- each call, of any state and storage: its line has the outcome that it gives on them, and the commands behind it find what it leaves
+-- ---- each call, of any state and storage: its line has the outcome that it gives on them, and the commands behind it find what it leaves. What a
+-- header holds in the record unfolds here, so that a definition that went by it would be computed, and be refused only of the calls that it has wrong
 abbrev line-and-rest : List ℕ → (Outcome → List ℕ) → After → List Command → List ℕ
 line-and-rest r line left rest = line (left .answer .outcome) ++ textOf r left rest
 
@@ -158,7 +159,7 @@ text-of-call : (r order : List ℕ) (s : State) (i a m size count first : ℕ) (
     × (textOf r (stateAndStorage s order) (Call (header.NamedFree i m) 0 0 ∷ rest) ≡ line-and-rest r (namedFreeLine i m) (namedFreeOf s order i m) rest)
     × (textOf r (stateAndStorage s order) (Call (header.Drop i) count first ∷ rest)
     ≡ line-and-rest r (dropLine i count) (dropOf s order i (addressesIn r first count)) rest)
-unfolding textOf callOf callWith callLine
+unfolding textOf callOf callWith callLine callByte callNumbers
 text-of-call r order s i a m size count first rest = (refl, refl, refl, refl, refl)
 
 storage-of-call : (r order : List ℕ) (s : State) (i a m size count first : ℕ) (rest : List Command)
@@ -167,7 +168,7 @@ storage-of-call : (r order : List ℕ) (s : State) (i a m size count first : ℕ
     × (orderAfter r (stateAndStorage s order) (Call (header.NamedTake i m size) 0 0 ∷ rest) ≡ orderAfter r (namedTakeOf s order i m size) rest)
     × (orderAfter r (stateAndStorage s order) (Call (header.NamedFree i m) 0 0 ∷ rest) ≡ orderAfter r (namedFreeOf s order i m) rest)
     × (orderAfter r (stateAndStorage s order) (Call (header.Drop i) count first ∷ rest) ≡ orderAfter r (dropOf s order i (addressesIn r first count)) rest)
-unfolding orderAfter callOf callWith
+unfolding orderAfter callOf callWith callByte
 storage-of-call r order s i a m size count first rest = (refl, refl, refl, refl, refl)
 
 -- ---- calls on states that pass, whose check is long. They are computed only where the cases above hold: a declaration that cites a refused one is skipped,
