@@ -16,7 +16,6 @@ use Rattle.text_rules.proofs.PasteLaws.{paste-append, put-length, put-end-le}
 use Rattle.heap_rules.specs.declared.Setup.{Setup}
 use Rattle.call_rules.specs.declared.Answer.{Answer}
 use Rattle.call_header.specs.declared.CallHeader.{CallHeader}
-use Rattle.call_header.specs.declared.CallHeader.the-variants as header
 use Rattle.call_rules.specs.Answers.{After, numberOf}
 use Rattle.call_rules.specs.Setup.{setupOf}
 use Rattle.call_rules.specs.Calls.{Call, callWith, callOf}
@@ -66,26 +65,8 @@ call-at-of-no-address r at c call count first e is none =
     record { first = first; command-is = ap (λ (n : ℕ). command.Call call n first) (sym none) ∙ sym is ∙ e; addresses-are = refl }
 
 -- the bytes of a call's command, in the arms of a match on its header
-module _ (c : CallHeader) (count : ℕ) where
-  pub size-of-take : (i size : ℕ) → c ≡ header.Take i size → 4 ≡ callSize c count
-  unfolding callSize
-  size-of-take i size e = ap (λ (h : CallHeader). callSize h count) (sym e)
-
-  pub size-of-free : (i a : ℕ) → c ≡ header.Free i a → 6 ≡ callSize c count
-  unfolding callSize
-  size-of-free i a e = ap (λ (h : CallHeader). callSize h count) (sym e)
-
-  pub size-of-named-take : (i m size : ℕ) → c ≡ header.NamedTake i m size → 6 ≡ callSize c count
-  unfolding callSize
-  size-of-named-take i m size e = ap (λ (h : CallHeader). callSize h count) (sym e)
-
-  pub size-of-named-free : (i m : ℕ) → c ≡ header.NamedFree i m → 4 ≡ callSize c count
-  unfolding callSize
-  size-of-named-free i m e = ap (λ (h : CallHeader). callSize h count) (sym e)
-
-  pub size-of-drop : (i : ℕ) → c ≡ header.Drop i → 3 + 4 * count ≡ callSize c count
-  unfolding callSize
-  size-of-drop i e = ap (λ (h : CallHeader). callSize h count) (sym e)
+pub size-of-matched : (call matched : CallHeader) (count n : ℕ) → call ≡ matched → n ≡ callSize matched count → n ≡ callSize call count
+size-of-matched call matched count n e is = is ∙ ap (λ (c : CallHeader). callSize c count) (sym e)
 
 -- ---- a text in the buffer with the storage
 abbrev text-and-order : Pasted → List ℕ → TextAndOrder
