@@ -32,7 +32,7 @@ use Rattle.bytes_rules.proofs.FoursLaws.{length-of-fours-at}
 use Rattle.record_rules.specs.declared.Command.{Command}
 use Rattle.record_rules.specs.declared.Command.the-variants as command
 use Rattle.record_rules.specs.Record.{addressesIn, commandAt, callSize, sizeOfCommand, isRefused, commandsFrom, commandsOf}
-use Rattle.record_laws.proofs.RefusalTable.{call-size-ge-3}
+use Rattle.record_laws.proofs.RefusalTable.{call-byte-and-size}
 use Rattle.record_laws.proofs.CommandLaws.{remaining, commands-of-is-commands-at-0, commands-setup, commands-refused, setup-first-and-inside, call-later-and-inside}
 use Rattle.line_rules.specs.Lines.{setupLine, dropLine, callLine, stopLine}
 use Rattle.key_rules.specs.Key.{beforeFirst, setupText, textOf, orderAfter, keyOf, storageOf}
@@ -82,7 +82,7 @@ no-setup-after-first r = go (commandAt r 0)
 
     go : (c : Command) → NoSetup (pick (either (isRefused c) (leb (length r) (0 + sizeOfCommand c))) [] (commandsFrom (length r) r (0 + sizeOfCommand c)))
     go (command.Setup processors superblocks spare p q) = after 6 (omega arith)
-    go (command.Call call count first) = after (callSize call count) (omega (arith, call-size-ge-3 call count))
+    go (command.Call call count first) = after (callSize call count) (omega (arith, call-byte-and-size call count))
     go (command.Refused number offset) = tt
 
 -- ---- the lines are those of the calls

@@ -24,7 +24,7 @@ use Rattle.record_rules.specs.declared.Command.{Command}
 use Rattle.record_rules.specs.declared.Command.the-variants as command
 use Rattle.bytes_rules.specs.Bytes.{foursAt}
 use Rattle.record_rules.specs.Record.{addressesIn, commandAt, callSize}
-use Rattle.record_laws.proofs.RefusalTable.{call-size-ge-3}
+use Rattle.record_laws.proofs.RefusalTable.{call-byte-and-size}
 use Rattle.record_laws.proofs.CommandLaws.{commandsAt, remaining, remaining-inside, remaining-end, commands-refused, commands-setup, commands-call}
 use Rattle.record_laws.proofs.CommandLaws.{setup-first-and-inside, call-later-and-inside}
 use Rattle.line_rules.specs.Lines.{setupLine, callLine, stopLine, closingLines}
@@ -189,7 +189,7 @@ module _ (r : List ℕ) (x : Replay) (order out : List ℕ) (bounds : InBounds x
       subst (λ (z : Replay). Stepped r x order out z new text)
       (sym (is ∙ ap (λ (m : ℕ). nextOf r (a .state) (x .at + m) end) size-is))
       (stepped-of-line (callLine call count (a .outcome)) (record { answer = a; order = new }) k end text put
-      (omega (arith, call-size-ge-3 call count)) (inside-record .2) (inside-record .0) readable
+      (omega (arith, call-byte-and-size call count)) (inside-record .2) (inside-record .0) readable
       (ap (textOf r (stateAndStorage (x .state) order)) commands
       ∙ ap (λ (z : After). callLine call count (z .answer .outcome) ++ textOf r z rest) (sym left))
       (ap (orderAfter r (stateAndStorage (x .state) order)) commands ∙ ap (λ (z : After). orderAfter r z rest) (sym left)))

@@ -10,7 +10,7 @@ use lib.ListN.{length}
 use lib.Dec.{T, leb}
 use Rattle.base_laws.specs.Sums.{pick, either}
 use Rattle.record_laws.proofs.RefusalTable.{CommandRow, row-of-command-at, NumbersAt, ReadAt, no-refusal-of-read, command-iff-read-at}
-use Rattle.record_laws.proofs.RefusalTable.{setup-iff-setup-at, call-size-ge-3}
+use Rattle.record_laws.proofs.RefusalTable.{setup-iff-setup-at, call-byte-and-size}
 use Rattle.record_laws.proofs.RefusalTable as row
 use Rattle.call_header.specs.declared.CallHeader.{CallHeader}
 use Rattle.call_header.specs.declared.CallHeader.the-variants as header
@@ -53,7 +53,7 @@ module _ (r : List ℕ) (at : ℕ) (c : Command) (e : c ≡ commandAt r at) wher
     where
       go : (d : Command) → ReadAt r at d → CommandInside r at d
       go (Setup processors superblocks spare p q) t = record { record-le-60000 = t .0; inside = t .3; size-ge-3 = omega arith }
-      go (Call call count first) t = record { record-le-60000 = t .0; inside = t .3; size-ge-3 = call-size-ge-3 call count }
+      go (Call call count first) t = record { record-le-60000 = t .0; inside = t .3; size-ge-3 = call-byte-and-size call count .2 }
       go (Refused number offset) t = absurd t
 
   -- a setup is first, a call is not

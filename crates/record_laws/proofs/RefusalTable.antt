@@ -87,22 +87,14 @@ Misplaced r at =
 abbrev pub Truncated : List ℕ → ℕ → Type 0
 Truncated r at = (length r ≤ at) ⊎ (length r < at + bytesOf (byteAt r at) (byteAt r (at + 2)))
 
--- ---- the calls: their command bytes, and at least 3 bytes for each
-call-byte-known : (call : CallHeader) → (1 ≤ callByte call) × (callByte call ≤ 5)
-unfolding callByte
-call-byte-known (header.Take processor size) = (omega arith, omega arith)
-call-byte-known (header.Free processor address) = (omega arith, omega arith)
-call-byte-known (header.NamedTake processor name size) = (omega arith, omega arith)
-call-byte-known (header.NamedFree processor name) = (omega arith, omega arith)
-call-byte-known (header.Drop processor) = (omega arith, omega arith)
-
-pub call-size-ge-3 : (call : CallHeader) (count : ℕ) → 3 ≤ callSize call count
-unfolding callSize
-call-size-ge-3 (header.Take processor size) count = omega arith
-call-size-ge-3 (header.Free processor address) count = omega arith
-call-size-ge-3 (header.NamedTake processor name size) count = omega arith
-call-size-ge-3 (header.NamedFree processor name) count = omega arith
-call-size-ge-3 (header.Drop processor) count = omega arith
+-- ---- a call's command byte is one of 1 to 5, and its command has 3 bytes at least
+pub call-byte-and-size : (call : CallHeader) (count : ℕ) → (1 ≤ callByte call) × (callByte call ≤ 5) × (3 ≤ callSize call count)
+unfolding callByte callSize
+call-byte-and-size (header.Take processor size) count = (omega arith, omega arith, omega arith)
+call-byte-and-size (header.Free processor address) count = (omega arith, omega arith, omega arith)
+call-byte-and-size (header.NamedTake processor name size) count = (omega arith, omega arith, omega arith)
+call-byte-and-size (header.NamedFree processor name) count = (omega arith, omega arith, omega arith)
+call-byte-and-size (header.Drop processor) count = (omega arith, omega arith, omega arith)
 
 -- ---- the commands that are read, with the bytes that they carry: "numbers of several bytes have the low byte first"
 
@@ -185,8 +177,7 @@ module _ (r : List ℕ) (at : ℕ) where
   whole-of-read (Setup processors superblocks spare p q) h =
       record { short = h .0; inside = omega arith; known = omega arith; first = λ z. h .1; later = λ z. absurd (omega arith); whole = rw (h .2) (h .3) }
   whole-of-read (Call call count first) h =
-      let byte = call-byte-known call in
-      let some = call-size-ge-3 call count in
+      let some = call-byte-and-size call count in
       record {
         short = h .0;
         inside = omega arith;
