@@ -46,7 +46,8 @@ unfolding dropAddresses foursAt listed
 addresses-in-cases = (refl, refl, refl, refl)
 
 -- C has two bytes, the low one first
-drop-count-of-two-bytes : (callIn (drop-bytes 2 1 16) ≡ Call (header.Drop 6) 258) × (length (dropAddresses (drop-bytes 2 1 16)) ≡ 258) × (tableOffset (drop-bytes 2 1 16) ≡ 1041)
+drop-count-of-two-bytes :
+    (callIn (drop-bytes 2 1 16) ≡ Call (header.Drop 6) 258) × (length (dropAddresses (drop-bytes 2 1 16)) ≡ 258) × (tableOffset (drop-bytes 2 1 16) ≡ 1041)
 unfolding callIn dropAddresses foursAt tableOffset listed
 drop-count-of-two-bytes = (refl, refl, refl)
 

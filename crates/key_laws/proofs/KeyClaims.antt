@@ -33,7 +33,8 @@ use Rattle.record_rules.specs.declared.Command.{Command}
 use Rattle.record_rules.specs.declared.Command.the-variants as command
 use Rattle.record_rules.specs.Record.{addressesIn, commandAt, callSize, sizeOfCommand, isRefused, commandsFrom, commandsOf}
 use Rattle.record_laws.proofs.RefusalTable.{call-byte-and-size}
-use Rattle.record_laws.proofs.CommandLaws.{remaining, commands-of-is-commands-at-0, commands-setup, commands-refused, setup-first-and-inside, call-later-and-inside}
+use Rattle.record_laws.proofs.CommandLaws.{remaining, commands-of-is-commands-at-0, commands-setup, commands-refused}
+use Rattle.record_laws.proofs.CommandLaws.{setup-first-and-inside, call-later-and-inside}
 use Rattle.line_rules.specs.Lines.{setupLine, dropLine, callLine, stopLine}
 use Rattle.key_rules.specs.Key.{beforeFirst, setupText, textOf, orderAfter, keyOf, storageOf}
 use Rattle.claim_rules.specs.LongBlocksClaim.{LongBlocksAgreeOver}

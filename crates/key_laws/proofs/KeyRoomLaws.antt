@@ -288,7 +288,11 @@ length-of-text-of-le r before (command.Call call count first ∷ commands) h fit
     let kept = setup-kept-by-call s (before .order) (callWith call addresses) in
     let heaps : after .answer .state .setup .processors ≤ 8 = subst (λ (u : Setup). u .processors ≤ 8) (sym kept) h in
     simp length-append
-    (omega (arith, length-of-call-line-le-10-times call s (before .order) count first addresses h (fit .0), length-of-text-of-le r after commands heaps (fit .1)))
+    (omega (
+      arith,
+      length-of-call-line-le-10-times call s (before .order) count first addresses h (fit .0),
+      length-of-text-of-le r after commands heaps (fit .1),
+    ))
 length-of-text-of-le r before (command.Refused number offset ∷ commands) h fit = let z = length-of-stop-line-le-33 number offset in omega arith
 
 -- the key of every record of bytes, with any order storage, fits the room

@@ -31,7 +31,8 @@ use Rattle.line_rules.specs.Lines.{setupLine, callLine, stopLine, closingLines}
 use Rattle.key_replay.specs.declared.Replay.{Replay}
 use Rattle.key_rules.specs.Key.{stateAndStorage, setupText, textOf, orderAfter}
 use Rattle.key_laws.proofs.SetupKeptLaws.{setup-kept-by-call, processors-after-setup-le-8}
-use Rattle.key_replay.specs.Steps.{TextAndOrder, textAhead, orderAhead, textAndOrderAhead, commandsLeft, TotalsReadable, InBounds, Stepped, nextOf, stopOf, Stopped, CallAt}
+use Rattle.key_replay.specs.Steps.{TextAndOrder, textAhead, orderAhead, textAndOrderAhead, commandsLeft, TotalsReadable, InBounds}
+use Rattle.key_replay.specs.Steps.{Stepped, nextOf, stopOf, Stopped, CallAt}
 
 -- ---- of what a call left, the state and the storage count
 text-of-starting-from : (r : List ℕ) (after : After) (cs : List Command) → textOf r after cs ≡ textOf r (stateAndStorage (after .answer .state) (after .order)) cs
