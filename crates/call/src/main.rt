@@ -2,8 +2,8 @@
 // the order places that changed go to standard output (docs/FORMATS.md, "One call").
 ghost use Prim.Native.Nat.{_≤_};
 ghost use Rattle.io.specs.Counts.{Counts};
+use call_header::CallHeader;
 use call_rules::Answer;
-use call_rules::CallHeader;
 use form_rules::Request;
 use heap_rules::State;
 use program_stream::Input;
@@ -67,11 +67,7 @@ fn reply_bad_input() {
 // How many addresses are lent: none where the call is no drop.
 fn address_count(bytes: &[u8]) -> usize {
     let request = form_call::call_in(bytes);
-    let Request::Drop {
-        processor: _,
-        count,
-    } = request
-    else {
+    let Request::Call { call: _, count } = request else {
         return 0;
     };
     count as usize
@@ -144,7 +140,7 @@ fn state_in(bytes: &[u8]) -> State {
     form_state::state_at(bytes, form_layout::table_offset(bytes))
 }
 
-// A call on the state that the input holds is the entry of its own name; a setup, which takes no state, is the engine's.
+// A setup takes no state.
 fn answer_to(bytes: &[u8], order: &mut [u16], addresses: &[u32]) -> Answer {
     let request = form_call::call_in(bytes);
     match request {
@@ -152,85 +148,43 @@ fn answer_to(bytes: &[u8], order: &mut [u16], addresses: &[u32]) -> Answer {
             let u = form_call::setup_in(bytes);
             engine_state::setup(u, order)
         }
-        Request::Take { processor, size } => {
-            let s = state_in(bytes);
-            engine_entries::take(s, order, processor, size)
-        }
-        Request::Free { processor, address } => {
-            let s = state_in(bytes);
-            engine_entries::free(s, order, processor, address)
-        }
-        Request::NamedTake {
-            processor,
-            name,
-            size,
-        } => {
-            let s = state_in(bytes);
-            engine_entries::named_take(s, order, processor, name, size)
-        }
-        Request::NamedFree { processor, name } => {
-            let s = state_in(bytes);
-            engine_entries::named_free(s, order, processor, name)
-        }
-        Request::Drop {
-            processor,
-            count: _,
-        } => {
-            let s = state_in(bytes);
-            engine_entries::drop(s, order, processor, addresses)
-        }
+        Request::Call { call, count: _ } => entry_answer(state_in(bytes), order, call, addresses),
     }
 }
 
-// What is asked of a row: a setup, or a take, a free or a drop.
-enum Asked {
-    Setup,
-    Call(CallHeader),
-}
-
-fn asked_in(bytes: &[u8]) -> Asked {
-    let request = form_call::call_in(bytes);
-    match request {
-        Request::Setup => Asked::Setup,
-        Request::Take { processor, size } => Asked::Call(CallHeader::Take { processor, size }),
-        Request::Free { processor, address } => Asked::Call(CallHeader::Free {
-            processor,
-            address,
-        }),
-        Request::NamedTake {
+// A call on the state that the input holds is the entry of its own name.
+fn entry_answer(s: State, order: &mut [u16], call: CallHeader, addresses: &[u32]) -> Answer {
+    match call {
+        CallHeader::Take { processor, size } => engine_entries::take(s, order, processor, size),
+        CallHeader::Free { processor, address } => {
+            engine_entries::free(s, order, processor, address)
+        }
+        CallHeader::NamedTake {
             processor,
             name,
             size,
-        } => Asked::Call(CallHeader::NamedTake {
-            processor,
-            name,
-            size,
-        }),
-        Request::NamedFree { processor, name } => Asked::Call(CallHeader::NamedFree {
-            processor,
-            name,
-        }),
-        Request::Drop {
-            processor,
-            count: _,
-        } => Asked::Call(CallHeader::Drop { processor }),
+        } => engine_entries::named_take(s, order, processor, name, size),
+        CallHeader::NamedFree { processor, name } => {
+            engine_entries::named_free(s, order, processor, name)
+        }
+        CallHeader::Drop { processor } => engine_entries::drop(s, order, processor, addresses),
     }
 }
 
 // The superblocks go in as records, the setup numbers, the names and the totals by value.
 fn row_answer_to(n: usize, bytes: &[u8], order: &mut [u16], addresses: &[u32]) -> RecordsAnswer {
-    let asked = asked_in(bytes);
-    match asked {
-        Asked::Setup => {
+    let request = form_call::call_in(bytes);
+    match request {
+        Request::Setup => {
             let u = form_call::setup_in(bytes);
             row_plain::setup_by_row(n, form_row::other_records(), order, u)
         }
-        Asked::Call(c) => {
+        Request::Call { call, count: _ } => {
             let s = state_in(bytes);
             let table = s.table;
             let records = form_row::records_of(table);
             let control = row_by_value::control_of(s);
-            row_plain::call_by_row(n, records, order, control, c, addresses)
+            row_plain::call_by_row(n, records, order, control, call, addresses)
         }
     }
 }

@@ -24,8 +24,8 @@ use Rattle.call_rules.specs.Setup.{setupOf}
 use Rattle.call_rules.specs.Take.{otherPlaces, acquired, acquiredOrder, unrankedIfEmpty, nextBlock, addressOf, takenFrom, takenAt}
 use Rattle.call_rules.specs.Free.{blockOf, isUnmapped, isMisaligned, isLiveAt, markCleared, orderPushed, freedAt}
 use Rattle.call_rules.proofs.CallDefinitions.{uncheckedCallDefinitions, callDefinitions}
-use Rattle.call_rules.specs.declared.CallHeader.{CallHeader}
-use Rattle.call_rules.specs.declared.CallHeader.the-variants as header
+use Rattle.call_header.specs.declared.CallHeader.{CallHeader}
+use Rattle.call_header.specs.declared.CallHeader.the-variants as header
 use Rattle.call_rules.specs.Calls.{Call, Take, Free, NamedTake, NamedFree, Drop, mostMoves, callWith, callOf, callUnchecked}
 use Rattle.call_rules.proofs.PairStates.{order-before, named-state}
 use Rattle.call_rules.proofs.AnswerLaws.{moves-at-most-of-moves, moves-at-most-of-address, moves-at-most-of-refusal}

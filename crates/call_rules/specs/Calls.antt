@@ -3,8 +3,8 @@ use Prim.Native.Nat.{ℕ, _*_}
 use mathlib.Core.List.{List}
 use lib.ListN.{length}
 use Rattle.heap_rules.specs.declared.State.{State}
-use Rattle.call_rules.specs.declared.CallHeader.{CallHeader}
-use Rattle.call_rules.specs.declared.CallHeader.the-variants as header
+use Rattle.call_header.specs.declared.CallHeader.{CallHeader}
+use Rattle.call_header.specs.declared.CallHeader.the-variants as header
 use Rattle.call_rules.specs.Answers.{After}
 use Rattle.call_rules.specs.Take.{takeUnchecked, takeOf}
 use Rattle.call_rules.specs.Free.{freeUnchecked, freeOf}

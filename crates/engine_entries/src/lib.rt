@@ -8,8 +8,8 @@ ghost use Rattle.call_rules.specs.Take.{takeOf};
 ghost use Rattle.call_rules.specs.Free.{freeOf};
 ghost use Rattle.call_rules.specs.Named.{namedTakeOf, namedFreeOf};
 ghost use Rattle.call_rules.specs.Drop.{dropOf};
+use call_header::CallHeader;
 use call_rules::Answer;
-use call_rules::CallHeader;
 use engine_state::call_state;
 use heap_rules::State;
 

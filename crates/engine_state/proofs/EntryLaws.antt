@@ -15,8 +15,8 @@ use Rattle.check_rules.specs.Check.{withinLimits, restValid, passes}
 use Rattle.heap_laws.proofs.StateFacts.{Shape}
 use Rattle.call_rules.specs.declared.Answer.{Answer}
 use Rattle.call_rules.specs.declared.Outcome.the-variants.{Ready, Refused}
-use Rattle.call_rules.specs.declared.CallHeader.{CallHeader}
-use Rattle.call_rules.specs.declared.CallHeader.the-variants as header
+use Rattle.call_header.specs.declared.CallHeader.{CallHeader}
+use Rattle.call_header.specs.declared.CallHeader.the-variants as header
 use Rattle.call_rules.specs.Answers.{After, HasNumberAndValuesOf, PassesIfAccepted, MovesAtMost, refused, checked}
 use Rattle.call_rules.specs.Setup.{acceptedSetup, setupOf}
 use Rattle.call_rules.specs.Take.{takeUnchecked}

@@ -5,6 +5,7 @@ ghost use Rattle.form_rules.specs.Form.{callIn, setupIn};
 use bytes_reader::byte_at;
 use bytes_reader::four_at;
 use bytes_reader::two_at;
+use call_header::CallHeader;
 use form_rules::Request;
 use heap_rules::Setup;
 
@@ -19,26 +20,31 @@ pub fn call_in(bytes: &[u8]) -> Request
     let processor = byte_at(bytes, 6);
     if first == 1 {
         let size = two_at(bytes, 7);
-        return Request::Take { processor, size };
+        let call = CallHeader::Take { processor, size };
+        return Request::Call { call, count: 0 };
     }
     if first == 2 {
         let address = four_at(bytes, 7);
-        return Request::Free { processor, address };
+        let call = CallHeader::Free { processor, address };
+        return Request::Call { call, count: 0 };
     }
     let name = two_at(bytes, 7);
     if first == 3 {
         let size = two_at(bytes, 9);
-        return Request::NamedTake {
+        let call = CallHeader::NamedTake {
             processor,
             name,
             size,
         };
+        return Request::Call { call, count: 0 };
     }
     if first == 4 {
-        return Request::NamedFree { processor, name };
+        let call = CallHeader::NamedFree { processor, name };
+        return Request::Call { call, count: 0 };
     }
     let count = two_at(bytes, 7);
-    Request::Drop { processor, count }
+    let call = CallHeader::Drop { processor };
+    Request::Call { call, count }
 }
 
 // The setup numbers.

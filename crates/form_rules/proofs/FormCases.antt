@@ -10,14 +10,18 @@ use Rattle.base_laws.proofs.ListedLaws.{length-listed, getD-listed}
 use Rattle.base_laws.proofs.Stages.{_also_}
 use Rattle.bytes_rules.specs.Bytes.{byteAt, twoAt, foursAt}
 use Rattle.heap_rules.specs.Table.{blank}
-use Rattle.form_rules.specs.declared.Request.the-variants.{Setup, Take, Free, NamedTake, NamedFree, Drop}
+use Rattle.call_header.specs.declared.CallHeader.the-variants as header
+use Rattle.form_rules.specs.declared.Request.the-variants.{Setup, Call}
 use Rattle.form_rules.specs.Form.{callIn, setupIn, superblockIn, namesIn, namesOffset, totalsIn, totalsOffset, stateIn, dropAddresses, tableOffset, placesOffset, placeCount, placesIn, wellFormed}
 
 -- ---- the call, by its first byte; behind it every byte another
 abbrev distinct-bytes : List ℕ
 distinct-bytes = 1 ∷ 2 ∷ 3 ∷ 4 ∷ 5 ∷ 6 ∷ 7 ∷ 8 ∷ 9 ∷ 10 ∷ []
 
-call-in-cases : (callIn (0 ∷ distinct-bytes) ≡ Setup) × (callIn (1 ∷ distinct-bytes) ≡ Take 6 2055) × (callIn (2 ∷ distinct-bytes) ≡ Free 6 168364039) × (callIn (3 ∷ distinct-bytes) ≡ NamedTake 6 2055 2569) × (callIn (4 ∷ distinct-bytes) ≡ NamedFree 6 2055) × (callIn (5 ∷ distinct-bytes) ≡ Drop 6 2055)
+call-in-cases :
+    (callIn (0 ∷ distinct-bytes) ≡ Setup) × (callIn (1 ∷ distinct-bytes) ≡ Call (header.Take 6 2055) 0)
+    × (callIn (2 ∷ distinct-bytes) ≡ Call (header.Free 6 168364039) 0) × (callIn (3 ∷ distinct-bytes) ≡ Call (header.NamedTake 6 2055 2569) 0)
+    × (callIn (4 ∷ distinct-bytes) ≡ Call (header.NamedFree 6 2055) 0) × (callIn (5 ∷ distinct-bytes) ≡ Call (header.Drop 6) 2055)
 unfolding callIn
 call-in-cases = (refl, refl, refl, refl, refl, refl)
 
@@ -42,7 +46,8 @@ unfolding dropAddresses foursAt listed
 addresses-in-cases = (refl, refl, refl, refl)
 
 -- C has two bytes, the low one first
-drop-count-of-two-bytes : (callIn (drop-bytes 2 1 16) ≡ Drop 6 258) × (length (dropAddresses (drop-bytes 2 1 16)) ≡ 258) × (tableOffset (drop-bytes 2 1 16) ≡ 1041)
+drop-count-of-two-bytes :
+    (callIn (drop-bytes 2 1 16) ≡ Call (header.Drop 6) 258) × (length (dropAddresses (drop-bytes 2 1 16)) ≡ 258) × (tableOffset (drop-bytes 2 1 16) ≡ 1041)
 unfolding callIn dropAddresses foursAt tableOffset listed
 drop-count-of-two-bytes = (refl, refl, refl)
 

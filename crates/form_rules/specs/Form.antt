@@ -11,18 +11,20 @@ use Rattle.heap_rules.specs.declared.Superblock.{Superblock}
 use Rattle.heap_rules.specs.declared.Setup.{Setup}
 use Rattle.heap_rules.specs.declared.Totals.{Totals}
 use Rattle.heap_rules.specs.declared.State.{State}
+use Rattle.call_header.specs.declared.CallHeader.the-variants as header
 use Rattle.form_rules.specs.declared.Request.{Request}
 use Rattle.form_rules.specs.declared.Request.the-variants as request
 
 -- ---- the call
--- byte 0: 0 setup, 1 take, 2 free, 3 named take, 4 named free, else a drop; all but a setup have their numbers from byte 6 on
+-- byte 0: 0 setup, 1 take, 2 free, 3 named take, 4 named free, else a drop, which alone has a count; all but a setup have their numbers from byte 6 on
 unfoldable pub callIn : List ℕ → Request
 callIn b =
     pick (eqb (byteAt b 0) 0) request.Setup
-    (pick (eqb (byteAt b 0) 1) (request.Take (byteAt b 6) (twoAt b 7))
-    (pick (eqb (byteAt b 0) 2) (request.Free (byteAt b 6) (fourAt b 7))
-    (pick (eqb (byteAt b 0) 3) (request.NamedTake (byteAt b 6) (twoAt b 7) (twoAt b 9))
-    (pick (eqb (byteAt b 0) 4) (request.NamedFree (byteAt b 6) (twoAt b 7)) (request.Drop (byteAt b 6) (twoAt b 7))))))
+    (pick (eqb (byteAt b 0) 1) (request.Call (header.Take (byteAt b 6) (twoAt b 7)) 0)
+    (pick (eqb (byteAt b 0) 2) (request.Call (header.Free (byteAt b 6) (fourAt b 7)) 0)
+    (pick (eqb (byteAt b 0) 3) (request.Call (header.NamedTake (byteAt b 6) (twoAt b 7) (twoAt b 9)) 0)
+    (pick (eqb (byteAt b 0) 4) (request.Call (header.NamedFree (byteAt b 6) (twoAt b 7)) 0)
+    (request.Call (header.Drop (byteAt b 6)) (twoAt b 7))))))
 
 -- ---- the state
 -- P, N, K, p, q in bytes 1 to 5

@@ -12,12 +12,13 @@ use Rattle.base_laws.specs.Sums.{pick, either}
 use Rattle.heap_rules.specs.declared.Setup.{Setup}
 use Rattle.heap_rules.specs.States.{noState}
 use Rattle.check_rules.specs.Check.{withinLimits}
-use Rattle.call_rules.specs.Calls as call
 use Rattle.call_rules.specs.declared.Outcome.{Outcome}
 use Rattle.call_rules.specs.declared.Outcome.the-variants.{Ready}
 use Rattle.call_rules.specs.Answers.{After, refused, numberOf}
 use Rattle.call_rules.specs.Setup.{acceptedSetup, setupOf}
-use Rattle.call_rules.specs.Calls.{Call, callOf}
+use Rattle.call_rules.specs.Calls.{Call, callWith, callOf}
+use Rattle.call_header.specs.declared.CallHeader.{CallHeader}
+use Rattle.call_header.specs.declared.CallHeader.the-variants as header
 use Rattle.claim_rules.specs.Claim.{lastAfter, stepsBy}
 use Rattle.claim_laws.proofs.Demand3.{demand-3}
 use Rattle.claim_laws.proofs.TotalsOverLists.{totals-kept-over-list, live-totals-agree-with-ledger}
@@ -30,9 +31,11 @@ use Rattle.claim_laws.proofs.CallListLaws.{steps-linked}
 use Rattle.bytes_rules.proofs.FoursLaws.{length-of-fours-at}
 use Rattle.record_rules.specs.declared.Command.{Command}
 use Rattle.record_rules.specs.declared.Command.the-variants as command
-use Rattle.record_rules.specs.Record.{addressesIn, commandAt, sizeOfCommand, isRefused, commandsFrom, commandsOf}
-use Rattle.record_laws.proofs.CommandLaws.{remaining, commands-of-is-commands-at-0, commands-setup, commands-refused, setup-first-and-inside, take-later-and-inside, free-later-and-inside, named-take-later-and-inside, named-free-later-and-inside, drop-later-and-inside}
-use Rattle.line_rules.specs.Lines.{setupLine, dropLine, stopLine}
+use Rattle.record_rules.specs.Record.{addressesIn, commandAt, callSize, sizeOfCommand, isRefused, commandsFrom, commandsOf}
+use Rattle.record_laws.proofs.RefusalTable.{call-byte-and-size}
+use Rattle.record_laws.proofs.CommandLaws.{remaining, commands-of-is-commands-at-0, commands-setup, commands-refused}
+use Rattle.record_laws.proofs.CommandLaws.{setup-first-and-inside, call-later-and-inside}
+use Rattle.line_rules.specs.Lines.{setupLine, dropLine, callLine, stopLine}
 use Rattle.key_rules.specs.Key.{beforeFirst, setupText, textOf, orderAfter, keyOf, storageOf}
 use Rattle.claim_rules.specs.LongBlocksClaim.{LongBlocksAgreeOver}
 use Rattle.claim_rules.specs.TotalsClaim.{TotalsCountedOver, LiveTotalsAgreeOver}
@@ -43,11 +46,7 @@ use Rattle.key_rules.specs.KeyClaim.{callsIn, stepsIn, lineOf, stepLines, endin
 NoSetup : List Command → Type 0
 NoSetup [] = Unit {0}
 NoSetup (command.Setup processors superblocks spare p q ∷ commands) = ⊥
-NoSetup (command.Take processor size ∷ commands) = NoSetup commands
-NoSetup (command.Free processor address ∷ commands) = NoSetup commands
-NoSetup (command.NamedTake processor name size ∷ commands) = NoSetup commands
-NoSetup (command.NamedFree processor name ∷ commands) = NoSetup commands
-NoSetup (command.Drop processor count first ∷ commands) = NoSetup commands
+NoSetup (command.Call call count first ∷ commands) = NoSetup commands
 NoSetup (command.Refused number offset ∷ commands) = NoSetup commands
 
 no-setup-of-pick : (t : Bool) (commands : List Command) → NoSetup commands → NoSetup (pick t [] commands)
@@ -67,11 +66,8 @@ no-setup-in-commands-from (suc m) r at later = go (commandAt r at) refl (λ (k :
         → NoSetup (c ∷ pick (over c) [] (commandsFrom m r (at + sizeOfCommand c)))
     go (command.Setup processors superblocks spare p q) e more =
         let inside-record = setup-first-and-inside r at (command.Setup processors superblocks spare p q) e processors superblocks spare p q refl in omega arith
-    go (command.Take processor size) e more = no-setup-of-pick (over (command.Take processor size)) (commandsFrom m r (at + 4)) (more 4)
-    go (command.Free processor address) e more = no-setup-of-pick (over (command.Free processor address)) (commandsFrom m r (at + 6)) (more 6)
-    go (command.NamedTake processor name size) e more = no-setup-of-pick (over (command.NamedTake processor name size)) (commandsFrom m r (at + 6)) (more 6)
-    go (command.NamedFree processor name) e more = no-setup-of-pick (over (command.NamedFree processor name)) (commandsFrom m r (at + 4)) (more 4)
-    go (command.Drop processor count first) e more = no-setup-of-pick (over (command.Drop processor count first)) (commandsFrom m r (at + (3 + 4 * count))) (more (3 + 4 * count))
+    go (command.Call call count first) e more =
+        no-setup-of-pick (over (command.Call call count first)) (commandsFrom m r (at + callSize call count)) (more (callSize call count))
     go (command.Refused number offset) e more = no-setup-of-pick (over (command.Refused number offset)) (commandsFrom m r (at + 0)) (more 0)
 
 tailOf : List Command → List Command
@@ -87,11 +83,7 @@ no-setup-after-first r = go (commandAt r 0)
 
     go : (c : Command) → NoSetup (pick (either (isRefused c) (leb (length r) (0 + sizeOfCommand c))) [] (commandsFrom (length r) r (0 + sizeOfCommand c)))
     go (command.Setup processors superblocks spare p q) = after 6 (omega arith)
-    go (command.Take processor size) = after 4 (omega arith)
-    go (command.Free processor address) = after 6 (omega arith)
-    go (command.NamedTake processor name size) = after 6 (omega arith)
-    go (command.NamedFree processor name) = after 4 (omega arith)
-    go (command.Drop processor count first) = after (3 + 4 * count) (omega arith)
+    go (command.Call call count first) = after (callSize call count) (omega (arith, call-byte-and-size call count))
     go (command.Refused number offset) = tt
 
 -- ---- the lines are those of the calls
@@ -105,31 +97,35 @@ module _ (r : List ℕ) (before : After) (c : Call) (commands : List Command) wh
       ≡ (lineOf c (after-call .answer .outcome) ++ stepLines (stepsIn r after-call commands)) ++ endingLines (lastAfter after-call (stepsIn r after-call commands)) commands
   line-before-step-lines e = let line = lineOf c (after-call .answer .outcome) in ap (λ (l : List ℕ). line ++ l) e ∙ sym (append-assoc line _ _)
 
+-- the line of a header with its count is that of its call
+line-of-call-with : (call : CallHeader) (count : ℕ) (addresses : List ℕ) (o : Outcome) → length addresses ≡ count
+    → callLine call count o ≡ lineOf (callWith call addresses) o
+unfolding callLine lineOf callWith
+line-of-call-with (header.Take i size) count addresses o e = refl
+line-of-call-with (header.Free i a) count addresses o e = refl
+line-of-call-with (header.NamedTake i m size) count addresses o e = refl
+line-of-call-with (header.NamedFree i m) count addresses o e = refl
+line-of-call-with (header.Drop i) count addresses o e = ap (λ (k : ℕ). dropLine i k o) (sym e)
+
 text-of-is-step-lines : (r : List ℕ) (before : After) (commands : List Command) → NoSetup commands
     → textOf r before commands ≡ stepLines (stepsIn r before commands) ++ endingLines (lastAfter before (stepsIn r before commands)) commands
-unfolding NoSetup textOf stepsIn callsIn stepsBy callOf stepLines lineOf lastAfter endingLines
+unfolding NoSetup textOf stepsIn callsIn stepsBy stepLines lastAfter endingLines
 text-of-is-step-lines r before [] n = refl
 text-of-is-step-lines r before (command.Setup processors superblocks spare p q ∷ commands) n = absurd n
-text-of-is-step-lines r before (command.Take processor size ∷ commands) n = let c = call.Take processor size in line-before-step-lines r before c commands (text-of-is-step-lines r (after-call r before c commands) commands n)
-text-of-is-step-lines r before (command.Free processor address ∷ commands) n = let c = call.Free processor address in line-before-step-lines r before c commands (text-of-is-step-lines r (after-call r before c commands) commands n)
-text-of-is-step-lines r before (command.NamedTake processor name size ∷ commands) n = let c = call.NamedTake processor name size in line-before-step-lines r before c commands (text-of-is-step-lines r (after-call r before c commands) commands n)
-text-of-is-step-lines r before (command.NamedFree processor name ∷ commands) n = let c = call.NamedFree processor name in line-before-step-lines r before c commands (text-of-is-step-lines r (after-call r before c commands) commands n)
-text-of-is-step-lines r before (command.Drop processor count first ∷ commands) n =
-    let c = call.Drop processor (addressesIn r first count) in
+text-of-is-step-lines r before (command.Call call count first ∷ commands) n =
+    let c = callWith call (addressesIn r first count) in
     let after = after-call r before c commands in
-    ap (λ (k : ℕ). dropLine processor k (after .answer .outcome) ++ textOf r after commands) (sym (length-of-fours-at r first count))
+    ap (λ (l : List ℕ). l ++ textOf r after commands)
+    (line-of-call-with call count (addressesIn r first count) (after .answer .outcome) (length-of-fours-at r first count))
     ∙ line-before-step-lines r before c commands (text-of-is-step-lines r after commands n)
 text-of-is-step-lines r before (command.Refused number offset ∷ commands) n = refl
 
 order-after-is-last-order : (r : List ℕ) (before : After) (commands : List Command) → NoSetup commands → orderAfter r before commands ≡ lastAfter before (stepsIn r before commands) .order
-unfolding NoSetup orderAfter stepsIn callsIn stepsBy callOf lastAfter
+unfolding NoSetup orderAfter stepsIn callsIn stepsBy lastAfter
 order-after-is-last-order r before [] n = refl
 order-after-is-last-order r before (command.Setup processors superblocks spare p q ∷ commands) n = absurd n
-order-after-is-last-order r before (command.Take processor size ∷ commands) n = order-after-is-last-order r (callOf (before .answer .state) (before .order) (call.Take processor size)) commands n
-order-after-is-last-order r before (command.Free processor address ∷ commands) n = order-after-is-last-order r (callOf (before .answer .state) (before .order) (call.Free processor address)) commands n
-order-after-is-last-order r before (command.NamedTake processor name size ∷ commands) n = order-after-is-last-order r (callOf (before .answer .state) (before .order) (call.NamedTake processor name size)) commands n
-order-after-is-last-order r before (command.NamedFree processor name ∷ commands) n = order-after-is-last-order r (callOf (before .answer .state) (before .order) (call.NamedFree processor name)) commands n
-order-after-is-last-order r before (command.Drop processor count first ∷ commands) n = order-after-is-last-order r (callOf (before .answer .state) (before .order) (call.Drop processor (addressesIn r first count))) commands n
+order-after-is-last-order r before (command.Call call count first ∷ commands) n =
+    order-after-is-last-order r (callOf (before .answer .state) (before .order) (callWith call (addressesIn r first count))) commands n
 order-after-is-last-order r before (command.Refused number offset ∷ commands) n = refl
 
 -- ---- the theorem
@@ -204,11 +200,8 @@ key-demand-3 r order = go (commandAt r 0) refl
     go (command.Setup processors superblocks spare p q) e =
         first (record { processors = processors; superblocks = superblocks; spare = spare; p = p; q = q })
         (commands-of-is-commands-at-0 r ∙ commands-setup r 0 (command.Setup processors superblocks spare p q) e processors superblocks spare p q refl)
-    go (command.Take processor size) e = let inside-record = take-later-and-inside r 0 (command.Take processor size) e processor size refl in absurd (omega arith)
-    go (command.Free processor address) e = let inside-record = free-later-and-inside r 0 (command.Free processor address) e processor address refl in absurd (omega arith)
-    go (command.NamedTake processor name size) e = let inside-record = named-take-later-and-inside r 0 (command.NamedTake processor name size) e processor name size refl in absurd (omega arith)
-    go (command.NamedFree processor name) e = let inside-record = named-free-later-and-inside r 0 (command.NamedFree processor name) e processor name refl in absurd (omega arith)
-    go (command.Drop processor count first) e = let inside-record = drop-later-and-inside r 0 (command.Drop processor count first) e processor count first refl in absurd (omega arith)
+    go (command.Call call count first) e =
+        let inside-record = call-later-and-inside r 0 (command.Call call count first) e call count first refl in absurd (omega arith)
     go (command.Refused number offset) e =
         let stops = commands-of-is-commands-at-0 r ∙ commands-refused r 0 (command.Refused number offset) number offset e refl in
         inr (number, offset, ap (textOf r (beforeFirst order)) stops, ap (orderAfter r (beforeFirst order)) stops)

@@ -6,7 +6,7 @@ use Prim.Native.Nat.{ℕ}
 use Rattle.heap_rules.specs.declared.Setup.{Setup}
 use Rattle.call_rules.specs.declared.Outcome.the-variants.{Ready}
 use Rattle.call_rules.specs.Setup.{setupOf}
-use Rattle.call_rules.specs.Calls.{callUnchecked}
+use Rattle.call_rules.specs.Calls.{callWith, callUnchecked}
 use Rattle.call_rules.proofs.CallDefinitions.{callDefinitions}
 use Rattle.claim_rules.specs.Claim.{Step, lastAfter, stepsBy}
 use Rattle.claim_laws.proofs.CallListLaws.{steps-are-unchecked}
@@ -42,5 +42,5 @@ module _ (r order : List ℕ) (u : Setup) (commands : List Command) where
 
 -- what a computed case of these unfolds
 unfoldable pub pastCheckDefinitions : Unit {0}
-unfolding callsIn stepsBy stepLines lineOf lastAfter endingLines commandDefinitions lineDefinitions callDefinitions
+unfolding callsIn callWith stepsBy stepLines lineOf lastAfter endingLines commandDefinitions lineDefinitions callDefinitions
 pastCheckDefinitions = tt

@@ -31,17 +31,20 @@ use Rattle.call_rules.specs.Take.{otherPlaces, takenFrom, takenFromOther, taken
 use Rattle.call_rules.specs.Free.{superblockHolding, isUnmapped, isInRun, isMisaligned, isLiveAt, addressRefusal, smallBlockFreed, blockFreed, smallFreedAt, longFreedAt, freedAt, freeUnchecked, freeOf}
 use Rattle.call_rules.specs.Named.{namedTakeOf, heldAddress, namedFreeUnchecked, namedFreeOf}
 use Rattle.call_rules.specs.Drop.{allFreed, firstAddressRefusal, isTouched, thenRestored, Pair, touchedClasses, touchedPairs, eachRestored, dropMoves, droppedAll, dropUnchecked, dropOf}
+use Rattle.call_rules.specs.Calls.{callWith, callOf}
+use Rattle.call_header.specs.declared.CallHeader.{CallHeader}
+use Rattle.call_header.specs.declared.CallHeader.the-variants as header
 use Rattle.record_rules.specs.declared.Command.{Command}
 use Rattle.record_rules.specs.declared.Command.the-variants as command
 use Rattle.bytes_rules.specs.Bytes.{byteAt}
-use Rattle.record_rules.specs.Record.{addressesIn, commandAt, sizeOfCommand, isRefused, commandsFrom, commandsOf}
-use Rattle.record_laws.proofs.CommandLaws.{setup-fits, take-fits, named-take-fits, named-free-fits, drop-fits}
+use Rattle.record_rules.specs.Record.{addressesIn, commandAt, callSize, sizeOfCommand, isRefused, commandsFrom, commandsOf}
+use Rattle.record_laws.proofs.CommandLaws.{setup-fits, CallFits, call-fits}
 use Rattle.record_laws.proofs.RefusalOffsets.{bytesIn, bytes-in-commands-le-60000}
 use Rattle.text_rules.proofs.DigitLaws.{length-of-decimal-le-10, length-of-byte-decimal-le-3, length-of-u16-decimal-le-5}
-use Rattle.line_rules.specs.Lines.{result, takeLine, freeLine, namedTakeLine, namedFreeLine, dropLine, stopLine}
+use Rattle.line_rules.specs.Lines.{result, takeLine, freeLine, namedTakeLine, namedFreeLine, dropLine, callLine, stopLine}
 use Rattle.line_rules.proofs.LineLengthLaws.{length-of-setup-line-le-26, length-of-named-take-line-le, length-of-named-free-line-le, length-of-drop-line-le-31, length-of-drop-line-le-29, length-of-final-lines-le}
 use Rattle.key_rules.specs.Key.{beforeFirst, setupText, textOf, keyOf, room}
-use Rattle.key_laws.proofs.SetupKeptLaws.{setup-kept-by-take, setup-kept-by-free, setup-kept-by-named-take, setup-kept-by-named-free, setup-kept-by-drop, processors-after-setup-le-8}
+use Rattle.key_laws.proofs.SetupKeptLaws.{setup-kept-by-call, processors-after-setup-le-8}
 
 -- ---- the result of a take: an address, or a refusal of two digits at most
 ShortResult : ℕ → After → Type 0
@@ -217,6 +220,22 @@ length-of-drop-line-le-10-times s order i count addresses at-most-8 a b = go (de
     go (yes many) = omega (arith, length-of-drop-line-le-31 i count (dropOf s order i addresses .answer .outcome) a short b)
     go (no few) = omega (arith, length-of-drop-line-le-29 i count (dropOf s order i addresses .answer .outcome) a short (lt-of-not-le few))
 
+-- any call
+length-of-call-line-le-10-times : (call : CallHeader) (s : State) (order : List ℕ) (count first : ℕ) (addresses : List ℕ)
+    → s .setup .processors ≤ 8 → CallFits call count first
+    → length (callLine call count (callOf s order (callWith call addresses) .answer .outcome)) ≤ 10 * callSize call count
+unfolding CallFits callLine callOf callWith callSize
+length-of-call-line-le-10-times (header.Take i size) s order count first addresses h fit =
+    omega (arith, length-of-take-line-le-32 s order i size (fit .0) (fit .1))
+length-of-call-line-le-10-times (header.Free i address) s order count first addresses h fit =
+    omega (arith, length-of-free-line-le-48 i address (freeOf s order i address .answer .outcome))
+length-of-call-line-le-10-times (header.NamedTake i m size) s order count first addresses h fit =
+    omega (arith, length-of-named-take-line-le-48 i m size (namedTakeOf s order i m size .answer .outcome) (fit .0) (fit .1) (fit .2))
+length-of-call-line-le-10-times (header.NamedFree i m) s order count first addresses h fit =
+    omega (arith, length-of-named-free-line-le-32 s order i m (fit .0) (fit .1))
+length-of-call-line-le-10-times (header.Drop i) s order count first addresses h fit =
+    length-of-drop-line-le-10-times s order i count addresses h (fit .0) (fit .1)
+
 length-of-stop-line-le-33 : (number offset : ℕ) → length (stopLine number offset) ≤ 33
 unfolding stopLine
 length-of-stop-line-le-33 number offset = simp length-append (omega (arith, length-of-decimal-le-10 number, length-of-decimal-le-10 offset))
@@ -224,11 +243,7 @@ length-of-stop-line-le-33 number offset = simp length-append (omega (arith, leng
 -- ---- the commands of a record of bytes
 CommandFits : Command → Type 0
 CommandFits (command.Setup processors superblocks spare p q) = (processors < 256) × (superblocks < 256) × (spare < 256) × (p < 256) × (q < 256)
-CommandFits (command.Take processor size) = (processor < 256) × (size < 65536)
-CommandFits (command.Free processor address) = Unit {0}
-CommandFits (command.NamedTake processor name size) = (processor < 256) × (name < 65536) × (size < 65536)
-CommandFits (command.NamedFree processor name) = (processor < 256) × (name < 65536)
-CommandFits (command.Drop processor count first) = (processor < 256) × (count < 256)
+CommandFits (command.Call call count first) = CallFits call count first
 CommandFits (command.Refused number offset) = Unit {0}
 
 CommandsFit : List Command → Type 0
@@ -239,11 +254,7 @@ module _ (r : List ℕ) (bytes : (i : ℕ) → byteAt r i < 256) where
   command-at-fits : (at : ℕ) (c : Command) → c ≡ commandAt r at → CommandFits c
   unfolding CommandFits
   command-at-fits at (command.Setup processors superblocks spare p q) e = setup-fits r at (command.Setup processors superblocks spare p q) e bytes processors superblocks spare p q refl
-  command-at-fits at (command.Take processor size) e = take-fits r at (command.Take processor size) e bytes processor size refl
-  command-at-fits at (command.Free processor address) e = tt
-  command-at-fits at (command.NamedTake processor name size) e = named-take-fits r at (command.NamedTake processor name size) e bytes processor name size refl
-  command-at-fits at (command.NamedFree processor name) e = named-free-fits r at (command.NamedFree processor name) e bytes processor name refl
-  command-at-fits at (command.Drop processor count first) e = let t = drop-fits r at (command.Drop processor count first) e bytes processor count first refl in (t .0, t .1)
+  command-at-fits at (command.Call call count first) e = call-fits r at (command.Call call count first) e bytes call count first refl
   command-at-fits at (command.Refused number offset) e = tt
 
   commands-from-fit : (most at : ℕ) → CommandsFit (commandsFrom most r at)
@@ -270,31 +281,18 @@ length-of-text-of-le r before (command.Setup processors superblocks spare p q �
 
     after : After
     after = setupOf u (before .order)
-length-of-text-of-le r before (command.Take processor size ∷ commands) h fit =
-    let after = takeOf (before .answer .state) (before .order) processor size in
-    let kept = setup-kept-by-take (before .answer .state) (before .order) processor size in
+length-of-text-of-le r before (command.Call call count first ∷ commands) h fit =
+    let addresses = addressesIn r first count in
+    let s = before .answer .state in
+    let after = callOf s (before .order) (callWith call addresses) in
+    let kept = setup-kept-by-call s (before .order) (callWith call addresses) in
     let heaps : after .answer .state .setup .processors ≤ 8 = subst (λ (u : Setup). u .processors ≤ 8) (sym kept) h in
-    simp length-append (omega (arith, length-of-take-line-le-32 (before .answer .state) (before .order) processor size (fit .0 .0) (fit .0 .1), length-of-text-of-le r after commands heaps (fit .1)))
-length-of-text-of-le r before (command.Free processor address ∷ commands) h fit =
-    let after = freeOf (before .answer .state) (before .order) processor address in
-    let kept = setup-kept-by-free (before .answer .state) (before .order) processor address in
-    let heaps : after .answer .state .setup .processors ≤ 8 = subst (λ (u : Setup). u .processors ≤ 8) (sym kept) h in
-    simp length-append (omega (arith, length-of-free-line-le-48 processor address (after .answer .outcome), length-of-text-of-le r after commands heaps (fit .1)))
-length-of-text-of-le r before (command.NamedTake processor name size ∷ commands) h fit =
-    let after = namedTakeOf (before .answer .state) (before .order) processor name size in
-    let kept = setup-kept-by-named-take (before .answer .state) (before .order) processor name size in
-    let heaps : after .answer .state .setup .processors ≤ 8 = subst (λ (u : Setup). u .processors ≤ 8) (sym kept) h in
-    simp length-append (omega (arith, length-of-named-take-line-le-48 processor name size (after .answer .outcome) (fit .0 .0) (fit .0 .1) (fit .0 .2), length-of-text-of-le r after commands heaps (fit .1)))
-length-of-text-of-le r before (command.NamedFree processor name ∷ commands) h fit =
-    let after = namedFreeOf (before .answer .state) (before .order) processor name in
-    let kept = setup-kept-by-named-free (before .answer .state) (before .order) processor name in
-    let heaps : after .answer .state .setup .processors ≤ 8 = subst (λ (u : Setup). u .processors ≤ 8) (sym kept) h in
-    simp length-append (omega (arith, length-of-named-free-line-le-32 (before .answer .state) (before .order) processor name (fit .0 .0) (fit .0 .1), length-of-text-of-le r after commands heaps (fit .1)))
-length-of-text-of-le r before (command.Drop processor count first ∷ commands) h fit =
-    let after = dropOf (before .answer .state) (before .order) processor (addressesIn r first count) in
-    let kept = setup-kept-by-drop (before .answer .state) (before .order) processor (addressesIn r first count) in
-    let heaps : after .answer .state .setup .processors ≤ 8 = subst (λ (u : Setup). u .processors ≤ 8) (sym kept) h in
-    simp length-append (omega (arith, length-of-drop-line-le-10-times (before .answer .state) (before .order) processor count (addressesIn r first count) h (fit .0 .0) (fit .0 .1), length-of-text-of-le r after commands heaps (fit .1)))
+    simp length-append
+    (omega (
+      arith,
+      length-of-call-line-le-10-times call s (before .order) count first addresses h (fit .0),
+      length-of-text-of-le r after commands heaps (fit .1),
+    ))
 length-of-text-of-le r before (command.Refused number offset ∷ commands) h fit = let z = length-of-stop-line-le-33 number offset in omega arith
 
 -- the key of every record of bytes, with any order storage, fits the room

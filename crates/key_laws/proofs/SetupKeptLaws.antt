@@ -34,6 +34,8 @@ use Rattle.call_rules.specs.Take.{otherPlaces, unrankedIfEmpty, takenFrom, take
 use Rattle.call_rules.specs.Free.{superblockIndex, superblockHolding, isUnmapped, isInRun, isMisaligned, isLiveAt, markCleared, smallBlockFreed, longBlockFreed, blockFreed, smallFreedAt, longFreedAt, freedAt, freeUnchecked, freeOf}
 use Rattle.call_rules.specs.Named.{isUnavailable, nameBound, boundBy, withNameBound, namedTakeUnchecked, namedTakeOf, heldAddress, namedFreeUnchecked, namedFreeOf}
 use Rattle.call_rules.specs.Drop.{allFreed, firstAddressRefusal, thenRestored, Pair, eachRestored, dropMoves, droppedAll, dropUnchecked, dropOf}
+use Rattle.call_rules.specs.Calls as call
+use Rattle.call_rules.specs.Calls.{Call, callOf}
 use Rattle.call_laws.proofs.RunEffectLaws.{run-taken-keeps-rest, run-freed-keeps-rest}
 use Rattle.call_laws.proofs.CheckedLaws.{checked-refused-or-passed}
 
@@ -83,7 +85,7 @@ setup-kept-by-take-unchecked s order i size =
     (λ f. pick-elim (SetupKept s) (isLong size) _ _ (λ g. setup-kept-by-long-taken-at (runLength size) s order (lowestRun (runLength size) s))
     (λ g. setup-kept-by-taken-at i (classOf size) s order (fullest i (classOf size) s) (otherPlaces (classOf size) s))))
 
-pub setup-kept-by-take : (s : State) (order : List ℕ) (i size : ℕ) → takeOf s order i size .answer .state .setup ≡ s .setup
+setup-kept-by-take : (s : State) (order : List ℕ) (i size : ℕ) → takeOf s order i size .answer .state .setup ≡ s .setup
 unfolding SetupKept takeOf
 setup-kept-by-take s order i size = setup-kept-by-checked s order _ (setup-kept-by-take-unchecked s order i size)
 
@@ -108,7 +110,7 @@ setup-kept-by-free-unchecked s order i a =
     (λ f. pick-elim (SetupKept s) (isMisaligned s a) _ _ (λ g. setup-kept-by-refused 6 s order)
     (λ g. pick-elim (SetupKept s) (not (isLiveAt s a)) _ _ (λ h. setup-kept-by-refused 7 s order) (λ h. setup-kept-by-freed-at s order a))))
 
-pub setup-kept-by-free : (s : State) (order : List ℕ) (i a : ℕ) → freeOf s order i a .answer .state .setup ≡ s .setup
+setup-kept-by-free : (s : State) (order : List ℕ) (i a : ℕ) → freeOf s order i a .answer .state .setup ≡ s .setup
 unfolding SetupKept freeOf
 setup-kept-by-free s order i a = setup-kept-by-checked s order _ (setup-kept-by-free-unchecked s order i a)
 
@@ -124,7 +126,7 @@ setup-kept-by-name-bound : (m : ℕ) (s : State) (after : After) → SetupKept s
 unfolding SetupKept withNameBound
 setup-kept-by-name-bound m s after kept = setup-of-bound-by (after .answer .outcome) m (after .answer .state) ∙ kept
 
-pub setup-kept-by-named-take : (s : State) (order : List ℕ) (i m size : ℕ) → namedTakeOf s order i m size .answer .state .setup ≡ s .setup
+setup-kept-by-named-take : (s : State) (order : List ℕ) (i m size : ℕ) → namedTakeOf s order i m size .answer .state .setup ≡ s .setup
 unfolding SetupKept namedTakeOf namedTakeUnchecked
 setup-kept-by-named-take s order i m size =
     setup-kept-by-checked s order _
@@ -132,7 +134,7 @@ setup-kept-by-named-take s order i m size =
     (λ e. pick-elim (SetupKept s) (isUnavailable s m) _ _ (λ f. setup-kept-by-refused 14 s order)
     (λ f. setup-kept-by-name-bound m s _ (setup-kept-by-take-unchecked s order i size))))
 
-pub setup-kept-by-named-free : (s : State) (order : List ℕ) (i m : ℕ) → namedFreeOf s order i m .answer .state .setup ≡ s .setup
+setup-kept-by-named-free : (s : State) (order : List ℕ) (i m : ℕ) → namedFreeOf s order i m .answer .state .setup ≡ s .setup
 unfolding SetupKept namedFreeOf namedFreeUnchecked
 setup-kept-by-named-free s order i m =
     setup-kept-by-checked s order _
@@ -156,7 +158,7 @@ setup-kept-by-dropped-all : (s : State) (order addresses : List ℕ) → SetupKe
 unfolding SetupKept droppedAll dropMoves
 setup-kept-by-dropped-all s order addresses = setup-of-each-restored _ _ ∙ setup-of-all-freed s addresses
 
-pub setup-kept-by-drop : (s : State) (order : List ℕ) (i : ℕ) (addresses : List ℕ) → dropOf s order i addresses .answer .state .setup ≡ s .setup
+setup-kept-by-drop : (s : State) (order : List ℕ) (i : ℕ) (addresses : List ℕ) → dropOf s order i addresses .answer .state .setup ≡ s .setup
 unfolding SetupKept dropOf dropUnchecked
 setup-kept-by-drop s order i addresses =
     setup-kept-by-checked s order _
@@ -164,6 +166,15 @@ setup-kept-by-drop s order i addresses =
     (λ e. pick-elim (SetupKept s) (eqb (length addresses) 0) _ _ (λ f. setup-kept-by-refused 16 s order)
     (λ f. pick-elim (SetupKept s) (eqb (firstAddressRefusal s addresses) 0) _ _ (λ g. setup-kept-by-dropped-all s order addresses)
     (λ g. setup-kept-by-refused (firstAddressRefusal s addresses) s order))))
+
+-- any call
+pub setup-kept-by-call : (s : State) (order : List ℕ) (c : Call) → callOf s order c .answer .state .setup ≡ s .setup
+unfolding callOf
+setup-kept-by-call s order (call.Take i size) = setup-kept-by-take s order i size
+setup-kept-by-call s order (call.Free i a) = setup-kept-by-free s order i a
+setup-kept-by-call s order (call.NamedTake i m size) = setup-kept-by-named-take s order i m size
+setup-kept-by-call s order (call.NamedFree i m) = setup-kept-by-named-free s order i m
+setup-kept-by-call s order (call.Drop i addresses) = setup-kept-by-drop s order i addresses
 
 -- ---- a setup: five zeros, or numbers within their limits
 pub processors-after-setup-le-8 : (u : Setup) (order : List ℕ) → setupOf u order .answer .state .setup .processors ≤ 8

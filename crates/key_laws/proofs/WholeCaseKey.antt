@@ -12,7 +12,8 @@ use Rattle.heap_rules.specs.Counts.{isOwnedOfClass, superblocksOfClass, ownersC
 use Rattle.call_rules.specs.declared.Outcome.the-variants.{Ready, Moves}
 use Rattle.call_rules.specs.Answers.{After}
 use Rattle.call_rules.specs.Setup.{setupOf}
-use Rattle.call_rules.specs.Calls.{Free, callOf, callUnchecked}
+use Rattle.call_rules.specs.Calls.{Free, callWith, callOf, callUnchecked}
+use Rattle.call_header.specs.declared.CallHeader.the-variants as header
 use Rattle.call_rules.proofs.CallDefinitions.{callDefinitions}
 use Rattle.claim_rules.specs.Claim.{Step, Linked, Bounded, freesRun, OwnerChanges, Claims, stepsBy, lastAfter}
 use Rattle.claim_rules.proofs.LedgerDefinitions.{ledgerDefinitions}
@@ -80,8 +81,9 @@ whole-claims = ⊎-elim (λ h. h) (λ h. absurd (not-stopped (h .0) (h .1) (h .2
 -- the commands after the setup
 abbrev pub whole-commands : List Command
 whole-commands =
-    command.Take 1 2048 ∷ command.Take 1 2048 ∷ command.Take 1 2048 ∷ command.Free 1 0 ∷ command.Free 1 0 ∷ command.Free 1 2048
-    ∷ command.Take 1 16 ∷ command.Take 1 2049 ∷ []
+    command.Call (header.Take 1 2048) 0 0 ∷ command.Call (header.Take 1 2048) 0 0 ∷ command.Call (header.Take 1 2048) 0 0
+    ∷ command.Call (header.Free 1 0) 0 0 ∷ command.Call (header.Free 1 0) 0 0 ∷ command.Call (header.Free 1 2048) 0 0
+    ∷ command.Call (header.Take 1 16) 0 0 ∷ command.Call (header.Take 1 2049) 0 0 ∷ []
 
 -- of a setup and commands that the record starts with, there are these alone
 module _ (u : Setup) (commands : List Command)
@@ -112,7 +114,7 @@ whole-key-claims =
 
 -- the setup and the eight calls after it, which are accepted, and a list as in demand 3
 pub whole-starts : (commandsOf whole-record ≡ command.Setup 1 2 1 1 4 ∷ whole-commands) × (callsIn whole-record whole-commands ≡ whole-list .calls)
-unfolding callsIn
+unfolding callsIn callWith
 whole-starts = (whole-key-claims .starts, refl)
 
 abbrev start : After
@@ -122,7 +124,7 @@ pub whole-ready : start .answer .outcome ≡ Ready
 whole-ready = whole-key-claims .ready
 
 pub whole-linked : Linked start (stepsBy callOf start (whole-list .calls))
-unfolding stepsIn callsIn
+unfolding stepsIn callsIn callWith
 whole-linked = whole-key-claims .linked
 
 -- the claim of the calls behind the check: the owners that the free changes that moves a superblock, and the bound of class 26 after the last call
@@ -130,7 +132,7 @@ calls-are-unchecked : stepsBy callOf start (whole-list .calls) ≡ stepsBy callU
 calls-are-unchecked = steps-are-unchecked setup storage whole-ready (whole-list .calls)
 
 whole-claimed : Claims setup start [] (λ c. 0) (stepsBy callUnchecked start (whole-list .calls))
-unfolding stepsIn callsIn
+unfolding stepsIn callsIn callWith
 whole-claimed = subst (Claims setup start [] (λ c. 0)) calls-are-unchecked (whole-key-claims .claims)
 
 pub whole-owners : OwnerChanges 4 1 1 false (Free 1 2048) (Moves 1)

@@ -15,94 +15,59 @@ use Rattle.text_rules.specs.Text.{Pasted, pasted}
 use Rattle.text_rules.proofs.PasteLaws.{paste-append, put-length, put-end-le}
 use Rattle.heap_rules.specs.declared.Setup.{Setup}
 use Rattle.call_rules.specs.declared.Answer.{Answer}
-use Rattle.call_rules.specs.declared.CallHeader.{CallHeader}
-use Rattle.call_rules.specs.declared.CallHeader.the-variants as header
-use Rattle.call_rules.specs.declared.Outcome.{Outcome}
+use Rattle.call_header.specs.declared.CallHeader.{CallHeader}
 use Rattle.call_rules.specs.Answers.{After, numberOf}
 use Rattle.call_rules.specs.Setup.{setupOf}
-use Rattle.call_rules.specs.Take.{takeOf}
-use Rattle.call_rules.specs.Free.{freeOf}
-use Rattle.call_rules.specs.Named.{namedTakeOf, namedFreeOf}
-use Rattle.call_rules.specs.Drop.{dropOf}
 use Rattle.call_rules.specs.Calls.{Call, callWith, callOf}
-use Rattle.call_rules.specs.Calls as call
 use Rattle.call_laws.proofs.TotalsKeptLaws.{call-keeps-totals, new-or-refused-setup-totals-kept}
 use Rattle.record_rules.specs.declared.Command.{Command}
 use Rattle.record_rules.specs.declared.Command.the-variants as command
 use Rattle.bytes_rules.specs.Bytes.{foursAt}
-use Rattle.record_rules.specs.Record.{addressesIn, commandAt, sizeOfCommand}
-use Rattle.record_laws.proofs.RefusalTable.{drop-iff-drop-at}
-use Rattle.record_laws.proofs.CommandLaws.{commandsAt, remaining, remaining-inside, remaining-end, commands-refused, commands-setup, commands-take, commands-free, commands-named-take, commands-named-free, commands-drop, setup-first-and-inside, take-later-and-inside, free-later-and-inside, named-take-later-and-inside, named-free-later-and-inside, drop-later-and-inside}
-use Rattle.line_rules.specs.Lines.{setupLine, takeLine, freeLine, namedTakeLine, namedFreeLine, dropLine, callLine, stopLine, closingLines}
+use Rattle.record_rules.specs.Record.{addressesIn, commandAt, callSize}
+use Rattle.record_laws.proofs.RefusalTable.{call-byte-and-size}
+use Rattle.record_laws.proofs.CommandLaws.{commandsAt, remaining, remaining-inside, remaining-end, commands-refused, commands-setup, commands-call}
+use Rattle.record_laws.proofs.CommandLaws.{setup-first-and-inside, call-later-and-inside}
+use Rattle.line_rules.specs.Lines.{setupLine, callLine, stopLine, closingLines}
 use Rattle.key_replay.specs.declared.Replay.{Replay}
 use Rattle.key_rules.specs.Key.{stateAndStorage, setupText, textOf, orderAfter}
-use Rattle.key_laws.proofs.SetupKeptLaws.{setup-kept-by-take, setup-kept-by-free, setup-kept-by-named-take, setup-kept-by-named-free, setup-kept-by-drop, processors-after-setup-le-8}
-use Rattle.key_replay.specs.Steps.{TextAndOrder, textAhead, orderAhead, textAndOrderAhead, commandsLeft, TotalsReadable, InBounds, Stepped, nextOf, stopOf, Stopped, commandOf, CallAt}
+use Rattle.key_laws.proofs.SetupKeptLaws.{setup-kept-by-call, processors-after-setup-le-8}
+use Rattle.key_replay.specs.Steps.{TextAndOrder, textAhead, orderAhead, textAndOrderAhead, commandsLeft, TotalsReadable, InBounds}
+use Rattle.key_replay.specs.Steps.{Stepped, nextOf, stopOf, Stopped, CallAt}
 
 -- ---- of what a call left, the state and the storage count
 text-of-starting-from : (r : List ℕ) (after : After) (cs : List Command) → textOf r after cs ≡ textOf r (stateAndStorage (after .answer .state) (after .order)) cs
 unfolding textOf
 text-of-starting-from r after [] = refl
 text-of-starting-from r after (command.Setup processors superblocks spare p q ∷ cs) = refl
-text-of-starting-from r after (command.Take processor size ∷ cs) = refl
-text-of-starting-from r after (command.Free processor address ∷ cs) = refl
-text-of-starting-from r after (command.NamedTake processor name size ∷ cs) = refl
-text-of-starting-from r after (command.NamedFree processor name ∷ cs) = refl
-text-of-starting-from r after (command.Drop processor count first ∷ cs) = refl
+text-of-starting-from r after (command.Call call count first ∷ cs) = refl
 text-of-starting-from r after (command.Refused number offset ∷ cs) = refl
 
 order-after-starting-from : (r : List ℕ) (after : After) (cs : List Command) → orderAfter r after cs ≡ orderAfter r (stateAndStorage (after .answer .state) (after .order)) cs
 unfolding orderAfter
 order-after-starting-from r after [] = refl
 order-after-starting-from r after (command.Setup processors superblocks spare p q ∷ cs) = refl
-order-after-starting-from r after (command.Take processor size ∷ cs) = refl
-order-after-starting-from r after (command.Free processor address ∷ cs) = refl
-order-after-starting-from r after (command.NamedTake processor name size ∷ cs) = refl
-order-after-starting-from r after (command.NamedFree processor name ∷ cs) = refl
-order-after-starting-from r after (command.Drop processor count first ∷ cs) = refl
+order-after-starting-from r after (command.Call call count first ∷ cs) = refl
 order-after-starting-from r after (command.Refused number offset ∷ cs) = refl
 
 -- ---- a command in the arms of a match
 pub matched-command-is-command-at : (r : List ℕ) (at : ℕ) (c d : Command) → c ≡ commandAt r at → c ≡ d → d ≡ commandAt r at
 matched-command-is-command-at r at c d e f = sym f ∙ e
 
--- a drop's addresses begin at byte 3 of its command
-pub drop-call-at : (r : List ℕ) (at i count first : ℕ) (addresses : List ℕ) → command.Drop i count first ≡ commandAt r at → addresses ≡ addressesIn r first count → CallAt r at (header.Drop i) addresses count
-unfolding commandOf
-drop-call-at r at i count first addresses e same =
-    let begin = drop-iff-drop-at r at i count first .0 (sym e) .6 in
-    record { command-is = ap (command.Drop i count) (sym begin) ∙ e; addresses-are = same ∙ ap (λ (n : ℕ). addressesIn r n count) begin }
+-- a call with addresses, which are read in the record
+pub call-at-of-addresses : (r : List ℕ) (at : ℕ) (call : CallHeader) (count first : ℕ) (addresses : List ℕ)
+    → command.Call call count first ≡ commandAt r at → addresses ≡ addressesIn r first count → CallAt r at call addresses count
+call-at-of-addresses r at call count first addresses e same = record { first = first; command-is = e; addresses-are = same }
 
--- no other call has addresses
-pub no-addresses : (r : List ℕ) (at : ℕ) → [] ≡ addressesIn r at 0
+-- and with none
+pub call-at-of-no-address : (r : List ℕ) (at : ℕ) (c : Command) (call : CallHeader) (count first : ℕ)
+    → c ≡ commandAt r at → c ≡ command.Call call count first → count ≡ 0 → CallAt r at call [] 0
 unfolding foursAt listed
-no-addresses r at = refl
-
-pub call-at-of-named-take : (r : List ℕ) (at : ℕ) (call : CallHeader) (i m size : ℕ) → call ≡ header.NamedTake i m size → command.NamedTake i m size ≡ commandAt r at → CallAt r at call [] 0
-unfolding commandOf
-call-at-of-named-take r at call i m size is e = rw is (record { command-is = e; addresses-are = no-addresses r (at + 3) })
+call-at-of-no-address r at c call count first e is none =
+    record { first = first; command-is = ap (λ (n : ℕ). command.Call call n first) (sym none) ∙ sym is ∙ e; addresses-are = refl }
 
 -- the bytes of a call's command, in the arms of a match on its header
-module _ (c : CallHeader) (count : ℕ) where
-  pub size-of-take : (i size : ℕ) → c ≡ header.Take i size → (first : ℕ) → 4 ≡ sizeOfCommand (commandOf c count first)
-  unfolding commandOf sizeOfCommand
-  size-of-take i size e first = ap (λ (h : CallHeader). sizeOfCommand (commandOf h count first)) (sym e)
-
-  pub size-of-free : (i a : ℕ) → c ≡ header.Free i a → (first : ℕ) → 6 ≡ sizeOfCommand (commandOf c count first)
-  unfolding commandOf sizeOfCommand
-  size-of-free i a e first = ap (λ (h : CallHeader). sizeOfCommand (commandOf h count first)) (sym e)
-
-  pub size-of-named-take : (i m size : ℕ) → c ≡ header.NamedTake i m size → (first : ℕ) → 6 ≡ sizeOfCommand (commandOf c count first)
-  unfolding commandOf sizeOfCommand
-  size-of-named-take i m size e first = ap (λ (h : CallHeader). sizeOfCommand (commandOf h count first)) (sym e)
-
-  pub size-of-named-free : (i m : ℕ) → c ≡ header.NamedFree i m → (first : ℕ) → 4 ≡ sizeOfCommand (commandOf c count first)
-  unfolding commandOf sizeOfCommand
-  size-of-named-free i m e first = ap (λ (h : CallHeader). sizeOfCommand (commandOf h count first)) (sym e)
-
-  pub size-of-drop : (i : ℕ) → c ≡ header.Drop i → (first : ℕ) → 3 + 4 * count ≡ sizeOfCommand (commandOf c count first)
-  unfolding commandOf sizeOfCommand
-  size-of-drop i e first = ap (λ (h : CallHeader). sizeOfCommand (commandOf h count first)) (sym e)
+pub size-of-matched : (call matched : CallHeader) (count n : ℕ) → call ≡ matched → n ≡ callSize matched count → n ≡ callSize call count
+size-of-matched call matched count n e is = is ∙ ap (λ (c : CallHeader). callSize c count) (sym e)
 
 -- ---- a text in the buffer with the storage
 abbrev text-and-order : Pasted → List ℕ → TextAndOrder
@@ -199,54 +164,36 @@ module _ (r : List ℕ) (x : Replay) (order out : List ℕ) (bounds : InBounds x
 
   -- ---- the commands
   -- a call keeps the totals and the setup numbers, so that the totals can be read after it too
-  totals-readable-after-call : (c : Call) → callOf (x .state) order c .answer .state .setup ≡ x .state .setup → TotalsReadable (callOf (x .state) order c .answer .state)
-  totals-readable-after-call c same =
-      (call-keeps-totals (x .state) order c (bounds .totals-readable .0), subst (λ (u : Setup). u .processors ≤ 8) (sym same) (bounds .totals-readable .1))
+  totals-readable-after-call : (c : Call) → TotalsReadable (callOf (x .state) order c .answer .state)
+  totals-readable-after-call c = (
+    call-keeps-totals (x .state) order c (bounds .totals-readable .0),
+    subst (λ (u : Setup). u .processors ≤ 8) (sym (setup-kept-by-call (x .state) order c)) (bounds .totals-readable .1),
+  )
 
-  -- a call, of k bytes, that left this and prints its outcome so
-  module _ (d : Command) (k : ℕ) (line : Outcome → List ℕ) (left : After) (readable : TotalsReadable (left .answer .state)) (inside-record : (length r ≤ 60000) × (0 < x .at) × (x .at + k ≤ length r)) (some : 0 < k)
-      (commands : commandsAt r (x .at) ≡ d ∷ remaining r (x .at + k))
-      (text-is : textOf r (stateAndStorage (x .state) order) (d ∷ remaining r (x .at + k)) ≡ line (left .answer .outcome) ++ textOf r left (remaining r (x .at + k)))
-      (order-is : orderAfter r (stateAndStorage (x .state) order) (d ∷ remaining r (x .at + k)) ≡ orderAfter r left (remaining r (x .at + k))) where
-    stepped-of-line-and-answer : (a : Answer) (new : List ℕ) → record { answer = a; order = new } ≡ left
-        → (end : ℕ) (text : List ℕ) → record { end = end; buffer = text } ≡ pasted out (x .end) (line (a .outcome))
-        → (y : Replay) → y ≡ nextOf r (a .state) (x .at + k) end → Stepped r x order out y new text
-    stepped-of-line-and-answer a new e end text put y is =
-        let after : After = record { answer = a; order = new } in
-        let rest = remaining r (x .at + k) in
-        subst (λ (z : Replay). Stepped r x order out z new text) (sym is)
-        (stepped-of-line (line (a .outcome)) after k end text put some (inside-record .2) (inside-record .0) (subst (λ (z : After). TotalsReadable (z .answer .state)) (sym e) readable)
-        (ap (textOf r (stateAndStorage (x .state) order)) commands ∙ text-is ∙ ap (λ (z : After). line (z .answer .outcome) ++ textOf r z rest) (sym e))
-        (ap (orderAfter r (stateAndStorage (x .state) order)) commands ∙ order-is ∙ ap (λ (z : After). orderAfter r z rest) (sym e)))
-
-  -- what a call's command is in the record: where it ends, the commands after it, and what is printed and left
+  -- a call's command in the record: where it ends, the commands after it, and what is printed and left
   pub stepped-of-call : (call : CallHeader) (addresses : List ℕ) (count : ℕ) → CallAt r (x .at) call addresses count
       → (a : Answer) (new : List ℕ) → record { answer = a; order = new } ≡ callOf (x .state) order (callWith call addresses)
       → (end : ℕ) (text : List ℕ) → record { end = end; buffer = text } ≡ pasted out (x .end) (callLine call count (a .outcome))
-      → (n : ℕ) → ((first : ℕ) → n ≡ sizeOfCommand (commandOf call count first)) → (y : Replay) → y ≡ nextOf r (a .state) (x .at + n) end → Stepped r x order out y new text
-  unfolding callWith callOf callLine commandOf sizeOfCommand textOf orderAfter
-  stepped-of-call (header.Take i size) addresses count c a new e end text put n size-is y is =
-      let d = command.Take i size in
-      stepped-of-line-and-answer d 4 (takeLine i size) (takeOf (x .state) order i size) (totals-readable-after-call (call.Take i size) (setup-kept-by-take (x .state) order i size)) (take-later-and-inside r (x .at) d (c .command-is) i size refl) (omega arith) (commands-take r (x .at) d (c .command-is) i size refl) refl refl a new e end text put y
-      (is ∙ ap (λ (k : ℕ). nextOf r (a .state) (x .at + k) end) (size-is 0))
-  stepped-of-call (header.Free i address) addresses count c a new e end text put n size-is y is =
-      let d = command.Free i address in
-      stepped-of-line-and-answer d 6 (freeLine i address) (freeOf (x .state) order i address) (totals-readable-after-call (call.Free i address) (setup-kept-by-free (x .state) order i address)) (free-later-and-inside r (x .at) d (c .command-is) i address refl) (omega arith) (commands-free r (x .at) d (c .command-is) i address refl) refl refl a new e end text put y
-      (is ∙ ap (λ (k : ℕ). nextOf r (a .state) (x .at + k) end) (size-is 0))
-  stepped-of-call (header.NamedTake i m size) addresses count c a new e end text put n size-is y is =
-      let d = command.NamedTake i m size in
-      stepped-of-line-and-answer d 6 (namedTakeLine i m size) (namedTakeOf (x .state) order i m size) (totals-readable-after-call (call.NamedTake i m size) (setup-kept-by-named-take (x .state) order i m size)) (named-take-later-and-inside r (x .at) d (c .command-is) i m size refl) (omega arith) (commands-named-take r (x .at) d (c .command-is) i m size refl) refl refl a new e end text put y
-      (is ∙ ap (λ (k : ℕ). nextOf r (a .state) (x .at + k) end) (size-is 0))
-  stepped-of-call (header.NamedFree i m) addresses count c a new e end text put n size-is y is =
-      let d = command.NamedFree i m in
-      stepped-of-line-and-answer d 4 (namedFreeLine i m) (namedFreeOf (x .state) order i m) (totals-readable-after-call (call.NamedFree i m) (setup-kept-by-named-free (x .state) order i m)) (named-free-later-and-inside r (x .at) d (c .command-is) i m refl) (omega arith) (commands-named-free r (x .at) d (c .command-is) i m refl) refl refl a new e end text put y
-      (is ∙ ap (λ (k : ℕ). nextOf r (a .state) (x .at + k) end) (size-is 0))
-  stepped-of-call (header.Drop i) addresses count c a new e end text put n size-is y is =
-      let first = x .at + 3 in
-      let d = command.Drop i count first in
-      let all = addressesIn r first count in
-      stepped-of-line-and-answer d (3 + 4 * count) (dropLine i count) (dropOf (x .state) order i all) (totals-readable-after-call (call.Drop i all) (setup-kept-by-drop (x .state) order i all)) (drop-later-and-inside r (x .at) d (c .command-is) i count first refl) (omega arith) (commands-drop r (x .at) d (c .command-is) i count first refl) refl refl a new (e ∙ ap (dropOf (x .state) order i) (c .addresses-are)) end text put y
-      (is ∙ ap (λ (k : ℕ). nextOf r (a .state) (x .at + k) end) (size-is 0))
+      → (n : ℕ) → n ≡ callSize call count → (y : Replay) → y ≡ nextOf r (a .state) (x .at + n) end → Stepped r x order out y new text
+  unfolding textOf orderAfter
+  stepped-of-call call addresses count c a new e end text put n size-is y is =
+      let first = c .first in
+      let d = command.Call call count first in
+      let k = callSize call count in
+      let rest = remaining r (x .at + k) in
+      let done = callWith call (addressesIn r first count) in
+      let left : record { answer = a; order = new } ≡ callOf (x .state) order done =
+      e ∙ ap (λ (l : List ℕ). callOf (x .state) order (callWith call l)) (c .addresses-are) in
+      let commands = commands-call r (x .at) d (c .command-is) call count first refl in
+      let inside-record = call-later-and-inside r (x .at) d (c .command-is) call count first refl in
+      let readable = subst (λ (z : After). TotalsReadable (z .answer .state)) (sym left) (totals-readable-after-call done) in
+      subst (λ (z : Replay). Stepped r x order out z new text)
+      (sym (is ∙ ap (λ (m : ℕ). nextOf r (a .state) (x .at + m) end) size-is))
+      (stepped-of-line (callLine call count (a .outcome)) (record { answer = a; order = new }) k end text put
+      (omega (arith, call-byte-and-size call count)) (inside-record .2) (inside-record .0) readable
+      (ap (textOf r (stateAndStorage (x .state) order)) commands
+      ∙ ap (λ (z : After). callLine call count (z .answer .outcome) ++ textOf r z rest) (sym left))
+      (ap (orderAfter r (stateAndStorage (x .state) order)) commands ∙ ap (λ (z : After). orderAfter r z rest) (sym left)))
 
   module _ (u : Setup) (c : command.Setup (u .processors) (u .superblocks) (u .spare) (u .p) (u .q) ≡ commandAt r (x .at))
       (a : Answer) (new : List ℕ) (e : record { answer = a; order = new } ≡ setupOf u order) (number : ℕ) (n : number ≡ numberOf (a .outcome)) where

@@ -9,9 +9,7 @@ use Rattle.base_laws.specs.Sums.{pick}
 use Rattle.text_rules.specs.Text.{Pasted, pasted}
 use Rattle.heap_rules.specs.declared.State.{State}
 use Rattle.heap_rules.specs.Totals.{TotalsKept}
-use Rattle.call_rules.specs.declared.CallHeader.{CallHeader}
-use Rattle.call_rules.specs.declared.CallHeader.the-variants as header
-use Rattle.record_rules.specs.declared.Command.{Command}
+use Rattle.call_header.specs.declared.CallHeader.{CallHeader}
 use Rattle.record_rules.specs.declared.Command.the-variants as command
 use Rattle.record_rules.specs.Record.{addressesIn, commandAt, commandsFrom}
 use Rattle.line_rules.specs.Lines.{stopLine, closingLines}
@@ -77,15 +75,8 @@ pub record Stopped (x : Replay) (out : List ℕ) (number offset : ℕ) (y : Repl
   pub line-written : record { end = y .end; buffer = text } ≡ pasted out (x .end) (stopLine number offset)
   pub replay-is : y ≡ stopOf x (y .end)
 
--- the command of a call with this header; of a drop, with so many addresses, the first of which stands at an offset of the record
-unfoldable pub commandOf : CallHeader → ℕ → ℕ → Command
-commandOf (header.Take processor size) count first = command.Take processor size
-commandOf (header.Free processor address) count first = command.Free processor address
-commandOf (header.NamedTake processor name size) count first = command.NamedTake processor name size
-commandOf (header.NamedFree processor name) count first = command.NamedFree processor name
-commandOf (header.Drop processor) count first = command.Drop processor count first
-
--- a call's command stands at a position of the record, and its addresses, so many, are lent beside its header
+-- a call's command stands at a position of the record, and its addresses, so many, are lent beside its header; the first of them stands at an offset
 pub record CallAt (r : List ℕ) (at : ℕ) (call : CallHeader) (addresses : List ℕ) (count : ℕ) : Type 0 where
-  pub command-is : commandOf call count (at + 3) ≡ commandAt r at
-  pub addresses-are : addresses ≡ addressesIn r (at + 3) count
+  pub first : ℕ
+  pub command-is : command.Call call count first ≡ commandAt r at
+  pub addresses-are : addresses ≡ addressesIn r first count

@@ -1,9 +1,8 @@
 // The printed key of a record.
 ghost use mathlib.Core.Path.{_≡_};
 ghost use mathlib.Core.Bool.{true};
-ghost use Prim.Native.Nat.{ℕ, _≤_};
-ghost use Rattle.call_rules.specs.declared.CallHeader.the-variants as header;
-ghost use Rattle.record_rules.specs.Record.{commandAt, sizeOfCommand};
+ghost use Prim.Native.Nat.{_≤_};
+ghost use Rattle.record_rules.specs.Record.{commandAt, callSize};
 ghost use Rattle.record_rules.specs.declared.Command.the-variants as command;
 ghost use Rattle.key_rules.specs.Key.{KeyOrNoRoom};
 ghost use Rattle.key_replay.specs.Steps.{
@@ -11,11 +10,10 @@ ghost use Rattle.key_replay.specs.Steps.{
   Stepped,
   Finished,
   Stopped,
-  commandOf,
   CallAt,
   nextOf,
 };
-use call_rules::CallHeader;
+use call_header::CallHeader;
 use heap_rules::Setup;
 use heap_rules::State;
 use key_rules::Printed;
@@ -80,40 +78,13 @@ fn step(bytes: &[u8], order: &mut [u16], out: &mut [u8], x: Replay) -> Replay
             p,
             q,
         } => setup_step(bytes, order, out, x, processors, superblocks, spare, p, q),
-        Command::Take { processor, size } => {
-            let call = CallHeader::Take { processor, size };
-            call_step(bytes, order, out, x, call, &[], 0)
+        Command::Call { call, count, first } => {
+            if count == 0 {
+                return call_step(bytes, order, out, x, call, &[], 0);
+            }
+            drop_step(bytes, order, out, x, call, count, first)
         }
-        Command::Free { processor, address } => {
-            let call = CallHeader::Free { processor, address };
-            call_step(bytes, order, out, x, call, &[], 0)
-        }
-        Command::NamedTake {
-            processor,
-            name,
-            size,
-        } => call_step(bytes, order, out, x, named(processor, name, size), &[], 0),
-        Command::NamedFree { processor, name } => {
-            let call = CallHeader::NamedFree { processor, name };
-            call_step(bytes, order, out, x, call, &[], 0)
-        }
-        Command::Drop {
-            processor,
-            count,
-            first,
-        } => drop_step(bytes, order, out, x, processor, count, first),
         Command::Refused { number, offset } => stop_step(out, x, number, offset),
-    }
-}
-
-// The header of a take by name.
-fn named(processor: u8, name: u16, size: u16) -> CallHeader
-    ensures { λ c. ⌜ c ≡ header.NamedTake processor name size ⌝ }
-{
-    CallHeader::NamedTake {
-        processor,
-        name,
-        size,
     }
 }
 
@@ -150,22 +121,21 @@ fn setup_step(
     next(bytes, s, x.at + 6, end)
 }
 
-// A drop, with its addresses out of the record. No other command makes this array.
+// A call with addresses, a drop, with these out of the record. No other command makes this array.
 fn drop_step(
     bytes: &[u8],
     order: &mut [u16],
     out: &mut [u8],
     x: Replay,
-    processor: u8,
+    call: CallHeader,
     count: u8,
     first: u32,
 ) -> Replay
-    requires { ⌜ InBounds x (now out) × (x .going ≡ true) × (command.Drop processor count first ≡ commandAt (now bytes) (x .at)) ⌝ }
+    requires { ⌜ InBounds x (now out) × (x .going ≡ true) × (command.Call call count first ≡ commandAt (now bytes) (x .at)) ⌝ }
     ensures { λ y. ⌜ Stepped (now (bytes .entry)) x (now (order .entry)) (now (out .entry)) y (now (order .exit)) (now (out .exit)) ⌝ }
 {
     let addresses = bytes_lists::fours_at(bytes, first as usize, count);
     let n = count as usize;
-    let call = CallHeader::Drop { processor };
     call_step(bytes, order, out, x, call, &addresses[..n], count)
 }
 
@@ -192,7 +162,7 @@ fn call_step(
 
 // The bytes of a call's command.
 fn call_size(call: CallHeader, count: u8) -> usize
-    ensures { λ r. ⌜ ((first : ℕ) → r ≡ sizeOfCommand (commandOf call count first)) × (r ≤ 1023) ⌝ }
+    ensures { λ r. ⌜ (r ≡ callSize call count) × (r ≤ 1023) ⌝ }
 {
     match call {
         CallHeader::Take { processor, size } => 4,

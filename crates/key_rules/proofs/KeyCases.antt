@@ -19,11 +19,13 @@ use Rattle.call_rules.specs.Take.{takeOf}
 use Rattle.call_rules.specs.Free.{freeOf}
 use Rattle.call_rules.specs.Named.{namedTakeOf, namedFreeOf}
 use Rattle.call_rules.specs.Drop.{dropOf}
+use Rattle.call_rules.specs.Calls.{callWith, callOf}
+use Rattle.call_header.specs.declared.CallHeader.the-variants as header
 use Rattle.record_rules.specs.declared.Command.{Command}
-use Rattle.record_rules.specs.Record.{addressesIn}
-use Rattle.record_rules.specs.declared.Command.the-variants.{Take, Free, NamedTake, NamedFree, Drop, Refused}
+use Rattle.record_rules.specs.Record.{addressesIn, callByte, callNumbers}
+use Rattle.record_rules.specs.declared.Command.the-variants.{Call, Refused}
 use Rattle.text_rules.specs.Text.{letters}
-use Rattle.line_rules.specs.Lines.{takeLine, freeLine, namedTakeLine, namedFreeLine, dropLine}
+use Rattle.line_rules.specs.Lines.{takeLine, freeLine, namedTakeLine, namedFreeLine, dropLine, callLine}
 use Rattle.call_rules.proofs.CallDefinitions.{callDefinitions}
 use Rattle.record_rules.proofs.CommandDefinitions.{commandDefinitions}
 use Rattle.line_rules.proofs.LineDefinitions.{lineDefinitions}
@@ -33,7 +35,7 @@ use Rattle.key_rules.specs.declared.Printed.the-variants.{Text, NoRoom}
 
 -- what a key's case computes with
 unfoldable pub keyDefinitions : Unit {0}
-unfolding keyOf textOf setupText storageOf orderAfter numberOf commandDefinitions lineDefinitions callDefinitions
+unfolding keyOf textOf setupText storageOf orderAfter numberOf callWith commandDefinitions lineDefinitions callDefinitions
 keyDefinitions = tt
 
 -- P = 1, N = 1, K = 1, p/q = 1/2; a take of 2048 bytes, and one by processor 0
@@ -132,7 +134,9 @@ no-room-changed-fails =
 
 -- calls on no state, which are refused 13: each has its own line, and the record goes on; a stop line is the last
 text-of-calls-on-no-state :
-    textOf [] (beforeFirst []) (Take 0 2048 ∷ Free 1 4096 ∷ NamedTake 1 5 2048 ∷ NamedFree 1 5 ∷ Drop 1 2 1 ∷ Refused 8 10 ∷ Take 0 2048 ∷ [])
+    textOf [] (beforeFirst [])
+    (Call (header.Take 0 2048) 0 0 ∷ Call (header.Free 1 4096) 0 0 ∷ Call (header.NamedTake 1 5 2048) 0 0 ∷ Call (header.NamedFree 1 5) 0 0
+    ∷ Call (header.Drop 1) 2 1 ∷ Refused 8 10 ∷ Call (header.Take 0 2048) 0 0 ∷ [])
     ≡ letters "take 0 2048 refused 13\n" ++ letters "free 1 4096 refused 13\n" ++ letters "take 1 name 5 2048 refused 13\n"
     ++ letters "free 1 name 5 refused 13\n" ++ letters "drop 1 count 2 refused 13\n" ++ letters "stopped 8 at 10\n"
 unfolding keyDefinitions
@@ -142,27 +146,29 @@ text-of-calls-on-no-state = refl
 room-enough : leb (60000 * 10 + 9 * 27 * 64 + 64 * 31 + 4) room ≡ true
 room-enough = refl
 
--- ---- each call, of any state and storage: its line has the outcome that it gives on them, and the commands behind it find what it leaves
+-- ---- each call, of any state and storage: its line has the outcome that it gives on them, and the commands behind it find what it leaves. What a
+-- header holds in the record unfolds here, so that a definition that went by it would be computed, and be refused only of the calls that it has wrong
 abbrev line-and-rest : List ℕ → (Outcome → List ℕ) → After → List Command → List ℕ
 line-and-rest r line left rest = line (left .answer .outcome) ++ textOf r left rest
 
 text-of-call : (r order : List ℕ) (s : State) (i a m size count first : ℕ) (rest : List Command)
-    → (textOf r (stateAndStorage s order) (Take i size ∷ rest) ≡ line-and-rest r (takeLine i size) (takeOf s order i size) rest)
-    × (textOf r (stateAndStorage s order) (Free i a ∷ rest) ≡ line-and-rest r (freeLine i a) (freeOf s order i a) rest)
-    × (textOf r (stateAndStorage s order) (NamedTake i m size ∷ rest) ≡ line-and-rest r (namedTakeLine i m size) (namedTakeOf s order i m size) rest)
-    × (textOf r (stateAndStorage s order) (NamedFree i m ∷ rest) ≡ line-and-rest r (namedFreeLine i m) (namedFreeOf s order i m) rest)
-    × (textOf r (stateAndStorage s order) (Drop i count first ∷ rest)
+    → (textOf r (stateAndStorage s order) (Call (header.Take i size) 0 0 ∷ rest) ≡ line-and-rest r (takeLine i size) (takeOf s order i size) rest)
+    × (textOf r (stateAndStorage s order) (Call (header.Free i a) 0 0 ∷ rest) ≡ line-and-rest r (freeLine i a) (freeOf s order i a) rest)
+    × (textOf r (stateAndStorage s order) (Call (header.NamedTake i m size) 0 0 ∷ rest)
+    ≡ line-and-rest r (namedTakeLine i m size) (namedTakeOf s order i m size) rest)
+    × (textOf r (stateAndStorage s order) (Call (header.NamedFree i m) 0 0 ∷ rest) ≡ line-and-rest r (namedFreeLine i m) (namedFreeOf s order i m) rest)
+    × (textOf r (stateAndStorage s order) (Call (header.Drop i) count first ∷ rest)
     ≡ line-and-rest r (dropLine i count) (dropOf s order i (addressesIn r first count)) rest)
-unfolding textOf
+unfolding textOf callOf callWith callLine callByte callNumbers
 text-of-call r order s i a m size count first rest = (refl, refl, refl, refl, refl)
 
 storage-of-call : (r order : List ℕ) (s : State) (i a m size count first : ℕ) (rest : List Command)
-    → (orderAfter r (stateAndStorage s order) (Take i size ∷ rest) ≡ orderAfter r (takeOf s order i size) rest)
-    × (orderAfter r (stateAndStorage s order) (Free i a ∷ rest) ≡ orderAfter r (freeOf s order i a) rest)
-    × (orderAfter r (stateAndStorage s order) (NamedTake i m size ∷ rest) ≡ orderAfter r (namedTakeOf s order i m size) rest)
-    × (orderAfter r (stateAndStorage s order) (NamedFree i m ∷ rest) ≡ orderAfter r (namedFreeOf s order i m) rest)
-    × (orderAfter r (stateAndStorage s order) (Drop i count first ∷ rest) ≡ orderAfter r (dropOf s order i (addressesIn r first count)) rest)
-unfolding orderAfter
+    → (orderAfter r (stateAndStorage s order) (Call (header.Take i size) 0 0 ∷ rest) ≡ orderAfter r (takeOf s order i size) rest)
+    × (orderAfter r (stateAndStorage s order) (Call (header.Free i a) 0 0 ∷ rest) ≡ orderAfter r (freeOf s order i a) rest)
+    × (orderAfter r (stateAndStorage s order) (Call (header.NamedTake i m size) 0 0 ∷ rest) ≡ orderAfter r (namedTakeOf s order i m size) rest)
+    × (orderAfter r (stateAndStorage s order) (Call (header.NamedFree i m) 0 0 ∷ rest) ≡ orderAfter r (namedFreeOf s order i m) rest)
+    × (orderAfter r (stateAndStorage s order) (Call (header.Drop i) count first ∷ rest) ≡ orderAfter r (dropOf s order i (addressesIn r first count)) rest)
+unfolding orderAfter callOf callWith callByte
 storage-of-call r order s i a m size count first rest = (refl, refl, refl, refl, refl)
 
 -- ---- calls on states that pass, whose check is long. They are computed only where the cases above hold: a declaration that cites a refused one is skipped,
@@ -190,19 +196,19 @@ with-name-5 marks j order =
     stateAndStorage (withNames (unnamedState (record { processors = 1; superblocks = 1; spare = 1; p = 1; q = 2 }) (of 1 26 marks ∷ replicate 63 unused)) (withName noNames 5 j)) order
 
 -- a named free lets go the block that the name holds, not the one at address 0: the take after it gets that block
-text-of-held-block-freed : textOf [] (with-name-5 3 1 (1 ∷ 0 ∷ replicate 254 0)) (NamedFree 1 5 ∷ Take 1 2048 ∷ [])
+text-of-held-block-freed : textOf [] (with-name-5 3 1 (1 ∷ 0 ∷ replicate 254 0)) (Call (header.NamedFree 1 5) 0 0 ∷ Call (header.Take 1 2048) 0 0 ∷ [])
     ≡ letters "free 1 name 5 moved 0\n" ++ letters "take 1 2048 at 2048\n" ++ letters "heap 1 class 26 superblocks 1 live 2\n" ++ letters "end\n"
 unfolding casesWithoutCheckHold keyDefinitions
 text-of-held-block-freed = refl
 
 -- a named take binds its name, by which its block is freed
-text-of-bound-name : textOf [] (with-name-5 1 65535 (1 ∷ 0 ∷ replicate 254 0)) (NamedTake 1 5 2048 ∷ NamedFree 1 5 ∷ [])
+text-of-bound-name : textOf [] (with-name-5 1 65535 (1 ∷ 0 ∷ replicate 254 0)) (Call (header.NamedTake 1 5 2048) 0 0 ∷ Call (header.NamedFree 1 5) 0 0 ∷ [])
     ≡ letters "take 1 name 5 2048 at 2048\n" ++ letters "free 1 name 5 moved 0\n" ++ letters "heap 1 class 26 superblocks 1 live 1\n" ++ letters "end\n"
 unfolding casesWithoutCheckHold keyDefinitions
 text-of-bound-name = refl
 
 -- and the storage is what the named free leaves: the block's number in the first place
-storage-after-named-free : orderAfter [] (with-name-5 3 0 (1 ∷ 0 ∷ replicate 255 7)) (NamedFree 1 5 ∷ []) ≡ 0 ∷ 0 ∷ replicate 255 7
+storage-after-named-free : orderAfter [] (with-name-5 3 0 (1 ∷ 0 ∷ replicate 255 7)) (Call (header.NamedFree 1 5) 0 0 ∷ []) ≡ 0 ∷ 0 ∷ replicate 255 7
 unfolding casesWithoutCheckHold keyDefinitions
 storage-after-named-free = refl
 
@@ -212,13 +218,14 @@ abbrev both-blocks : List ℕ
 both-blocks = 9 ∷ 0 ∷ 8 ∷ 0 ∷ 0 ∷ 0 ∷ 0 ∷ 0 ∷ 0 ∷ 9 ∷ []
 
 -- the line has the count and the moves, the blocks are free, the last one first, and the name is let go
-text-of-drop : textOf both-blocks (with-name-5 3 0 (replicate 256 0)) (Drop 1 2 1 ∷ NamedFree 1 5 ∷ Take 1 2048 ∷ [])
+text-of-drop : textOf both-blocks (with-name-5 3 0 (replicate 256 0))
+    (Call (header.Drop 1) 2 1 ∷ Call (header.NamedFree 1 5) 0 0 ∷ Call (header.Take 1 2048) 0 0 ∷ [])
     ≡ letters "drop 1 count 2 moved 0\n" ++ letters "free 1 name 5 refused 15\n" ++ letters "take 1 2048 at 0\n" ++ letters "heap 1 class 26 superblocks 1 live 1\n" ++ letters "end\n"
 unfolding casesWithoutCheckHold keyDefinitions
 text-of-drop = refl
 
 -- the storage is what the drop leaves: the numbers of its blocks, in the order written
-storage-after-drop : orderAfter both-blocks (with-name-5 3 0 (replicate 257 7)) (Drop 1 2 1 ∷ []) ≡ 1 ∷ 0 ∷ replicate 255 7
+storage-after-drop : orderAfter both-blocks (with-name-5 3 0 (replicate 257 7)) (Call (header.Drop 1) 2 1 ∷ []) ≡ 1 ∷ 0 ∷ replicate 255 7
 unfolding casesWithoutCheckHold keyDefinitions
 storage-after-drop = refl
 

@@ -12,7 +12,8 @@ use Rattle.call_rules.specs.declared.Outcome.the-variants.{Address, Moves, Refu
 use Rattle.call_rules.specs.Answers.{After, numberOf, refused}
 use Rattle.call_rules.specs.Setup.{setupOf}
 use Rattle.call_rules.specs.Calls as call
-use Rattle.call_rules.specs.Calls.{callOf}
+use Rattle.call_rules.specs.Calls.{callWith, callOf}
+use Rattle.call_header.specs.declared.CallHeader.the-variants as header
 use Rattle.call_rules.proofs.CallDefinitions.{callDefinitions}
 use Rattle.claim_rules.specs.Claim.{Step, Linked, stepsBy, lastAfter, Claims}
 use Rattle.claim_rules.proofs.LedgerDefinitions.{claimDefinitions}
@@ -31,11 +32,12 @@ use Rattle.key_rules.specs.KeyClaim.{callsIn, stepsIn, lineOf, stepLines
 -- each kind of command, with a setup among them, which is passed over, and a stop, which ends them; the addresses of the drop stand in the record
 pub calls-in-cases :
     callsIn (9 ∷ 16 ∷ 2 ∷ 0 ∷ 0 ∷ 7 ∷ 0 ∷ 1 ∷ 0 ∷ 9 ∷ [])
-    (command.Take 1 2048 ∷ command.Free 2 4096 ∷ command.Setup 3 4 5 6 7 ∷ command.NamedTake 8 9 10 ∷ command.NamedFree 11 12
-    ∷ command.Drop 13 2 1 ∷ command.Refused 8 10 ∷ command.Take 1 9 ∷ [])
+    (command.Call (header.Take 1 2048) 0 0 ∷ command.Call (header.Free 2 4096) 0 0 ∷ command.Setup 3 4 5 6 7
+    ∷ command.Call (header.NamedTake 8 9 10) 0 0 ∷ command.Call (header.NamedFree 11 12) 0 0 ∷ command.Call (header.Drop 13) 2 1
+    ∷ command.Refused 8 10 ∷ command.Call (header.Take 1 9) 0 0 ∷ [])
     ≡ call.Take 1 2048 ∷ call.Free 2 4096 ∷ call.NamedTake 8 9 10 ∷ call.NamedFree 11 12 ∷ call.Drop 13 (528 ∷ 65543 ∷ []) ∷ []
-    × callsIn [] (command.Take 1 16 ∷ command.Take 2 17 ∷ []) ≡ call.Take 1 16 ∷ call.Take 2 17 ∷ []
-unfolding callsIn commandDefinitions
+    × callsIn [] (command.Call (header.Take 1 16) 0 0 ∷ command.Call (header.Take 2 17) 0 0 ∷ []) ≡ call.Take 1 16 ∷ call.Take 2 17 ∷ []
+unfolding callsIn callWith commandDefinitions
 calls-in-cases = (refl, refl)
 
 -- those calls, here on no state, where each is refused 13
@@ -44,9 +46,10 @@ refused-step c = record { call = c; after = refused 13 noState (4 ∷ []) }
 
 pub steps-in-case :
     stepsIn [] (beforeFirst (4 ∷ []))
-    (command.Take 1 2048 ∷ command.Setup 3 4 5 6 7 ∷ command.Free 2 4096 ∷ command.Refused 8 10 ∷ command.Take 1 9 ∷ [])
+    (command.Call (header.Take 1 2048) 0 0 ∷ command.Setup 3 4 5 6 7 ∷ command.Call (header.Free 2 4096) 0 0 ∷ command.Refused 8 10
+    ∷ command.Call (header.Take 1 9) 0 0 ∷ [])
     ≡ refused-step (call.Take 1 2048) ∷ refused-step (call.Free 2 4096) ∷ []
-unfolding stepsIn stepsBy callsIn callDefinitions
+unfolding stepsIn stepsBy callsIn callWith callDefinitions
 steps-in-case = refl
 
 -- ---- what is printed of them: the five calls, with numbers as in the record
@@ -67,13 +70,16 @@ step-lines-case = refl
 
 -- the stop line, of the first stop, whatever comes before and behind it; the final lines of the last state where there is none
 pub ending-lines-cases : (last : After)
-    → (endingLines last (command.Take 1 2048 ∷ command.Free 2 9 ∷ command.Refused 8 10 ∷ command.Take 1 9 ∷ command.Refused 9 11 ∷ [])
+    → (endingLines last
+    (command.Call (header.Take 1 2048) 0 0 ∷ command.Call (header.Free 2 9) 0 0 ∷ command.Refused 8 10
+    ∷ command.Call (header.Take 1 9) 0 0 ∷ command.Refused 9 11 ∷ [])
     ≡ letters "stopped 8 at 10\n")
     × (endingLines last
-    (command.Setup 3 4 5 6 7 ∷ command.Take 1 16 ∷ command.Free 2 9 ∷ command.NamedTake 8 9 10 ∷ command.NamedFree 11 12 ∷ command.Drop 13 2 1 ∷ [])
+    (command.Setup 3 4 5 6 7 ∷ command.Call (header.Take 1 16) 0 0 ∷ command.Call (header.Free 2 9) 0 0
+    ∷ command.Call (header.NamedTake 8 9 10) 0 0 ∷ command.Call (header.NamedFree 11 12) 0 0 ∷ command.Call (header.Drop 13) 2 1 ∷ [])
     ≡ finalLines (last .answer .state))
     × (endingLines last [] ≡ finalLines (last .answer .state))
-unfolding endingLines lineDefinitions
+unfolding endingLines commandDefinitions lineDefinitions
 ending-lines-cases last = (refl, refl, refl)
 
 -- ---- the claim. P = 2, N = 1, K = 3, p/q = 4/5, and a record of it with an unknown byte behind; its 256 places

@@ -12,14 +12,11 @@ use Rattle.call_rules.specs.declared.Outcome.{Outcome}
 use Rattle.call_rules.specs.declared.Outcome.the-variants.{Ready}
 use Rattle.call_rules.specs.Answers.{After, numberOf}
 use Rattle.call_rules.specs.Setup.{setupOf}
-use Rattle.call_rules.specs.Take.{takeOf}
-use Rattle.call_rules.specs.Free.{freeOf}
-use Rattle.call_rules.specs.Named.{namedTakeOf, namedFreeOf}
-use Rattle.call_rules.specs.Drop.{dropOf}
+use Rattle.call_rules.specs.Calls.{callWith, callOf}
 use Rattle.record_rules.specs.declared.Command.{Command}
 use Rattle.record_rules.specs.declared.Command.the-variants as command
 use Rattle.record_rules.specs.Record.{addressesIn, commandsOf}
-use Rattle.line_rules.specs.Lines.{setupLine, takeLine, freeLine, namedTakeLine, namedFreeLine, dropLine, stopLine, finalLines}
+use Rattle.line_rules.specs.Lines.{setupLine, callLine, stopLine, finalLines}
 use Rattle.key_rules.specs.declared.Printed.{Printed}
 use Rattle.key_rules.specs.declared.Printed.the-variants.{Text, NoRoom}
 
@@ -43,21 +40,9 @@ textOf r before [] = finalLines (before .answer .state)
 textOf r before (command.Setup processors superblocks spare p q ∷ commands) =
     let u : Setup = record { processors = processors; superblocks = superblocks; spare = spare; p = p; q = q } in
     setupText u (setupOf u (before .order) .answer .outcome) (textOf r (setupOf u (before .order)) commands)
-textOf r before (command.Take processor size ∷ commands) =
-    let after : After = takeOf (before .answer .state) (before .order) processor size in
-    takeLine processor size (after .answer .outcome) ++ textOf r after commands
-textOf r before (command.Free processor address ∷ commands) =
-    let after : After = freeOf (before .answer .state) (before .order) processor address in
-    freeLine processor address (after .answer .outcome) ++ textOf r after commands
-textOf r before (command.NamedTake processor name size ∷ commands) =
-    let after : After = namedTakeOf (before .answer .state) (before .order) processor name size in
-    namedTakeLine processor name size (after .answer .outcome) ++ textOf r after commands
-textOf r before (command.NamedFree processor name ∷ commands) =
-    let after : After = namedFreeOf (before .answer .state) (before .order) processor name in
-    namedFreeLine processor name (after .answer .outcome) ++ textOf r after commands
-textOf r before (command.Drop processor count first ∷ commands) =
-    let after : After = dropOf (before .answer .state) (before .order) processor (addressesIn r first count) in
-    dropLine processor count (after .answer .outcome) ++ textOf r after commands
+textOf r before (command.Call call count first ∷ commands) =
+    let after : After = callOf (before .answer .state) (before .order) (callWith call (addressesIn r first count)) in
+    callLine call count (after .answer .outcome) ++ textOf r after commands
 textOf r before (command.Refused number offset ∷ commands) = stopLine number offset
 
 -- the order storage that these commands leave; after a stop nothing more is done
@@ -67,12 +52,8 @@ orderAfter r before (command.Setup processors superblocks spare p q ∷ commands
     let u : Setup = record { processors = processors; superblocks = superblocks; spare = spare; p = p; q = q } in
     let after : After = setupOf u (before .order) in
     pick (eqb (numberOf (after .answer .outcome)) 0) (orderAfter r after commands) (after .order)
-orderAfter r before (command.Take processor size ∷ commands) = orderAfter r (takeOf (before .answer .state) (before .order) processor size) commands
-orderAfter r before (command.Free processor address ∷ commands) = orderAfter r (freeOf (before .answer .state) (before .order) processor address) commands
-orderAfter r before (command.NamedTake processor name size ∷ commands) = orderAfter r (namedTakeOf (before .answer .state) (before .order) processor name size) commands
-orderAfter r before (command.NamedFree processor name ∷ commands) = orderAfter r (namedFreeOf (before .answer .state) (before .order) processor name) commands
-orderAfter r before (command.Drop processor count first ∷ commands) =
-    orderAfter r (dropOf (before .answer .state) (before .order) processor (addressesIn r first count)) commands
+orderAfter r before (command.Call call count first ∷ commands) =
+    orderAfter r (callOf (before .answer .state) (before .order) (callWith call (addressesIn r first count))) commands
 orderAfter r before (command.Refused number offset ∷ commands) = before .order
 
 -- the key of a record, made with this order storage

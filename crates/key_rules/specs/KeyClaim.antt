@@ -9,7 +9,7 @@ use Rattle.call_rules.specs.declared.Outcome.the-variants.{Ready}
 use Rattle.call_rules.specs.Answers.{After}
 use Rattle.call_rules.specs.Setup.{setupOf}
 use Rattle.call_rules.specs.Calls as call
-use Rattle.call_rules.specs.Calls.{Call, callOf}
+use Rattle.call_rules.specs.Calls.{Call, callWith, callOf}
 use Rattle.claim_rules.specs.Claim.{Step, Linked, stepsBy, lastAfter, Claims}
 use Rattle.record_rules.specs.declared.Command.{Command}
 use Rattle.record_rules.specs.declared.Command.the-variants as command
@@ -22,11 +22,7 @@ use Rattle.key_rules.specs.Key.{keyOf, storageOf}
 unfoldable pub callsIn : List ℕ → List Command → List Call
 callsIn r [] = []
 callsIn r (command.Setup processors superblocks spare p q ∷ commands) = callsIn r commands
-callsIn r (command.Take processor size ∷ commands) = call.Take processor size ∷ callsIn r commands
-callsIn r (command.Free processor address ∷ commands) = call.Free processor address ∷ callsIn r commands
-callsIn r (command.NamedTake processor name size ∷ commands) = call.NamedTake processor name size ∷ callsIn r commands
-callsIn r (command.NamedFree processor name ∷ commands) = call.NamedFree processor name ∷ callsIn r commands
-callsIn r (command.Drop processor count first ∷ commands) = call.Drop processor (addressesIn r first count) ∷ callsIn r commands
+callsIn r (command.Call call count first ∷ commands) = callWith call (addressesIn r first count) ∷ callsIn r commands
 callsIn r (command.Refused number offset ∷ commands) = []
 
 -- those calls with what each left, one after the other
@@ -49,11 +45,7 @@ stepLines (step ∷ steps) = lineOf (step .call) (step .after .answer .outcome) 
 unfoldable pub endingLines : After → List Command → List ℕ
 endingLines last [] = finalLines (last .answer .state)
 endingLines last (command.Setup processors superblocks spare p q ∷ commands) = endingLines last commands
-endingLines last (command.Take processor size ∷ commands) = endingLines last commands
-endingLines last (command.Free processor address ∷ commands) = endingLines last commands
-endingLines last (command.NamedTake processor name size ∷ commands) = endingLines last commands
-endingLines last (command.NamedFree processor name ∷ commands) = endingLines last commands
-endingLines last (command.Drop processor count first ∷ commands) = endingLines last commands
+endingLines last (command.Call call count first ∷ commands) = endingLines last commands
 endingLines last (command.Refused number offset ∷ commands) = stopLine number offset
 
 -- ---- the claim

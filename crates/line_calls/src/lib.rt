@@ -1,5 +1,5 @@
 // The line of any call, written into a lent buffer, as far as it reaches.
-use call_rules::CallHeader;
+use call_header::CallHeader;
 use call_rules::Outcome;
 use line_named::named_free_line;
 use line_named::named_take_line;

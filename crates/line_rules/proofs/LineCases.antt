@@ -14,7 +14,7 @@ use Rattle.heap_rules.specs.declared.State.{State}
 use Rattle.heap_rules.specs.Table.{unused, runPart}
 use Rattle.heap_rules.specs.Totals.{noTotals}
 use Rattle.heap_rules.proofs.CaseStates.{unnamedState}
-use Rattle.call_rules.specs.declared.CallHeader.the-variants as header
+use Rattle.call_header.specs.declared.CallHeader.the-variants as header
 use Rattle.call_rules.specs.declared.Outcome.the-variants.{Address, Moves, Refused}
 use Rattle.line_rules.specs.Lines.{setupLine, takeLine, freeLine, namedTakeLine, namedFreeLine, dropLine, callLine, stopLine, heapLine, heapLineIf, classLines, runLine, runLineIf, finalLines, closingLines}
 use Rattle.line_rules.proofs.LineDefinitions.{lineDefinitions}

@@ -9,8 +9,8 @@ use Rattle.heap_rules.specs.declared.Setup.{Setup}
 use Rattle.heap_rules.specs.declared.State.{State}
 use Rattle.heap_rules.specs.Table.{superblockAt, startsRun}
 use Rattle.heap_rules.specs.Counts.{superblocksOf, liveOf}
-use Rattle.call_rules.specs.declared.CallHeader.{CallHeader}
-use Rattle.call_rules.specs.declared.CallHeader.the-variants as header
+use Rattle.call_header.specs.declared.CallHeader.{CallHeader}
+use Rattle.call_header.specs.declared.CallHeader.the-variants as header
 use Rattle.call_rules.specs.declared.Outcome.{Outcome}
 use Rattle.call_rules.specs.declared.Outcome.the-variants.{Ready, Address, Moves, Refused}
 

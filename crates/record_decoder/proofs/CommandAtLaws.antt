@@ -4,8 +4,9 @@ use mathlib.Core.List.{List}
 use Prim.Native.Nat.{ℕ, _+_, _*_, _≤_, _<_}
 use borrow.Author.Tests.{lt-ltb, le-ltb, lt-leb, le-leb, eq-eqb, ne-eqb}
 use lib.ListN.{length}
+use Rattle.call_header.specs.declared.CallHeader.the-variants as header
 use Rattle.record_rules.specs.declared.Command.{Command}
-use Rattle.record_rules.specs.declared.Command.the-variants.{Drop, Refused}
+use Rattle.record_rules.specs.declared.Command.the-variants.{Call, Refused}
 use Rattle.bytes_rules.specs.Bytes.{byteAt}
 use Rattle.record_rules.specs.Record.{unlessTruncated, unlessFirst, dropAt, commandByFirstByte, commandAt}
 
@@ -28,7 +29,7 @@ module _ (r : List ℕ) (at : ℕ) (c : Command) where
 
   -- a drop, whose count the code has read
   module _ (count : ℕ) (read : count ≡ byteAt r (at + 2)) (later : at ≡ 0 → ⊥) where
-    pub drop-at-of-whole : at + (3 + 4 * count) ≤ length r → c ≡ Drop (byteAt r (at + 1)) count (at + 3) → c ≡ dropAt r at
+    pub drop-at-of-whole : at + (3 + 4 * count) ≤ length r → c ≡ Call (header.Drop (byteAt r (at + 1))) count (at + 3) → c ≡ dropAt r at
     unfolding dropAt unlessFirst unlessTruncated
     drop-at-of-whole whole e = rw (← read, ne-eqb at 0 later, le-leb (at + (3 + 4 * count)) (length r) whole) e
 

@@ -14,6 +14,7 @@ ghost use Rattle.record_rules.specs.Record.{
   commandAt,
   HasNumbersOf,
 };
+use call_header::CallHeader;
 use record_rules::Command;
 
 // The command at a position of a record. There is one for any record and position: past the record's end, a refusal.
@@ -87,9 +88,14 @@ fn take_at(bytes: &[u8], at: usize) -> Command
         return refused(10, at);
     }
     if at + 4 <= bytes.len() {
-        return Command::Take {
+        let call = CallHeader::Take {
             processor: bytes[at + 1],
             size: bytes_reader::two_at(bytes, at + 2),
+        };
+        return Command::Call {
+            call,
+            count: 0,
+            first: 0,
         };
     }
     refused(9, at)
@@ -103,9 +109,14 @@ fn free_at(bytes: &[u8], at: usize) -> Command
         return refused(10, at);
     }
     if at + 6 <= bytes.len() {
-        return Command::Free {
+        let call = CallHeader::Free {
             processor: bytes[at + 1],
             address: bytes_reader::four_at(bytes, at + 2),
+        };
+        return Command::Call {
+            call,
+            count: 0,
+            first: 0,
         };
     }
     refused(9, at)
@@ -120,10 +131,15 @@ fn named_take_at(bytes: &[u8], at: usize) -> Command
     }
     let end = at + 6;
     if end <= bytes.len() {
-        return Command::NamedTake {
+        let call = CallHeader::NamedTake {
             processor: bytes[at + 1],
             name: bytes_reader::two_at(bytes, at + 2),
             size: bytes_reader::two_at(bytes, at + 4),
+        };
+        return Command::Call {
+            call,
+            count: 0,
+            first: 0,
         };
     }
     refused(9, at)
@@ -138,9 +154,14 @@ fn named_free_at(bytes: &[u8], at: usize) -> Command
     }
     let end = at + 4;
     if end <= bytes.len() {
-        return Command::NamedFree {
+        let call = CallHeader::NamedFree {
             processor: bytes[at + 1],
             name: bytes_reader::two_at(bytes, at + 2),
+        };
+        return Command::Call {
+            call,
+            count: 0,
+            first: 0,
         };
     }
     refused(9, at)
@@ -157,8 +178,11 @@ fn drop_at(bytes: &[u8], at: usize) -> Command
     let count = bytes_reader::byte_at(bytes, at + 2);
     let size = 3 + 4 * (count as usize);
     if at + size <= bytes.len() {
-        return Command::Drop {
+        let call = CallHeader::Drop {
             processor: bytes[at + 1],
+        };
+        return Command::Call {
+            call,
             count,
             first: (at + 3) as u32,
         };

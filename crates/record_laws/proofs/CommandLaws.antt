@@ -9,12 +9,15 @@ use borrow.Author.Tests.{leb-false, lt-leb, le-leb}
 use lib.ListN.{length}
 use lib.Dec.{T, leb}
 use Rattle.base_laws.specs.Sums.{pick, either}
-use Rattle.record_laws.proofs.RefusalTable.{CommandRow, row-of-command-at, ReadAt, no-refusal-of-read, command-iff-read-at, setup-iff-setup-at, take-iff-take-at, free-iff-free-at, named-take-iff-named-take-at, named-free-iff-named-free-at, drop-iff-drop-at}
+use Rattle.record_laws.proofs.RefusalTable.{CommandRow, row-of-command-at, NumbersAt, ReadAt, no-refusal-of-read, command-iff-read-at}
+use Rattle.record_laws.proofs.RefusalTable.{setup-iff-setup-at, call-byte-and-size}
 use Rattle.record_laws.proofs.RefusalTable as row
+use Rattle.call_header.specs.declared.CallHeader.{CallHeader}
+use Rattle.call_header.specs.declared.CallHeader.the-variants as header
 use Rattle.record_rules.specs.declared.Command.{Command}
-use Rattle.record_rules.specs.declared.Command.the-variants.{Setup, Take, Free, NamedTake, NamedFree, Drop, Refused}
+use Rattle.record_rules.specs.declared.Command.the-variants.{Setup, Call, Refused}
 use Rattle.bytes_rules.specs.Bytes.{byteAt}
-use Rattle.record_rules.specs.Record.{commandAt, commandNumberOf, refusalOffsetOf, sizeOfCommand, isRefused, commandsFrom, commandsOf}
+use Rattle.record_rules.specs.Record.{commandAt, callSize, commandNumberOf, refusalOffsetOf, sizeOfCommand, isRefused, commandsFrom, commandsOf}
 
 -- ---- one command
 
@@ -27,6 +30,22 @@ pub record CommandInside (r : List ℕ) (at : ℕ) (c : Command) : Type 0 where
 RefusalBounds : Command → Type 0
 RefusalBounds c = (8 ≤ commandNumberOf c) × (commandNumberOf c ≤ 11) × (refusalOffsetOf c ≤ 60000)
 
+-- the numbers of a call fit their types
+unfoldable pub CallFits : CallHeader → ℕ → ℕ → Type 0
+CallFits (header.Take processor size) count first = (processor < 256) × (size < 65536)
+CallFits (header.Free processor address) count first = (processor < 256) × (address < 4294967296)
+CallFits (header.NamedTake processor name size) count first = (processor < 256) × (name < 65536) × (size < 65536)
+CallFits (header.NamedFree processor name) count first = (processor < 256) × (name < 65536)
+CallFits (header.Drop processor) count first = (processor < 256) × (count < 256) × (first < 4294967296)
+
+call-size-le-1023 : (call : CallHeader) (count first : ℕ) → CallFits call count first → callSize call count ≤ 1023
+unfolding CallFits callSize
+call-size-le-1023 (header.Take processor size) count first fit = omega arith
+call-size-le-1023 (header.Free processor address) count first fit = omega arith
+call-size-le-1023 (header.NamedTake processor name size) count first fit = omega arith
+call-size-le-1023 (header.NamedFree processor name) count first fit = omega arith
+call-size-le-1023 (header.Drop processor) count first fit = omega arith
+
 module _ (r : List ℕ) (at : ℕ) (c : Command) (e : c ≡ commandAt r at) where
   pub command-inside : isRefused c ≡ false → CommandInside r at c
   unfolding ReadAt sizeOfCommand
@@ -34,31 +53,17 @@ module _ (r : List ℕ) (at : ℕ) (c : Command) (e : c ≡ commandAt r at) wher
     where
       go : (d : Command) → ReadAt r at d → CommandInside r at d
       go (Setup processors superblocks spare p q) t = record { record-le-60000 = t .0; inside = t .3; size-ge-3 = omega arith }
-      go (Take processor size) t = record { record-le-60000 = t .0; inside = t .3; size-ge-3 = omega arith }
-      go (Free processor address) t = record { record-le-60000 = t .0; inside = t .3; size-ge-3 = omega arith }
-      go (NamedTake processor name size) t = record { record-le-60000 = t .0; inside = t .3; size-ge-3 = omega arith }
-      go (NamedFree processor name) t = record { record-le-60000 = t .0; inside = t .3; size-ge-3 = omega arith }
-      go (Drop processor count first) t = record { record-le-60000 = t .0; inside = omega arith; size-ge-3 = omega arith }
+      go (Call call count first) t = record { record-le-60000 = t .0; inside = t .3; size-ge-3 = call-byte-and-size call count .2 }
       go (Refused number offset) t = absurd t
 
-  -- by kind: a setup is first, every other command is not
+  -- a setup is first, a call is not
   pub setup-first-and-inside : (processors superblocks spare p q : ℕ) → c ≡ Setup processors superblocks spare p q → (length r ≤ 60000) × (at ≡ 0) × (at + 6 ≤ length r)
   setup-first-and-inside processors superblocks spare p q k = let t = setup-iff-setup-at r at processors superblocks spare p q .0 (sym e ∙ k) in (t .0, t .1, t .3)
 
-  pub take-later-and-inside : (processor size : ℕ) → c ≡ Take processor size → (length r ≤ 60000) × (0 < at) × (at + 4 ≤ length r)
-  take-later-and-inside processor size k = let t = take-iff-take-at r at processor size .0 (sym e ∙ k) in (t .0, t .1, t .3)
-
-  pub free-later-and-inside : (processor address : ℕ) → c ≡ Free processor address → (length r ≤ 60000) × (0 < at) × (at + 6 ≤ length r)
-  free-later-and-inside processor address k = let t = free-iff-free-at r at processor address .0 (sym e ∙ k) in (t .0, t .1, t .3)
-
-  pub named-take-later-and-inside : (processor name size : ℕ) → c ≡ NamedTake processor name size → (length r ≤ 60000) × (0 < at) × (at + 6 ≤ length r)
-  named-take-later-and-inside processor name size k = let t = named-take-iff-named-take-at r at processor name size .0 (sym e ∙ k) in (t .0, t .1, t .3)
-
-  pub named-free-later-and-inside : (processor name : ℕ) → c ≡ NamedFree processor name → (length r ≤ 60000) × (0 < at) × (at + 4 ≤ length r)
-  named-free-later-and-inside processor name k = let t = named-free-iff-named-free-at r at processor name .0 (sym e ∙ k) in (t .0, t .1, t .3)
-
-  pub drop-later-and-inside : (processor count first : ℕ) → c ≡ Drop processor count first → (length r ≤ 60000) × (0 < at) × (at + (3 + 4 * count) ≤ length r)
-  drop-later-and-inside processor count first k = let t = drop-iff-drop-at r at processor count first .0 (sym e ∙ k) in (t .0, t .1, omega arith)
+  pub call-later-and-inside : (call : CallHeader) (count first : ℕ) → c ≡ Call call count first
+      → (length r ≤ 60000) × (0 < at) × (at + callSize call count ≤ length r)
+  unfolding ReadAt isRefused
+  call-later-and-inside call count first k = let t = command-iff-read-at r at (Call call count first) refl .0 (sym e ∙ k) in (t .0, t .1, t .3)
 
   -- a record's own refusals are 8 to 11, at offsets up to the longest record's end
   pub refusal-number-and-offset-bounds : (number offset : ℕ) → c ≡ Refused number offset → (8 ≤ number) × (number ≤ 11) × (offset ≤ 60000)
@@ -80,44 +85,28 @@ module _ (r : List ℕ) (at : ℕ) (c : Command) (e : c ≡ commandAt r at) wher
         let t = setup-iff-setup-at r at processors superblocks spare p q .0 (sym e ∙ k) in
         (omega (arith, bytes (at + 1)), omega (arith, bytes (at + 2)), omega (arith, bytes (at + 3)), omega (arith, bytes (at + 4)), omega (arith, bytes (at + 5)))
 
-    pub take-fits : (processor size : ℕ) → c ≡ Take processor size → (processor < 256) × (size < 65536)
-    take-fits processor size k =
-        let t = take-iff-take-at r at processor size .0 (sym e ∙ k) in
-        (omega (arith, bytes (at + 1)), omega (arith, bytes (at + 2), bytes (at + 3)))
-
-    pub free-fits : (processor address : ℕ) → c ≡ Free processor address → (processor < 256) × (address < 4294967296)
-    free-fits processor address k =
-        let t = free-iff-free-at r at processor address .0 (sym e ∙ k) in
-        (omega (arith, bytes (at + 1)), omega (arith, bytes (at + 2), bytes (at + 3), bytes (at + 4), bytes (at + 5)))
-
-    pub named-take-fits : (processor name size : ℕ) → c ≡ NamedTake processor name size → (processor < 256) × (name < 65536) × (size < 65536)
-    named-take-fits processor name size k =
-        let t = named-take-iff-named-take-at r at processor name size .0 (sym e ∙ k) in
-        (omega (arith, bytes (at + 1)), omega (arith, bytes (at + 2), bytes (at + 3)), omega (arith, bytes (at + 4), bytes (at + 5)))
-
-    pub named-free-fits : (processor name : ℕ) → c ≡ NamedFree processor name → (processor < 256) × (name < 65536)
-    named-free-fits processor name k =
-        let t = named-free-iff-named-free-at r at processor name .0 (sym e ∙ k) in
-        (omega (arith, bytes (at + 1)), omega (arith, bytes (at + 2), bytes (at + 3)))
-
-    pub drop-fits : (processor count first : ℕ) → c ≡ Drop processor count first → (processor < 256) × (count < 256) × (first < 4294967296)
-    drop-fits processor count first k =
-        let t = drop-iff-drop-at r at processor count first .0 (sym e ∙ k) in
-        (omega (arith, bytes (at + 1)), omega (arith, bytes (at + 2)), omega arith)
+    pub call-fits : (call : CallHeader) (count first : ℕ) → c ≡ Call call count first → CallFits call count first
+    unfolding ReadAt NumbersAt CallFits isRefused
+    call-fits call count first k = let t = command-iff-read-at r at (Call call count first) refl .0 (sym e ∙ k) in go call (omega arith) (t .4)
+      where
+        go : (call : CallHeader) → at ≤ 60000 → NumbersAt r at call count first → CallFits call count first
+        go (header.Take processor size) l t = (omega (arith, bytes (at + 1)), omega (arith, bytes (at + 2), bytes (at + 3)))
+        go (header.Free processor address) l t =
+            (omega (arith, bytes (at + 1)), omega (arith, bytes (at + 2), bytes (at + 3), bytes (at + 4), bytes (at + 5)))
+        go (header.NamedTake processor name size) l t =
+            (omega (arith, bytes (at + 1)), omega (arith, bytes (at + 2), bytes (at + 3)), omega (arith, bytes (at + 4), bytes (at + 5)))
+        go (header.NamedFree processor name) l t = (omega (arith, bytes (at + 1)), omega (arith, bytes (at + 2), bytes (at + 3)))
+        go (header.Drop processor) l t = (omega (arith, bytes (at + 1)), omega (arith, bytes (at + 2)), omega arith)
 
     -- so that a command has 3 to 1023 bytes
     pub size-le-1023 : isRefused c ≡ false → sizeOfCommand c ≤ 1023
-    unfolding ReadAt sizeOfCommand
-    size-le-1023 f = go c (command-iff-read-at r at c f .0 (sym e))
+    unfolding sizeOfCommand isRefused
+    size-le-1023 f = go c refl f
       where
-        go : (d : Command) → ReadAt r at d → sizeOfCommand d ≤ 1023
-        go (Setup processors superblocks spare p q) t = omega arith
-        go (Take processor size) t = omega arith
-        go (Free processor address) t = omega arith
-        go (NamedTake processor name size) t = omega arith
-        go (NamedFree processor name) t = omega arith
-        go (Drop processor count first) t = omega (arith, bytes (at + 2))
-        go (Refused number offset) t = absurd t
+        go : (d : Command) → c ≡ d → isRefused d ≡ false → sizeOfCommand d ≤ 1023
+        go (Setup processors superblocks spare p q) k f = omega arith
+        go (Call call count first) k f = call-size-le-1023 call count first (call-fits call count first k)
+        go (Refused number offset) k f = absurd (subst T f tt)
 
 -- ---- the commands that follow
 
@@ -186,22 +175,7 @@ module _ (r : List ℕ) (at : ℕ) (c : Command) (e : c ≡ commandAt r at) wher
   unfolding isRefused sizeOfCommand
   commands-setup processors superblocks spare p q k = rw k at (commands-next r at c e (ap isRefused k))
 
-  pub commands-take : (processor size : ℕ) → c ≡ Take processor size → commandsAt r at ≡ Take processor size ∷ remaining r (at + 4)
+  pub commands-call : (call : CallHeader) (count first : ℕ) → c ≡ Call call count first
+      → commandsAt r at ≡ Call call count first ∷ remaining r (at + callSize call count)
   unfolding isRefused sizeOfCommand
-  commands-take processor size k = rw k at (commands-next r at c e (ap isRefused k))
-
-  pub commands-free : (processor address : ℕ) → c ≡ Free processor address → commandsAt r at ≡ Free processor address ∷ remaining r (at + 6)
-  unfolding isRefused sizeOfCommand
-  commands-free processor address k = rw k at (commands-next r at c e (ap isRefused k))
-
-  pub commands-named-take : (processor name size : ℕ) → c ≡ NamedTake processor name size → commandsAt r at ≡ NamedTake processor name size ∷ remaining r (at + 6)
-  unfolding isRefused sizeOfCommand
-  commands-named-take processor name size k = rw k at (commands-next r at c e (ap isRefused k))
-
-  pub commands-named-free : (processor name : ℕ) → c ≡ NamedFree processor name → commandsAt r at ≡ NamedFree processor name ∷ remaining r (at + 4)
-  unfolding isRefused sizeOfCommand
-  commands-named-free processor name k = rw k at (commands-next r at c e (ap isRefused k))
-
-  pub commands-drop : (processor count first : ℕ) → c ≡ Drop processor count first → commandsAt r at ≡ Drop processor count first ∷ remaining r (at + (3 + 4 * count))
-  unfolding isRefused sizeOfCommand
-  commands-drop processor count first k = rw k at (commands-next r at c e (ap isRefused k))
+  commands-call call count first k = rw k at (commands-next r at c e (ap isRefused k))

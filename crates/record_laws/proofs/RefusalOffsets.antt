@@ -12,7 +12,7 @@ use lib.ListN.{length}
 use lib.Dec.{T, leb}
 use Rattle.base_laws.specs.Sums.{pick, either}
 use Rattle.record_rules.specs.declared.Command.{Command}
-use Rattle.record_rules.specs.declared.Command.the-variants.{Setup, Take, Free, NamedTake, NamedFree, Drop, Refused}
+use Rattle.record_rules.specs.declared.Command.the-variants.{Setup, Call, Refused}
 use Rattle.record_rules.specs.Record.{commandAt, sizeOfCommand, isRefused, commandsFrom, commandsOf}
 use Rattle.record_laws.proofs.RefusalTable.{CommandRow, row-of-command-at, no-refusal-of-read}
 use Rattle.record_laws.proofs.RefusalTable as row
@@ -41,11 +41,7 @@ refusal-offset-is-position r at a (row.read c h) number offset e = absurd (subst
 size-of-refused-command : (c : Command) → isRefused c ≡ true → sizeOfCommand c ≡ 0
 unfolding isRefused sizeOfCommand
 size-of-refused-command (Setup processors superblocks spare p q) e = absurd (subst T (sym e) tt)
-size-of-refused-command (Take processor size) e = absurd (subst T (sym e) tt)
-size-of-refused-command (Free processor address) e = absurd (subst T (sym e) tt)
-size-of-refused-command (NamedTake processor name size) e = absurd (subst T (sym e) tt)
-size-of-refused-command (NamedFree processor name) e = absurd (subst T (sym e) tt)
-size-of-refused-command (Drop processor count first) e = absurd (subst T (sym e) tt)
+size-of-refused-command (Call call count first) e = absurd (subst T (sym e) tt)
 size-of-refused-command (Refused number offset) e = refl
 
 -- a list with something in it is not empty

@@ -11,41 +11,54 @@ use lib.ListN.{length, getD}
 use lib.Dec.{T, eqb, leb, ltb}
 use Rattle.base_laws.specs.Sums.{pick, either}
 use Rattle.base_laws.proofs.TestLaws.{pick-elim}
+use Rattle.call_header.specs.declared.CallHeader.{CallHeader}
+use Rattle.call_header.specs.declared.CallHeader.the-variants as header
 use Rattle.record_rules.specs.declared.Command.{Command}
-use Rattle.record_rules.specs.declared.Command.the-variants.{Setup, Take, Free, NamedTake, NamedFree, Drop, Refused}
+use Rattle.record_rules.specs.declared.Command.the-variants.{Setup, Call, Refused}
 use Rattle.bytes_rules.specs.Bytes.{byteAt, twoAt, fourAt}
 use Rattle.bytes_rules.proofs.FoursLaws.{length-of-fours-at, fours-at-number}
-use Rattle.record_rules.specs.Record.{unlessTruncated, setupAt, unlessFirst, takeAt, freeAt, namedTakeAt, namedFreeAt, dropAt, addressesIn, commandByFirstByte, commandAt, commandNumberOf, refusalOffsetOf, commandByte, numbersOf, HasNumbersOf, isRefused}
+use Rattle.record_rules.specs.Record.{unlessTruncated, setupAt, unlessFirst, takeAt, freeAt, namedTakeAt, namedFreeAt, dropAt, addressesIn}
+use Rattle.record_rules.specs.Record.{commandByFirstByte, commandAt, callByte, callNumbers, callSize, commandNumberOf, refusalOffsetOf, commandByte}
+use Rattle.record_rules.specs.Record.{numbersOf, besideHeader, HasNumbersOf, isRefused}
 
--- a command that is the rules' has their number, offset, command byte and numbers
+-- a command that is the rules' has their number, offset, command byte and numbers, and the same beside its header
 pub has-numbers-of-equal : (command rules : Command) → command ≡ rules → HasNumbersOf command rules
-has-numbers-of-equal command rules e = record { number-is = ap commandNumberOf e; offset-is = ap refusalOffsetOf e; byte-is = ap commandByte e; numbers-are = ap numbersOf e }
+has-numbers-of-equal command rules e =
+    record {
+      number-is = ap commandNumberOf e;
+      offset-is = ap refusalOffsetOf e;
+      byte-is = ap commandByte e;
+      numbers-are = ap numbersOf e;
+      beside-is = ap besideHeader e;
+    }
 
--- the command that a number, an offset, a command byte and the numbers tell
-commandWith : ℕ → ℕ → List ℕ → List ℕ → Command
-commandWith number offset [] l = Refused number offset
-commandWith number offset (byte ∷ _) l =
+-- the command that a number, an offset, a command byte, the numbers and what stands beside a header tell
+commandWith : ℕ → ℕ → List ℕ → List ℕ → List ℕ → Command
+commandWith number offset [] l beside = Refused number offset
+commandWith number offset (byte ∷ _) l beside =
     pick (eqb byte 0) (Setup (getD l 0 0) (getD l 1 0) (getD l 2 0) (getD l 3 0) (getD l 4 0))
-    (pick (eqb byte 1) (Take (getD l 0 0) (getD l 1 0))
-    (pick (eqb byte 2) (Free (getD l 0 0) (getD l 1 0))
-    (pick (eqb byte 3) (NamedTake (getD l 0 0) (getD l 1 0) (getD l 2 0))
-    (pick (eqb byte 4) (NamedFree (getD l 0 0) (getD l 1 0))
-    (Drop (getD l 0 0) (getD l 1 0) (getD l 2 0))))))
+    (Call
+    (pick (eqb byte 1) (header.Take (getD l 0 0) (getD l 1 0))
+    (pick (eqb byte 2) (header.Free (getD l 0 0) (getD l 1 0))
+    (pick (eqb byte 3) (header.NamedTake (getD l 0 0) (getD l 1 0) (getD l 2 0))
+    (pick (eqb byte 4) (header.NamedFree (getD l 0 0) (getD l 1 0))
+    (header.Drop (getD l 0 0))))))
+    (getD beside 0 0) (getD beside 1 0))
 
-command-with-its-numbers : (c : Command) → commandWith (commandNumberOf c) (refusalOffsetOf c) (commandByte c) (numbersOf c) ≡ c
-unfolding commandWith commandNumberOf refusalOffsetOf commandByte numbersOf
+command-with-its-numbers : (c : Command) → commandWith (commandNumberOf c) (refusalOffsetOf c) (commandByte c) (numbersOf c) (besideHeader c) ≡ c
+unfolding commandWith commandNumberOf refusalOffsetOf callByte commandByte callNumbers numbersOf besideHeader
 command-with-its-numbers (Setup _ _ _ _ _) = refl
-command-with-its-numbers (Take _ _) = refl
-command-with-its-numbers (Free _ _) = refl
-command-with-its-numbers (NamedTake _ _ _) = refl
-command-with-its-numbers (NamedFree _ _) = refl
-command-with-its-numbers (Drop _ _ _) = refl
+command-with-its-numbers (Call (header.Take _ _) _ _) = refl
+command-with-its-numbers (Call (header.Free _ _) _ _) = refl
+command-with-its-numbers (Call (header.NamedTake _ _ _) _ _) = refl
+command-with-its-numbers (Call (header.NamedFree _ _) _ _) = refl
+command-with-its-numbers (Call (header.Drop _) _ _) = refl
 command-with-its-numbers (Refused _ _) = refl
 
 -- so that they tell the command
 pub equal-of-has-numbers : (command rules : Command) → HasNumbersOf command rules → command ≡ rules
 equal-of-has-numbers command rules t =
-    cc (command-with-its-numbers command, command-with-its-numbers rules, t .number-is, t .offset-is, t .byte-is, t .numbers-are)
+    cc (command-with-its-numbers command, command-with-its-numbers rules, t .number-is, t .offset-is, t .byte-is, t .numbers-are, t .beside-is)
 
 -- ---- the table's words
 
@@ -73,6 +86,15 @@ Misplaced r at =
 -- byte, which reads as 0 where the record ends before it: such a drop is cut all the same.
 abbrev pub Truncated : List ℕ → ℕ → Type 0
 Truncated r at = (length r ≤ at) ⊎ (length r < at + bytesOf (byteAt r at) (byteAt r (at + 2)))
+
+-- ---- a call's command byte is one of 1 to 5, and its command has 3 bytes at least
+pub call-byte-and-size : (call : CallHeader) (count : ℕ) → (1 ≤ callByte call) × (callByte call ≤ 5) × (3 ≤ callSize call count)
+unfolding callByte callSize
+call-byte-and-size (header.Take processor size) count = (omega arith, omega arith, omega arith)
+call-byte-and-size (header.Free processor address) count = (omega arith, omega arith, omega arith)
+call-byte-and-size (header.NamedTake processor name size) count = (omega arith, omega arith, omega arith)
+call-byte-and-size (header.NamedFree processor name) count = (omega arith, omega arith, omega arith)
+call-byte-and-size (header.Drop processor) count = (omega arith, omega arith, omega arith)
 
 -- ---- the commands that are read, with the bytes that they carry: "numbers of several bytes have the low byte first"
 
@@ -105,14 +127,26 @@ module _ (r : List ℕ) (at : ℕ) where
   DropAt processor count first =
       (length r ≤ 60000) × (0 < at) × (byteAt r at ≡ 5) × (at + 3 + 4 * count ≤ length r) × (processor ≡ byteAt r (at + 1)) × (count ≡ byteAt r (at + 2)) × (first ≡ at + 3)
 
-  -- a command that is read, by its kind; a refusal is none
+  -- the numbers of a call that is read, by its kind; beside the header of any call but a drop stand 0 and 0
+  unfoldable pub NumbersAt : CallHeader → ℕ → ℕ → Type 0
+  NumbersAt (header.Take processor size) count first =
+      (processor ≡ byteAt r (at + 1)) × (size ≡ byteAt r (at + 2) + 256 * byteAt r (at + 3)) × (count ≡ 0) × (first ≡ 0)
+  NumbersAt (header.Free processor address) count first =
+      (processor ≡ byteAt r (at + 1))
+      × (address ≡ byteAt r (at + 2) + 256 * byteAt r (at + 3) + 65536 * byteAt r (at + 4) + 16777216 * byteAt r (at + 5))
+      × (count ≡ 0) × (first ≡ 0)
+  NumbersAt (header.NamedTake processor name size) count first =
+      (processor ≡ byteAt r (at + 1)) × (name ≡ byteAt r (at + 2) + 256 * byteAt r (at + 3)) × (size ≡ byteAt r (at + 4) + 256 * byteAt r (at + 5))
+      × (count ≡ 0) × (first ≡ 0)
+  NumbersAt (header.NamedFree processor name) count first =
+      (processor ≡ byteAt r (at + 1)) × (name ≡ byteAt r (at + 2) + 256 * byteAt r (at + 3)) × (count ≡ 0) × (first ≡ 0)
+  NumbersAt (header.Drop processor) count first = (processor ≡ byteAt r (at + 1)) × (count ≡ byteAt r (at + 2)) × (first ≡ at + 3)
+
+  -- a command that is read: a setup, which is first, or a call, which is not; a refusal is none
   unfoldable pub ReadAt : Command → Type 0
   ReadAt (Setup processors superblocks spare p q) = SetupAt processors superblocks spare p q
-  ReadAt (Take processor size) = TakeAt processor size
-  ReadAt (Free processor address) = FreeAt processor address
-  ReadAt (NamedTake processor name size) = NamedTakeAt processor name size
-  ReadAt (NamedFree processor name) = NamedFreeAt processor name
-  ReadAt (Drop processor count first) = DropAt processor count first
+  ReadAt (Call call count first) =
+      (length r ≤ 60000) × (0 < at) × (byteAt r at ≡ callByte call) × (at + callSize call count ≤ length r) × NumbersAt call count first
   ReadAt (Refused number offset) = ⊥
 
   -- what holds of every command that is read: its byte is known, it is first where it is a setup and only there, and it lies whole in a
@@ -125,28 +159,40 @@ module _ (r : List ℕ) (at : ℕ) where
     later : 1 ≤ byteAt r at → 0 < at
     whole : at + bytesOf (byteAt r at) (byteAt r (at + 2)) ≤ length r
 
-  whole-of-other : 1 ≤ byteAt r at → byteAt r at ≤ 5 → length r ≤ 60000 → 0 < at → at < length r → at + bytesOf (byteAt r at) (byteAt r (at + 2)) ≤ length r → Whole
-  whole-of-other some known short later inside whole = record { short = short; inside = inside; known = known; first = λ z. absurd (omega arith); later = λ z. later; whole = whole }
+  size-by-first-byte : (call : CallHeader) (count first : ℕ) → NumbersAt call count first → bytesOf (callByte call) (byteAt r (at + 2)) ≡ callSize call count
+  unfolding NumbersAt bytesOf callByte callSize
+  size-by-first-byte (header.Take processor size) count first h = refl
+  size-by-first-byte (header.Free processor address) count first h = refl
+  size-by-first-byte (header.NamedTake processor name size) count first h = refl
+  size-by-first-byte (header.NamedFree processor name) count first h = refl
+  size-by-first-byte (header.Drop processor) count first h = omega arith
+
+  whole-of-call : (call : CallHeader) (count first : ℕ) → byteAt r at ≡ callByte call → at + callSize call count ≤ length r → NumbersAt call count first
+      → at + bytesOf (byteAt r at) (byteAt r (at + 2)) ≤ length r
+  whole-of-call call count first e whole h =
+      omega (arith, ap (λ (byte : ℕ). bytesOf byte (byteAt r (at + 2))) e, size-by-first-byte call count first h)
 
   whole-of-read : (c : Command) → ReadAt c → Whole
   unfolding ReadAt bytesOf
-  whole-of-read (Setup processors superblocks spare p q) h = record { short = h .0; inside = omega arith; known = omega arith; first = λ z. h .1; later = λ z. absurd (omega arith); whole = rw (h .2) (h .3) }
-  whole-of-read (Take processor size) h = whole-of-other (omega arith) (omega arith) (h .0) (h .1) (omega arith) (rw (h .2) (h .3))
-  whole-of-read (Free processor address) h = whole-of-other (omega arith) (omega arith) (h .0) (h .1) (omega arith) (rw (h .2) (h .3))
-  whole-of-read (NamedTake processor name size) h = whole-of-other (omega arith) (omega arith) (h .0) (h .1) (omega arith) (rw (h .2) (h .3))
-  whole-of-read (NamedFree processor name) h = whole-of-other (omega arith) (omega arith) (h .0) (h .1) (omega arith) (rw (h .2) (h .3))
-  whole-of-read (Drop processor count first) h = whole-of-other (omega arith) (omega arith) (h .0) (h .1) (omega arith) (rw (h .2) (omega arith))
+  whole-of-read (Setup processors superblocks spare p q) h =
+      record { short = h .0; inside = omega arith; known = omega arith; first = λ z. h .1; later = λ z. absurd (omega arith); whole = rw (h .2) (h .3) }
+  whole-of-read (Call call count first) h =
+      let some = call-byte-and-size call count in
+      record {
+        short = h .0;
+        inside = omega arith;
+        known = omega arith;
+        first = λ z. absurd (omega arith);
+        later = λ z. h .1;
+        whole = whole-of-call call count first (h .2) (h .3) (h .4);
+      }
   whole-of-read (Refused number offset) h = absurd h
 
   -- and it is no refusal
   pub no-refusal-of-read : (c : Command) → ReadAt c → (commandNumberOf c ≡ 0) × (isRefused c ≡ false)
   unfolding ReadAt commandNumberOf isRefused
   no-refusal-of-read (Setup processors superblocks spare p q) h = (refl, refl)
-  no-refusal-of-read (Take processor size) h = (refl, refl)
-  no-refusal-of-read (Free processor address) h = (refl, refl)
-  no-refusal-of-read (NamedTake processor name size) h = (refl, refl)
-  no-refusal-of-read (NamedFree processor name) h = (refl, refl)
-  no-refusal-of-read (Drop processor count first) h = (refl, refl)
+  no-refusal-of-read (Call call count first) h = (refl, refl)
   no-refusal-of-read (Refused number offset) h = absurd h
 
 byte-at-cong : (r : List ℕ) (i j : ℕ) → i ≡ j → byteAt r i ≡ byteAt r j
@@ -201,26 +247,33 @@ module _ (r : List ℕ) (at : ℕ) (short : length r ≤ 60000) (inside : at < l
       row-of-placed known (λ z. omega arith) (λ z. later) n e c (f later))
 
   row-of-take : byteAt r at ≡ 1 → CommandRow r at (takeAt r at)
-  unfolding takeAt ReadAt bytesOf
-  row-of-take e = row-of-other (omega arith) (omega arith) 4 (rw e) _ (λ later whole. (short, later, e, whole, refl, two-at-by-bytes r (at + 2) (at + 3) (omega arith)))
+  unfolding takeAt ReadAt NumbersAt callByte callSize bytesOf
+  row-of-take e =
+      row-of-other (omega arith) (omega arith) 4 (rw e) _
+      (λ later whole. (short, later, e, whole, (refl, two-at-by-bytes r (at + 2) (at + 3) (omega arith), refl, refl)))
 
   row-of-free : byteAt r at ≡ 2 → CommandRow r at (freeAt r at)
-  unfolding freeAt ReadAt bytesOf
-  row-of-free e = row-of-other (omega arith) (omega arith) 6 (rw e) _ (λ later whole. (short, later, e, whole, refl, four-at-by-bytes r at))
+  unfolding freeAt ReadAt NumbersAt callByte callSize bytesOf
+  row-of-free e =
+      row-of-other (omega arith) (omega arith) 6 (rw e) _ (λ later whole. (short, later, e, whole, (refl, four-at-by-bytes r at, refl, refl)))
 
   row-of-named-take : byteAt r at ≡ 3 → CommandRow r at (namedTakeAt r at)
-  unfolding namedTakeAt ReadAt bytesOf
+  unfolding namedTakeAt ReadAt NumbersAt callByte callSize bytesOf
   row-of-named-take e =
       row-of-other (omega arith) (omega arith) 6 (rw e) _
-      (λ later whole. (short, later, e, whole, refl, two-at-by-bytes r (at + 2) (at + 3) (omega arith), two-at-by-bytes r (at + 4) (at + 5) (omega arith)))
+      (λ later whole.
+      (short, later, e, whole, (refl, two-at-by-bytes r (at + 2) (at + 3) (omega arith), two-at-by-bytes r (at + 4) (at + 5) (omega arith), refl, refl)))
 
   row-of-named-free : byteAt r at ≡ 4 → CommandRow r at (namedFreeAt r at)
-  unfolding namedFreeAt ReadAt bytesOf
-  row-of-named-free e = row-of-other (omega arith) (omega arith) 4 (rw e) _ (λ later whole. (short, later, e, whole, refl, two-at-by-bytes r (at + 2) (at + 3) (omega arith)))
+  unfolding namedFreeAt ReadAt NumbersAt callByte callSize bytesOf
+  row-of-named-free e =
+      row-of-other (omega arith) (omega arith) 4 (rw e) _
+      (λ later whole. (short, later, e, whole, (refl, two-at-by-bytes r (at + 2) (at + 3) (omega arith), refl, refl)))
 
   row-of-drop : byteAt r at ≡ 5 → CommandRow r at (dropAt r at)
-  unfolding dropAt ReadAt bytesOf
-  row-of-drop e = row-of-other (omega arith) (omega arith) (3 + 4 * byteAt r (at + 2)) (rw e) _ (λ later whole. (short, later, e, omega arith, refl, refl, refl))
+  unfolding dropAt ReadAt NumbersAt callByte callSize bytesOf
+  row-of-drop e =
+      row-of-other (omega arith) (omega arith) (3 + 4 * byteAt r (at + 2)) (rw e) _ (λ later whole. (short, later, e, whole, (refl, refl, refl)))
 
   row-of-known : CommandRow r at (commandByFirstByte r at)
   unfolding commandByFirstByte
@@ -382,14 +435,21 @@ module _ (r : List ℕ) (at : ℕ) where
   unless-first-of-later n c later h = rw (ne-eqb at 0 (λ z. omega arith)) (unless-truncated-of-whole n c h)
 
   command-by-first-byte-of-read-at : (c : Command) → ReadAt r at c → commandByFirstByte r at ≡ c
-  unfolding ReadAt commandByFirstByte setupAt takeAt freeAt namedTakeAt namedFreeAt dropAt
-  command-by-first-byte-of-read-at (Setup processors superblocks spare p q) h = rw (h .2, eq-eqb at 0 (h .1)) (unless-truncated-of-whole 6 _ (h .3) ∙ cc)
-  command-by-first-byte-of-read-at (Take processor size) h = rw (h .2) (unless-first-of-later 4 _ (h .1) (h .3) ∙ cc (two-at-by-bytes r (at + 2) (at + 3) (omega arith)))
-  command-by-first-byte-of-read-at (Free processor address) h = rw (h .2) (unless-first-of-later 6 _ (h .1) (h .3) ∙ cc (four-at-by-bytes r at))
-  command-by-first-byte-of-read-at (NamedTake processor name size) h =
-      rw (h .2) (unless-first-of-later 6 _ (h .1) (h .3) ∙ cc (two-at-by-bytes r (at + 2) (at + 3) (omega arith), two-at-by-bytes r (at + 4) (at + 5) (omega arith)))
-  command-by-first-byte-of-read-at (NamedFree processor name) h = rw (h .2) (unless-first-of-later 4 _ (h .1) (h .3) ∙ cc (two-at-by-bytes r (at + 2) (at + 3) (omega arith)))
-  command-by-first-byte-of-read-at (Drop processor count first) h = rw (h .2) (unless-first-of-later (3 + 4 * byteAt r (at + 2)) _ (h .1) (omega arith) ∙ cc)
+  unfolding ReadAt NumbersAt callByte callSize commandByFirstByte setupAt takeAt freeAt namedTakeAt namedFreeAt dropAt
+  command-by-first-byte-of-read-at (Setup processors superblocks spare p q) h =
+      rw (h .2, eq-eqb at 0 (h .1)) (unless-truncated-of-whole 6 _ (h .3) ∙ cc)
+  command-by-first-byte-of-read-at (Call (header.Take processor size) count first) h =
+      rw (h .2) (unless-first-of-later 4 _ (h .1) (h .3) ∙ cc (two-at-by-bytes r (at + 2) (at + 3) (omega arith)))
+  command-by-first-byte-of-read-at (Call (header.Free processor address) count first) h =
+      rw (h .2) (unless-first-of-later 6 _ (h .1) (h .3) ∙ cc (four-at-by-bytes r at))
+  command-by-first-byte-of-read-at (Call (header.NamedTake processor name size) count first) h =
+      rw (h .2)
+      (unless-first-of-later 6 _ (h .1) (h .3)
+      ∙ cc (two-at-by-bytes r (at + 2) (at + 3) (omega arith), two-at-by-bytes r (at + 4) (at + 5) (omega arith)))
+  command-by-first-byte-of-read-at (Call (header.NamedFree processor name) count first) h =
+      rw (h .2) (unless-first-of-later 4 _ (h .1) (h .3) ∙ cc (two-at-by-bytes r (at + 2) (at + 3) (omega arith)))
+  command-by-first-byte-of-read-at (Call (header.Drop processor) count first) h =
+      rw (h .2) (unless-first-of-later (3 + 4 * byteAt r (at + 2)) _ (h .1) (omega arith) ∙ cc)
   command-by-first-byte-of-read-at (Refused number offset) h = absurd h
 
   command-of-read-at : (c : Command) → ReadAt r at c → commandAt r at ≡ c
@@ -414,28 +474,39 @@ module _ (r : List ℕ) (at : ℕ) where
   unfolding ReadAt isRefused
   setup-iff-setup-at processors superblocks spare p q = command-iff-read-at (Setup processors superblocks spare p q) refl
 
-  pub take-iff-take-at : (processor size : ℕ) → commandAt r at ≡ Take processor size ↔ TakeAt r at processor size
-  unfolding ReadAt isRefused
-  take-iff-take-at processor size = command-iff-read-at (Take processor size) refl
+  pub take-iff-take-at : (processor size : ℕ) → commandAt r at ≡ Call (header.Take processor size) 0 0 ↔ TakeAt r at processor size
+  unfolding ReadAt NumbersAt callByte callSize isRefused
+  take-iff-take-at processor size =
+      let both = command-iff-read-at (Call (header.Take processor size) 0 0) refl in
+      (λ e. let h = both .0 e in (h .0, h .1, h .2, h .3, h .4 .0, h .4 .1), λ h. both .1 (h .0, h .1, h .2, h .3, (h .4, h .5, refl, refl)))
 
-  pub free-iff-free-at : (processor address : ℕ) → commandAt r at ≡ Free processor address ↔ FreeAt r at processor address
-  unfolding ReadAt isRefused
-  free-iff-free-at processor address = command-iff-read-at (Free processor address) refl
+  pub free-iff-free-at : (processor address : ℕ) → commandAt r at ≡ Call (header.Free processor address) 0 0 ↔ FreeAt r at processor address
+  unfolding ReadAt NumbersAt callByte callSize isRefused
+  free-iff-free-at processor address =
+      let both = command-iff-read-at (Call (header.Free processor address) 0 0) refl in
+      (λ e. let h = both .0 e in (h .0, h .1, h .2, h .3, h .4 .0, h .4 .1), λ h. both .1 (h .0, h .1, h .2, h .3, (h .4, h .5, refl, refl)))
 
-  pub named-take-iff-named-take-at : (processor name size : ℕ) → commandAt r at ≡ NamedTake processor name size ↔ NamedTakeAt r at processor name size
-  unfolding ReadAt isRefused
-  named-take-iff-named-take-at processor name size = command-iff-read-at (NamedTake processor name size) refl
+  pub named-take-iff-named-take-at : (processor name size : ℕ)
+      → commandAt r at ≡ Call (header.NamedTake processor name size) 0 0 ↔ NamedTakeAt r at processor name size
+  unfolding ReadAt NumbersAt callByte callSize isRefused
+  named-take-iff-named-take-at processor name size =
+      let both = command-iff-read-at (Call (header.NamedTake processor name size) 0 0) refl in
+      (λ e. let h = both .0 e in (h .0, h .1, h .2, h .3, h .4 .0, h .4 .1, h .4 .2), λ h. both .1 (h .0, h .1, h .2, h .3, (h .4, h .5, h .6, refl, refl)))
 
-  pub named-free-iff-named-free-at : (processor name : ℕ) → commandAt r at ≡ NamedFree processor name ↔ NamedFreeAt r at processor name
-  unfolding ReadAt isRefused
-  named-free-iff-named-free-at processor name = command-iff-read-at (NamedFree processor name) refl
+  pub named-free-iff-named-free-at : (processor name : ℕ) → commandAt r at ≡ Call (header.NamedFree processor name) 0 0 ↔ NamedFreeAt r at processor name
+  unfolding ReadAt NumbersAt callByte callSize isRefused
+  named-free-iff-named-free-at processor name =
+      let both = command-iff-read-at (Call (header.NamedFree processor name) 0 0) refl in
+      (λ e. let h = both .0 e in (h .0, h .1, h .2, h .3, h .4 .0, h .4 .1), λ h. both .1 (h .0, h .1, h .2, h .3, (h .4, h .5, refl, refl)))
 
-  pub drop-iff-drop-at : (processor count first : ℕ) → commandAt r at ≡ Drop processor count first ↔ DropAt r at processor count first
-  unfolding ReadAt isRefused
-  drop-iff-drop-at processor count first = command-iff-read-at (Drop processor count first) refl
+  pub drop-iff-drop-at : (processor count first : ℕ) → commandAt r at ≡ Call (header.Drop processor) count first ↔ DropAt r at processor count first
+  unfolding ReadAt NumbersAt callByte callSize isRefused
+  drop-iff-drop-at processor count first =
+      let both = command-iff-read-at (Call (header.Drop processor) count first) refl in
+      (λ e. let h = both .0 e in (h .0, h .1, h .2, omega arith, h .4 .0, h .4 .1, h .4 .2), λ h. both .1 (h .0, h .1, h .2, omega arith, (h .4, h .5, h .6)))
 
   -- "that many addresses (4 each)", one behind the other, each with "the low byte first"
-  pub drop-addresses-by-bytes : (processor count first : ℕ) → commandAt r at ≡ Drop processor count first
+  pub drop-addresses-by-bytes : (processor count first : ℕ) → commandAt r at ≡ Call (header.Drop processor) count first
       → (length (addressesIn r first count) ≡ byteAt r (at + 2))
       × ((i : ℕ) → i < count → getD (addressesIn r first count) i 0
       ≡ byteAt r (at + 3 + 4 * i) + 256 * byteAt r (at + 4 + 4 * i) + 65536 * byteAt r (at + 5 + 4 * i) + 16777216 * byteAt r (at + 6 + 4 * i))

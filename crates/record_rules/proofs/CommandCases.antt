@@ -8,9 +8,11 @@ use lib.ListN.{getD, replicate}
 use lib.ListN as bytes
 use Rattle.base_laws.proofs.Stages.{_also_}
 use Rattle.base_laws.specs.Lists.{listed}
+use Rattle.call_header.specs.declared.CallHeader.the-variants as header
 use Rattle.record_rules.specs.declared.Command.{Command}
-use Rattle.record_rules.specs.declared.Command.the-variants.{Setup, Take, Free, NamedTake, NamedFree, Drop, Refused}
-use Rattle.record_rules.specs.Record.{addressesIn, commandAt, commandsOf, commandNumberOf, refusalOffsetOf, commandByte, numbersOf, HasNumbersOf}
+use Rattle.record_rules.specs.declared.Command.the-variants.{Setup, Call, Refused}
+use Rattle.record_rules.specs.Record.{addressesIn, commandAt, commandsOf, commandNumberOf, refusalOffsetOf, commandByte, numbersOf, besideHeader}
+use Rattle.record_rules.specs.Record.{HasNumbersOf}
 use Rattle.record_rules.proofs.CommandDefinitions.{commandDefinitions}
 
 abbrev setup : List ℕ
@@ -23,7 +25,8 @@ abbrev free : List ℕ
 free = 2 ∷ 1 ∷ 0 ∷ 0 ∷ 0 ∷ 0 ∷ []
 
 whole-case : commandsOf (setup ++ take ++ take ++ take ++ free ++ free ++ (2 ∷ 1 ∷ 0 ∷ 8 ∷ 0 ∷ 0 ∷ []) ++ (1 ∷ 1 ∷ 16 ∷ 0 ∷ []) ++ (1 ∷ 1 ∷ 1 ∷ 8 ∷ []))
-    ≡ Setup 1 2 1 1 4 ∷ Take 1 2048 ∷ Take 1 2048 ∷ Take 1 2048 ∷ Free 1 0 ∷ Free 1 0 ∷ Free 1 2048 ∷ Take 1 16 ∷ Take 1 2049 ∷ []
+    ≡ Setup 1 2 1 1 4 ∷ Call (header.Take 1 2048) 0 0 ∷ Call (header.Take 1 2048) 0 0 ∷ Call (header.Take 1 2048) 0 0 ∷ Call (header.Free 1 0) 0 0
+    ∷ Call (header.Free 1 0) 0 0 ∷ Call (header.Free 1 2048) 0 0 ∷ Call (header.Take 1 16) 0 0 ∷ Call (header.Take 1 2049) 0 0 ∷ []
 unfolding commandDefinitions
 whole-case = refl
 
@@ -49,7 +52,7 @@ setup-later : commandsOf (setup ++ (0 ∷ 1 ∷ [])) ≡ Setup 1 2 1 1 4 ∷ Ref
 unfolding commandDefinitions
 setup-later = refl
 
-free-truncated : commandsOf (setup ++ take ++ (2 ∷ 1 ∷ 0 ∷ 0 ∷ 0 ∷ [])) ≡ Setup 1 2 1 1 4 ∷ Take 1 2048 ∷ Refused 9 10 ∷ []
+free-truncated : commandsOf (setup ++ take ++ (2 ∷ 1 ∷ 0 ∷ 0 ∷ 0 ∷ [])) ≡ Setup 1 2 1 1 4 ∷ Call (header.Take 1 2048) 0 0 ∷ Refused 9 10 ∷ []
 unfolding commandDefinitions
 free-truncated = refl
 
@@ -59,7 +62,9 @@ distinct-bytes =
     0 ∷ 3 ∷ 4 ∷ 5 ∷ 6 ∷ 7 ∷ 1 ∷ 8 ∷ 9 ∷ 10 ∷ 2 ∷ 11 ∷ 12 ∷ 13 ∷ 14 ∷ 15 ∷ 3 ∷ 16 ∷ 17 ∷ 18 ∷ 19 ∷ 20 ∷ 4 ∷ 21 ∷ 22 ∷ 23
     ∷ 5 ∷ 24 ∷ 2 ∷ 25 ∷ 26 ∷ 27 ∷ 28 ∷ 29 ∷ 30 ∷ 31 ∷ 32 ∷ []
 
-commands-of-distinct-bytes : commandsOf distinct-bytes ≡ Setup 3 4 5 6 7 ∷ Take 8 2569 ∷ Free 11 252579084 ∷ NamedTake 16 4625 5139 ∷ NamedFree 21 5910 ∷ Drop 24 2 29 ∷ []
+commands-of-distinct-bytes : commandsOf distinct-bytes
+    ≡ Setup 3 4 5 6 7 ∷ Call (header.Take 8 2569) 0 0 ∷ Call (header.Free 11 252579084) 0 0 ∷ Call (header.NamedTake 16 4625 5139) 0 0
+    ∷ Call (header.NamedFree 21 5910) 0 0 ∷ Call (header.Drop 24) 2 29 ∷ []
 unfolding commandDefinitions
 commands-of-distinct-bytes = refl
 
@@ -85,7 +90,7 @@ free-first-truncated : commandsOf (2 ∷ 1 ∷ []) ≡ Refused 10 0 ∷ []
 unfolding commandDefinitions
 free-first-truncated = refl
 
-take-truncated : commandsOf (setup ++ take ++ (1 ∷ 1 ∷ 0 ∷ [])) ≡ Setup 1 2 1 1 4 ∷ Take 1 2048 ∷ Refused 9 10 ∷ []
+take-truncated : commandsOf (setup ++ take ++ (1 ∷ 1 ∷ 0 ∷ [])) ≡ Setup 1 2 1 1 4 ∷ Call (header.Take 1 2048) 0 0 ∷ Refused 9 10 ∷ []
 unfolding commandDefinitions
 take-truncated = refl
 
@@ -100,7 +105,8 @@ named-take = 3 ∷ 1 ∷ 5 ∷ 0 ∷ 0 ∷ 8 ∷ []
 abbrev named-free : List ℕ
 named-free = 4 ∷ 1 ∷ 5 ∷ 0 ∷ []
 
-named-calls-read : commandsOf (setup ++ named-take ++ named-free ++ free) ≡ Setup 1 2 1 1 4 ∷ NamedTake 1 5 2048 ∷ NamedFree 1 5 ∷ Free 1 0 ∷ []
+named-calls-read : commandsOf (setup ++ named-take ++ named-free ++ free)
+    ≡ Setup 1 2 1 1 4 ∷ Call (header.NamedTake 1 5 2048) 0 0 ∷ Call (header.NamedFree 1 5) 0 0 ∷ Call (header.Free 1 0) 0 0 ∷ []
 unfolding commandDefinitions
 named-calls-read = refl
 
@@ -108,7 +114,7 @@ named-take-truncated : commandsOf (setup ++ (3 ∷ 1 ∷ 5 ∷ 0 ∷ 0 ∷ [])) 
 unfolding commandDefinitions
 named-take-truncated = refl
 
-named-free-truncated : commandsOf (setup ++ named-take ++ (4 ∷ 1 ∷ 5 ∷ [])) ≡ Setup 1 2 1 1 4 ∷ NamedTake 1 5 2048 ∷ Refused 9 12 ∷ []
+named-free-truncated : commandsOf (setup ++ named-take ++ (4 ∷ 1 ∷ 5 ∷ [])) ≡ Setup 1 2 1 1 4 ∷ Call (header.NamedTake 1 5 2048) 0 0 ∷ Refused 9 12 ∷ []
 unfolding commandDefinitions
 named-free-truncated = refl
 
@@ -121,7 +127,10 @@ unfolding commandDefinitions
 named-free-first = (refl, refl)
 
 -- each kind of command as the last of its record, with no byte behind it; the other two end records above
-last-command-read : (commandsOf setup ≡ Setup 1 2 1 1 4 ∷ []) × (commandsOf (setup ++ named-take) ≡ Setup 1 2 1 1 4 ∷ NamedTake 1 5 2048 ∷ []) × (commandsOf (setup ++ named-free) ≡ Setup 1 2 1 1 4 ∷ NamedFree 1 5 ∷ []) × (commandsOf (setup ++ (2 ∷ 1 ∷ 0 ∷ 8 ∷ 0 ∷ 0 ∷ [])) ≡ Setup 1 2 1 1 4 ∷ Free 1 2048 ∷ [])
+last-command-read :
+    (commandsOf setup ≡ Setup 1 2 1 1 4 ∷ []) × (commandsOf (setup ++ named-take) ≡ Setup 1 2 1 1 4 ∷ Call (header.NamedTake 1 5 2048) 0 0 ∷ [])
+    × (commandsOf (setup ++ named-free) ≡ Setup 1 2 1 1 4 ∷ Call (header.NamedFree 1 5) 0 0 ∷ [])
+    × (commandsOf (setup ++ (2 ∷ 1 ∷ 0 ∷ 8 ∷ 0 ∷ 0 ∷ [])) ≡ Setup 1 2 1 1 4 ∷ Call (header.Free 1 2048) 0 0 ∷ [])
 unfolding commandDefinitions
 last-command-read = (refl, refl, refl, refl)
 
@@ -132,7 +141,7 @@ past-the-end = (refl, refl, refl, refl)
 
 -- any name of two bytes is read: 14 and 15 are the call's refusals
 names-read-as-they-are : commandsOf (setup ++ (3 ∷ 1 ∷ 255 ∷ 3 ∷ 0 ∷ 0 ∷ 3 ∷ 1 ∷ 0 ∷ 4 ∷ 0 ∷ 0 ∷ 4 ∷ 1 ∷ 255 ∷ 255 ∷ []))
-    ≡ Setup 1 2 1 1 4 ∷ NamedTake 1 1023 0 ∷ NamedTake 1 1024 0 ∷ NamedFree 1 65535 ∷ []
+    ≡ Setup 1 2 1 1 4 ∷ Call (header.NamedTake 1 1023 0) 0 0 ∷ Call (header.NamedTake 1 1024 0) 0 0 ∷ Call (header.NamedFree 1 65535) 0 0 ∷ []
 unfolding commandDefinitions
 names-read-as-they-are = refl
 
@@ -146,11 +155,14 @@ drop-1 = 5 ∷ 1 ∷ 1 ∷ 0 ∷ 8 ∷ 0 ∷ 0 ∷ []
 abbrev drop-2 : List ℕ
 drop-2 = 5 ∷ 1 ∷ 2 ∷ 0 ∷ 0 ∷ 0 ∷ 0 ∷ 0 ∷ 8 ∷ 0 ∷ 0 ∷ []
 
-drops-read : commandsOf (setup ++ drop-0 ++ free ++ drop-1 ++ free ++ drop-2 ++ free) ≡ Setup 1 2 1 1 4 ∷ Drop 1 0 9 ∷ Free 1 0 ∷ Drop 1 1 18 ∷ Free 1 0 ∷ Drop 1 2 31 ∷ Free 1 0 ∷ []
+drops-read : commandsOf (setup ++ drop-0 ++ free ++ drop-1 ++ free ++ drop-2 ++ free)
+    ≡ Setup 1 2 1 1 4 ∷ Call (header.Drop 1) 0 9 ∷ Call (header.Free 1 0) 0 0 ∷ Call (header.Drop 1) 1 18
+    ∷ Call (header.Free 1 0) 0 0 ∷ Call (header.Drop 1) 2 31 ∷ Call (header.Free 1 0) 0 0 ∷ []
 unfolding commandDefinitions
 drops-read = refl
 
-drop-of-255-read : commandsOf (setup ++ (5 ∷ 1 ∷ 255 ∷ []) ++ replicate 1020 7 ++ free) ≡ Setup 1 2 1 1 4 ∷ Drop 1 255 9 ∷ Free 1 0 ∷ []
+drop-of-255-read : commandsOf (setup ++ (5 ∷ 1 ∷ 255 ∷ []) ++ replicate 1020 7 ++ free)
+    ≡ Setup 1 2 1 1 4 ∷ Call (header.Drop 1) 255 9 ∷ Call (header.Free 1 0) 0 0 ∷ []
 unfolding commandDefinitions
 drop-of-255-read = refl
 
@@ -173,39 +185,45 @@ unfolding commandDefinitions
 drop-first = refl
 
 -- a size of 0 is read as 0 (document 02, item 1)
-size-0-read-as-0 : commandsOf (setup ++ (1 ∷ 1 ∷ 0 ∷ 0 ∷ [])) ≡ Setup 1 2 1 1 4 ∷ Take 1 0 ∷ []
+size-0-read-as-0 : commandsOf (setup ++ (1 ∷ 1 ∷ 0 ∷ 0 ∷ [])) ≡ Setup 1 2 1 1 4 ∷ Call (header.Take 1 0) 0 0 ∷ []
 unfolding commandDefinitions
 size-0-read-as-0 = refl
 
--- each kind of command by document 01's number, its offset, its command byte and its numbers
+-- each kind of command by document 01's number, its offset, its command byte, its numbers and what stands beside a call's header
 pub record Values : Type 0 where
   pub number : ℕ
   pub offset : ℕ
   pub byte : List ℕ
   pub numbers : List ℕ
+  pub beside : List ℕ
 
 values : List Command → List Values
 values [] = []
-values (c ∷ commands) = record { number = commandNumberOf c; offset = refusalOffsetOf c; byte = commandByte c; numbers = numbersOf c } ∷ values commands
+values (c ∷ commands) =
+    record { number = commandNumberOf c; offset = refusalOffsetOf c; byte = commandByte c; numbers = numbersOf c; beside = besideHeader c } ∷ values commands
 
 values-of-all-kinds : values (commandsOf (distinct-bytes ++ (6 ∷ [])))
-    ≡ record { number = 0; offset = 0; byte = 0 ∷ []; numbers = 3 ∷ 4 ∷ 5 ∷ 6 ∷ 7 ∷ [] }
-    ∷ record { number = 0; offset = 0; byte = 1 ∷ []; numbers = 8 ∷ 2569 ∷ [] }
-    ∷ record { number = 0; offset = 0; byte = 2 ∷ []; numbers = 11 ∷ 252579084 ∷ [] }
-    ∷ record { number = 0; offset = 0; byte = 3 ∷ []; numbers = 16 ∷ 4625 ∷ 5139 ∷ [] }
-    ∷ record { number = 0; offset = 0; byte = 4 ∷ []; numbers = 21 ∷ 5910 ∷ [] }
-    ∷ record { number = 0; offset = 0; byte = 5 ∷ []; numbers = 24 ∷ 2 ∷ 29 ∷ [] }
-    ∷ record { number = 8; offset = 37; byte = []; numbers = [] }
+    ≡ record { number = 0; offset = 0; byte = 0 ∷ []; numbers = 3 ∷ 4 ∷ 5 ∷ 6 ∷ 7 ∷ []; beside = [] }
+    ∷ record { number = 0; offset = 0; byte = 1 ∷ []; numbers = 8 ∷ 2569 ∷ []; beside = 0 ∷ 0 ∷ [] }
+    ∷ record { number = 0; offset = 0; byte = 2 ∷ []; numbers = 11 ∷ 252579084 ∷ []; beside = 0 ∷ 0 ∷ [] }
+    ∷ record { number = 0; offset = 0; byte = 3 ∷ []; numbers = 16 ∷ 4625 ∷ 5139 ∷ []; beside = 0 ∷ 0 ∷ [] }
+    ∷ record { number = 0; offset = 0; byte = 4 ∷ []; numbers = 21 ∷ 5910 ∷ []; beside = 0 ∷ 0 ∷ [] }
+    ∷ record { number = 0; offset = 0; byte = 5 ∷ []; numbers = 24 ∷ 2 ∷ 29 ∷ []; beside = 2 ∷ 29 ∷ [] }
+    ∷ record { number = 8; offset = 37; byte = []; numbers = []; beside = [] }
     ∷ []
-unfolding values commandNumberOf refusalOffsetOf commandByte numbersOf commandDefinitions
+unfolding values commandNumberOf refusalOffsetOf commandByte numbersOf besideHeader commandDefinitions
 values-of-all-kinds = refl
 
--- a command has the numbers of another only where all four are the same: not of another refusal, one at another offset, another call with the same numbers, other numbers, a drop whose addresses begin
--- elsewhere
+-- a command has the numbers of another only where all five are the same: not of another refusal, one at another offset, another call with the same
+-- numbers, other numbers, a drop whose addresses begin elsewhere, a take with an offset beside it
 other-command-fails :
-    (HasNumbersOf (Refused 8 5) (Refused 9 5) → ⊥) × (HasNumbersOf (Refused 8 5) (Refused 8 6) → ⊥) × (HasNumbersOf (Take 1 5) (Free 1 5) → ⊥) × (HasNumbersOf (NamedFree 1 5) (Take 1 5) → ⊥)
-    × (HasNumbersOf (Take 1 5) (Take 1 6) → ⊥) × (HasNumbersOf (Drop 1 2 9) (Drop 1 2 10) → ⊥) × (HasNumbersOf (Refused 8 5) (Setup 1 1 1 1 2) → ⊥)
-unfolding commandNumberOf refusalOffsetOf commandByte numbersOf
+    (HasNumbersOf (Refused 8 5) (Refused 9 5) → ⊥) × (HasNumbersOf (Refused 8 5) (Refused 8 6) → ⊥)
+    × (HasNumbersOf (Call (header.Take 1 5) 0 0) (Call (header.Free 1 5) 0 0) → ⊥)
+    × (HasNumbersOf (Call (header.NamedFree 1 5) 0 0) (Call (header.Take 1 5) 0 0) → ⊥)
+    × (HasNumbersOf (Call (header.Take 1 5) 0 0) (Call (header.Take 1 6) 0 0) → ⊥)
+    × (HasNumbersOf (Call (header.Drop 1) 2 9) (Call (header.Drop 1) 2 10) → ⊥) × (HasNumbersOf (Refused 8 5) (Setup 1 1 1 1 2) → ⊥)
+    × (HasNumbersOf (Call (header.Take 1 5) 0 9) (Call (header.Take 1 5) 0 0) → ⊥)
+unfolding commandNumberOf refusalOffsetOf commandByte numbersOf besideHeader commandDefinitions
 other-command-fails = (
   λ h. let z = h .number-is in omega arith,
   λ h. let z = h .offset-is in omega arith,
@@ -214,6 +232,7 @@ other-command-fails = (
   λ h. let z : _≡_ {A = ℕ} 5 6 = ap (λ (l : List ℕ). getD l 1 9) (h .numbers-are) in omega arith,
   λ h. let z : _≡_ {A = ℕ} 9 10 = ap (λ (l : List ℕ). getD l 2 0) (h .numbers-are) in omega arith,
   λ h. let z = h .number-is in omega arith,
+  λ h. let z : _≡_ {A = ℕ} 9 0 = ap (λ (l : List ℕ). getD l 1 7) (h .beside-is) in omega arith,
 )
 
 -- ---- the longest record takes longer than all cases above: it is computed where they hold

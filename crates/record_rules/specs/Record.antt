@@ -7,8 +7,10 @@ use lib.ListN.{length}
 use lib.Dec.{eqb, leb, ltb}
 use Rattle.base_laws.specs.Sums.{pick, either}
 use Rattle.bytes_rules.specs.Bytes.{byteAt, twoAt, fourAt, foursAt}
+use Rattle.call_header.specs.declared.CallHeader.{CallHeader}
+use Rattle.call_header.specs.declared.CallHeader.the-variants as header
 use Rattle.record_rules.specs.declared.Command.{Command}
-use Rattle.record_rules.specs.declared.Command.the-variants.{Setup, Take, Free, NamedTake, NamedFree, Drop, Refused}
+use Rattle.record_rules.specs.declared.Command.the-variants.{Setup, Call, Refused}
 
 -- refusal 9 (bench word: cut): "the record ends inside a command", one of n bytes
 unfoldable pub unlessTruncated : List ℕ → ℕ → ℕ → Command → Command
@@ -27,24 +29,24 @@ unlessFirst at command = pick (eqb at 0) (Refused 10 at) command
 
 -- "01: take, processor (1 byte), size (2)"
 unfoldable pub takeAt : List ℕ → ℕ → Command
-takeAt r at = unlessFirst at (unlessTruncated r at 4 (Take (byteAt r (at + 1)) (twoAt r (at + 2))))
+takeAt r at = unlessFirst at (unlessTruncated r at 4 (Call (header.Take (byteAt r (at + 1)) (twoAt r (at + 2))) 0 0))
 
 -- "02: free, processor (1), address (4)"
 unfoldable pub freeAt : List ℕ → ℕ → Command
-freeAt r at = unlessFirst at (unlessTruncated r at 6 (Free (byteAt r (at + 1)) (fourAt r (at + 2))))
+freeAt r at = unlessFirst at (unlessTruncated r at 6 (Call (header.Free (byteAt r (at + 1)) (fourAt r (at + 2))) 0 0))
 
 -- "Command 03 is a take with processor (1 byte), name (2) and size (2)" (document 02, item 2)
 unfoldable pub namedTakeAt : List ℕ → ℕ → Command
-namedTakeAt r at = unlessFirst at (unlessTruncated r at 6 (NamedTake (byteAt r (at + 1)) (twoAt r (at + 2)) (twoAt r (at + 4))))
+namedTakeAt r at = unlessFirst at (unlessTruncated r at 6 (Call (header.NamedTake (byteAt r (at + 1)) (twoAt r (at + 2)) (twoAt r (at + 4))) 0 0))
 
 -- "04 is a free with processor (1) and name (2)" (document 02, item 2)
 unfoldable pub namedFreeAt : List ℕ → ℕ → Command
-namedFreeAt r at = unlessFirst at (unlessTruncated r at 4 (NamedFree (byteAt r (at + 1)) (twoAt r (at + 2))))
+namedFreeAt r at = unlessFirst at (unlessTruncated r at 4 (Call (header.NamedFree (byteAt r (at + 1)) (twoAt r (at + 2))) 0 0))
 
 -- "Command 05 has processor (1 byte), count (1) and that many addresses (4 each)" (document 02, item 5), which begin at byte 3 of the command. Where
 -- the record ends before the count, that reads as 0, and the command is cut all the same.
 unfoldable pub dropAt : List ℕ → ℕ → Command
-dropAt r at = unlessFirst at (unlessTruncated r at (3 + 4 * byteAt r (at + 2)) (Drop (byteAt r (at + 1)) (byteAt r (at + 2)) (at + 3)))
+dropAt r at = unlessFirst at (unlessTruncated r at (3 + 4 * byteAt r (at + 2)) (Call (header.Drop (byteAt r (at + 1))) (byteAt r (at + 2)) (at + 3)))
 
 -- a drop's addresses, so many, the first of which stands at an offset of the record
 abbrev pub addressesIn : List ℕ → ℕ → ℕ → List ℕ
@@ -69,72 +71,81 @@ commandAt r at =
     (pick (ltb at (length r)) (commandByFirstByte r at)
     (pick (eqb at 0) (Refused 10 0) (Refused 9 (length r))))
 
+-- ---- a call by its header
+-- its command byte
+unfoldable pub callByte : CallHeader → ℕ
+callByte (header.Take processor size) = 1
+callByte (header.Free processor address) = 2
+callByte (header.NamedTake processor name size) = 3
+callByte (header.NamedFree processor name) = 4
+callByte (header.Drop processor) = 5
+
+-- the numbers that it carries, in the record's order, with a drop's count and where its addresses begin
+unfoldable pub callNumbers : CallHeader → ℕ → ℕ → List ℕ
+callNumbers (header.Take processor size) count first = processor ∷ size ∷ []
+callNumbers (header.Free processor address) count first = processor ∷ address ∷ []
+callNumbers (header.NamedTake processor name size) count first = processor ∷ name ∷ size ∷ []
+callNumbers (header.NamedFree processor name) count first = processor ∷ name ∷ []
+callNumbers (header.Drop processor) count first = processor ∷ count ∷ first ∷ []
+
+-- the bytes of its command; of a drop, where it has so many addresses
+unfoldable pub callSize : CallHeader → ℕ → ℕ
+callSize (header.Take processor size) count = 4
+callSize (header.Free processor address) count = 6
+callSize (header.NamedTake processor name size) count = 6
+callSize (header.NamedFree processor name) count = 4
+callSize (header.Drop processor) count = 3 + 4 * count
+
+-- ---- any command
 -- document 01's number for each command: 0 for one that is read, else the refusal's number
 unfoldable pub commandNumberOf : Command → ℕ
 commandNumberOf (Setup processors superblocks spare p q) = 0
-commandNumberOf (Take processor size) = 0
-commandNumberOf (Free processor address) = 0
-commandNumberOf (NamedTake processor name size) = 0
-commandNumberOf (NamedFree processor name) = 0
-commandNumberOf (Drop processor count first) = 0
+commandNumberOf (Call call count first) = 0
 commandNumberOf (Refused number offset) = number
 
 -- the byte offset that a refusal carries: "a refusal with its offset"; 0 for a command that is read, which carries none
 unfoldable pub refusalOffsetOf : Command → ℕ
 refusalOffsetOf (Setup processors superblocks spare p q) = 0
-refusalOffsetOf (Take processor size) = 0
-refusalOffsetOf (Free processor address) = 0
-refusalOffsetOf (NamedTake processor name size) = 0
-refusalOffsetOf (NamedFree processor name) = 0
-refusalOffsetOf (Drop processor count first) = 0
+refusalOffsetOf (Call call count first) = 0
 refusalOffsetOf (Refused number offset) = offset
 
 -- the command byte; a refusal has none
 unfoldable pub commandByte : Command → List ℕ
 commandByte (Setup processors superblocks spare p q) = 0 ∷ []
-commandByte (Take processor size) = 1 ∷ []
-commandByte (Free processor address) = 2 ∷ []
-commandByte (NamedTake processor name size) = 3 ∷ []
-commandByte (NamedFree processor name) = 4 ∷ []
-commandByte (Drop processor count first) = 5 ∷ []
+commandByte (Call call count first) = callByte call ∷ []
 commandByte (Refused number offset) = []
 
 -- the numbers that a command carries, in the record's order, and where a drop's addresses begin; a refusal carries none beside its number and its
 -- offset
 unfoldable pub numbersOf : Command → List ℕ
 numbersOf (Setup processors superblocks spare p q) = processors ∷ superblocks ∷ spare ∷ p ∷ q ∷ []
-numbersOf (Take processor size) = processor ∷ size ∷ []
-numbersOf (Free processor address) = processor ∷ address ∷ []
-numbersOf (NamedTake processor name size) = processor ∷ name ∷ size ∷ []
-numbersOf (NamedFree processor name) = processor ∷ name ∷ []
-numbersOf (Drop processor count first) = processor ∷ count ∷ first ∷ []
+numbersOf (Call call count first) = callNumbers call count first
 numbersOf (Refused number offset) = []
 
--- a command has the number, the offset, the command byte and the numbers of the command that the rules give
+-- what stands beside a call's header: of a drop its count and where its addresses begin, of any other call 0 and 0
+unfoldable pub besideHeader : Command → List ℕ
+besideHeader (Setup processors superblocks spare p q) = []
+besideHeader (Call call count first) = count ∷ first ∷ []
+besideHeader (Refused number offset) = []
+
+-- a command has the number, the offset, the command byte and the numbers of the command that the rules give, and the same beside its header
 pub record HasNumbersOf (command rules : Command) : Type 0 where
   pub number-is : commandNumberOf command ≡ commandNumberOf rules
   pub offset-is : refusalOffsetOf command ≡ refusalOffsetOf rules
   pub byte-is : commandByte command ≡ commandByte rules
   pub numbers-are : numbersOf command ≡ numbersOf rules
+  pub beside-is : besideHeader command ≡ besideHeader rules
 
 -- the bytes of a command that is read whole; a refusal ends the record
 unfoldable pub sizeOfCommand : Command → ℕ
 sizeOfCommand (Setup processors superblocks spare p q) = 6
-sizeOfCommand (Take processor size) = 4
-sizeOfCommand (Free processor address) = 6
-sizeOfCommand (NamedTake processor name size) = 6
-sizeOfCommand (NamedFree processor name) = 4
-sizeOfCommand (Drop processor count first) = 3 + 4 * count
+sizeOfCommand (Call call count first) = callSize call count
 sizeOfCommand (Refused number offset) = 0
 
 -- after a command that is refused nothing more is read
 unfoldable pub isRefused : Command → Bool
 isRefused (Setup processors superblocks spare p q) = false
-isRefused (Take processor size) = false
-isRefused (Free processor address) = false
-isRefused (NamedTake processor name size) = false
-isRefused (NamedFree processor name) = false
-isRefused (Drop processor count first) = false
+isRefused (Call call count first) = false
 isRefused (Refused number offset) = true
 
 -- the commands from a position on, at most as many as the first number: one is read in any case, and more until one is refused or

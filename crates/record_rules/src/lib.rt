@@ -1,7 +1,8 @@
 // The commands of a record. What stands at a position of a record is in specs/.
+use call_header::CallHeader;
 
-// A setup, a take or a free with its numbers, a take or a free by name, a drop with its count and where its first address stands in the record, or
-// a refusal with its offset.
+// A setup with its numbers, a call, or a refusal with its offset. Beside a call's header stands how many addresses a drop has and where the first
+// of them stands in the record; 0 and 0 beside the header of any other call.
 pub enum Command {
     Setup {
         processors: u8,
@@ -10,25 +11,8 @@ pub enum Command {
         p: u8,
         q: u8,
     },
-    Take {
-        processor: u8,
-        size: u16,
-    },
-    Free {
-        processor: u8,
-        address: u32,
-    },
-    NamedTake {
-        processor: u8,
-        name: u16,
-        size: u16,
-    },
-    NamedFree {
-        processor: u8,
-        name: u16,
-    },
-    Drop {
-        processor: u8,
+    Call {
+        call: CallHeader,
         count: u8,
         first: u32,
     },

@@ -5,7 +5,7 @@ ghost use Rattle.call_rules.specs.Answers.{HasNumberAndValuesOf, PassesIfAccept
 ghost use Rattle.call_rules.specs.Calls.{callWith, mostMoves};
 ghost use Rattle.row_rules.specs.Row.{stateOf, rowAfter, setupOn, callOn, rowSetup, rowCall};
 ghost use Rattle.row_by_value.specs.Tables.{isAccepted, rowAfterCall};
-use call_rules::CallHeader;
+use call_header::CallHeader;
 use heap_rules::Setup;
 use heap_rules::Superblock;
 use heap_rules::TABLE_LENGTH;

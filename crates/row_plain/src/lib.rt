@@ -6,7 +6,7 @@ ghost use Rattle.call_rules.specs.Answers.{HasNumberAndValuesOf, PassesIfAccept
 ghost use Rattle.call_rules.specs.Calls.{callWith, mostMoves};
 ghost use Rattle.row_rules.specs.Row.{stateOf, rowSetup, rowCall};
 ghost use Rattle.row_rules.specs.Borrowed.{recordCount, RecordsAfter, recordsAfter};
-use call_rules::CallHeader;
+use call_header::CallHeader;
 use heap_rules::Setup;
 use heap_rules::Superblock;
 use row_rules::Control;

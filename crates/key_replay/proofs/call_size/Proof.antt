@@ -1,7 +1,8 @@
 -- `key_replay::call_size` meets its contract. Assumes nothing.
 use native.Mathlib.Omega.{arith}
 use borrow.Author.Needs.{needs}
-use Rattle.key_replay.proofs.CommandStepLaws.{size-of-take, size-of-free, size-of-named-take, size-of-named-free, size-of-drop}
+use Rattle.record_rules.specs.Record.{callSize}
+use Rattle.key_replay.proofs.CommandStepLaws.{size-of-matched}
 use Rattle.key_replay.proofs.call_size.Statement.{statement}
 use Rattle.key_replay.proofs.call_size.Tie as tie
 
@@ -27,19 +28,24 @@ add-result : tie.Need-add-result
 add-result c = search needs
 
 returns : tie.Need-returns
-returns c = (search size-of-take, omega arith)
+unfolding callSize
+returns c = (search size-of-matched, omega arith)
 
 returns-2 : tie.Need-returns-2
-returns-2 c = (search size-of-free, omega arith)
+unfolding callSize
+returns-2 c = (search size-of-matched, omega arith)
 
 returns-3 : tie.Need-returns-3
-returns-3 c = (search size-of-named-take, omega arith)
+unfolding callSize
+returns-3 c = (search size-of-matched, omega arith)
 
 returns-4 : tie.Need-returns-4
-returns-4 c = (search size-of-named-free, omega arith)
+unfolding callSize
+returns-4 c = (search size-of-matched, omega arith)
 
 returns-5 : tie.Need-returns-5
-returns-5 c = (search size-of-drop, omega arith)
+unfolding callSize
+returns-5 c = (search size-of-matched, omega arith)
 
 pub call-size-spec : {M : Type 1} → statement M
 call-size-spec =

@@ -1,6 +1,6 @@
 -- `key_replay::drop_step` meets its contract. Assumes nothing.
 use Rattle.bytes_rules.proofs.FoursLaws.{fours-read-counted}
-use Rattle.key_replay.proofs.CommandStepLaws.{drop-call-at}
+use Rattle.key_replay.proofs.CommandStepLaws.{call-at-of-addresses}
 use borrow.Author.Needs.{needs}
 use Rattle.key_replay.proofs.drop_step.Statement.{statement}
 use Rattle.key_replay.proofs.drop_step.Tie as tie
@@ -15,7 +15,7 @@ slice-aggregate-call-step : tie.Need-slice-aggregate-call-step
 slice-aggregate-call-step c = search fours-read-counted
 
 call-step-requires : tie.Need-call-step-requires
-call-step-requires c κs = search (needs, drop-call-at)
+call-step-requires c κs = search (needs, call-at-of-addresses)
 
 same-length : tie.Need-same-length
 same-length c = search needs

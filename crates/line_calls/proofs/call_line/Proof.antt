@@ -1,6 +1,7 @@
 -- `line_calls::call_line` meets its contract. Assumes nothing.
 use borrow.Author.Needs.{needs}
-use Rattle.line_calls.proofs.CallLineLaws.{call-line-of-take, call-line-of-free, call-line-of-named-take, call-line-of-named-free, call-line-of-drop}
+use Rattle.line_rules.specs.Lines.{callLine}
+use Rattle.line_calls.proofs.CallLineLaws.{call-line-of-matched}
 use Rattle.line_calls.proofs.call_line.Statement.{statement}
 use Rattle.line_calls.proofs.call_line.Tie as tie
 
@@ -38,31 +39,36 @@ same-length : tie.Need-same-length
 same-length c = search needs
 
 returns : tie.Need-returns
-returns c = search call-line-of-take
+unfolding callLine
+returns c = search call-line-of-matched
 
 same-length-2 : tie.Need-same-length-2
 same-length-2 c = search needs
 
 returns-2 : tie.Need-returns-2
-returns-2 c = search call-line-of-free
+unfolding callLine
+returns-2 c = search call-line-of-matched
 
 same-length-3 : tie.Need-same-length-3
 same-length-3 c = search needs
 
 returns-3 : tie.Need-returns-3
-returns-3 c = search call-line-of-named-take
+unfolding callLine
+returns-3 c = search call-line-of-matched
 
 same-length-4 : tie.Need-same-length-4
 same-length-4 c = search needs
 
 returns-4 : tie.Need-returns-4
-returns-4 c = search call-line-of-named-free
+unfolding callLine
+returns-4 c = search call-line-of-matched
 
 same-length-5 : tie.Need-same-length-5
 same-length-5 c = search needs
 
 returns-5 : tie.Need-returns-5
-returns-5 c = search call-line-of-drop
+unfolding callLine
+returns-5 c = search call-line-of-matched
 
 pub call-line-spec : {M : Type 1} → statement M
 call-line-spec =

@@ -31,14 +31,14 @@ add-size c = search needs
 add-if2 : tie.Need-add-if2
 add-if2 c = search needs
 
-add-t8 : tie.Need-add-t8
-add-t8 c = search needs
+add-t9 : tie.Need-add-t9
+add-t9 c = search needs
 
-shared-slice-read-t10 : tie.Need-shared-slice-read-t10
-shared-slice-read-t10 c = search needs
+shared-slice-read-t11 : tie.Need-shared-slice-read-t11
+shared-slice-read-t11 c = search needs
 
-add-t11 : tie.Need-add-t11
-add-t11 c = search needs
+add-t9-2 : tie.Need-add-t9-2
+add-t9-2 c = search needs
 
 cast-t12 : tie.Need-cast-t12
 cast-t12 c = search needs
@@ -64,9 +64,9 @@ drop-at-spec =
     mul-size
     add-size
     add-if2
-    add-t8
-    shared-slice-read-t10
-    add-t11
+    add-t9
+    shared-slice-read-t11
+    add-t9-2
     cast-t12
     returns-2
     refused-requires-2
