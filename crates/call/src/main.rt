@@ -7,6 +7,7 @@ use call_rules::Answer;
 use form_rules::Request;
 use heap_rules::State;
 use program_stream::Input;
+use row_rules::RECORD_COUNT;
 use row_rules::RecordsAnswer;
 
 // What the call is made on: a state, or a lent row of so many records.
@@ -15,11 +16,24 @@ enum Lent {
     Row(usize),
 }
 
-// The longest input that the program takes has 41144 bytes: a drop of 512 addresses on a lent row, with 17000 places
-// (2 + 9 + 4 × 512 + 64 × 36 + 1024 × 2 + 243 × 3 + 4 + 2 × 17000). The buffer has one byte more, so that an input that it truncates is
-// bad in any case.
+// The first byte of a call on a lent row.
+const LENT_ROW: u8 = 255;
+
+// The records of the longest row that the program lends.
+const LONGEST_ROW: u8 = RECORD_COUNT as u8;
+
+// The program's own order places and addresses.
+const MOST_PLACES: usize = 17000;
+
+const MOST_ADDRESSES: usize = 512;
+
+// The bytes of the longest input that the program takes: a drop of 512 addresses on a lent row, with 17000 places
+// (2 + 9 + 4 × 512 + 64 × 36 + 1024 × 2 + 243 × 3 + 4 + 2 × 17000).
+const LONGEST_INPUT: usize = 41144;
+
+// The buffer has one byte more than the longest input, so that an input that it truncates is bad in any case.
 fn main() {
-    let mut input = [0u8; 41145];
+    let mut input = [0u8; LONGEST_INPUT + 1];
     let read = program_stream::read_input(b"call", &mut input);
     let Input::Bytes(n) = read else {
         return;
@@ -32,11 +46,11 @@ fn reply_any(bytes: &[u8]) {
     if bytes.len() < 2 {
         return reply(Lent::State, bytes);
     }
-    if bytes[0] != 255 {
+    if bytes[0] != LENT_ROW {
         return reply(Lent::State, bytes);
     }
     let length = bytes[1];
-    if length > 65 {
+    if length > LONGEST_ROW {
         return reply_bad_input();
     }
     reply(Lent::Row(length as usize), &bytes[2..]);
@@ -48,11 +62,11 @@ fn reply(on: Lent, bytes: &[u8]) {
         return reply_bad_input();
     }
     let lent = form_layout::place_count(bytes);
-    if lent > 17000 {
+    if lent > MOST_PLACES {
         return reply_bad_input();
     }
     let count = address_count(bytes);
-    if count > 512 {
+    if count > MOST_ADDRESSES {
         return reply_bad_input();
     }
     make_call(on, bytes, lent, count);
@@ -77,8 +91,8 @@ fn address_count(bytes: &[u8]) -> usize {
 fn make_call(on: Lent, bytes: &[u8], lent: usize, count: usize)
     requires { ⌜ (lent ≤ 17000) × (count ≤ 512) ⌝ }
 {
-    let mut storage = [0u16; 17000];
-    let mut copy = [0u16; 17000];
+    let mut storage = [0u16; MOST_PLACES];
+    let mut copy = [0u16; MOST_PLACES];
     let addresses = form_lists::load_addresses(bytes);
     load_and_call(
         on,

@@ -7,11 +7,14 @@ use lib.Dec.{eqb, leb}
 use Rattle.base_laws.specs.Sums.{pick, both, either}
 use Rattle.base_laws.specs.Lists.{listed}
 use Rattle.bytes_rules.specs.Bytes.{byteAt, twoAt, fourAt, eightAt, foursAt}
+use Rattle.names_rules.specs.Names.{nameCount}
 use Rattle.heap_rules.specs.declared.Superblock.{Superblock}
 use Rattle.heap_rules.specs.declared.Setup.{Setup}
 use Rattle.heap_rules.specs.declared.Totals.{Totals}
 use Rattle.heap_rules.specs.declared.State.{State}
 use Rattle.call_header.specs.declared.CallHeader.the-variants as header
+use Rattle.heap_rules.specs.Table.{tableLength}
+use Rattle.heap_rules.specs.Totals.{totalCount}
 use Rattle.form_rules.specs.declared.Request.{Request}
 use Rattle.form_rules.specs.declared.Request.the-variants as request
 
@@ -31,7 +34,11 @@ callIn b =
 unfoldable pub setupIn : List ℕ → Setup
 setupIn b = record { processors = byteAt b 1; superblocks = byteAt b 2; spare = byteAt b 3; p = byteAt b 4; q = byteAt b 5 }
 
--- 36 bytes: owner, class, live marks in four 8-byte numbers, rank, run length
+-- the bytes of a superblock
+abbrev pub superblockSize : ℕ
+superblockSize = 36
+
+-- these are owner, class, live marks in four 8-byte numbers, rank, run length
 unfoldable pub superblockIn : List ℕ → ℕ → Superblock
 superblockIn b at =
     record {
@@ -44,26 +51,26 @@ superblockIn b at =
 
 -- names 0 to 1023, of two bytes each, from a position on
 unfoldable pub namesIn : List ℕ → ℕ → List ℕ
-namesIn b at = listed (λ m. twoAt b (at + 2 * m)) 1024
+namesIn b at = listed (λ m. twoAt b (at + 2 * m)) nameCount
 
 -- where the names begin: after the 64 superblocks, which begin at a position
 abbrev pub namesOffset : ℕ → ℕ
-namesOffset at = at + 64 * 36
+namesOffset at = at + tableLength * superblockSize
 
 -- the totals of each heap and class from a position on: first 243 of superblocks, of one byte each, then 243 of live blocks, of two bytes each
 unfoldable pub totalsIn : List ℕ → ℕ → Totals
-totalsIn b at = record { superblocks = listed (λ x. byteAt b (at + x)) 243; live = listed (λ x. twoAt b (at + (243 + 2 * x))) 243 }
+totalsIn b at = record { superblocks = listed (λ x. byteAt b (at + x)) totalCount; live = listed (λ x. twoAt b (at + (totalCount + 2 * x))) totalCount }
 
 -- where the totals begin: after the 1024 names
 abbrev pub totalsOffset : ℕ → ℕ
-totalsOffset at = namesOffset at + 1024 * 2
+totalsOffset at = namesOffset at + nameCount * 2
 
 -- the setup numbers with superblocks 0 to 63, which begin at a position, the names and the totals
 unfoldable pub stateIn : List ℕ → ℕ → State
 stateIn b at =
     record {
       setup = setupIn b;
-      table = listed (λ k. superblockIn b (at + 36 * k)) 64;
+      table = listed (λ k. superblockIn b (at + superblockSize * k)) tableLength;
       names = namesIn b (namesOffset at);
       totals = totalsIn b (totalsOffset at);
     }
@@ -79,11 +86,11 @@ tableOffset b = pick (either (eqb (byteAt b 0) 1) (eqb (byteAt b 0) 4)) 9 (pick 
 -- ---- the order places
 -- where they begin: after the setup numbers, or the totals, and the four bytes of L
 unfoldable pub placesOffset : List ℕ → ℕ
-placesOffset b = pick (eqb (byteAt b 0) 0) 10 (totalsOffset (tableOffset b) + (243 + 243 * 2 + 4))
+placesOffset b = pick (eqb (byteAt b 0) 0) 10 (totalsOffset (tableOffset b) + (totalCount + totalCount * 2 + 4))
 
 -- L, the number of order places lent
 unfoldable pub placeCount : List ℕ → ℕ
-placeCount b = pick (eqb (byteAt b 0) 0) (fourAt b 6) (fourAt b (totalsOffset (tableOffset b) + (243 + 243 * 2)))
+placeCount b = pick (eqb (byteAt b 0) 0) (fourAt b 6) (fourAt b (totalsOffset (tableOffset b) + (totalCount + totalCount * 2)))
 
 -- the first n places, of two bytes each, from a position on
 unfoldable pub placesIn : List ℕ → ℕ → ℕ → List ℕ

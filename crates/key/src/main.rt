@@ -5,10 +5,11 @@ use key_replay::ROOM;
 use key_rules::Printed;
 use order_rules::PLACES_EACH;
 use program_stream::Input;
+use record_rules::LONGEST_RECORD;
 
 // A record is at most 60000 bytes: one byte more is enough to know that it is too long, and the rest is not read.
 fn main() {
-    let mut input = [0u8; 60001];
+    let mut input = [0u8; LONGEST_RECORD + 1];
     let read = program_stream::read_input(b"key", &mut input);
     let Input::Bytes(n) = read else {
         return;

@@ -8,10 +8,10 @@ use lib.Dec.{ltb}
 use Rattle.base_laws.specs.Sums.{pick}
 use Rattle.text_rules.specs.Text.{Pasted, pasted}
 use Rattle.heap_rules.specs.declared.State.{State}
-use Rattle.heap_rules.specs.Totals.{TotalsKept}
+use Rattle.heap_rules.specs.Totals.{mostProcessors, TotalsKept}
 use Rattle.call_header.specs.declared.CallHeader.{CallHeader}
 use Rattle.record_rules.specs.declared.Command.the-variants as command
-use Rattle.record_rules.specs.Record.{addressesIn, commandAt, commandsFrom}
+use Rattle.record_rules.specs.Record.{longestRecord, addressesIn, commandAt, commandsFrom}
 use Rattle.line_rules.specs.Lines.{stopLine, closingLines}
 use Rattle.key_replay.specs.declared.Replay.{Replay}
 use Rattle.key_rules.specs.Key.{stateAndStorage, textOf, orderAfter, keyOf, storageOf}
@@ -39,15 +39,15 @@ keyAndStorage r order out = record { text = pasted out 0 (keyOf r order); order 
 
 -- a bound on the commands still to be read
 unfoldable pub commandsLeft : Replay → ℕ
-commandsLeft x = pick (x .going) (60001 - x .at) 0
+commandsLeft x = pick (x .going) (longestRecord + 1 - x .at) 0
 
 -- the final lines can be read from a state's totals: they are the recount, and each of its heaps has some
 abbrev pub TotalsReadable : State → Type 0
-TotalsReadable s = TotalsKept s × (s .setup .processors ≤ 8)
+TotalsReadable s = TotalsKept s × (s .setup .processors ≤ mostProcessors)
 
 -- the position is one of a record that is not too long, the text ends in the buffer, and the totals can be read
 pub record InBounds (x : Replay) (out : List ℕ) : Type 0 where
-  pub position-bound : x .at ≤ 60000
+  pub position-bound : x .at ≤ longestRecord
   pub text-end-bound : x .end ≤ length out
   pub totals-readable : TotalsReadable (x .state)
 

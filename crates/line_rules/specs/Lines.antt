@@ -5,9 +5,10 @@ use Prim.Native.Nat.{ℕ, zero, suc}
 use lib.Dec.{eqb}
 use Rattle.base_laws.specs.Sums.{pick}
 use Rattle.text_rules.specs.Text.{letters, decimal}
+use Rattle.class_rules.specs.Classes.{classCount}
 use Rattle.heap_rules.specs.declared.Setup.{Setup}
 use Rattle.heap_rules.specs.declared.State.{State}
-use Rattle.heap_rules.specs.Table.{superblockAt, startsRun}
+use Rattle.heap_rules.specs.Table.{tableLength, superblockAt, startsRun}
 use Rattle.heap_rules.specs.Counts.{superblocksOf, liveOf}
 use Rattle.call_header.specs.declared.CallHeader.{CallHeader}
 use Rattle.call_header.specs.declared.CallHeader.the-variants as header
@@ -83,7 +84,7 @@ classLines h (suc c) s = classLines h c s ++ heapLineIf h c s
 -- "heaps then classes rising": the lines of the heaps below h
 unfoldable pub heapLines : ℕ → State → List ℕ
 heapLines zero s = []
-heapLines (suc h) s = heapLines h s ++ classLines h 27 s
+heapLines (suc h) s = heapLines h s ++ classLines h classCount s
 
 -- "The final key lists runs by first superblock, as `run 3 superblocks 2`" (document 02, item 7)
 unfoldable pub runLine : ℕ → ℕ → List ℕ
@@ -100,7 +101,7 @@ runLines (suc k) s = runLines k s ++ runLineIf k s
 
 -- "Otherwise a line for each heap and class with a superblock follows, .. then `end`": heaps 0 to P, and the runs "before `end`"
 unfoldable pub finalLines : State → List ℕ
-finalLines s = heapLines (suc (s .setup .processors)) s ++ (runLines 64 s ++ letters "end\n")
+finalLines s = heapLines (suc (s .setup .processors)) s ++ (runLines tableLength s ++ letters "end\n")
 
 -- the lines after the last command: none where a stop line is "the last line"
 unfoldable pub closingLines : Bool → State → List ℕ

@@ -4,6 +4,7 @@ ghost use Prim.Native.Nat.{_+_, _≤_, _<_};
 ghost use lib.ListN.{length};
 ghost use Rattle.record_rules.specs.declared.Command.the-variants.{Refused};
 ghost use Rattle.record_rules.specs.Record.{
+  longestRecord,
   setupAt,
   takeAt,
   freeAt,
@@ -16,27 +17,32 @@ ghost use Rattle.record_rules.specs.Record.{
 };
 use call_header::CallHeader;
 use record_rules::Command;
+use record_rules::LONGEST_RECORD;
+use refusal_rules::COMMAND_MISPLACED;
+use refusal_rules::COMMAND_TRUNCATED;
+use refusal_rules::RECORD_TOO_LONG;
+use refusal_rules::UNKNOWN_COMMAND;
 
 // The command at a position of a record. There is one for any record and position: past the record's end, a refusal.
 pub fn command_at(bytes: &[u8], at: usize) -> Command
     ensures { λ c. ⌜ c ≡ commandAt (now (bytes .entry)) at ⌝ }
     ensures numbers { λ c. ⌜ HasNumbersOf c (commandAt (now (bytes .entry)) at) ⌝ }
 {
-    if 60000 < bytes.len() {
-        return refused(11, 0);
+    if LONGEST_RECORD < bytes.len() {
+        return refused(RECORD_TOO_LONG, 0);
     }
     if at < bytes.len() {
         return command_by_first_byte(bytes, at);
     }
     if at == 0 {
-        return refused(10, 0);
+        return refused(COMMAND_MISPLACED, 0);
     }
-    refused(9, bytes.len())
+    refused(COMMAND_TRUNCATED, bytes.len())
 }
 
 // The command at a position before the record's end, by its first byte.
 fn command_by_first_byte(bytes: &[u8], at: usize) -> Command
-    requires { ⌜ (length (now bytes) ≤ 60000) × (at < length (now bytes)) ⌝ }
+    requires { ⌜ (length (now bytes) ≤ longestRecord) × (at < length (now bytes)) ⌝ }
     ensures { λ c. ⌜ c ≡ commandByFirstByte (now (bytes .entry)) at ⌝ }
 {
     let first = bytes[at];
@@ -58,15 +64,15 @@ fn command_by_first_byte(bytes: &[u8], at: usize) -> Command
     if first == 5 {
         return drop_at(bytes, at);
     }
-    refused(8, at)
+    refused(UNKNOWN_COMMAND, at)
 }
 
 fn setup_at(bytes: &[u8], at: usize) -> Command
-    requires { ⌜ (length (now bytes) ≤ 60000) × (at < length (now bytes)) ⌝ }
+    requires { ⌜ (length (now bytes) ≤ longestRecord) × (at < length (now bytes)) ⌝ }
     ensures { λ c. ⌜ c ≡ setupAt (now (bytes .entry)) at ⌝ }
 {
     if at != 0 {
-        return refused(10, at);
+        return refused(COMMAND_MISPLACED, at);
     }
     if at + 6 <= bytes.len() {
         return Command::Setup {
@@ -77,15 +83,15 @@ fn setup_at(bytes: &[u8], at: usize) -> Command
             q: bytes[at + 5],
         };
     }
-    refused(9, at)
+    refused(COMMAND_TRUNCATED, at)
 }
 
 fn take_at(bytes: &[u8], at: usize) -> Command
-    requires { ⌜ (length (now bytes) ≤ 60000) × (at < length (now bytes)) ⌝ }
+    requires { ⌜ (length (now bytes) ≤ longestRecord) × (at < length (now bytes)) ⌝ }
     ensures { λ c. ⌜ c ≡ takeAt (now (bytes .entry)) at ⌝ }
 {
     if at == 0 {
-        return refused(10, at);
+        return refused(COMMAND_MISPLACED, at);
     }
     if at + 4 <= bytes.len() {
         let call = CallHeader::Take {
@@ -98,15 +104,15 @@ fn take_at(bytes: &[u8], at: usize) -> Command
             first: 0,
         };
     }
-    refused(9, at)
+    refused(COMMAND_TRUNCATED, at)
 }
 
 fn free_at(bytes: &[u8], at: usize) -> Command
-    requires { ⌜ (length (now bytes) ≤ 60000) × (at < length (now bytes)) ⌝ }
+    requires { ⌜ (length (now bytes) ≤ longestRecord) × (at < length (now bytes)) ⌝ }
     ensures { λ c. ⌜ c ≡ freeAt (now (bytes .entry)) at ⌝ }
 {
     if at == 0 {
-        return refused(10, at);
+        return refused(COMMAND_MISPLACED, at);
     }
     if at + 6 <= bytes.len() {
         let call = CallHeader::Free {
@@ -119,15 +125,15 @@ fn free_at(bytes: &[u8], at: usize) -> Command
             first: 0,
         };
     }
-    refused(9, at)
+    refused(COMMAND_TRUNCATED, at)
 }
 
 fn named_take_at(bytes: &[u8], at: usize) -> Command
-    requires { ⌜ (length (now bytes) ≤ 60000) × (at < length (now bytes)) ⌝ }
+    requires { ⌜ (length (now bytes) ≤ longestRecord) × (at < length (now bytes)) ⌝ }
     ensures { λ c. ⌜ c ≡ namedTakeAt (now (bytes .entry)) at ⌝ }
 {
     if at == 0 {
-        return refused(10, at);
+        return refused(COMMAND_MISPLACED, at);
     }
     let end = at + 6;
     if end <= bytes.len() {
@@ -142,15 +148,15 @@ fn named_take_at(bytes: &[u8], at: usize) -> Command
             first: 0,
         };
     }
-    refused(9, at)
+    refused(COMMAND_TRUNCATED, at)
 }
 
 fn named_free_at(bytes: &[u8], at: usize) -> Command
-    requires { ⌜ (length (now bytes) ≤ 60000) × (at < length (now bytes)) ⌝ }
+    requires { ⌜ (length (now bytes) ≤ longestRecord) × (at < length (now bytes)) ⌝ }
     ensures { λ c. ⌜ c ≡ namedFreeAt (now (bytes .entry)) at ⌝ }
 {
     if at == 0 {
-        return refused(10, at);
+        return refused(COMMAND_MISPLACED, at);
     }
     let end = at + 4;
     if end <= bytes.len() {
@@ -164,16 +170,16 @@ fn named_free_at(bytes: &[u8], at: usize) -> Command
             first: 0,
         };
     }
-    refused(9, at)
+    refused(COMMAND_TRUNCATED, at)
 }
 
 // The count reads as 0 where the record ends before it; such a drop is cut all the same.
 fn drop_at(bytes: &[u8], at: usize) -> Command
-    requires { ⌜ (length (now bytes) ≤ 60000) × (at < length (now bytes)) ⌝ }
+    requires { ⌜ (length (now bytes) ≤ longestRecord) × (at < length (now bytes)) ⌝ }
     ensures { λ c. ⌜ c ≡ dropAt (now (bytes .entry)) at ⌝ }
 {
     if at == 0 {
-        return refused(10, at);
+        return refused(COMMAND_MISPLACED, at);
     }
     let count = bytes_reader::byte_at(bytes, at + 2);
     let size = 3 + 4 * (count as usize);
@@ -187,11 +193,11 @@ fn drop_at(bytes: &[u8], at: usize) -> Command
             first: (at + 3) as u32,
         };
     }
-    refused(9, at)
+    refused(COMMAND_TRUNCATED, at)
 }
 
 fn refused(number: u8, at: usize) -> Command
-    requires { ⌜ at ≤ 60000 ⌝ }
+    requires { ⌜ at ≤ longestRecord ⌝ }
     ensures { λ c. ⌜ c ≡ Refused number at ⌝ }
 {
     Command::Refused {

@@ -6,26 +6,31 @@ use mathlib.Core.List.{List, [], _∷_}
 use lib.ListN.{length}
 use lib.Dec.{eqb, leb, ltb}
 use Rattle.base_laws.specs.Sums.{pick, either}
+use Rattle.refusal_rules.specs.Refusals.{unknownCommand, commandTruncated, commandMisplaced, recordTooLong}
 use Rattle.bytes_rules.specs.Bytes.{byteAt, twoAt, fourAt, foursAt}
 use Rattle.call_header.specs.declared.CallHeader.{CallHeader}
 use Rattle.call_header.specs.declared.CallHeader.the-variants as header
 use Rattle.record_rules.specs.declared.Command.{Command}
 use Rattle.record_rules.specs.declared.Command.the-variants.{Setup, Call, Refused}
 
+-- "A record is at most 60000 bytes"
+abbrev pub longestRecord : ℕ
+longestRecord = 60000
+
 -- refusal 9 (bench word: cut): "the record ends inside a command", one of n bytes
 unfoldable pub unlessTruncated : List ℕ → ℕ → ℕ → Command → Command
-unlessTruncated r at n command = pick (leb (at + n) (length r)) command (Refused 9 at)
+unlessTruncated r at n command = pick (leb (at + n) (length r)) command (Refused commandTruncated at)
 
 -- "00: setup, then P, N, K, p, q, one byte each. First command, and only there."
 unfoldable pub setupAt : List ℕ → ℕ → Command
 setupAt r at =
     pick (eqb at 0)
     (unlessTruncated r at 6 (Setup (byteAt r (at + 1)) (byteAt r (at + 2)) (byteAt r (at + 3)) (byteAt r (at + 4)) (byteAt r (at + 5))))
-    (Refused 10 at)
+    (Refused commandMisplaced at)
 
 -- refusal 10 (bench word: place): "a setup that is not first, a known other command that is, or no byte at all"
 unfoldable pub unlessFirst : ℕ → Command → Command
-unlessFirst at command = pick (eqb at 0) (Refused 10 at) command
+unlessFirst at command = pick (eqb at 0) (Refused commandMisplaced at) command
 
 -- "01: take, processor (1 byte), size (2)"
 unfoldable pub takeAt : List ℕ → ℕ → Command
@@ -61,15 +66,15 @@ commandByFirstByte r at =
     (pick (eqb (byteAt r at) 3) (namedTakeAt r at)
     (pick (eqb (byteAt r at) 4) (namedFreeAt r at)
     (pick (eqb (byteAt r at) 5) (dropAt r at)
-    (Refused 8 at))))))
+    (Refused unknownCommand at))))))
 
 -- "Record: 11, then for each command 8, 10, 9"; refusal 11 (bench word: long): "record above 60000 bytes", which stops at 0. At the record's
 -- end and past it there is no command: 10 where there is no byte at all, else 9 at the end, which no reader meets.
 unfoldable pub commandAt : List ℕ → ℕ → Command
 commandAt r at =
-    pick (ltb 60000 (length r)) (Refused 11 0)
+    pick (ltb longestRecord (length r)) (Refused recordTooLong 0)
     (pick (ltb at (length r)) (commandByFirstByte r at)
-    (pick (eqb at 0) (Refused 10 0) (Refused 9 (length r))))
+    (pick (eqb at 0) (Refused commandMisplaced 0) (Refused commandTruncated (length r))))
 
 -- ---- a call by its header
 -- its command byte

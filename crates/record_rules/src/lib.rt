@@ -1,6 +1,9 @@
 // The commands of a record. What stands at a position of a record is in specs/.
 use call_header::CallHeader;
 
+// The bytes of the longest record.
+pub const LONGEST_RECORD: usize = 60000;
+
 // A setup with its numbers, a call, or a refusal with its offset. Beside a call's header stands how many addresses a drop has and where the first
 // of them stands in the record; 0 and 0 beside the header of any other call.
 pub enum Command {
