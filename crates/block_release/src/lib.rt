@@ -15,7 +15,12 @@ use heap_rules::Superblock;
 // The block at the address is free again, no name points at it, and its number stands in the next place of its superblock's order, unless it is long:
 // all in one function, so that its callers hand the state over once.
 pub fn release_block(s: State, order: &mut [u16], address: u32) -> State
-    requires { ⌜ (superblockIndex address < tableLength) × (superblockIndex address + superblockHolding s address .run ≤ tableLength) × TotalsKept s × RanksFit s ⌝ }
+    requires { ⌜
+        (superblockIndex address < tableLength)
+        × (superblockIndex address + superblockHolding s address .run ≤ tableLength)
+        × TotalsKept s
+        × RanksFit s
+        ⌝ }
     ensures { λ r. ⌜ (r ≡ blockFreed s address) × (now (order .exit) ≡ orderPushed s (now (order .entry)) address) ⌝ }
 {
     let block = block_address::block_number_at(s, address);
@@ -29,7 +34,12 @@ pub fn release_block(s: State, order: &mut [u16], address: u32) -> State
 // The state with the run at the address unused; or with the block's superblock the last freed into and the block no longer live, and with its number
 // in its place.
 fn free_block_or_run(s: State, order: &mut [u16], address: u32) -> State
-    requires { ⌜ (superblockIndex address < tableLength) × (superblockIndex address + superblockHolding s address .run ≤ tableLength) × TotalsKept s × RanksFit s ⌝ }
+    requires { ⌜
+        (superblockIndex address < tableLength)
+        × (superblockIndex address + superblockHolding s address .run ≤ tableLength)
+        × TotalsKept s
+        × RanksFit s
+        ⌝ }
     ensures { λ r.
         ⌜
         (

@@ -11,4 +11,7 @@ use Rattle.check_rules.specs.Check.{withinLimits, restValid}
 
 -- "Take or free: 13 for setup numbers, 12, the rest of 13"; 0 where none applies
 unfoldable pub firstRefusal : State → List ℕ → ℕ
-firstRefusal s order = pick (withinLimits (s .setup)) (pick (leb (s .setup .superblocks * placesEach) (length order)) (pick (restValid s order) 0 stateInvalid) storageTooSmall) stateInvalid
+firstRefusal s order =
+    pick (withinLimits (s .setup))
+    (pick (leb (s .setup .superblocks * placesEach) (length order)) (pick (restValid s order) 0 stateInvalid) storageTooSmall)
+    stateInvalid
