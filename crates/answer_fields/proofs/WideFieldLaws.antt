@@ -6,6 +6,7 @@ use Rattle.text_rules.specs.Text.{pasted}
 use Rattle.answer_rules.specs.AnswerLines.{wideDecimal, wideField}
 
 -- the text put is this word and this number
-pub wide-field-put : (l₀ : List ℕ) {l : List ℕ} (at : ℕ) {r : ℕ} (label : List ℕ) (n : ℕ) → record { end = r; buffer = l } ≡ pasted l₀ at (label ++ wideDecimal n)
+pub wide-field-put : (l₀ : List ℕ) {l : List ℕ} (at : ℕ) {r : ℕ} (label : List ℕ) (n : ℕ) → record { end = r; buffer = l }
+    ≡ pasted l₀ at (label ++ wideDecimal n)
     → (word : List ℕ) (m : ℕ) → label ≡ word → n ≡ m → record { end = r; buffer = l } ≡ pasted l₀ at (wideField word m)
 wide-field-put l₀ at label n p word m e f = rw (← e, ← f) p

@@ -8,7 +8,7 @@ use Rattle.text_rules.specs.Text.{pasted}
 use Rattle.names_rules.specs.Names.{notHeld, blockNamed}
 use Rattle.names_table.proofs.NameTableLaws.{block-named-is-read}
 use Rattle.answer_rules.specs.AnswerLines.{textsBelow, nameLine, nameLineIf, nameLines}
-use Rattle.answer_rules.proofs.AnswerLineLaws.{texts-start, texts-step, texts-end}
+use Rattle.answer_rules.proofs.AnswerLineLaws.{texts-step, texts-end}
 
 -- the lines of the names below m
 abbrev pub linesOfNames : List ℕ → ℕ → List ℕ

@@ -13,11 +13,14 @@ use Rattle.heap_rules.specs.declared.Totals.{Totals}
 use Rattle.heap_rules.specs.Table.{unused}
 use Rattle.heap_rules.specs.Totals.{noTotals}
 use Rattle.call_rules.specs.declared.Outcome.the-variants.{Ready, Address, Moves, Refused}
-use Rattle.answer_rules.specs.AnswerLines.{wideDecimal, textsBelow, outcomeLine, superblockLine, superblockLineIf, superblockLines, nameLine, nameLineIf, nameLines, totalLine, totalLineIf, totalLines, placeLine, placeLineIf, placeLines, answerText, badInputText, answerRoom}
+use Rattle.answer_rules.specs.AnswerLines.{wideDecimal, textsBelow, outcomeLine, superblockLine, superblockLineIf, superblockLines, nameLine}
+use Rattle.answer_rules.specs.AnswerLines.{nameLineIf, nameLines, totalLine, totalLineIf, totalLines, placeLine, placeLineIf, placeLines, answerText}
+use Rattle.answer_rules.specs.AnswerLines.{badInputText, answerRoom}
 use Rattle.answer_rules.proofs.AnswerDefinitions.{answerDefinitions}
 
 -- ---- numbers, and texts one after another
-wide-decimal-cases : (wideDecimal 0 ≡ letters "0") × (wideDecimal 10203040506 ≡ letters "10203040506") × (wideDecimal 18446744073709551615 ≡ letters "18446744073709551615")
+wide-decimal-cases : (wideDecimal 0 ≡ letters "0") × (wideDecimal 10203040506 ≡ letters "10203040506")
+    × (wideDecimal 18446744073709551615 ≡ letters "18446744073709551615")
 unfolding answerDefinitions
 wide-decimal-cases = (refl, refl, refl)
 
@@ -26,7 +29,8 @@ unfolding answerDefinitions
 texts-below-cases = (refl, refl)
 
 -- ---- the outcome
-outcome-line-cases : (outcomeLine Ready ≡ letters "ready\n") × (outcomeLine (Address 258048) ≡ letters "at 258048\n") × (outcomeLine (Moves 5) ≡ letters "moved 5\n") × (outcomeLine (Refused 13) ≡ letters "refused 13\n")
+outcome-line-cases : (outcomeLine Ready ≡ letters "ready\n") × (outcomeLine (Address 258048) ≡ letters "at 258048\n")
+    × (outcomeLine (Moves 5) ≡ letters "moved 5\n") × (outcomeLine (Refused 13) ≡ letters "refused 13\n")
 unfolding answerDefinitions
 outcome-line-cases = (refl, refl, refl, refl)
 
@@ -50,17 +54,23 @@ superblock-as-new-case : superblockLineIf 7 unused ≡ []
 unfolding answerDefinitions
 superblock-as-new-case = refl
 
-single-field-cases : (superblockLineIf 7 (record { owner = 254; class = 0; live = 0 ∷ 0 ∷ 0 ∷ 0 ∷ []; rank = 0; run = 0 }) ≡ letters "superblock 7 owner 254 class 0 live 0 0 0 0 rank 0 run 0\n")
-    × (superblockLineIf 7 (record { owner = 255; class = 1; live = 0 ∷ 0 ∷ 0 ∷ 0 ∷ []; rank = 0; run = 0 }) ≡ letters "superblock 7 owner 255 class 1 live 0 0 0 0 rank 0 run 0\n")
-    × (superblockLineIf 7 (record { owner = 255; class = 0; live = 0 ∷ 0 ∷ 0 ∷ 9223372036854775808 ∷ []; rank = 0; run = 0 }) ≡ letters "superblock 7 owner 255 class 0 live 0 0 0 9223372036854775808 rank 0 run 0\n")
-    × (superblockLineIf 7 (record { owner = 255; class = 0; live = 0 ∷ 0 ∷ 0 ∷ 0 ∷ []; rank = 1; run = 0 }) ≡ letters "superblock 7 owner 255 class 0 live 0 0 0 0 rank 1 run 0\n")
-    × (superblockLineIf 7 (record { owner = 255; class = 0; live = 0 ∷ 0 ∷ 0 ∷ 0 ∷ []; rank = 0; run = 1 }) ≡ letters "superblock 7 owner 255 class 0 live 0 0 0 0 rank 0 run 1\n")
+single-field-cases : (superblockLineIf 7 (record { owner = 254; class = 0; live = 0 ∷ 0 ∷ 0 ∷ 0 ∷ []; rank = 0; run = 0 }) ≡ letters
+    "superblock 7 owner 254 class 0 live 0 0 0 0 rank 0 run 0\n")
+    × (superblockLineIf 7 (record { owner = 255; class = 1; live = 0 ∷ 0 ∷ 0 ∷ 0 ∷ []; rank = 0; run = 0 }) ≡ letters
+    "superblock 7 owner 255 class 1 live 0 0 0 0 rank 0 run 0\n")
+    × (superblockLineIf 7 (record { owner = 255; class = 0; live = 0 ∷ 0 ∷ 0 ∷ 9223372036854775808 ∷ []; rank = 0; run = 0 }) ≡ letters
+    "superblock 7 owner 255 class 0 live 0 0 0 9223372036854775808 rank 0 run 0\n")
+    × (superblockLineIf 7 (record { owner = 255; class = 0; live = 0 ∷ 0 ∷ 0 ∷ 0 ∷ []; rank = 1; run = 0 }) ≡ letters
+    "superblock 7 owner 255 class 0 live 0 0 0 0 rank 1 run 0\n")
+    × (superblockLineIf 7 (record { owner = 255; class = 0; live = 0 ∷ 0 ∷ 0 ∷ 0 ∷ []; rank = 0; run = 1 }) ≡ letters
+    "superblock 7 owner 255 class 0 live 0 0 0 0 rank 0 run 1\n")
 unfolding answerDefinitions
 single-field-cases = (refl, refl, refl, refl, refl)
 
 -- "S rising", the last one too; a row may be empty
 superblock-lines-cases : (superblockLines (replicate 5 unused) ≡ []) × (superblockLines [] ≡ [])
-    × (superblockLines (record { owner = 1; class = 2; live = 4 ∷ 0 ∷ 0 ∷ 0 ∷ []; rank = 0; run = 0 } ∷ unused ∷ record { owner = 254; class = 0; live = 0 ∷ 0 ∷ 0 ∷ 0 ∷ []; rank = 0; run = 3 } ∷ [])
+    × (superblockLines (record { owner = 1; class = 2; live = 4 ∷ 0 ∷ 0 ∷ 0 ∷ []; rank = 0; run = 0 } ∷ unused
+    ∷ record { owner = 254; class = 0; live = 0 ∷ 0 ∷ 0 ∷ 0 ∷ []; rank = 0; run = 3 } ∷ [])
     ≡ letters "superblock 0 owner 1 class 2 live 4 0 0 0 rank 0 run 0\nsuperblock 2 owner 254 class 0 live 0 0 0 0 rank 0 run 3\n")
 unfolding answerDefinitions
 superblock-lines-cases = (refl, refl, refl)
@@ -71,7 +81,8 @@ unfolding answerDefinitions
 name-line-case = refl
 
 -- block 0 is held, and so is one that no superblock has; 65535 is not
-name-line-if-cases : (nameLineIf 7 0 ≡ letters "name 7 superblock 0 block 0\n") × (nameLineIf 0 65534 ≡ letters "name 0 superblock 255 block 254\n") × (nameLineIf 7 notHeld ≡ [])
+name-line-if-cases : (nameLineIf 7 0 ≡ letters "name 7 superblock 0 block 0\n") × (nameLineIf 0 65534 ≡ letters "name 0 superblock 255 block 254\n")
+    × (nameLineIf 7 notHeld ≡ [])
 unfolding answerDefinitions
 name-line-if-cases = (refl, refl, refl)
 
@@ -81,7 +92,8 @@ unfolding answerDefinitions
 total-line-case = refl
 
 -- a line where one of the two is not 0
-total-line-if-cases : (totalLineIf 28 0 0 ≡ []) × (totalLineIf 28 0 5 ≡ letters "total heap 1 class 1 superblocks 0 live 5\n") × (totalLineIf 28 5 0 ≡ letters "total heap 1 class 1 superblocks 5 live 0\n")
+total-line-if-cases : (totalLineIf 28 0 0 ≡ []) × (totalLineIf 28 0 5 ≡ letters "total heap 1 class 1 superblocks 0 live 5\n")
+    × (totalLineIf 28 5 0 ≡ letters "total heap 1 class 1 superblocks 5 live 0\n")
 unfolding answerDefinitions
 total-line-if-cases = (refl, refl, refl)
 
@@ -90,7 +102,8 @@ abbrev several-totals : Totals
 several-totals = record { superblocks = set (set (noTotals .superblocks) 242 7) 26 255; live = set (set (noTotals .live) 27 65535) 0 2 }
 
 total-lines-case : totalLines several-totals
-    ≡ letters "total heap 0 class 0 superblocks 0 live 2\ntotal heap 0 class 26 superblocks 255 live 0\ntotal heap 1 class 0 superblocks 0 live 65535\ntotal heap 8 class 26 superblocks 7 live 0\n"
+    ≡ letters "total heap 0 class 0 superblocks 0 live 2\ntotal heap 0 class 26 superblocks 255 live 0\n"
+    ++ letters "total heap 1 class 0 superblocks 0 live 65535\ntotal heap 8 class 26 superblocks 7 live 0\n"
 unfolding answerDefinitions
 total-lines-case = refl
 
@@ -111,12 +124,27 @@ place-lines-cases = (refl, refl, refl, refl)
 
 -- ---- whole answers: every kind of line, each where it is to stand; and of a refused call on a state where nothing is to be told, past whose lists no
 -- name is held and totals are 0
-whole-answer-case : answerText (Moves 2) (record { setup = record { processors = 7; superblocks = 63; spare = 15; p = 3; q = 8 }; table = unused ∷ busy ∷ []; names = notHeld ∷ 261 ∷ []; totals = record { superblocks = 0 ∷ 4 ∷ []; live = 0 ∷ 9 ∷ [] } }) (5 ∷ 6 ∷ []) (5 ∷ 4 ∷ [])
-    ≡ letters "moved 2\nsetup 7 63 15 3 8\nsuperblock 1 owner 8 class 26 live 3 18446744073709551615 4294967296 5 rank 64 run 16\nname 1 superblock 1 block 5\ntotal heap 0 class 1 superblocks 4 live 9\nplace 1 4\nend\n"
+whole-answer-case : answerText (Moves 2)
+    (record {
+      setup = record { processors = 7; superblocks = 63; spare = 15; p = 3; q = 8 };
+      table = unused ∷ busy ∷ [];
+      names = notHeld ∷ 261
+          ∷ [];
+      totals = record { superblocks = 0 ∷ 4 ∷ []; live = 0 ∷ 9 ∷ [] };
+    }) (5 ∷ 6 ∷ []) (5 ∷ 4 ∷ [])
+    ≡ letters "moved 2\nsetup 7 63 15 3 8\nsuperblock 1 owner 8 class 26 live 3 18446744073709551615 4294967296 5 rank 64 run 16\n"
+    ++ letters "name 1 superblock 1 block 5\ntotal heap 0 class 1 superblocks 4 live 9\nplace 1 4\nend\n"
 unfolding answerDefinitions
 whole-answer-case = refl
 
-nothing-told-case : answerText (Refused 1) (record { setup = record { processors = 0; superblocks = 0; spare = 0; p = 0; q = 0 }; table = unused ∷ []; names = notHeld ∷ []; totals = record { superblocks = 0 ∷ []; live = 0 ∷ [] } }) (5 ∷ []) (5 ∷ [])
+nothing-told-case : answerText (Refused 1)
+    (record {
+      setup = record { processors = 0; superblocks = 0; spare = 0; p = 0; q = 0 };
+      table = unused ∷ [];
+      names = notHeld ∷ [];
+      totals =
+          record { superblocks = 0 ∷ []; live = 0 ∷ [] };
+    }) (5 ∷ []) (5 ∷ [])
     ≡ letters "refused 1\nsetup 0 0 0 0 0\nend\n"
 unfolding answerDefinitions
 nothing-told-case = refl
@@ -140,6 +168,7 @@ linesHold =
     lines-of-1024-names also room-of-longest-lines also tt
 
 -- "M rising", from 0 to 1023
-name-lines-case : nameLines (set (set (set noNames 1023 261) 700 0) 0 16383) ≡ letters "name 0 superblock 63 block 255\nname 700 superblock 0 block 0\nname 1023 superblock 1 block 5\n"
+name-lines-case : nameLines (set (set (set noNames 1023 261) 700 0) 0 16383)
+    ≡ letters "name 0 superblock 63 block 255\nname 700 superblock 0 block 0\nname 1023 superblock 1 block 5\n"
 unfolding linesHold answerDefinitions
 name-lines-case = refl

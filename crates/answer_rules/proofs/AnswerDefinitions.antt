@@ -6,9 +6,12 @@ use Rattle.text_rules.specs.Text.{decimal, digits}
 use Rattle.names_rules.specs.Names.{blockNamed}
 use Rattle.heap_rules.specs.Table.{isUnused}
 use Rattle.line_rules.specs.Lines.{setupLine}
-use Rattle.answer_rules.specs.AnswerLines.{wideDecimal, textsBelow, outcomeLine, isAsNew, marksFields, superblockLine, superblockLineIf, superblockLines, nameLine, nameLineIf, nameLines, totalLine, totalLineIf, totalLines, placeLine, placeLineIf, placeLines, answerText, badInputText}
+use Rattle.answer_rules.specs.AnswerLines.{wideDecimal, textsBelow, outcomeLine, isAsNew, marksFields, superblockLine, superblockLineIf}
+use Rattle.answer_rules.specs.AnswerLines.{superblockLines, nameLine, nameLineIf, nameLines, totalLine, totalLineIf, totalLines, placeLine}
+use Rattle.answer_rules.specs.AnswerLines.{placeLineIf, placeLines, answerText, badInputText}
 
 unfoldable pub answerDefinitions : Unit {0}
-unfolding wideDecimal textsBelow outcomeLine isAsNew marksFields superblockLine superblockLineIf superblockLines nameLine nameLineIf nameLines totalLine totalLineIf totalLines placeLine placeLineIf placeLines answerText badInputText
+unfolding wideDecimal textsBelow outcomeLine isAsNew marksFields superblockLine superblockLineIf superblockLines nameLine nameLineIf nameLines totalLine
+    totalLineIf totalLines placeLine placeLineIf placeLines answerText badInputText
     setupLine decimal digits blockNamed isUnused liveCount markBit bit sumBelow
 answerDefinitions = tt

@@ -1,14 +1,14 @@
 -- How long an answer's text is at most. A number that is no index may be any: a field of it has at most 10 digits, or 20. Assumes nothing.
 use mathlib.Core.Bool.{Bool, true, false}
 use mathlib.Core.List.{List, []}
-use Prim.Native.Nat.{ℕ, zero, suc, _+_, _*_, _/_, _%_, _≤_, _<_, zero-le, min}
+use Prim.Native.Nat.{ℕ, zero, suc, _*_, _/_, _%_, _≤_, _<_, zero-le, min}
 use native.Mathlib.Omega.{arith}
 use lib.ListN.{length, length-append, getD}
 use lib.Dec.{eqb}
 use Rattle.base_laws.specs.Sums.{pick, both}
 use Rattle.class_rules.specs.Classes.{classCount}
-use Rattle.text_rules.specs.Text.{decimal}
-use Rattle.text_rules.proofs.DigitLaws.{length-of-digits-le-most, length-of-digits-le-of-lt-pow, length-of-decimal-le-10, length-of-byte-decimal-le-3, length-of-u16-decimal-le-5}
+use Rattle.text_rules.proofs.DigitLaws.{length-of-digits-le-most, length-of-digits-le-of-lt-pow, length-of-decimal-le-10, length-of-byte-decimal-le-3}
+use Rattle.text_rules.proofs.DigitLaws.{length-of-u16-decimal-le-5}
 use Rattle.names_rules.specs.Names.{notHeld}
 use Rattle.heap_rules.specs.declared.Setup.{Setup}
 use Rattle.heap_rules.specs.declared.Superblock.{Superblock}
@@ -18,7 +18,9 @@ use Rattle.heap_rules.specs.Totals.{totalCount}
 use Rattle.call_rules.specs.declared.Outcome.{Outcome}
 use Rattle.call_rules.specs.declared.Outcome.the-variants.{Ready, Address, Moves, Refused}
 use Rattle.line_rules.specs.Lines.{setupLine}
-use Rattle.answer_rules.specs.AnswerLines.{wideDecimal, textsBelow, outcomeLine, isAsNew, marksFields, superblockLine, superblockLineIf, superblockLines, nameLine, nameLineIf, nameLines, totalLine, totalLineIf, totalLines, placeLine, placeLineIf, placeLines, answerText, answerRoom}
+use Rattle.answer_rules.specs.AnswerLines.{wideDecimal, textsBelow, outcomeLine, isAsNew, marksFields, superblockLine, superblockLineIf}
+use Rattle.answer_rules.specs.AnswerLines.{superblockLines, nameLine, nameLineIf, nameLines, totalLine, totalLineIf, totalLines, placeLine}
+use Rattle.answer_rules.specs.AnswerLines.{placeLineIf, placeLines, answerText, answerRoom}
 -- the computed cases come first: a wrong definition fails there
 use Rattle.answer_rules.proofs.AnswerCases as cases
 
@@ -54,18 +56,39 @@ length-of-outcome-line-le-19 (Refused r) = simp length-append (omega (arith, len
 length-of-any-setup-line-le-61 : (u : Setup) → length (setupLine u) ≤ 61
 unfolding setupLine
 length-of-any-setup-line-le-61 u =
-    simp length-append (omega (arith, length-of-decimal-le-10 (u .processors), length-of-decimal-le-10 (u .superblocks), length-of-decimal-le-10 (u .spare), length-of-decimal-le-10 (u .p), length-of-decimal-le-10 (u .q)))
+    simp length-append (omega (
+      arith,
+      length-of-decimal-le-10 (u .processors),
+      length-of-decimal-le-10 (u .superblocks),
+      length-of-decimal-le-10 (u .spare),
+      length-of-decimal-le-10 (u .p),
+      length-of-decimal-le-10 (u .q),
+    ))
 
 -- ---- superblocks
 length-of-marks-fields-le-89 : (live : List ℕ) → length (marksFields live) ≤ 89
 unfolding marksFields
 length-of-marks-fields-le-89 live =
-    simp length-append (omega (arith, length-of-wide-decimal-le-20 (getD live 0 0), length-of-wide-decimal-le-20 (getD live 1 0), length-of-wide-decimal-le-20 (getD live 2 0), length-of-wide-decimal-le-20 (getD live 3 0)))
+    simp length-append (omega (
+      arith,
+      length-of-wide-decimal-le-20 (getD live 0 0),
+      length-of-wide-decimal-le-20 (getD live 1 0),
+      length-of-wide-decimal-le-20 (getD live 2 0),
+      length-of-wide-decimal-le-20 (getD live 3 0),
+    ))
 
 length-of-superblock-line-le-169 : (k : ℕ) (b : Superblock) → k < 256 → length (superblockLine k b) ≤ 169
 unfolding superblockLine
 length-of-superblock-line-le-169 k b h =
-    simp length-append (omega (arith, length-of-byte-decimal-le-3 k h, length-of-decimal-le-10 (b .owner), length-of-decimal-le-10 (b .class), length-of-marks-fields-le-89 (b .live), length-of-decimal-le-10 (b .rank), length-of-decimal-le-10 (b .run)))
+    simp length-append (omega (
+      arith,
+      length-of-byte-decimal-le-3 k h,
+      length-of-decimal-le-10 (b .owner),
+      length-of-decimal-le-10 (b .class),
+      length-of-marks-fields-le-89 (b .live),
+      length-of-decimal-le-10 (b .rank),
+      length-of-decimal-le-10 (b .run),
+    ))
 
 length-of-superblock-line-if-le-169 : (k : ℕ) (b : Superblock) → k < 256 → length (superblockLineIf k b) ≤ 169
 unfolding superblockLineIf
@@ -79,7 +102,13 @@ length-of-superblock-lines-le table few = length-of-texts-below-le _ 169 (length
 length-of-name-line-le-43 : (m number : ℕ) → m < 65536 → length (nameLine m number) ≤ 43
 unfolding nameLine
 length-of-name-line-le-43 m number h =
-    simp length-append (omega (arith, length-of-u16-decimal-le-5 m h, length-of-decimal-le-10 (number / 256), length-of-byte-decimal-le-3 (number % 256) (omega arith)))
+    simp length-append (omega (
+      arith,
+      length-of-u16-decimal-le-5 m h,
+      length-of-decimal-le-10 (number / 256),
+      length-of-byte-decimal-le-3 (number % 256)
+          (omega arith),
+    ))
 
 length-of-name-line-if-le-43 : (m number : ℕ) → m < 65536 → length (nameLineIf m number) ≤ 43
 unfolding nameLineIf
@@ -93,7 +122,13 @@ length-of-name-lines-le names = length-of-texts-below-le _ 43 1024 (λ m h. leng
 length-of-total-line-le-64 : (h c superblocks live : ℕ) → h < 256 → c < 256 → length (totalLine h c superblocks live) ≤ 64
 unfolding totalLine
 length-of-total-line-le-64 h c superblocks live a b =
-    simp length-append (omega (arith, length-of-byte-decimal-le-3 h a, length-of-byte-decimal-le-3 c b, length-of-decimal-le-10 superblocks, length-of-decimal-le-10 live))
+    simp length-append (omega (
+      arith,
+      length-of-byte-decimal-le-3 h a,
+      length-of-byte-decimal-le-3 c b,
+      length-of-decimal-le-10 superblocks,
+      length-of-decimal-le-10 live,
+    ))
 
 length-of-total-line-if-le-64 : (x superblocks live : ℕ) → x < 256 → length (totalLineIf x superblocks live) ≤ 64
 unfolding totalLineIf
@@ -118,7 +153,8 @@ length-of-place-line-if-le-23 i old new h = length-of-line-if-le (eqb old new) (
 length-of-place-lines-le : (before after : List ℕ) → length after ≤ 17000 → length (placeLines before after) ≤ 17000 * 23
 unfolding placeLines
 length-of-place-lines-le before after few =
-    let each : length (placeLines before after) ≤ min (length before) (length after) * 23 = length-of-texts-below-le _ 23 _ (λ i h. length-of-place-line-if-le-23 i _ _ (omega arith)) in
+    let each : length (placeLines before after) ≤ min (length before) (length after) * 23 =
+    length-of-texts-below-le _ 23 _ (λ i h. length-of-place-line-if-le-23 i _ _ (omega arith)) in
     omega arith
 
 -- ---- the text of a call on at most 65 superblocks, with at most 17000 places, fits the room

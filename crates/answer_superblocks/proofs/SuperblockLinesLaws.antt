@@ -2,7 +2,7 @@
 use mathlib.Core.Path.{_≡_, ap, _∙_}
 use mathlib.Core.Bool.{Bool, true, false}
 use mathlib.Core.List.{List, []}
-use Prim.Native.Nat.{ℕ, _≤_, _<_, min}
+use Prim.Native.Nat.{ℕ, _≤_, min}
 use native.Mathlib.Omega.{arith}
 use lib.ListN.{length, take, getD, length-take}
 use lib.Seq.{getD-take}
@@ -19,7 +19,8 @@ linesOfFirst records k = textsBelow (λ j. superblockLineIf j (getD records j bl
 first-records : (records : List Superblock) (n k : ℕ) → length (take n records) ≡ k → k ≤ n → linesOfFirst records k ≡ superblockLines (take n records)
 unfolding superblockLines
 first-records records n k e h =
-    rw e (texts-below-cong (λ j. superblockLineIf j (getD records j blank)) (λ j. superblockLineIf j (getD (take n records) j blank)) k (λ j g. rw (getD-take n records j blank (omega arith))))
+    rw e (texts-below-cong (λ j. superblockLineIf j (getD records j blank)) (λ j. superblockLineIf j (getD (take n records) j blank)) k
+    (λ j g. rw (getD-take n records j blank (omega arith))))
 
 module _ (l₀ : List ℕ) {l : List ℕ} (at : ℕ) {r : ℕ} where
   -- no line of a superblock that is as a new setup has it, and one of another
@@ -35,7 +36,8 @@ module _ (l₀ : List ℕ) {l : List ℕ} (at : ℕ) {r : ℕ} where
 
   -- all of the first n, of 65
   pub superblock-lines-of-first : (records : List Superblock) (n m k : ℕ) → length records ≡ 65 → m ≡ min n 65 → k ≤ m → m ≤ k
-      → record { end = r; buffer = l } ≡ pasted l₀ at (linesOfFirst records k) → record { end = r; buffer = l } ≡ pasted l₀ at (superblockLines (take n records))
+      → record { end = r; buffer = l } ≡ pasted l₀ at (linesOfFirst records k) → record { end = r; buffer = l }
+      ≡ pasted l₀ at (superblockLines (take n records))
   superblock-lines-of-first records n m k long e h g p =
       let a : length (take n records) ≡ k = length-take n records ∙ omega arith in
       p ∙ ap (pasted l₀ at) (first-records records n k a (omega arith))

@@ -17,7 +17,8 @@ use Rattle.line_rules.specs.Lines.{field}
 use Rattle.answer_rules.specs.AnswerLines.{outcomeLine, answerText}
 
 module _ (l₀ : List ℕ) {l : List ℕ} (at : ℕ) {r : ℕ} (o : Outcome) where
-  pub outcome-line-of-ready : record { end = r; buffer = l } ≡ pasted l₀ at (letters "ready\n") → o ≡ Ready → record { end = r; buffer = l } ≡ pasted l₀ at (outcomeLine o)
+  pub outcome-line-of-ready : record { end = r; buffer = l } ≡ pasted l₀ at (letters "ready\n") → o ≡ Ready → record { end = r; buffer = l }
+      ≡ pasted l₀ at (outcomeLine o)
   unfolding outcomeLine
   outcome-line-of-ready p k = rw k p
 
@@ -40,7 +41,8 @@ module _ (l₀ : List ℕ) {l : List ℕ} (at : ℕ) {r : ℕ} (o : Outcome) whe
 state-as-row : (s : State) (x : Superblock) → length (s .table) ≡ 64 → stateOf (controlOf s) (take 64 (s .table ++ (x ∷ []))) ≡ s
 state-as-row s x long = rw (take-at (s .table) (x ∷ []) 64 long)
 
-pub state-answer-of-row-answer : (l₀ : List ℕ) {l : List ℕ} {r : ℕ} (o : Outcome) (s : State) (control : Control) (records : List Superblock) (x : Superblock) (before after : List ℕ)
+pub state-answer-of-row-answer : (l₀ : List ℕ) {l : List ℕ} {r : ℕ} (o : Outcome) (s : State) (control : Control) (records : List Superblock)
+    (x : Superblock) (before after : List ℕ)
     → length (s .table) ≡ 64 → control ≡ controlOf s → records ≡ s .table ++ (x ∷ [])
     → record { end = r; buffer = l } ≡ pasted l₀ 0 (answerText o (stateOf control (take 64 records)) before after)
     → record { end = r; buffer = l } ≡ pasted l₀ 0 (answerText o s before after)
@@ -48,7 +50,8 @@ state-answer-of-row-answer l₀ o s control records x before after long d e p =
     p ∙ ap (λ (t : State). pasted l₀ 0 (answerText o t before after)) (rw (d, e) (state-as-row s x long))
 
 -- so many bytes of the buffer are the text's
-pub text-counted : (l₀ : List ℕ) {l : List ℕ} {r : ℕ} (text : List ℕ) → record { end = r; buffer = l } ≡ pasted l₀ 0 text → (r ≤ length l) × (r ≡ length (take r l))
+pub text-counted : (l₀ : List ℕ) {l : List ℕ} {r : ℕ} (text : List ℕ) → record { end = r; buffer = l } ≡ pasted l₀ 0 text → (r ≤ length l)
+    × (r ≡ length (take r l))
 text-counted l₀ {l} {r} text p =
     let within : r ≤ length l = omega (arith, put-end-le l₀ 0 text p, put-length l₀ 0 text p) in
     (within, sym (length-take-le r l within))

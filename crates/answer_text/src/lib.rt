@@ -40,7 +40,8 @@ pub fn row_answer_text(
     before: &[u16],
     after: &[u16],
 ) -> usize
-    ensures { λ r. ⌜ record { end = r; buffer = now (out .exit) } ≡ pasted (now (out .entry)) 0 (answerText (a .answer .outcome) (stateOf (a .answer .control) (take n (a .records))) (now (before .entry)) (now (after .entry))) ⌝ }
+    ensures { λ r. ⌜ record { end = r; buffer = now (out .exit) } ≡ pasted (now (out .entry)) 0
+        (answerText (a .answer .outcome) (stateOf (a .answer .control) (take n (a .records))) (now (before .entry)) (now (after .entry))) ⌝ }
 {
     let records = a.records;
     let answer = a.answer;
@@ -60,7 +61,8 @@ pub fn row_answer_text(
 
 // The text of a call on a state.
 pub fn state_answer_text(out: &mut [u8], a: Answer, before: &[u16], after: &[u16]) -> usize
-    ensures { λ r. ⌜ record { end = r; buffer = now (out .exit) } ≡ pasted (now (out .entry)) 0 (answerText (a .outcome) (a .state) (now (before .entry)) (now (after .entry))) ⌝ }
+    ensures { λ r. ⌜ record { end = r; buffer = now (out .exit) } ≡ pasted (now (out .entry)) 0
+        (answerText (a .outcome) (a .state) (now (before .entry)) (now (after .entry))) ⌝ }
 {
     let outcome = a.outcome;
     let s = a.state;

@@ -42,7 +42,8 @@ terms-one-of-full-sum f zero h e k l = absurd (not-suc-le-zero l)
 terms-one-of-full-sum f (suc n) h e k l =
     let b : sumBelow f n ≤ n = sum-le-of-terms-le-one f n (λ i li. h i (omega arith)) in
     let c : f n ≤ 1 = h n (lt-suc-self n) in
-    ⊎-elim (λ (q : k ≡ n). ap f q ∙ omega arith) (λ (q : k < n). terms-one-of-full-sum f n (λ i li. h i (omega arith)) (omega arith) k q) (eq-or-lt-of-le (le-of-suc-le-suc l))
+    ⊎-elim (λ (q : k ≡ n). ap f q ∙ omega arith) (λ (q : k < n). terms-one-of-full-sum f n (λ i li. h i (omega arith)) (omega arith) k q)
+    (eq-or-lt-of-le (le-of-suc-le-suc l))
 
 pub sum-mono : (f : ℕ → ℕ) (a d : ℕ) → sumBelow f a ≤ sumBelow f (a + d)
 sum-mono f a d = omega (arith, sum-split f a d)
@@ -55,7 +56,8 @@ indicator-sum-inside v (suc n) l = go (indicator-sum-inside v n) (eq-or-lt-of-le
   where
     go : (v < n → sumBelow (λ j. one (eqb v j)) n ≡ 1) → (v ≡ n) ⊎ (v < n) → sumBelow (λ j. one (eqb v j)) n + one (eqb v n) ≡ 1
     go ih (inl e) =
-        let z : sumBelow (λ j. one (eqb v j)) n ≡ 0 = sum-of-zeros (λ j. one (eqb v j)) n (λ k lk. one-of-different v k (λ q. lt-irrefl n (subst (λ (x : ℕ). x < n) (sym q ∙ e) lk))) in
+        let z : sumBelow (λ j. one (eqb v j)) n ≡ 0 =
+        sum-of-zeros (λ j. one (eqb v j)) n (λ k lk. one-of-different v k (λ q. lt-irrefl n (subst (λ (x : ℕ). x < n) (sym q ∙ e) lk))) in
         let o : one (eqb v n) ≡ 1 = ap (λ (x : ℕ). one (eqb v x)) (sym e) ∙ one-of-equal v in
         omega arith
     go ih (inr q) =

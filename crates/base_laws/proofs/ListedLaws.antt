@@ -16,7 +16,8 @@ unfolding listed
 listed-none f = refl
 
 -- one more
-pub listed-step : {A : Type 0} (f : ℕ → A) (l : List A) (k n : ℕ) (x : A) → length l ≡ n → k < n → take k l ≡ listed f k → x ≡ f k → take (k + 1) (set l k x) ≡ listed f (k + 1)
+pub listed-step : {A : Type 0} (f : ℕ → A) (l : List A) (k n : ℕ) (x : A) → length l ≡ n → k < n → take k l ≡ listed f k → x ≡ f k
+    → take (k + 1) (set l k x) ≡ listed f (k + 1)
 unfolding listed
 listed-step f l k n x long h e v =
     let g : k < length l = omega arith in

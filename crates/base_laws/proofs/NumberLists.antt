@@ -32,7 +32,8 @@ pub increased-at-most : (x n m w : ℕ) (l : List ℕ) → x < length l → n �
 increased-at-most x n m w l h few below y = go (ℕ-discrete y x)
   where
     go : Dec (y ≡ x) → getD (increased x n l) y 0 ≤ m + w
-    go (yes e) = let at : getD (increased x n l) y 0 ≡ getD l x 0 + n = ap (λ (i : ℕ). getD (increased x n l) i 0) e ∙ increased-at x n l h in omega (arith, below x)
+    go (yes e) = let at : getD (increased x n l) y 0 ≡ getD l x 0 + n = ap (λ (i : ℕ). getD (increased x n l) i 0) e ∙ increased-at x n l h in
+        omega (arith, below x)
     go (no f) = omega (arith, below y, increased-elsewhere x n l y f)
 
 -- ---- equal lists
@@ -41,7 +42,8 @@ unfolding sameNumbers
 equal-of-same-numbers [] [] t = refl
 equal-of-same-numbers [] (y ∷ m) t = absurd t
 equal-of-same-numbers (x ∷ l) [] t = absurd t
-equal-of-same-numbers (x ∷ l) (y ∷ m) t = ap₂ (λ (a : ℕ) (b : List ℕ). a ∷ b) (eqb→eq x y (both-left (eqb x y) (sameNumbers l m) t)) (equal-of-same-numbers l m (both-right (eqb x y) (sameNumbers l m) t))
+equal-of-same-numbers (x ∷ l) (y ∷ m) t = ap₂ (λ (a : ℕ) (b : List ℕ). a ∷ b) (eqb→eq x y (both-left (eqb x y) (sameNumbers l m) t))
+    (equal-of-same-numbers l m (both-right (eqb x y) (sameNumbers l m) t))
 
 pub same-numbers-refl : (l : List ℕ) → T (sameNumbers l l)
 unfolding sameNumbers

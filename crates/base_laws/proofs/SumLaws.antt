@@ -3,7 +3,7 @@ use mathlib.Core.Path.{_≡_, refl, sym, ap, ap₂, _∙_, subst}
 use mathlib.Core.Bool.{Bool, true, false}
 use mathlib.Core.Logic.{_⊎_, inl, inr, ⊎-elim}
 use Prim.Native.Nat.{ℕ, zero, suc, _+_, _*_, _≤_, _<_, zero-le}
-use native.Mathlib.Nat.{eq-or-lt-of-le, le-of-suc-le-suc, not-suc-le-zero, lt-suc-self, add-zero, add-suc, lt-irrefl, eq-zero-or-pos, le-refl, le-antisymm, mul-zero}
+use native.Mathlib.Nat.{eq-or-lt-of-le, le-of-suc-le-suc, not-suc-le-zero, lt-suc-self, add-zero, add-suc, lt-irrefl, eq-zero-or-pos, le-refl, mul-zero}
 use native.Mathlib.Numerals.{add-one}
 use native.Mathlib.Omega.{arith}
 use lib.Dec.{T}
@@ -38,7 +38,8 @@ unfolding sumBelow
 sum-suc-of-term-suc f g zero j l other here = absurd (not-suc-le-zero l)
 sum-suc-of-term-suc f g (suc n) j l other here = go (sum-suc-of-term-suc f g n j) (eq-or-lt-of-le (le-of-suc-le-suc l))
   where
-    go : (j < n → ((k : ℕ) → (k ≡ j → ⊥) → g k ≡ f k) → g j ≡ suc (f j) → sumBelow g n ≡ suc (sumBelow f n)) → (j ≡ n) ⊎ (j < n) → sumBelow g n + g n ≡ suc (sumBelow f n + f n)
+    go : (j < n → ((k : ℕ) → (k ≡ j → ⊥) → g k ≡ f k) → g j ≡ suc (f j) → sumBelow g n ≡ suc (sumBelow f n)) → (j ≡ n) ⊎ (j < n)
+        → sumBelow g n + g n ≡ suc (sumBelow f n + f n)
     go ih (inl e) =
         let s : sumBelow g n ≡ sumBelow f n = sum-cong g f n (λ k lk. other k (λ q. lt-irrefl n (subst (λ (m : ℕ). m < n) (q ∙ e) lk))) in
         let h : g n ≡ suc (f n) = subst (λ (m : ℕ). g m ≡ suc (f m)) e here in

@@ -1,5 +1,5 @@
 -- A superblock acquired and a block taken from it, step by step as the code goes. Assumes nothing.
-use mathlib.Core.Path.{_≡_, sym, ap, ap₂, _∙_, subst}
+use mathlib.Core.Path.{_≡_, sym, ap₂, _∙_, subst}
 use mathlib.Core.List.{List}
 use Prim.Native.Nat.{ℕ}
 use borrow.Author.Tests.{eq-eqb, ne-eqb}
@@ -43,7 +43,9 @@ module _ (s : State) (k live : ℕ) (el : live ≡ liveIn (superblockAt s k)) wh
 pub unranked-if-empty-keeps-totals : (s t : State) (k : ℕ) → TotalsKept s → t ≡ unrankedIfEmpty k s → TotalsKept t
 unfolding unrankedIfEmpty unranked
 unranked-if-empty-keeps-totals s t k kept e =
-    subst TotalsKept (sym e) (pick-elim TotalsKept (eqb (liveIn (superblockAt s k)) 0) (unranked k s) s (λ q. reranked-totals-kept (rankAfterRenewal k (s .table)) s kept) (λ q. kept))
+    subst TotalsKept (sym e)
+    (pick-elim TotalsKept (eqb (liveIn (superblockAt s k)) 0) (unranked k s) s (λ q. reranked-totals-kept (rankAfterRenewal k (s .table)) s kept)
+    (λ q. kept))
 
 -- and its order places
 module _ (order : List ℕ) (class k : ℕ) (b : Superblock) (live : ℕ) (el : live ≡ liveIn b) where
@@ -56,16 +58,19 @@ module _ (order : List ℕ) (class k : ℕ) (b : Superblock) (live : ℕ) (el : 
   acquired-order-of-live f = rw (← el, ne-eqb live 0 f)
 
 -- the state once a heap acquired superblock k
-pub acquired-at-by-steps : (heap class k : ℕ) (s ranked : State) (b : Superblock) (t : State) → ranked ≡ unrankedIfEmpty k s → b ≡ acquired heap class (superblockAt s k) → t ≡ withSuperblock ranked k b
+pub acquired-at-by-steps : (heap class k : ℕ) (s ranked : State) (b : Superblock) (t : State) → ranked ≡ unrankedIfEmpty k s
+    → b ≡ acquired heap class (superblockAt s k) → t ≡ withSuperblock ranked k b
     → t ≡ withSuperblock (unrankedIfEmpty k s) k (acquired heap class (superblockAt s k))
 acquired-at-by-steps heap class k s ranked b t er eb et = et ∙ ap₂ (λ (x : State) (y : Superblock). withSuperblock x k y) er eb
 
-pub acquired-at-keeps-totals : (heap class k : ℕ) (s t : State) → t ≡ withSuperblock (unrankedIfEmpty k s) k (acquired heap class (superblockAt s k)) → TotalsKept t
+pub acquired-at-keeps-totals : (heap class k : ℕ) (s t : State) → t ≡ withSuperblock (unrankedIfEmpty k s) k (acquired heap class (superblockAt s k))
+    → TotalsKept t
 acquired-at-keeps-totals heap class k s t et = rw et (totals-kept-with-superblock (unrankedIfEmpty k s) k (acquired heap class (superblockAt s k)))
 
 -- what is taken from superblock k once a heap acquired it
 module _ (heap class k : ℕ) (s : State) (order left : List ℕ) (t : State) (r : Answer) (eo : left ≡ acquiredOrder class k (superblockAt s k) order)
-    (et : t ≡ withSuperblock (unrankedIfEmpty k s) k (acquired heap class (superblockAt s k))) (e : _≡_ {A = After} (record { answer = r; order = left }) (takenFrom k t left)) where
+    (et : t ≡ withSuperblock (unrankedIfEmpty k s) k (acquired heap class (superblockAt s k)))
+    (e : _≡_ {A = After} (record { answer = r; order = left }) (takenFrom k t left)) where
   pub taken-from-other-by-steps : _≡_ {A = After} (record { answer = r; order = left }) (takenFromOther heap class k s order)
   unfolding takenFromOther
   taken-from-other-by-steps = e ∙ ap₂ (takenFrom k) et eo

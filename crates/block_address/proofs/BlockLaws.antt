@@ -33,7 +33,8 @@ block-of-offset-lt-256 a class = go (decLt class classCount)
         let g : 16 ≤ sizeOf class = size-of-ge-16 class h in
         let m : 256 * 16 ≤ 256 * sizeOf class = mul-le-mul-left 256 g in
         div-lt-iff-lt-mul {k = sizeOf class} {x = a % 4096} {y = 256} (omega arith) .1 (omega arith)
-    go (no f) = let q : a % 4096 / sizeOf class ≡ 0 = ap (λ (n : ℕ). a % 4096 / n) (size-of-no-class class (le-of-not-below f)) ∙ div-zero (a % 4096) in omega arith
+    go (no f) = let q : a % 4096 / sizeOf class ≡ 0 = ap (λ (n : ℕ). a % 4096 / n) (size-of-no-class class (le-of-not-below f)) ∙ div-zero (a % 4096) in
+        omega arith
 
 module _ (s : State) (a : ℕ) where
   pub block-of-lt-256 : (j : ℕ) → j ≡ blockOf s a → j < 256

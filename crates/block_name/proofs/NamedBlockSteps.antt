@@ -13,7 +13,8 @@ use Rattle.call_rules.specs.Free.{blockNumberAt}
 use Rattle.call_rules.specs.Named.{nameBound, boundBy, heldAddress}
 
 -- ---- a take: the name bound
-pub name-bound-by-steps : (s : State) (m a block : ℕ) (names : List ℕ) → block ≡ blockNumberAt s a → names ≡ withName (s .names) m block → withNames s names ≡ nameBound m a s
+pub name-bound-by-steps : (s : State) (m a block : ℕ) (names : List ℕ) → block ≡ blockNumberAt s a → names ≡ withName (s .names) m block
+    → withNames s names ≡ nameBound m a s
 unfolding nameBound
 name-bound-by-steps s m a block names eb en = rw (en, eb)
 
@@ -36,7 +37,8 @@ module _ (o : Outcome) (m : ℕ) (s : State) where
   bound-by-refused r e = rw e
 
 -- ---- a free: the held address
-pub held-address-by-steps : (s : State) (m block class a : ℕ) → block ≡ blockNamed (s .names) m → class ≡ superblockAt s (block / 256) .class → a ≡ addressOf (block / 256) class (block % 256) → a ≡ heldAddress s m
+pub held-address-by-steps : (s : State) (m block class a : ℕ) → block ≡ blockNamed (s .names) m → class ≡ superblockAt s (block / 256) .class
+    → a ≡ addressOf (block / 256) class (block % 256) → a ≡ heldAddress s m
 unfolding heldAddress
 held-address-by-steps s m block class a eb ec ea = rw (← eb, ← ec) ea
 

@@ -14,7 +14,8 @@ use Rattle.base_laws.proofs.Inequalities.{le-of-not-below}
 use Rattle.class_rules.specs.Classes.{classCount, sizes, counts, sizeOf, blocksOf}
 use Rattle.class_rules.proofs.ClassTableLaws.{size-of-ge-16, blocks-of-no-class}
 use Rattle.marks_rules.specs.Marks.{isMarked, noMarks, withMark}
-use Rattle.marks_laws.proofs.MarkLaws.{mark-of-mark-bit-one, mark-bit-of-empty-list, no-mark-of-mark-bit-zero, with-mark-same, with-mark-other, mark-bit-of-no-marks}
+use Rattle.marks_laws.proofs.MarkLaws.{mark-of-mark-bit-one, mark-bit-of-empty-list, no-mark-of-mark-bit-zero, with-mark-same, with-mark-other}
+use Rattle.marks_laws.proofs.MarkLaws.{mark-bit-of-no-marks}
 use Rattle.heap_rules.specs.declared.Superblock.{Superblock}
 use Rattle.heap_rules.specs.declared.State.{State}
 use Rattle.heap_rules.specs.Table.{blank, runOwner, isUnused, isOfRun, startsRun, liveBlocks}

@@ -16,10 +16,12 @@ use Rattle.heap_rules.specs.Totals.{TotalsKept}
 use Rattle.heap_rules.specs.Ranks.{rankAfterFree, rankedLatest}
 use Rattle.heap_laws.proofs.RerankedLaws.{reranked-totals-kept}
 use Rattle.call_rules.specs.LongBlocks.{runFreed}
-use Rattle.call_rules.specs.Free.{superblockHolding, blockOf, isInRun, markCleared, blockPushed, orderPushed, blockNumberAt, smallBlockFreed, longBlockFreed, blockFreed}
+use Rattle.call_rules.specs.Free.{superblockHolding, blockOf, isInRun, markCleared, blockPushed, orderPushed, blockNumberAt, smallBlockFreed}
+use Rattle.call_rules.specs.Free.{longBlockFreed, blockFreed}
 
 -- the freed block's number put in the next place
-pub block-pushed-by-steps : (s : State) (order left : List ℕ) (a filled j : ℕ) → filled ≡ blocksOf (superblockAt s (a / 4096) .class) - liveIn (superblockAt s (a / 4096)) → j ≡ blockOf s a
+pub block-pushed-by-steps : (s : State) (order left : List ℕ) (a filled j : ℕ) → filled ≡ blocksOf (superblockAt s (a / 4096) .class) - liveIn
+    (superblockAt s (a / 4096)) → j ≡ blockOf s a
     → left ≡ withPlace order (a / 4096) filled j → left ≡ blockPushed s order a
 unfolding blockPushed
 block-pushed-by-steps s order left a filled j ef ej e = rw (← ef, ← ej) e
@@ -27,7 +29,14 @@ block-pushed-by-steps s order left a filled j ef ej e = rw (← ef, ← ej) e
 -- the block's mark cleared
 module _ (s : State) (a j : ℕ) (ej : j ≡ blockOf s a) where
   pub mark-cleared-by-steps : (live : List ℕ) (t : State) → live ≡ withoutMark (superblockAt s (a / 4096) .live) j
-      → t ≡ withSuperblock s (a / 4096) (record { owner = superblockAt s (a / 4096) .owner; class = superblockAt s (a / 4096) .class; live = live; rank = superblockAt s (a / 4096) .rank; run = superblockAt s (a / 4096) .run }) → t ≡ markCleared s a
+      → t ≡ withSuperblock s (a / 4096) (record {
+        owner = superblockAt s (a / 4096) .owner;
+        class = superblockAt s (a / 4096) .class;
+        live = live;
+        rank =
+            superblockAt s (a / 4096) .rank;
+        run = superblockAt s (a / 4096) .run;
+      }) → t ≡ markCleared s a
   unfolding markCleared
   mark-cleared-by-steps live t e f = rw (f, e, ej)
 
@@ -61,10 +70,13 @@ module _ (s : State) (a : ℕ) (f : superblockHolding s a .owner ≡ runOwner �
   order-pushed-of-block order left e = rw (ne-eqb (superblockHolding s a .owner) runOwner f) e
 
 -- and the block's name let go
-pub block-freed-by-steps : (s t : State) (a block : ℕ) (names : List ℕ) → block ≡ blockNumberAt s a → names ≡ withoutBlock (s .names) block → t ≡ BlockOrRunFreed s a → withNames t names ≡ blockFreed s a
+pub block-freed-by-steps : (s t : State) (a block : ℕ) (names : List ℕ) → block ≡ blockNumberAt s a → names ≡ withoutBlock (s .names) block
+    → t ≡ BlockOrRunFreed s a → withNames t names ≡ blockFreed s a
 unfolding blockFreed longBlockFreed smallBlockFreed
-block-freed-by-steps s t a block names eb en et = rw (et, en, eb) (go (isInRun s a) (runFreed (a / 4096) (superblockHolding s a .run) s) (markCleared (rankedLatest (a / 4096) s) a))
+block-freed-by-steps s t a block names eb en et =
+    rw (et, en, eb) (go (isInRun s a) (runFreed (a / 4096) (superblockHolding s a .run) s) (markCleared (rankedLatest (a / 4096) s) a))
   where
-    go : (x : Bool) (long small : State) → withNames (pick x long small) (withoutBlock (s .names) (blockNumberAt s a)) ≡ pick x (withNames long (withoutBlock (s .names) (blockNumberAt s a))) (withNames small (withoutBlock (s .names) (blockNumberAt s a)))
+    go : (x : Bool) (long small : State) → withNames (pick x long small) (withoutBlock (s .names) (blockNumberAt s a))
+        ≡ pick x (withNames long (withoutBlock (s .names) (blockNumberAt s a))) (withNames small (withoutBlock (s .names) (blockNumberAt s a)))
     go true long small = refl
     go false long small = refl

@@ -50,7 +50,8 @@ module _ (change : ℕ → State → State) (k : ℕ) (s : State) where
   all-changed t j n h l g = h .so-far ∙ ap (λ (i : ℕ). eachOfRun change k i s) (le-antisymm l g)
 
 module _ (k n : ℕ) (s t : State) (j : ℕ) where
-  pub one-more-joined : (next : State) → ChangedSoFar (joinedToRun k n) k s t j → next ≡ joinedToRun k n (k + j) t → ChangedSoFar (joinedToRun k n) k s next (j + 1)
+  pub one-more-joined : (next : State) → ChangedSoFar (joinedToRun k n) k s t j → next ≡ joinedToRun k n (k + j) t
+      → ChangedSoFar (joinedToRun k n) k s next (j + 1)
   unfolding joinedToRun
   one-more-joined next h e = one-more-changed (joinedToRun k n) k s t next j h e (subst TotalsKept (sym e) refl)
 

@@ -23,7 +23,15 @@ block-offset-le class j size e h = mul-le-mul {n₁ = j} {m₁ = size} {n₂ = 6
 module _ (k : ℕ) (s : State) (order : List ℕ) (filled j address : ℕ) (taken : List ℕ) (t : State)
     (ef : filled ≡ blocksOf (superblockAt s k .class) - liveIn (superblockAt s k)) (ej : j ≡ lastFilled order k filled)
     (ea : address ≡ addressOf k (superblockAt s k .class) j) (em : taken ≡ withMarkAt (superblockAt s k) j .live)
-    (et : t ≡ withSuperblock s k (record { owner = superblockAt s k .owner; class = superblockAt s k .class; live = taken; rank = superblockAt s k .rank; run = superblockAt s k .run })) where
+    (et : t ≡ withSuperblock s k
+    (record {
+      owner = superblockAt s k .owner;
+      class = superblockAt s k .class;
+      live = taken;
+      rank = superblockAt s k .rank;
+      run =
+          superblockAt s k .run;
+    })) where
   pub taken-from-by-steps : _≡_ {A = After} (record { answer = record { outcome = Address address; state = t }; order = order }) (takenFrom k s order)
   unfolding takenFrom nextBlock
   taken-from-by-steps = rw (et, em, ea, ej, ef)

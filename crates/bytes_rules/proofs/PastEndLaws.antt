@@ -26,7 +26,8 @@ eight-at-past-end r i past = omega (arith, four-at-past-end r i past, four-at-pa
 
 -- ---- a position after another
 -- what is the same at all positions past the end is so at a position and at the one clamped to the end
-pub read-at-position-after : {A : Type 0} (f : ℕ → A) (z : A) (r : List ℕ) (at i : ℕ) → ((j : ℕ) → length r ≤ j → z ≡ f j) → f (positionAfter r at i) ≡ f (at + i)
+pub read-at-position-after : {A : Type 0} (f : ℕ → A) (z : A) (r : List ℕ) (at i : ℕ) → ((j : ℕ) → length r ≤ j → z ≡ f j) → f (positionAfter r at i)
+    ≡ f (at + i)
 unfolding positionAfter
 read-at-position-after f z r at i past =
     pick-elim (λ (n : ℕ). f n ≡ f (at + i)) (ltb (at + i) (length r)) (at + i) (length r)

@@ -11,7 +11,8 @@ use Rattle.call_rules.specs.declared.Outcome.the-variants.{Refused}
 use Rattle.call_rules.specs.Calls.{Call, Take, Free, NamedTake, NamedFree, Drop, callOf, callUnchecked}
 use Rattle.call_rules.proofs.CallDefinitions.{uncheckedCallDefinitions, callDefinitions}
 use Rattle.call_laws.proofs.UsedPartCallLaws.{usedPartPasses, calls-past-used-part}
-use Rattle.call_cases.proofs.WholeCallCases.{SuperblockAndPlaces, CallCase, Seen, seen, expected-of, state-of, order-of, from-place-2, three-moves, nothing-offered}
+use Rattle.call_cases.proofs.WholeCallCases.{SuperblockAndPlaces, CallCase, Seen, seen, expected-of, state-of, order-of, from-place-2, three-moves}
+use Rattle.call_cases.proofs.WholeCallCases.{nothing-offered}
 
 -- what a call does to superblocks and places, and the names before and after it
 pub record NamedCallCase : Type 0 where
@@ -43,7 +44,13 @@ naming (x ∷ l) = withName (naming l) (x .0) (x .1)
 
 -- ---- a take from place 2 that binds name 9 to block 2 of superblock 3; name 4, of block 1 of superblock 3, stays
 abbrev pub named-from-place-2 : NamedCallCase
-named-from-place-2 = record { named-call = NamedTake 2 9 1200; effect = from-place-2; names = naming ((4, 769) ∷ []); names-after = naming ((4, 769) ∷ (9, 770) ∷ []) }
+named-from-place-2 = record {
+  named-call = NamedTake 2 9 1200;
+  effect = from-place-2;
+  names = naming ((4, 769) ∷ []);
+  names-after =
+      naming ((4, 769) ∷ (9, 770) ∷ []);
+}
 
 -- ---- a free by name that moves three superblocks; the name of a block in one of them stays, and a plain free does the same
 abbrev pub named-three-moves : NamedCallCase
@@ -58,7 +65,13 @@ drop-three-moves = record { named-call = Drop 1 (4096 ∷ []); effect = three-mo
 
 -- ---- refused calls keep their names
 abbrev pub refused-with : Call → ℕ → List SuperblockAndPlaces → List (ℕ × ℕ) → NamedCallCase
-refused-with call r before l = record { named-call = call; effect = record { before = before; call = call; outcome = Refused r; after = before }; names = naming l; names-after = naming l }
+refused-with call r before l = record {
+  named-call = call;
+  effect = record { before = before; call = call; outcome = Refused r; after = before };
+  names =
+      naming l;
+  names-after = naming l;
+}
 
 -- 14 before 4, and 4; 15; and a drop's double
 abbrev pub refused-named-calls : List NamedCallCase

@@ -101,7 +101,8 @@ expected-of r =
 -- ---- takes. Class 20 has 5 blocks of 768 bytes. Heap 1 has 3, 4 and 4 live, heap 2 has 4 and heap 0 has 2.
 abbrev pub five-of-20 : List SuperblockAndPlaces
 five-of-20 =
-    owned-with 0 20 10 (0 ∷ 4 ∷ 2 ∷ []) ∷ owned-with 1 20 21 (1 ∷ 3 ∷ []) ∷ owned-with 2 20 15 (4 ∷ 31 ∷ []) ∷ owned-with 1 20 27 (2 ∷ 32 ∷ []) ∷ owned-with 1 20 30 (0 ∷ 33 ∷ []) ∷ []
+    owned-with 0 20 10 (0 ∷ 4 ∷ 2 ∷ []) ∷ owned-with 1 20 21 (1 ∷ 3 ∷ []) ∷ owned-with 2 20 15 (4 ∷ 31 ∷ []) ∷ owned-with 1 20 27 (2 ∷ 32 ∷ [])
+    ∷ owned-with 1 20 30 (0 ∷ 33 ∷ []) ∷ []
 
 -- place 1: of heap 1's the fullest, the lower number among equals; its block 2; "that place keeps its number"
 abbrev pub from-place-1 : CallCase
@@ -111,7 +112,8 @@ from-place-1 =
       call = Take 1 700;
       outcome = Address 13824;
       after =
-          owned-with 0 20 10 (0 ∷ 4 ∷ 2 ∷ []) ∷ owned-with 1 20 21 (1 ∷ 3 ∷ []) ∷ owned-with 2 20 15 (4 ∷ 31 ∷ []) ∷ owned-with 1 20 31 (2 ∷ 32 ∷ []) ∷ owned-with 1 20 30 (0 ∷ 33 ∷ []) ∷ [];
+          owned-with 0 20 10 (0 ∷ 4 ∷ 2 ∷ []) ∷ owned-with 1 20 21 (1 ∷ 3 ∷ []) ∷ owned-with 2 20 15 (4 ∷ 31 ∷ []) ∷ owned-with 1 20 31 (2 ∷ 32 ∷ [])
+          ∷ owned-with 1 20 30 (0 ∷ 33 ∷ []) ∷ [];
     }
 
 -- place 1 with the two fullest ranked: the one last freed into, though it has the higher number; every rank stays
@@ -119,11 +121,13 @@ abbrev pub last-freed-into-from-place-1 : CallCase
 last-freed-into-from-place-1 =
     record {
       before =
-          owned-with 0 20 10 (0 ∷ 4 ∷ 2 ∷ []) ∷ ranked-with 1 20 21 1 (1 ∷ 3 ∷ []) ∷ owned-with 2 20 15 (4 ∷ 31 ∷ []) ∷ ranked-with 1 20 27 3 (2 ∷ 32 ∷ []) ∷ ranked-with 1 20 30 2 (0 ∷ 33 ∷ []) ∷ [];
+          owned-with 0 20 10 (0 ∷ 4 ∷ 2 ∷ []) ∷ ranked-with 1 20 21 1 (1 ∷ 3 ∷ []) ∷ owned-with 2 20 15 (4 ∷ 31 ∷ [])
+          ∷ ranked-with 1 20 27 3 (2 ∷ 32 ∷ []) ∷ ranked-with 1 20 30 2 (0 ∷ 33 ∷ []) ∷ [];
       call = Take 1 700;
       outcome = Address 16384;
       after =
-          owned-with 0 20 10 (0 ∷ 4 ∷ 2 ∷ []) ∷ ranked-with 1 20 21 1 (1 ∷ 3 ∷ []) ∷ owned-with 2 20 15 (4 ∷ 31 ∷ []) ∷ ranked-with 1 20 27 3 (2 ∷ 32 ∷ []) ∷ ranked-with 1 20 31 2 (0 ∷ 33 ∷ []) ∷ [];
+          owned-with 0 20 10 (0 ∷ 4 ∷ 2 ∷ []) ∷ ranked-with 1 20 21 1 (1 ∷ 3 ∷ []) ∷ owned-with 2 20 15 (4 ∷ 31 ∷ [])
+          ∷ ranked-with 1 20 27 3 (2 ∷ 32 ∷ []) ∷ ranked-with 1 20 31 2 (0 ∷ 33 ∷ []) ∷ [];
     }
 
 -- place 1 for processor 2, whose heap's superblock has block 4 free
@@ -134,7 +138,8 @@ from-own-heap =
       call = Take 2 700;
       outcome = Address 11264;
       after =
-          owned-with 0 20 10 (0 ∷ 4 ∷ 2 ∷ []) ∷ owned-with 1 20 21 (1 ∷ 3 ∷ []) ∷ owned-with 2 20 31 (4 ∷ 31 ∷ []) ∷ owned-with 1 20 27 (2 ∷ 32 ∷ []) ∷ owned-with 1 20 30 (0 ∷ 33 ∷ []) ∷ [];
+          owned-with 0 20 10 (0 ∷ 4 ∷ 2 ∷ []) ∷ owned-with 1 20 21 (1 ∷ 3 ∷ []) ∷ owned-with 2 20 31 (4 ∷ 31 ∷ []) ∷ owned-with 1 20 27 (2 ∷ 32 ∷ [])
+          ∷ owned-with 1 20 30 (0 ∷ 33 ∷ []) ∷ [];
     }
 
 -- place 1 with nothing live: not renewed, so that the last filled place has block 1, and not block 0, and its rank stays
@@ -151,10 +156,12 @@ empty-from-place-1 =
 abbrev pub from-place-2 : CallCase
 from-place-2 =
     record {
-      before = owned-with 0 24 0 (0 ∷ 1 ∷ []) ∷ owned-with 2 23 7 [] ∷ unused-with (5 ∷ 6 ∷ []) ∷ ranked-with 0 23 2 2 (0 ∷ 2 ∷ []) ∷ ranked-with 1 23 3 1 (2 ∷ []) ∷ [];
+      before = owned-with 0 24 0 (0 ∷ 1 ∷ []) ∷ owned-with 2 23 7 [] ∷ unused-with (5 ∷ 6 ∷ []) ∷ ranked-with 0 23 2 2 (0 ∷ 2 ∷ [])
+          ∷ ranked-with 1 23 3 1 (2 ∷ []) ∷ [];
       call = Take 2 1200;
       outcome = Address 14848;
-      after = owned-with 0 24 0 (0 ∷ 1 ∷ []) ∷ owned-with 2 23 7 [] ∷ unused-with (5 ∷ 6 ∷ []) ∷ ranked-with 2 23 6 2 (0 ∷ 2 ∷ []) ∷ ranked-with 1 23 3 1 (2 ∷ []) ∷ [];
+      after = owned-with 0 24 0 (0 ∷ 1 ∷ []) ∷ owned-with 2 23 7 [] ∷ unused-with (5 ∷ 6 ∷ []) ∷ ranked-with 2 23 6 2 (0 ∷ 2 ∷ [])
+          ∷ ranked-with 1 23 3 1 (2 ∷ []) ∷ [];
     }
 
 -- place 2 with two equally full: the one that was freed into, though it has the higher number
@@ -171,10 +178,12 @@ last-freed-into-from-place-2 =
 abbrev pub empty-from-place-2 : CallCase
 empty-from-place-2 =
     record {
-      before = owned-with 0 23 0 (1 ∷ 0 ∷ 2 ∷ []) ∷ unused-with [] ∷ ranked-with 0 24 0 1 (0 ∷ 1 ∷ 88 ∷ []) ∷ ranked-with 2 24 1 2 (1 ∷ []) ∷ owned-with 1 24 3 [] ∷ [];
+      before = owned-with 0 23 0 (1 ∷ 0 ∷ 2 ∷ []) ∷ unused-with [] ∷ ranked-with 0 24 0 1 (0 ∷ 1 ∷ 88 ∷ []) ∷ ranked-with 2 24 1 2 (1 ∷ [])
+          ∷ owned-with 1 24 3 [] ∷ [];
       call = Take 1 1536;
       outcome = Address 8192;
-      after = owned-with 0 23 0 (1 ∷ 0 ∷ 2 ∷ []) ∷ unused-with [] ∷ owned-with 1 24 1 (1 ∷ 0 ∷ 88 ∷ []) ∷ ranked-with 2 24 1 1 (1 ∷ []) ∷ owned-with 1 24 3 [] ∷ [];
+      after = owned-with 0 23 0 (1 ∷ 0 ∷ 2 ∷ []) ∷ unused-with [] ∷ owned-with 1 24 1 (1 ∷ 0 ∷ 88 ∷ []) ∷ ranked-with 2 24 1 1 (1 ∷ [])
+          ∷ owned-with 1 24 3 [] ∷ [];
     }
 
 -- place 3: heap 0's lowest empty superblock, of another class, before place 4's superblock 0; renewed for class 22, with 4 blocks. Of
@@ -182,20 +191,24 @@ empty-from-place-2 =
 abbrev pub from-place-3 : CallCase
 from-place-3 =
     record {
-      before = unused-with (3 ∷ 4 ∷ []) ∷ owned-with 2 22 0 (3 ∷ 1 ∷ 0 ∷ 2 ∷ []) ∷ ranked-with 0 24 2 3 (0 ∷ []) ∷ ranked-with 0 24 0 2 (0 ∷ 1 ∷ 41 ∷ 42 ∷ 43 ∷ []) ∷ ranked-with 0 26 0 1 (1 ∷ 0 ∷ []) ∷ [];
+      before = unused-with (3 ∷ 4 ∷ []) ∷ owned-with 2 22 0 (3 ∷ 1 ∷ 0 ∷ 2 ∷ []) ∷ ranked-with 0 24 2 3 (0 ∷ [])
+          ∷ ranked-with 0 24 0 2 (0 ∷ 1 ∷ 41 ∷ 42 ∷ 43 ∷ []) ∷ ranked-with 0 26 0 1 (1 ∷ 0 ∷ []) ∷ [];
       call = Take 1 1000;
       outcome = Address 12288;
-      after = unused-with (3 ∷ 4 ∷ []) ∷ owned-with 2 22 0 (3 ∷ 1 ∷ 0 ∷ 2 ∷ []) ∷ ranked-with 0 24 2 2 (0 ∷ []) ∷ owned-with 1 22 1 (3 ∷ 2 ∷ 1 ∷ 0 ∷ 43 ∷ []) ∷ ranked-with 0 26 0 1 (1 ∷ 0 ∷ []) ∷ [];
+      after = unused-with (3 ∷ 4 ∷ []) ∷ owned-with 2 22 0 (3 ∷ 1 ∷ 0 ∷ 2 ∷ []) ∷ ranked-with 0 24 2 2 (0 ∷ [])
+          ∷ owned-with 1 22 1 (3 ∷ 2 ∷ 1 ∷ 0 ∷ 43 ∷ []) ∷ ranked-with 0 26 0 1 (1 ∷ 0 ∷ []) ∷ [];
     }
 
 -- place 4: the lowest unused superblock, renewed for class 20; "Places above n - 1 keep what they had"
 abbrev pub from-place-4 : CallCase
 from-place-4 =
     record {
-      before = owned-with 1 20 1 (4 ∷ 3 ∷ 2 ∷ 1 ∷ []) ∷ owned-with 0 26 2 (0 ∷ []) ∷ unused-with (60 ∷ 61 ∷ 62 ∷ 63 ∷ 64 ∷ 65 ∷ 66 ∷ []) ∷ unused-with [] ∷ owned-with 2 20 31 [] ∷ [];
+      before = owned-with 1 20 1 (4 ∷ 3 ∷ 2 ∷ 1 ∷ []) ∷ owned-with 0 26 2 (0 ∷ []) ∷ unused-with (60 ∷ 61 ∷ 62 ∷ 63 ∷ 64 ∷ 65 ∷ 66 ∷ []) ∷ unused-with []
+          ∷ owned-with 2 20 31 [] ∷ [];
       call = Take 2 641;
       outcome = Address 8192;
-      after = owned-with 1 20 1 (4 ∷ 3 ∷ 2 ∷ 1 ∷ []) ∷ owned-with 0 26 2 (0 ∷ []) ∷ owned-with 2 20 1 (4 ∷ 3 ∷ 2 ∷ 1 ∷ 0 ∷ 65 ∷ 66 ∷ []) ∷ unused-with [] ∷ owned-with 2 20 31 [] ∷ [];
+      after = owned-with 1 20 1 (4 ∷ 3 ∷ 2 ∷ 1 ∷ []) ∷ owned-with 0 26 2 (0 ∷ []) ∷ owned-with 2 20 1 (4 ∷ 3 ∷ 2 ∷ 1 ∷ 0 ∷ 65 ∷ 66 ∷ []) ∷ unused-with []
+          ∷ owned-with 2 20 31 [] ∷ [];
     }
 
 -- a superblock above 15, whose addresses are above 65535: N = 18, and superblock 17 is heap 2's only one
@@ -203,17 +216,25 @@ abbrev pub eighteen-superblocks : SuperblockAndPlaces → List SuperblockAndPlac
 eighteen-superblocks h = replicate 17 (unused-with []) ++ h ∷ []
 
 abbrev pub from-superblock-17 : CallCase
-from-superblock-17 = record { before = eighteen-superblocks (owned-with 2 21 5 (1 ∷ 3 ∷ [])); call = Take 2 896; outcome = Address 72320; after = eighteen-superblocks (owned-with 2 21 13 (1 ∷ 3 ∷ [])) }
+from-superblock-17 = record {
+  before = eighteen-superblocks (owned-with 2 21 5 (1 ∷ 3 ∷ []));
+  call = Take 2 896;
+  outcome = Address 72320;
+  after =
+      eighteen-superblocks (owned-with 2 21 13 (1 ∷ 3 ∷ []));
+}
 
 -- ---- frees. Processor 1 frees block 2 of heap 2's superblock 3: it goes in place 2, and the superblock stays heap 2's. It was not
 -- ranked and goes to the front
 abbrev pub freed-for-owner : CallCase
 freed-for-owner =
     record {
-      before = ranked-with 1 26 3 1 [] ∷ unused-with [] ∷ owned-with 2 26 1 (1 ∷ []) ∷ owned-with 2 20 13 (4 ∷ 1 ∷ 88 ∷ 89 ∷ []) ∷ ranked-with 1 20 7 2 (3 ∷ 4 ∷ []) ∷ [];
+      before = ranked-with 1 26 3 1 [] ∷ unused-with [] ∷ owned-with 2 26 1 (1 ∷ []) ∷ owned-with 2 20 13 (4 ∷ 1 ∷ 88 ∷ 89 ∷ [])
+          ∷ ranked-with 1 20 7 2 (3 ∷ 4 ∷ []) ∷ [];
       call = Free 1 13824;
       outcome = Moves 0;
-      after = ranked-with 1 26 3 2 [] ∷ unused-with [] ∷ owned-with 2 26 1 (1 ∷ []) ∷ ranked-with 2 20 9 1 (4 ∷ 1 ∷ 2 ∷ 89 ∷ []) ∷ ranked-with 1 20 7 3 (3 ∷ 4 ∷ []) ∷ [];
+      after = ranked-with 1 26 3 2 [] ∷ unused-with [] ∷ owned-with 2 26 1 (1 ∷ []) ∷ ranked-with 2 20 9 1 (4 ∷ 1 ∷ 2 ∷ 89 ∷ [])
+          ∷ ranked-with 1 20 7 3 (3 ∷ 4 ∷ []) ∷ [];
     }
 
 -- heap 2 with 1, 2, 1, 1, 1 live: once block 0 of superblock 1 is freed, u + K × n < a and q × u < (q - p) × a as 5 + 2 < 10 and 35 < 40, then
@@ -222,13 +243,16 @@ freed-for-owner =
 abbrev pub three-moves : CallCase
 three-moves =
     record {
-      before = ranked-with 2 26 2 2 (0 ∷ []) ∷ ranked-with 2 26 3 3 (55 ∷ 56 ∷ []) ∷ owned-with 2 26 1 (1 ∷ []) ∷ ranked-with 2 26 2 4 (0 ∷ []) ∷ ranked-with 2 26 1 1 (1 ∷ []) ∷ [];
+      before = ranked-with 2 26 2 2 (0 ∷ []) ∷ ranked-with 2 26 3 3 (55 ∷ 56 ∷ []) ∷ owned-with 2 26 1 (1 ∷ []) ∷ ranked-with 2 26 2 4 (0 ∷ [])
+          ∷ ranked-with 2 26 1 1 (1 ∷ []) ∷ [];
       call = Free 1 4096;
       outcome = Moves 3;
-      after = ranked-with 0 26 2 3 (0 ∷ []) ∷ ranked-with 0 26 2 1 (0 ∷ 56 ∷ []) ∷ owned-with 0 26 1 (1 ∷ []) ∷ ranked-with 2 26 2 4 (0 ∷ []) ∷ ranked-with 2 26 1 2 (1 ∷ []) ∷ [];
+      after = ranked-with 0 26 2 3 (0 ∷ []) ∷ ranked-with 0 26 2 1 (0 ∷ 56 ∷ []) ∷ owned-with 0 26 1 (1 ∷ []) ∷ ranked-with 2 26 2 4 (0 ∷ [])
+          ∷ ranked-with 2 26 1 2 (1 ∷ []) ∷ [];
     }
 
--- "If the owner is heap 0 the call ends", though its superblocks would meet both conditions, and whatever heap the processor has. The superblock is ranked there too
+-- "If the owner is heap 0 the call ends", though its superblocks would meet both conditions, and whatever heap the processor has. The superblock is
+-- ranked there too
 abbrev pub freed-in-heap-0 : CallCase
 freed-in-heap-0 =
     record {
@@ -239,12 +263,19 @@ freed-in-heap-0 =
     }
 
 abbrev pub freed-in-superblock-17 : CallCase
-freed-in-superblock-17 = record { before = eighteen-superblocks (owned-with 2 21 13 (1 ∷ 58 ∷ [])); call = Free 1 72320; outcome = Moves 0; after = eighteen-superblocks (ranked-with 2 21 5 1 (1 ∷ 3 ∷ [])) }
+freed-in-superblock-17 = record {
+  before = eighteen-superblocks (owned-with 2 21 13 (1 ∷ 58 ∷ []));
+  call = Free 1 72320;
+  outcome = Moves 0;
+  after =
+      eighteen-superblocks (ranked-with 2 21 5 1 (1 ∷ 3 ∷ []));
+}
 
--- ---- refused calls, each with the earlier of two refusals that it meets. Nothing is offered for class 26: heap 1's and heap 0's are full or of another class, and
--- superblocks from N on are none of the places'
+-- ---- refused calls, each with the earlier of two refusals that it meets. Nothing is offered for class 26: heap 1's and heap 0's are full or of
+-- another class, and superblocks from N on are none of the places'
 abbrev pub nothing-offered : List SuperblockAndPlaces
-nothing-offered = owned-with 2 26 1 (1 ∷ []) ∷ ranked-with 1 26 3 2 [] ∷ ranked-with 0 25 1 1 (1 ∷ []) ∷ owned-with 1 25 0 (1 ∷ 0 ∷ []) ∷ owned-with 2 24 0 (0 ∷ 1 ∷ []) ∷ []
+nothing-offered = owned-with 2 26 1 (1 ∷ []) ∷ ranked-with 1 26 3 2 [] ∷ ranked-with 0 25 1 1 (1 ∷ []) ∷ owned-with 1 25 0 (1 ∷ 0 ∷ [])
+    ∷ owned-with 2 24 0 (0 ∷ 1 ∷ []) ∷ []
 
 abbrev pub refused-case : Call → ℕ → CallCase
 refused-case call r = record { before = nothing-offered; call = call; outcome = Refused r; after = nothing-offered }
@@ -252,7 +283,8 @@ refused-case call r = record { before = nothing-offered; call = call; outcome = 
 -- 2 before 3, which no size of 16 bits meets, and before 17; 17, not 4, of the long sizes, where no run is; then 4, of size 0 too
 abbrev pub refused-takes : List CallCase
 refused-takes =
-    refused-case (Take 3 65536) 2 ∷ refused-case (Take 1 65536) 3 ∷ refused-case (Take 3 2049) 2 ∷ refused-case (Take 1 2049) 17 ∷ refused-case (Take 1 65535) 17 ∷ refused-case (Take 1 2048) 4
+    refused-case (Take 3 65536) 2 ∷ refused-case (Take 1 65536) 3 ∷ refused-case (Take 3 2049) 2 ∷ refused-case (Take 1 2049) 17
+    ∷ refused-case (Take 1 65535) 17 ∷ refused-case (Take 1 2048) 4
     ∷ refused-case (Take 1 0) 4 ∷ []
 
 -- 2 before 5; 5 before 6, where superblock 5 is unused; 6 before 7, where 1 is misaligned and no block starts there; 7 of block 1 of superblock 0
@@ -265,7 +297,8 @@ before-passes r = usedPartPasses (state-before r) (order-before r)
 
 abbrev pub whole-takes : List CallCase
 whole-takes =
-    from-place-1 ∷ last-freed-into-from-place-1 ∷ from-own-heap ∷ empty-from-place-1 ∷ from-place-2 ∷ last-freed-into-from-place-2 ∷ empty-from-place-2 ∷ from-place-3 ∷ from-place-4 ∷ from-superblock-17
+    from-place-1 ∷ last-freed-into-from-place-1 ∷ from-own-heap ∷ empty-from-place-1 ∷ from-place-2 ∷ last-freed-into-from-place-2 ∷ empty-from-place-2
+    ∷ from-place-3 ∷ from-place-4 ∷ from-superblock-17
     ∷ refused-takes
 
 takes-pass : map before-passes whole-takes ≡ map (λ (r : CallCase). true) whole-takes

@@ -16,7 +16,8 @@ use Rattle.call_rules.specs.Drop.{allFreed, allPushed}
 use Rattle.call_drop.specs.DropSteps.{FreesSafe}
 
 -- ---- the frees at one address more
-pub all-freed-at-next : (s : State) (addresses : List ℕ) (i : ℕ) → i < length addresses → allFreed s (take (suc i) addresses) ≡ blockFreed (allFreed s (take i addresses)) (getD addresses i 0)
+pub all-freed-at-next : (s : State) (addresses : List ℕ) (i : ℕ) → i < length addresses → allFreed s (take (suc i) addresses)
+    ≡ blockFreed (allFreed s (take i addresses)) (getD addresses i 0)
 unfolding allFreed
 all-freed-at-next s [] i l = absurd (not-suc-le-zero l)
 all-freed-at-next s (a ∷ addresses) zero l = refl
@@ -48,18 +49,22 @@ unfolding allFreed allPushed
 no-frees-made s order addresses = record { freed-are = refl; pushed-are = refl }
 
 module _ (s t : State) (order addresses pushed : List ℕ) (i : ℕ) (made : FreesMade s order addresses i t pushed) where
-  pub free-can-be-made : FreesSafe s addresses → i < length addresses → (superblockIndex (getD addresses i 0) < 64) × (superblockIndex (getD addresses i 0) + superblockHolding t (getD addresses i 0) .run ≤ 64) × TotalsKept t × RanksFit t
+  pub free-can-be-made : FreesSafe s addresses → i < length addresses → (superblockIndex (getD addresses i 0) < 64)
+      × (superblockIndex (getD addresses i 0) + superblockHolding t (getD addresses i 0) .run ≤ 64) × TotalsKept t × RanksFit t
   free-can-be-made safe l =
       let at = safe i l in (
         at .in-table,
-        subst (λ (x : State). superblockIndex (getD addresses i 0) + superblockHolding x (getD addresses i 0) .run ≤ 64) (sym (made .freed-are)) (at .run-in-table),
+        subst (λ (x : State). superblockIndex (getD addresses i 0) + superblockHolding x (getD addresses i 0) .run ≤ 64) (sym (made .freed-are))
+            (at .run-in-table),
         subst TotalsKept (sym (made .freed-are)) (at .totals),
         subst RanksFit (sym (made .freed-are)) (at .ranks),
       )
 
-  pub free-made : (next : State) (new : List ℕ) → i < length addresses → new ≡ orderPushed t pushed (getD addresses i 0) → next ≡ blockFreed t (getD addresses i 0) → FreesMade s order addresses (i + 1) next new
+  pub free-made : (next : State) (new : List ℕ) → i < length addresses → new ≡ orderPushed t pushed (getD addresses i 0)
+      → next ≡ blockFreed t (getD addresses i 0) → FreesMade s order addresses (i + 1) next new
   free-made next new l en et = record {
-    freed-are = et ∙ ap (λ (x : State). blockFreed x (getD addresses i 0)) (made .freed-are) ∙ sym (all-freed-at-next s addresses i l) ∙ ap (λ (n : ℕ). allFreed s (take n addresses)) (sym (add-one i));
+    freed-are = et ∙ ap (λ (x : State). blockFreed x (getD addresses i 0)) (made .freed-are) ∙ sym (all-freed-at-next s addresses i l)
+        ∙ ap (λ (n : ℕ). allFreed s (take n addresses)) (sym (add-one i));
     pushed-are = rw (en, made .freed-are, made .pushed-are, add-one) (sym (all-pushed-at-next s order addresses i l));
   }
 

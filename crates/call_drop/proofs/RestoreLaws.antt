@@ -26,7 +26,8 @@ module _ (h c : ℕ) (before m : Moved) (can : CanMove before) (e : m ≡ invari
   pub moves-added-fit-w8 : Fits w8 (before .moves + m .moves)
   moves-added-fit-w8 = record { fits = rw e (omega (arith, can .moves-fit, moves-leave-heaps h c (before .state) (can .length-is))) }
 
-pub then-restored-by-steps : (h c : ℕ) (before m : Moved) (moves : ℕ) (next : State) → m ≡ invariantRestored h c (before .state) → moves ≡ before .moves + m .moves → next ≡ m .state
+pub then-restored-by-steps : (h c : ℕ) (before m : Moved) (moves : ℕ) (next : State) → m ≡ invariantRestored h c (before .state)
+    → moves ≡ before .moves + m .moves → next ≡ m .state
     → _≡_ {A = Moved} (record { moves = moves; state = next }) (thenRestored h c before)
 unfolding thenRestored
 then-restored-by-steps h c before m moves next e em en = rw (em, en, e)
@@ -53,13 +54,15 @@ module _ (touched : ℕ → ℕ → Bool) (h : ℕ) (before : Moved) where
   module _ (c : ℕ) (m : Moved) (so : ClassesRestored touched h before c m) where
     pub touched-class-restored : (next r : Moved) → touched h c ≡ true → r ≡ thenRestored h c m → next ≡ r → ClassesRestored touched h before (c + 1) next
     unfolding classesRestored
-    touched-class-restored next r t er e = rw (add-one, e, er) (record { restored-are = rw t (ap (thenRestored h c) (so .restored-are)); can-move = can-move-after-pair h c m (so .can-move) })
+    touched-class-restored next r t er e =
+        rw (add-one, e, er) (record { restored-are = rw t (ap (thenRestored h c) (so .restored-are)); can-move = can-move-after-pair h c m (so .can-move) })
 
     pub untouched-class-restored : (next : Moved) → touched h c ≡ false → next ≡ m → ClassesRestored touched h before (c + 1) next
     unfolding classesRestored
     untouched-class-restored next f e = rw (add-one, e) (record { restored-are = rw f (so .restored-are); can-move = so .can-move })
 
-  pub all-classes-restored : (m : Moved) (c : ℕ) → ClassesRestored touched h before c m → c ≤ classCount → classCount ≤ c → m ≡ classesRestored touched h classCount before
+  pub all-classes-restored : (m : Moved) (c : ℕ) → ClassesRestored touched h before c m → c ≤ classCount → classCount ≤ c
+      → m ≡ classesRestored touched h classCount before
   all-classes-restored m c so high low = so .restored-are ∙ ap (λ (n : ℕ). classesRestored touched h n before) (omega arith)
 
 -- ---- the heaps: those from 1 to below the heap have made theirs
@@ -69,9 +72,16 @@ pub record HeapsRestored (touched : ℕ → ℕ → Bool) (before : Moved) (h : 
   pub can-move : CanMove m
 
 module _ (touched : ℕ → ℕ → Bool) where
-  pub no-heap-restored : (s : State) → length (s .table) ≡ 64 → TotalsKept s → HeapsRestored touched (record { moves = 0; state = s }) 1 (record { moves = 0; state = s })
+  pub no-heap-restored : (s : State) → length (s .table) ≡ 64 → TotalsKept s → HeapsRestored touched (record { moves = 0; state = s }) 1
+      (record { moves = 0; state = s })
   unfolding heapsRestored
-  no-heap-restored s long kept = record { heap-low = le-refl 1; restored-are = refl; can-move = record { length-is = long; totals = kept; moves-fit = omega (arith, outside-global-le-64 s) } }
+  no-heap-restored s long kept =
+      record {
+        heap-low = le-refl 1;
+        restored-are = refl;
+        can-move =
+            record { length-is = long; totals = kept; moves-fit = omega (arith, outside-global-le-64 s) };
+      }
 
   module _ (before m : Moved) (h : ℕ) (so : HeapsRestored touched before h m) where
     pub heap-restored : (next : Moved) → next ≡ classesRestored touched h classCount m → HeapsRestored touched before (h + 1) next
@@ -79,7 +89,8 @@ module _ (touched : ℕ → ℕ → Bool) where
     heap-restored next e = record {
       heap-low = omega arith;
       restored-are =
-          e ∙ ap (classesRestored touched h classCount) (so .restored-are) ∙ ap (λ (n : ℕ). classesRestored touched n classCount (heapsRestored touched (h - 1) before)) (up (so .heap-low))
+          e ∙ ap (classesRestored touched h classCount) (so .restored-are)
+          ∙ ap (λ (n : ℕ). classesRestored touched n classCount (heapsRestored touched (h - 1) before)) (up (so .heap-low))
           ∙ ap (λ (n : ℕ). heapsRestored touched n before) (same (so .heap-low));
       can-move = rw e (classes-restored-keep CanMove can-move-after-pair touched h classCount m (so .can-move));
     }
@@ -95,15 +106,18 @@ module _ (touched : ℕ → ℕ → Bool) where
 
 -- ---- what is touched, told in another way
 module _ (touched told : ℕ → ℕ → Bool) where
-  classes-restored-cong : (h c : ℕ) (before : Moved) → ((d : ℕ) → d < c → told h d ≡ touched h d) → classesRestored told h c before ≡ classesRestored touched h c before
+  classes-restored-cong : (h c : ℕ) (before : Moved) → ((d : ℕ) → d < c → told h d ≡ touched h d) → classesRestored told h c before
+      ≡ classesRestored touched h c before
   unfolding classesRestored
   classes-restored-cong h zero before e = refl
   classes-restored-cong h (suc c) before e =
       ap (λ (b : Bool). pick b (thenRestored h c (classesRestored told h c before)) (classesRestored told h c before)) (e c (le-refl (suc c)))
       ∙ ap (λ (m : Moved). pick (touched h c) (thenRestored h c m) m) (classes-restored-cong h c before (λ d l. e d (omega arith)))
 
-  pub heaps-restored-cong : (n : ℕ) (before : Moved) → ((h c : ℕ) → h ≤ n → c < classCount → told h c ≡ touched h c) → heapsRestored told n before ≡ heapsRestored touched n before
+  pub heaps-restored-cong : (n : ℕ) (before : Moved) → ((h c : ℕ) → h ≤ n → c < classCount → told h c ≡ touched h c) → heapsRestored told n before
+      ≡ heapsRestored touched n before
   unfolding heapsRestored
   heaps-restored-cong zero before e = refl
   heaps-restored-cong (suc h) before e =
-      ap (classesRestored told (suc h) classCount) (heaps-restored-cong h before (λ i c l. e i c (omega arith))) ∙ classes-restored-cong (suc h) classCount (heapsRestored touched h before) (λ d l. e (suc h) d (le-refl (suc h)) l)
+      ap (classesRestored told (suc h) classCount) (heaps-restored-cong h before (λ i c l. e i c (omega arith)))
+      ∙ classes-restored-cong (suc h) classCount (heapsRestored touched h before) (λ d l. e (suc h) d (le-refl (suc h)) l)

@@ -41,7 +41,8 @@ unfolding isTouched
 is-touched-at-next s [] i h c l = absurd (not-suc-le-zero l)
 is-touched-at-next s (a ∷ addresses) zero h c l = either-false-right (belongs h c (superblockHolding s a))
 is-touched-at-next s (a ∷ addresses) (suc i) h c l =
-    ap (either (belongs h c (superblockHolding s a))) (is-touched-at-next s addresses i h c (le-of-suc-le-suc l)) ∙ either-assoc (belongs h c (superblockHolding s a)) (isTouched s (take i addresses) h c) _
+    ap (either (belongs h c (superblockHolding s a))) (is-touched-at-next s addresses i h c (le-of-suc-le-suc l))
+    ∙ either-assoc (belongs h c (superblockHolding s a)) (isTouched s (take i addresses) h c) _
 
 -- ---- the loop: the array tells the heaps and classes of the addresses below i
 pub record ToldBelow (touched : List Bool) (s : State) (addresses : List ℕ) (i : ℕ) : Type 0 where
@@ -64,11 +65,14 @@ not-belongs-elsewhere h c b n = go (ℕ-discrete (b .owner) h)
     go (no o) = not-belongs-of-other-owner h c b o
 
 module _ (s : State) (addresses : List ℕ) (i : ℕ) (safe : FreesSafe s addresses) (l : i < length addresses) where
-  module _ (owner class : ℕ) (eo : owner ≡ superblockAt s (getD addresses i 0 / 4096) .owner) (ec : class ≡ superblockAt s (getD addresses i 0 / 4096) .class) where
+  module _ (owner class : ℕ) (eo : owner ≡ superblockAt s (getD addresses i 0 / 4096) .owner)
+      (ec : class ≡ superblockAt s (getD addresses i 0 / 4096) .class) where
     module _ (of-heap : owner < heapCount) where
       -- it is of a heap, and so of no run
       pub class-in-array : class < classCount
-      class-in-array = rw ec (safe i l .of-heap-and-class (outside-run-of-owner (superblockHolding s (getD addresses i 0)) (λ (q : superblockHolding s (getD addresses i 0) .owner ≡ runOwner). omega (arith, eo))) .1)
+      class-in-array = rw ec (safe i l .of-heap-and-class
+          (outside-run-of-owner (superblockHolding s (getD addresses i 0))
+          (λ (q : superblockHolding s (getD addresses i 0) .owner ≡ runOwner). omega (arith, eo))) .1)
 
       pub pair-in-array : owner * classCount + class < totalCount
       pair-in-array = let c = class-in-array in omega arith
@@ -77,11 +81,17 @@ module _ (s : State) (addresses : List ℕ) (i : ℕ) (safe : FreesSafe s addres
     pub told-past-run : heapCount ≤ owner → (touched : List Bool) → ToldBelow touched s addresses i → ToldBelow touched s addresses (i + 1)
     told-past-run high touched told = record {
       length-is = told .length-is;
-      tells = λ h c lh lc. rw (add-one, is-touched-at-next s addresses i h c l, not-belongs-of-other-owner h c (superblockHolding s (getD addresses i 0)) (λ (q : superblockHolding s (getD addresses i 0) .owner ≡ h). omega (arith, eo)))
+      tells = λ h c lh lc. rw (
+        add-one,
+        is-touched-at-next s addresses i h c l,
+        not-belongs-of-other-owner h c (superblockHolding s (getD addresses i 0))
+            (λ (q : superblockHolding s (getD addresses i 0) .owner ≡ h). omega (arith, eo)),
+      )
           (told .tells h c lh lc ∙ sym (either-false-right (isTouched s (take i addresses) h c)));
     }
 
-    pub told-at-next : owner < heapCount → (touched : List Bool) → ToldBelow touched s addresses i → ToldBelow (set touched (owner * classCount + class) true) s addresses (i + 1)
+    pub told-at-next : owner < heapCount → (touched : List Bool) → ToldBelow touched s addresses i
+        → ToldBelow (set touched (owner * classCount + class) true) s addresses (i + 1)
     told-at-next of-heap touched told = record {
       length-is = length-set touched (owner * classCount + class) true ∙ told .length-is;
       tells = λ h c lh lc. rw (add-one, is-touched-at-next s addresses i h c l) (go h c lh lc (ℕ-discrete (h * classCount + c) (owner * classCount + class)));
@@ -90,13 +100,22 @@ module _ (s : State) (addresses : List ℕ) (i : ℕ) (safe : FreesSafe s addres
         b : Superblock
         b = superblockHolding s (getD addresses i 0)
 
-        go : (h c : ℕ) → h < heapCount → c < classCount → Dec (h * classCount + c ≡ owner * classCount + class) → touchedIn (set touched (owner * classCount + class) true) h c ≡ either (isTouched s (take i addresses) h c) (belongs h c b)
+        go : (h c : ℕ) → h < heapCount → c < classCount → Dec (h * classCount + c ≡ owner * classCount + class)
+            → touchedIn (set touched (owner * classCount + class) true) h c ≡ either (isTouched s (take i addresses) h c) (belongs h c b)
         go h c lh lc (yes e) =
             let at = same-pair h c owner class lc (class-in-array of-heap) e in
-            rw (e, getD-set-same touched (owner * classCount + class) true false (omega (arith, pair-in-array of-heap, told .length-is)), belongs-true h c b (sym (at .0 ∙ eo)) (sym (at .1 ∙ ec))) (sym (either-true-right (isTouched s (take i addresses) h c)))
+            rw (
+              e,
+              getD-set-same touched (owner * classCount + class) true false (omega (arith, pair-in-array of-heap, told .length-is)),
+              belongs-true h c b (sym (at .0 ∙ eo)) (sym (at .1 ∙ ec)),
+            ) (sym (either-true-right (isTouched s (take i addresses) h c)))
         go h c lh lc (no f) =
-            rw (getD-set-other touched (owner * classCount + class) (h * classCount + c) true false f, not-belongs-elsewhere h c b (λ e. f (e ∙ ap₂ (λ (x y : ℕ). x * classCount + y) (sym eo) (sym ec))))
+            rw (
+              getD-set-other touched (owner * classCount + class) (h * classCount + c) true false f,
+              not-belongs-elsewhere h c b (λ e. f (e ∙ ap₂ (λ (x y : ℕ). x * classCount + y) (sym eo) (sym ec))),
+            )
             (told .tells h c lh lc ∙ sym (either-false-right (isTouched s (take i addresses) h c)))
 
-pub told-at-end : (touched : List Bool) (s : State) (addresses : List ℕ) (i : ℕ) → ToldBelow touched s addresses i → length addresses ≤ i → TellsTouched touched s addresses
+pub told-at-end : (touched : List Bool) (s : State) (addresses : List ℕ) (i : ℕ) → ToldBelow touched s addresses i → length addresses ≤ i
+    → TellsTouched touched s addresses
 told-at-end touched s addresses i told end h c lh lc = told .tells h c lh lc ∙ ap (λ (l : List ℕ). isTouched s l h c) (take-all i addresses end)

@@ -16,8 +16,8 @@ use Rattle.heap_rules.specs.Ranks.{RanksFit}
 use Rattle.call_rules.specs.Free.{superblockIndex, superblockHolding, isInRun}
 use Rattle.call_rules.specs.Drop.{allFreed, isTouched}
 
--- the free at address i can be made after those before it: the address lies in the table, in a superblock of a heap and class or in a run, which lies in the table
--- whole, and the frees before have kept the totals and the ranks
+-- the free at address i can be made after those before it: the address lies in the table, in a superblock of a heap and class or in a run, which lies
+-- in the table whole, and the frees before have kept the totals and the ranks
 pub record FreeSafe (s : State) (addresses : List ℕ) (i : ℕ) : Type 0 where
   pub in-table : superblockIndex (getD addresses i 0) < tableLength
   pub of-heap-and-class : isInRun s (getD addresses i 0) ≡ false

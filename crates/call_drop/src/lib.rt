@@ -26,7 +26,8 @@ use refusal_rules::NO_SUCH_PROCESSOR;
 pub fn drop(s: State, order: &mut [u16], processor: u8, addresses: &[u32]) -> Answer
     requires { ⌜ passes s (now order) ≡ true ⌝ }
     ensures { λ r. ⌜ record { answer = r; order = now (order .exit) } ≡ dropUnchecked s (now (order .entry)) processor (now (addresses .entry)) ⌝ }
-    ensures number_and_values { λ r. ⌜ HasNumberAndValuesOf (r .outcome) (dropUnchecked s (now (order .entry)) processor (now (addresses .entry)) .answer .outcome) ⌝ }
+    ensures number_and_values { λ r.
+        ⌜ HasNumberAndValuesOf (r .outcome) (dropUnchecked s (now (order .entry)) processor (now (addresses .entry)) .answer .outcome) ⌝ }
 {
     if !call_states::is_processor(s, processor) {
         return call_outcomes::refuse(s, NO_SUCH_PROCESSOR);

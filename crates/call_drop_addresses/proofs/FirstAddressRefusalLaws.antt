@@ -22,14 +22,16 @@ use Rattle.heap_rules.specs.Ranks.{rankAfterFree, rankedLatest}
 use Rattle.heap_laws.proofs.CountLaws.{superblock-at-replaced, superblock-at-others}
 use Rattle.heap_laws.proofs.RerankedLaws.{superblock-keeps-all-but-rank}
 use Rattle.call_rules.specs.LongBlocks.{eachOfRun, madeUnused, runFreed}
-use Rattle.call_rules.specs.Free.{superblockIndex, superblockHolding, blockOf, isUnmapped, isInRun, isRunStart, isOffBlock, isMisaligned, isLiveAt, addressRefusal, markCleared, smallBlockFreed, longBlockFreed, blockFreed}
+use Rattle.call_rules.specs.Free.{superblockIndex, superblockHolding, blockOf, isUnmapped, isInRun, isRunStart, isOffBlock, isMisaligned, isLiveAt}
+use Rattle.call_rules.specs.Free.{addressRefusal, markCleared, smallBlockFreed, longBlockFreed, blockFreed}
 use Rattle.call_rules.specs.Drop.{allFreed, firstAddressRefusal}
 use Rattle.block_refusal.specs.Holding.{ToldByCountAndSuperblock}
 use Rattle.block_refusal.proofs.AddressTestLaws.{address-refusal-past-table}
 use Rattle.call_drop_addresses.specs.TestedTable.{RunsFit, tableWithoutRun}
 
 -- ---- the frees at one address more
-pub all-freed-at-next : (s : State) (addresses : List ℕ) (i : ℕ) → i < length addresses → allFreed s (take (suc i) addresses) ≡ blockFreed (allFreed s (take i addresses)) (getD addresses i 0)
+pub all-freed-at-next : (s : State) (addresses : List ℕ) (i : ℕ) → i < length addresses → allFreed s (take (suc i) addresses)
+    ≡ blockFreed (allFreed s (take i addresses)) (getD addresses i 0)
 unfolding allFreed
 all-freed-at-next s [] i l = absurd (not-suc-le-zero l)
 all-freed-at-next s (a ∷ addresses) zero l = refl
@@ -66,9 +68,16 @@ module _ (t u : State) (same : SameBlocks t u) where
     each = λ k. go k (ℕ-discrete k (a / 4096));
   }
     where
-      go : (k : ℕ) → Dec (k ≡ a / 4096) → superblockAt (markCleared t a) k ≡ withRank (superblockAt (markCleared t a) k .rank) (superblockAt (markCleared u a) k)
+      go : (k : ℕ) → Dec (k ≡ a / 4096) → superblockAt (markCleared t a) k ≡ withRank (superblockAt (markCleared t a) k .rank)
+          (superblockAt (markCleared u a) k)
       go k (yes e) =
-          rw (e, superblock-at-replaced t (a / 4096) (clearedIn t a) (same .first-length) l, superblock-at-replaced u (a / 4096) (clearedIn u a) (same .second-length) l, ← same-block a)
+          rw (
+            e,
+            superblock-at-replaced t (a / 4096) (clearedIn t a) (same .first-length) l,
+            superblock-at-replaced u (a / 4096) (clearedIn u a)
+                (same .second-length) l,
+            ← same-block a,
+          )
           (ap (λ (x : Superblock). withoutMarkAt x (blockOf t a)) (same .each (a / 4096)))
       go k (no f) = rw (superblock-at-others t (a / 4096) (clearedIn t a) k f, superblock-at-others u (a / 4096) (clearedIn u a) k f) (same .each k)
 
@@ -79,7 +88,8 @@ module _ (t u : State) (same : SameBlocks t u) where
     setup-is = same .setup-is;
     first-length = same .first-length;
     second-length = length-listed (λ m. withRank (rankAfterFree k (u .table) m) (superblockAt u m)) 64;
-    each = λ m. same .each m ∙ ap (λ (x : Superblock). withRank (superblockAt t m .rank) x) (sym (superblock-keeps-all-but-rank (rankAfterFree k (u .table)) u (same .second-length) m));
+    each = λ m. same .each m ∙ ap (λ (x : Superblock). withRank (superblockAt t m .rank) x)
+        (sym (superblock-keeps-all-but-rank (rankAfterFree k (u .table)) u (same .second-length) m));
   }
 
   -- a superblock made unused in both
@@ -100,7 +110,8 @@ module _ (t u : State) (same : SameBlocks t u) where
 same-of-run-freed : (t u : State) → SameBlocks t u → (k n : ℕ) → k + n ≤ 64 → SameBlocks (runFreed k n t) (runFreed k n u)
 unfolding runFreed eachOfRun
 same-of-run-freed t u same k zero l = same
-same-of-run-freed t u same k (suc n) l = same-of-made-unused (runFreed k n t) (runFreed k n u) (same-of-run-freed t u same k n (omega arith)) (k + n) (omega arith)
+same-of-run-freed t u same k (suc n) l = same-of-made-unused (runFreed k n t) (runFreed k n u) (same-of-run-freed t u same k n (omega arith)) (k + n)
+    (omega arith)
 
 -- names have no part in it
 same-of-names : (t u : State) (names : List ℕ) → SameBlocks t u → SameBlocks t (withNames u names)
@@ -115,14 +126,17 @@ module _ (t u : State) (same : SameBlocks t u) (a : ℕ) where
   pub same-of-block-freed : isInRun t a ≡ false → superblockIndex a < 64 → SameBlocks (markCleared t a) (blockFreed u a)
   unfolding blockFreed smallBlockFreed
   same-of-block-freed outside l =
-      rw (same-in-run, outside) (same-of-names (markCleared t a) (markCleared (rankedLatest (superblockIndex a) u) a) _ (same-of-marks-cleared t (rankedLatest (superblockIndex a) u) (same-of-ranked-latest t u same (superblockIndex a)) a l))
+      rw (same-in-run, outside) (same-of-names (markCleared t a) (markCleared (rankedLatest (superblockIndex a) u) a) _
+      (same-of-marks-cleared t (rankedLatest (superblockIndex a) u) (same-of-ranked-latest t u same (superblockIndex a)) a l))
 
   -- or its run
-  pub same-of-long-freed : isInRun t a ≡ true → superblockIndex a + superblockHolding t a .run ≤ 64 → SameBlocks (runFreed (superblockIndex a) (superblockHolding t a .run) t) (blockFreed u a)
+  pub same-of-long-freed : isInRun t a ≡ true → superblockIndex a + superblockHolding t a .run ≤ 64
+      → SameBlocks (runFreed (superblockIndex a) (superblockHolding t a .run) t) (blockFreed u a)
   unfolding blockFreed longBlockFreed
   same-of-long-freed inside l =
       let same-run : superblockHolding u a .run ≡ superblockHolding t a .run = sym (ap (λ (b : Superblock). b .run) (same .each (a / 4096))) in
-      rw (same-in-run, inside, same-run) (same-of-names _ (runFreed (superblockIndex a) (superblockHolding t a .run) u) _ (same-of-run-freed t u same (superblockIndex a) (superblockHolding t a .run) l))
+      rw (same-in-run, inside, same-run) (same-of-names _ (runFreed (superblockIndex a) (superblockHolding t a .run) u) _
+      (same-of-run-freed t u same (superblockIndex a) (superblockHolding t a .run) l))
 
 -- ---- the refusals at the addresses from i on
 module _ (u : State) (addresses : List ℕ) (i : ℕ) (l : i < length addresses) where
@@ -130,7 +144,8 @@ module _ (u : State) (addresses : List ℕ) (i : ℕ) (l : i < length addresses)
   unfolding firstAddressRefusal
   first-refusal-at-bad n = rw (drop-cons addresses i 0 l, ne-eqb (addressRefusal u (getD addresses i 0)) 0 n)
 
-  first-refusal-past-good : addressRefusal u (getD addresses i 0) ≡ 0 → firstAddressRefusal u (drop i addresses) ≡ firstAddressRefusal (blockFreed u (getD addresses i 0)) (drop (suc i) addresses)
+  first-refusal-past-good : addressRefusal u (getD addresses i 0) ≡ 0 → firstAddressRefusal u (drop i addresses) ≡ firstAddressRefusal
+      (blockFreed u (getD addresses i 0)) (drop (suc i) addresses)
   unfolding firstAddressRefusal
   first-refusal-past-good e = rw (drop-cons addresses i 0 l, e)
 
@@ -162,7 +177,8 @@ runs-fit-without-run : (t : List Superblock) (k n : ℕ) → length t ≡ 64 →
 unfolding tableWithoutRun
 runs-fit-without-run t k zero long l fit = fit
 runs-fit-without-run t k (suc n) long l fit =
-    runs-fit-of-replaced (tableWithoutRun k n t) (k + n) unused (length-without-run k n t ∙ long) (omega arith) (omega arith) (runs-fit-without-run t k n long (omega arith) fit)
+    runs-fit-of-replaced (tableWithoutRun k n t) (k + n) unused (length-without-run k n t ∙ long) (omega arith) (omega arith)
+    (runs-fit-without-run t k n long (omega arith) fit)
 
 -- one superblock of the run after another
 module _ (table : List Superblock) (k : ℕ) where
@@ -179,7 +195,8 @@ module _ (table : List Superblock) (k : ℕ) where
 
 -- a superblock with a mark cleared, as the code makes it
 pub without-mark-by-steps : (b : Superblock) (a block : ℕ) (freed : List ℕ) → block ≡ a % 4096 / sizeOf (b .class) → freed ≡ withoutMark (b .live) block
-    → _≡_ {A = Superblock} (record { owner = b .owner; class = b .class; live = freed; rank = b .rank; run = b .run }) (withoutMarkAt b (a % 4096 / sizeOf (b .class)))
+    → _≡_ {A = Superblock} (record { owner = b .owner; class = b .class; live = freed; rank = b .rank; run = b .run })
+    (withoutMarkAt b (a % 4096 / sizeOf (b .class)))
 without-mark-by-steps b a block freed eb ef = rw (ef, eb)
 
 -- ---- the loop: the addresses below i meet no refusal, and t is the table without their marks and runs
@@ -190,7 +207,8 @@ pub record NoneRefused (s : State) (addresses : List ℕ) (i : ℕ) (t : List Su
 
 pub none-refused-yet : (s : State) (addresses : List ℕ) → length (s .table) ≡ 64 → RunsFit (s .table) → NoneRefused s addresses 0 (s .table)
 unfolding allFreed
-none-refused-yet s addresses long fit = record { refusal-left = refl; same = record { setup-is = refl; first-length = long; second-length = long; each = λ k. refl }; fit = fit }
+none-refused-yet s addresses long fit =
+    record { refusal-left = refl; same = record { setup-is = refl; first-length = long; second-length = long; each = λ k. refl }; fit = fit }
 
 module _ (s : State) (t : List Superblock) (addresses : List ℕ) (i : ℕ) (so : NoneRefused s addresses i t) where
   module _ (l : i < length addresses) where
@@ -209,16 +227,20 @@ module _ (s : State) (t : List Superblock) (addresses : List ℕ) (i : ℕ) (so 
     pub past-table-refused : s .setup .superblocks ≤ 64 → 64 ≤ getD addresses i 0 / 4096 → 5 ≡ firstAddressRefusal s addresses
     past-table-refused high h = refused-of-bad 5 (address-refusal-past-table (withTable s t) a high h) (λ z. omega arith)
 
-    module _ (bad : ℕ) (e : ToldByCountAndSuperblock bad addressRefusal (s .setup .superblocks) (getD t (getD addresses i 0 / 4096) blank) (getD addresses i 0)) where
+    module _ (bad : ℕ) (e : ToldByCountAndSuperblock bad addressRefusal (s .setup .superblocks) (getD t (getD addresses i 0 / 4096) blank)
+        (getD addresses i 0)) where
       pub first-bad-refused : (bad ≡ 0 → ⊥) → bad ≡ firstAddressRefusal s addresses
       first-bad-refused = refused-of-bad bad (e (withTable s t) refl refl)
 
       -- the block is freed, and what it leaves of the table told
-      one-more-passed : bad ≡ 0 → (next : List Superblock) → SameBlocks (withTable s next) (blockFreed (allFreed s (take i addresses)) a) → RunsFit next → NoneRefused s addresses (i + 1) next
+      one-more-passed : bad ≡ 0 → (next : List Superblock) → SameBlocks (withTable s next) (blockFreed (allFreed s (take i addresses)) a) → RunsFit next
+          → NoneRefused s addresses (i + 1) next
       one-more-passed z next same fit =
-          let none : addressRefusal (allFreed s (take i addresses)) a ≡ 0 = sym (e (withTable s t) refl refl ∙ same-refusal (withTable s t) (allFreed s (take i addresses)) (so .same) a) ∙ z in
+          let none : addressRefusal (allFreed s (take i addresses)) a ≡ 0 =
+          sym (e (withTable s t) refl refl ∙ same-refusal (withTable s t) (allFreed s (take i addresses)) (so .same) a) ∙ z in
           rw add-one (record {
-            refusal-left = rw (all-freed-at-next s addresses i l) (sym (first-refusal-past-good (allFreed s (take i addresses)) addresses i l none) ∙ so .refusal-left);
+            refusal-left = rw (all-freed-at-next s addresses i l) (sym (first-refusal-past-good (allFreed s (take i addresses)) addresses i l none)
+                ∙ so .refusal-left);
             same = rw (all-freed-at-next s addresses i l) same;
             fit = fit;
           })
@@ -228,16 +250,19 @@ module _ (s : State) (t : List Superblock) (addresses : List ℕ) (i : ℕ) (so 
         run-of-address-fits = so .fit (a / 4096) below
 
         pub none-refused-past-run : getD t (getD addresses i 0 / 4096) blank .owner ≡ runOwner → (next without : List Superblock)
-            → without ≡ tableWithoutRun (getD addresses i 0 / 4096) (getD t (getD addresses i 0 / 4096) blank .run) t → next ≡ without → NoneRefused s addresses (i + 1) next
+            → without ≡ tableWithoutRun (getD addresses i 0 / 4096) (getD t (getD addresses i 0 / 4096) blank .run) t → next ≡ without
+            → NoneRefused s addresses (i + 1) next
         unfolding isOfRun
         none-refused-past-run o next without ew en =
             rw (en, ew)
             (one-more-passed z _
-            (rw (← run-freed-of-table s t (a / 4096) (b .run)) (same-of-long-freed (withTable s t) (allFreed s (take i addresses)) (so .same) a (eq-eqb (b .owner) runOwner o) run-of-address-fits))
+            (rw (← run-freed-of-table s t (a / 4096) (b .run)) (same-of-long-freed (withTable s t) (allFreed s (take i addresses)) (so .same) a
+            (eq-eqb (b .owner) runOwner o) run-of-address-fits))
             (runs-fit-without-run t (a / 4096) (b .run) (so .same .first-length) run-of-address-fits (so .fit)))
 
         pub none-refused-past-block : (getD t (getD addresses i 0 / 4096) blank .owner ≡ runOwner → ⊥) → (next : List Superblock) (now : Superblock)
-            → now ≡ withoutMarkAt (getD t (getD addresses i 0 / 4096) blank) (getD addresses i 0 % 4096 / sizeOf (getD t (getD addresses i 0 / 4096) blank .class))
+            → now ≡ withoutMarkAt (getD t (getD addresses i 0 / 4096) blank)
+            (getD addresses i 0 % 4096 / sizeOf (getD t (getD addresses i 0 / 4096) blank .class))
             → next ≡ set t (getD addresses i 0 / 4096) now → NoneRefused s addresses (i + 1) next
         unfolding isOfRun markCleared blockOf
         none-refused-past-block f next now ew en =

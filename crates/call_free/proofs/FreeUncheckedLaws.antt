@@ -23,7 +23,8 @@ use Rattle.heap_laws.proofs.RankLaws.{ranks-fit-of-passes}
 use Rattle.call_rules.specs.declared.Answer.{Answer}
 use Rattle.call_rules.specs.declared.Outcome.the-variants.{Moves, Refused}
 use Rattle.call_rules.specs.Answers.{After, HasNumberAndValuesOf, isProcessor}
-use Rattle.call_rules.specs.Free.{superblockIndex, superblockHolding, isUnmapped, isInRun, addressRefusal, orderPushed, blockFreed, smallFreedAt, longFreedAt, freedAt, freeUnchecked}
+use Rattle.call_rules.specs.Free.{superblockIndex, superblockHolding, isUnmapped, isInRun, addressRefusal, orderPushed, blockFreed, smallFreedAt}
+use Rattle.call_rules.specs.Free.{longFreedAt, freedAt, freeUnchecked}
 use Rattle.call_laws.proofs.AddressLaws.{mapped-below-64, mapped-is-owned}
 use Rattle.call_laws.proofs.AllFreedLaws.{run-fits}
 use Rattle.call_laws.proofs.AddressFreedLaws.{block-freed-outside-run, block-freed-in-run, order-pushed-outside-run, order-pushed-in-run}
@@ -36,7 +37,8 @@ answerAndOrder r order = record { answer = r; order = order }
 
 -- ---- the two clauses of the contract, from the equation
 module _ (s : State) (order : List ℕ) (i n : ℕ) {r : Answer} {out : List ℕ} where
-  pub free-unchecked-clauses : answerAndOrder r out ≡ freeUnchecked s order i n → (answerAndOrder r out ≡ freeUnchecked s order i n) × HasNumberAndValuesOf (r .outcome) (freeUnchecked s order i n .answer .outcome)
+  pub free-unchecked-clauses : answerAndOrder r out ≡ freeUnchecked s order i n → (answerAndOrder r out ≡ freeUnchecked s order i n)
+      × HasNumberAndValuesOf (r .outcome) (freeUnchecked s order i n .answer .outcome)
   free-unchecked-clauses e = (e, number-and-values-by-rules r out (freeUnchecked s order i n) e)
 
 -- ---- its ways out
@@ -46,8 +48,10 @@ module _ (s : State) (order : List ℕ) (i a : ℕ) (t : Bool) (p : t ≡ isProc
   free-unchecked-refused-2 r f h = refused-of-answer s order 2 r h ∙ sym (rw (← p, f))
 
   module _ (f : t ≡ true) (bad : ℕ) (g : bad ≡ addressRefusal s a) where
-    pub free-unchecked-refused-by-address : (r : Answer) → (bad ≡ 0 → ⊥) → r ≡ record { outcome = Refused bad; state = s } → answerAndOrder r order ≡ freeUnchecked s order i a
-    free-unchecked-refused-by-address r n h = refused-of-answer s order bad r h ∙ sym (free-unchecked-by-address-refusal s order i a ∙ rw (← p, f, ← g, ne-eqb bad 0 n))
+    pub free-unchecked-refused-by-address : (r : Answer) → (bad ≡ 0 → ⊥) → r ≡ record { outcome = Refused bad; state = s } → answerAndOrder r order
+        ≡ freeUnchecked s order i a
+    free-unchecked-refused-by-address r n h = refused-of-answer s order bad r h
+        ∙ sym (free-unchecked-by-address-refusal s order i a ∙ rw (← p, f, ← g, ne-eqb bad 0 n))
 
     pub free-unchecked-is-freed-at : (after : After) → bad ≡ 0 → after ≡ freedAt s order a → after ≡ freeUnchecked s order i a
     free-unchecked-is-freed-at after z h = h ∙ sym (free-unchecked-by-address-refusal s order i a ∙ rw (← p, f, ← g, z))
@@ -82,7 +86,8 @@ module _ (s : State) (order : List ℕ) (a : ℕ) (p : passes s order ≡ true) 
     )
 
 -- so, of its owner and class as the code reads them, where the owner is not that of a run
-module _ (s : State) (a owner : ℕ) (e : owner ≡ superblockAt s (a / 4096) .owner) (other : owner ≡ runOwner → ⊥) (of-heap : isInRun s a ≡ false → (superblockHolding s a .owner < heapCount) × (superblockHolding s a .class < classCount)) where
+module _ (s : State) (a owner : ℕ) (e : owner ≡ superblockAt s (a / 4096) .owner) (other : owner ≡ runOwner → ⊥)
+    (of-heap : isInRun s a ≡ false → (superblockHolding s a .owner < heapCount) × (superblockHolding s a .class < classCount)) where
   outside-run : isInRun s a ≡ false
   outside-run = outside-run-of-owner (superblockHolding s a) (λ q. other (e ∙ q))
 
@@ -96,7 +101,8 @@ module _ (s : State) (a owner : ℕ) (e : owner ≡ superblockAt s (a / 4096) .o
 pub block-freed-totals-kept : (s t : State) (a : ℕ) → TotalsKept s → t ≡ blockFreed s a → TotalsKept t
 block-freed-totals-kept s t a kept e = rw e (block-freed-recounted s a kept)
 
-module _ (s : State) (order new : List ℕ) (a owner class : ℕ) (t : State) (e : owner ≡ superblockAt s (a / 4096) .owner) (g : new ≡ orderPushed s order a) (h : t ≡ blockFreed s a) where
+module _ (s : State) (order new : List ℕ) (a owner class : ℕ) (t : State) (e : owner ≡ superblockAt s (a / 4096) .owner) (g : new ≡ orderPushed s order a)
+    (h : t ≡ blockFreed s a) where
   -- of a run
   pub freed-at-of-run : owner ≡ runOwner → record { answer = record { outcome = Moves 0; state = t }; order = new } ≡ freedAt s order a
   unfolding freedAt longFreedAt
@@ -105,7 +111,8 @@ module _ (s : State) (order new : List ℕ) (a owner class : ℕ) (t : State) (e
       rw (h, g, block-freed-in-run s a inside, order-pushed-in-run s a order inside, inside)
 
   -- of a block of a class, with the moves
-  pub freed-at-by-steps : (m : Moved) (count : ℕ) (next : State) → (owner ≡ runOwner → ⊥) → class ≡ superblockAt s (a / 4096) .class → m ≡ invariantRestored owner class t → count ≡ m .moves → next ≡ m .state
+  pub freed-at-by-steps : (m : Moved) (count : ℕ) (next : State) → (owner ≡ runOwner → ⊥) → class ≡ superblockAt s (a / 4096) .class
+      → m ≡ invariantRestored owner class t → count ≡ m .moves → next ≡ m .state
       → record { answer = record { outcome = Moves count; state = next }; order = new } ≡ freedAt s order a
   unfolding freedAt smallFreedAt
   freed-at-by-steps m count next other f i j k =

@@ -109,7 +109,8 @@ drop-not-refused-0 s order i addresses =
     (pick-not-refused-0 (eqb (length addresses) 0) _ _ (refused-not-refused-0 16 s order (λ e. omega arith))
     (go (eqb (firstAddressRefusal s addresses) 0) refl))
   where
-    go : (t : Bool) → eqb (firstAddressRefusal s addresses) 0 ≡ t → NotRefused0 (pick t (droppedAll s order addresses) (refused (firstAddressRefusal s addresses) s order))
+    go : (t : Bool) → eqb (firstAddressRefusal s addresses) 0 ≡ t
+        → NotRefused0 (pick t (droppedAll s order addresses) (refused (firstAddressRefusal s addresses) s order))
     go true e = moves-not-refused-0 _
     go false e = refused-not-refused-0 (firstAddressRefusal s addresses) s order (eqb-false (firstAddressRefusal s addresses) 0 e)
 
@@ -126,15 +127,19 @@ unchecked-not-refused-0 s order (NamedFree i m) =
 unchecked-not-refused-0 s order (Drop i addresses) = drop-not-refused-0 s order i addresses
 
 call-not-refused-0 : (s : State) (order : List ℕ) (call : Call) → NotRefused0 (callOf s order call)
-call-not-refused-0 s order call = rw (call-of-checks-first s order call) (checked-not-refused-0 s order (callUnchecked s order call) (unchecked-not-refused-0 s order call))
+call-not-refused-0 s order call =
+    rw (call-of-checks-first s order call) (checked-not-refused-0 s order (callUnchecked s order call) (unchecked-not-refused-0 s order call))
 
 -- so a refused call is not accepted
-refused-passes-if-accepted : (x : After) (r : ℕ) (s : State) (order : List ℕ) → x ≡ refused r s order → NotRefused0 x → PassesIfAccepted (x .answer .outcome) (x .answer .state) (x .order)
+refused-passes-if-accepted : (x : After) (r : ℕ) (s : State) (order : List ℕ) → x ≡ refused r s order → NotRefused0 x
+    → PassesIfAccepted (x .answer .outcome) (x .answer .state) (x .order)
 unfolding numberOf
-refused-passes-if-accepted x r s order e n z = absurd (n (ap (λ (y : After). y .answer .outcome) e ∙ ap Refused (sym (ap (λ (y : After). numberOf (y .answer .outcome)) e) ∙ z)))
+refused-passes-if-accepted x r s order e n z =
+    absurd (n (ap (λ (y : After). y .answer .outcome) e ∙ ap Refused (sym (ap (λ (y : After). numberOf (y .answer .outcome)) e) ∙ z)))
 
 passes-true-of-passed : (s : State) (order : List ℕ) → Passed s order → passes s order ≡ true
-passes-true-of-passed s order p = true-of-T (passes s order) (passes-of-sound s order (p .sound) (p .names) (p .totals) (ranks-valid-of-sound s (p .ranks)) (p .runs))
+passes-true-of-passed s order p =
+    true-of-T (passes s order) (passes-of-sound s order (p .sound) (p .names) (p .totals) (ranks-valid-of-sound s (p .ranks)) (p .runs))
 
 -- ---- the calls
 -- a call that is refused, or leaves a state that passes
@@ -144,18 +149,25 @@ RefusedOrPassed s order x = ((r : ℕ) × (x ≡ refused r s order)) ⊎ Passed 
 call-refused-or-passed : (s : State) (order : List ℕ) (call : Call) → Shape s → RefusedOrPassed s order (callOf s order call)
 unfolding callOf
 call-refused-or-passed s order (Take i size) shape =
-    ⊎-elim inl (λ h. inr (⊎-elim (λ a. take-passed s order i size (a .0) shape (a .1)) (λ a. long-take-passed s order i size (a .0) shape (a .1)) h)) (take-refused-or-accepted s order i size)
-call-refused-or-passed s order (Free i a) shape = ⊎-elim inl (λ h. inr (⊎-elim (free-passed s order i a shape) (long-free-passed s order i a shape) h)) (free-refused-or-accepted s order i a)
+    ⊎-elim inl (λ h. inr (⊎-elim (λ a. take-passed s order i size (a .0) shape (a .1)) (λ a. long-take-passed s order i size (a .0) shape (a .1)) h))
+    (take-refused-or-accepted s order i size)
+call-refused-or-passed s order (Free i a) shape = ⊎-elim inl (λ h. inr (⊎-elim (free-passed s order i a shape) (long-free-passed s order i a shape) h))
+    (free-refused-or-accepted s order i a)
 call-refused-or-passed s order (NamedTake i m size) shape =
-    ⊎-elim inl (λ h. inr (⊎-elim (λ a. named-take-passed s order i m size (a .0) shape (a .1)) (λ a. named-long-take-passed s order i m size (a .0) shape (a .1)) h)) (named-take-refused-or-accepted s order i m size)
+    ⊎-elim inl (λ h. inr (⊎-elim (λ a. named-take-passed s order i m size (a .0) shape (a .1))
+    (λ a. named-long-take-passed s order i m size (a .0) shape (a .1)) h)) (named-take-refused-or-accepted s order i m size)
 call-refused-or-passed s order (NamedFree i m) shape =
-    ⊎-elim inl (λ h. inr (⊎-elim (named-free-passed s order i m shape) (named-long-free-passed s order i m shape) h)) (named-free-refused-or-accepted s order i m)
-call-refused-or-passed s order (Drop i addresses) shape = ⊎-elim inl (λ h. inr (drop-passed s order i addresses shape h)) (drop-refused-or-accepted s order i addresses)
+    ⊎-elim inl (λ h. inr (⊎-elim (named-free-passed s order i m shape) (named-long-free-passed s order i m shape) h))
+    (named-free-refused-or-accepted s order i m)
+call-refused-or-passed s order (Drop i addresses) shape = ⊎-elim inl (λ h. inr (drop-passed s order i addresses shape h))
+    (drop-refused-or-accepted s order i addresses)
 
-pub call-passes-if-accepted : (s : State) (order : List ℕ) (call : Call) → Shape s → PassesIfAccepted (callOf s order call .answer .outcome) (callOf s order call .answer .state) (callOf s order call .order)
+pub call-passes-if-accepted : (s : State) (order : List ℕ) (call : Call) → Shape s → PassesIfAccepted (callOf s order call .answer .outcome)
+    (callOf s order call .answer .state) (callOf s order call .order)
 call-passes-if-accepted s order call shape = go (call-refused-or-passed s order call shape)
   where
-    go : RefusedOrPassed s order (callOf s order call) → PassesIfAccepted (callOf s order call .answer .outcome) (callOf s order call .answer .state) (callOf s order call .order)
+    go : RefusedOrPassed s order (callOf s order call) → PassesIfAccepted (callOf s order call .answer .outcome) (callOf s order call .answer .state)
+        (callOf s order call .order)
     go (inl (r, e)) = refused-passes-if-accepted (callOf s order call) r s order e (call-not-refused-0 s order call)
     go (inr passed) = λ z. passes-true-of-passed _ _ passed
 
@@ -215,11 +227,16 @@ call-moves-at-most s order (Drop i addresses) shape = drop-moves-at-most s order
 abbrev setupByTests : Setup → List ℕ → Bool → Bool → After
 setupByTests u order a b = pick a (pick b (acceptedSetup u order) (refused 12 noState order)) (refused 1 noState order)
 
-pub setup-passes-if-accepted : (u : Setup) (order : List ℕ) → PassesIfAccepted (setupOf u order .answer .outcome) (setupOf u order .answer .state) (setupOf u order .order)
+pub setup-passes-if-accepted : (u : Setup) (order : List ℕ) → PassesIfAccepted (setupOf u order .answer .outcome) (setupOf u order .answer .state)
+    (setupOf u order .order)
 unfolding setupOf numberOf
 setup-passes-if-accepted u order = go (withinLimits u) (leb (u .superblocks * 256) (length order)) refl
   where
-    go : (a b : Bool) → withinLimits u ≡ a → PassesIfAccepted (setupByTests u order a b .answer .outcome) (setupByTests u order a b .answer .state) (setupByTests u order a b .order)
-    go true true e z = true-of-T (passes (newState u) (cleared order (u .superblocks * 256))) (passes-of-sound (newState u) _ (new-state-sound u _ (T-of-true (withinLimits u) e)) (new-state-names-valid u) (new-state-totals-kept u) (ranks-valid-of-sound (newState u) (new-state-ranks-sound u)) (runs-valid-of-sound (newState u) (new-state-shape u .length-is) (new-state-runs-sound u)))
+    go : (a b : Bool) → withinLimits u ≡ a → PassesIfAccepted (setupByTests u order a b .answer .outcome) (setupByTests u order a b .answer .state)
+        (setupByTests u order a b .order)
+    go true true e z = true-of-T (passes (newState u) (cleared order (u .superblocks * 256)))
+        (passes-of-sound (newState u) _ (new-state-sound u _ (T-of-true (withinLimits u) e)) (new-state-names-valid u) (new-state-totals-kept u)
+        (ranks-valid-of-sound (newState u) (new-state-ranks-sound u))
+        (runs-valid-of-sound (newState u) (new-state-shape u .length-is) (new-state-runs-sound u)))
     go true false e z = absurd (omega (arith, z))
     go false b e z = absurd (omega (arith, z))

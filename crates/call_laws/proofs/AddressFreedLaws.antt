@@ -21,12 +21,16 @@ use Rattle.heap_rules.specs.Counts.{belongs, superblocksOfClass}
 use Rattle.heap_laws.proofs.StateFacts.{Shape}
 use Rattle.heap_laws.proofs.CountLaws.{not-belongs-of-other-owner}
 use Rattle.heap_laws.proofs.RunsKeptLaws.{starts-run-same, live-blocks-outside-run}
-use Rattle.call_rules.specs.Free.{superblockIndex, superblockHolding, blockOf, isInRun, addressRefusal, blockPushed, orderPushed, smallBlockFreed, longBlockFreed, blockFreed}
+use Rattle.call_rules.specs.Free.{superblockIndex, superblockHolding, blockOf, isInRun, addressRefusal, blockPushed, orderPushed, smallBlockFreed}
+use Rattle.call_rules.specs.Free.{longBlockFreed, blockFreed}
 use Rattle.call_laws.proofs.CallEffects.{PassedAfterFrees}
 use Rattle.call_laws.proofs.AddressLaws.{block-at-address-same}
 use Rattle.call_laws.proofs.TransferredLaws.{oneMoreFreed, one-more-freed-of-others, passed-after-frees-cong}
-use Rattle.call_laws.proofs.BlockFreedLaws.{freed-superblock-lt-64, small-block-freed-effect, small-block-freed-owner, small-block-freed-names, small-block-freed-shape, small-block-freed-passed}
-use Rattle.call_laws.proofs.RunFreedLaws.{freed-run-lt-64, freed-run-owner, freed-run-block, freed-run-no-marks, long-block-freed-class, long-block-freed-owner, long-block-freed-marks, long-block-freed-effect, long-block-freed-live-blocks, long-block-freed-not-live, long-block-freed-names, long-block-freed-shape, long-block-freed-passed}
+use Rattle.call_laws.proofs.BlockFreedLaws.{freed-superblock-lt-64, small-block-freed-effect, small-block-freed-owner, small-block-freed-names}
+use Rattle.call_laws.proofs.BlockFreedLaws.{small-block-freed-shape, small-block-freed-passed}
+use Rattle.call_laws.proofs.RunFreedLaws.{freed-run-lt-64, freed-run-owner, freed-run-block, freed-run-no-marks, long-block-freed-class}
+use Rattle.call_laws.proofs.RunFreedLaws.{long-block-freed-owner, long-block-freed-marks, long-block-freed-effect, long-block-freed-live-blocks}
+use Rattle.call_laws.proofs.RunFreedLaws.{long-block-freed-not-live, long-block-freed-names, long-block-freed-shape, long-block-freed-passed}
 
 -- ---- which of the two it is
 module _ (s : State) (a : ℕ) where
@@ -53,7 +57,8 @@ outside-run-past-table s a long far = ap isOfRun (List·getD-eq-default (s .tabl
 
 -- each owner stays, or was that of a run's superblock and is that of an unused one
 abbrev pub OwnersKeptOrRunFreed : State → State → Type 0
-OwnersKeptOrRunFreed s t = (m : ℕ) → m < 64 → (superblockAt t m .owner ≡ superblockAt s m .owner) ⊎ ((superblockAt s m .owner ≡ runOwner) × (superblockAt t m .owner ≡ unusedOwner))
+OwnersKeptOrRunFreed s t = (m : ℕ) → m < 64 → (superblockAt t m .owner ≡ superblockAt s m .owner)
+    ⊎ ((superblockAt s m .owner ≡ runOwner) × (superblockAt t m .owner ≡ unusedOwner))
 
 -- ---- the block at the address freed, in a state that passed before so many frees
 pub record AddressFreed (freed : ℕ → ℕ → ℕ) (s : State) (order : List ℕ) (a : ℕ) : Type 0 where
@@ -64,10 +69,12 @@ pub record AddressFreed (freed : ℕ → ℕ → ℕ) (s : State) (order : List 
   pub owners : OwnersKeptOrRunFreed s (blockFreed s a)
   -- the mark of the freed block is clear then, that of a long block before, too, and every other is as it was
   pub not-marked : markBit (superblockHolding (blockFreed s a) a .live) (blockOf s a) ≡ 0
-  pub marks : (m b : ℕ) → m < 64 → ((m ≡ superblockIndex a) × (b ≡ blockOf s a) → ⊥) → b < 256 → markBit (superblockAt (blockFreed s a) m .live) b ≡ markBit (superblockAt s m .live) b
+  pub marks : (m b : ℕ) → m < 64 → ((m ≡ superblockIndex a) × (b ≡ blockOf s a) → ⊥) → b < 256 → markBit (superblockAt (blockFreed s a) m .live) b
+      ≡ markBit (superblockAt s m .live) b
   -- it is not live then, and every other block is live or not as it was
   pub not-live : markBit (liveBlocks (superblockHolding (blockFreed s a) a)) (blockOf s a) ≡ 0
-  pub live-blocks : (m b : ℕ) → m < 64 → ((m ≡ superblockIndex a) × (b ≡ blockOf s a) → ⊥) → b < 256 → markBit (liveBlocks (superblockAt (blockFreed s a) m)) b ≡ markBit (liveBlocks (superblockAt s m)) b
+  pub live-blocks : (m b : ℕ) → m < 64 → ((m ≡ superblockIndex a) × (b ≡ blockOf s a) → ⊥) → b < 256
+      → markBit (liveBlocks (superblockAt (blockFreed s a) m)) b ≡ markBit (liveBlocks (superblockAt s m)) b
   pub owned : (d : ℕ) → superblocksOfClass d (blockFreed s a) ≡ superblocksOfClass d s
   pub names : blockFreed s a .names ≡ withoutBlock (s .names) (blockNumber (superblockIndex a) (blockOf s a))
   pub shape : Shape (blockFreed s a)
@@ -75,7 +82,8 @@ pub record AddressFreed (freed : ℕ → ℕ → ℕ) (s : State) (order : List 
   pub passed : PassedAfterFrees (oneMoreFreed (superblockHolding s a .owner) (superblockHolding s a .class) freed) (blockFreed s a) (orderPushed s order a)
 
 -- a superblock of which the mark of block j is kept, and what it is of a run
-live-bit-same : (b d : Superblock) (j : ℕ) → isOfRun d ≡ isOfRun b → d .run ≡ b .run → markBit (d .live) j ≡ markBit (b .live) j → markBit (liveBlocks d) j ≡ markBit (liveBlocks b) j
+live-bit-same : (b d : Superblock) (j : ℕ) → isOfRun d ≡ isOfRun b → d .run ≡ b .run → markBit (d .live) j ≡ markBit (b .live) j
+    → markBit (liveBlocks d) j ≡ markBit (liveBlocks b) j
 unfolding liveBlocks
 live-bit-same b d j e g same = rw (starts-run-same d b e g) (go (startsRun b))
   where
@@ -87,7 +95,8 @@ live-bit-same b d j e g same = rw (starts-run-same d b e g) (go (startsRun b))
 abbrev FreedTo : (ℕ → ℕ → ℕ) → State → ℕ → State → List ℕ → Type 0
 FreedTo freed s a t pushed = PassedAfterFrees (oneMoreFreed (superblockHolding s a .owner) (superblockHolding s a .class) freed) t pushed
 
-module _ (freed : ℕ → ℕ → ℕ) (s : State) (order : List ℕ) (a : ℕ) (shape : Shape s) (passed : PassedAfterFrees freed s order) (accepted : addressRefusal s a ≡ 0) where
+module _ (freed : ℕ → ℕ → ℕ) (s : State) (order : List ℕ) (a : ℕ) (shape : Shape s) (passed : PassedAfterFrees freed s order)
+    (accepted : addressRefusal s a ≡ 0) where
   small-address-freed : isInRun s a ≡ false → AddressFreed freed s order a
   small-address-freed small =
       let is = sym (block-freed-outside-run s a small) in
@@ -99,16 +108,23 @@ module _ (freed : ℕ → ℕ → ℕ) (s : State) (order : List ℕ) (a : ℕ) 
         classes = subst (λ (t : State). (m : ℕ) → m < 64 → superblockAt t m .class ≡ superblockAt s m .class) is (effect .classes);
         owners = subst (OwnersKeptOrRunFreed s) is (λ m l. inl (small-block-freed-owner freed s order a shape passed accepted small m l));
         not-marked = subst (λ (t : State). markBit (superblockHolding t a .live) (blockOf s a) ≡ 0) is (effect .not-marked);
-        marks = subst (λ (t : State). (m b : ℕ) → m < 64 → ((m ≡ superblockIndex a) × (b ≡ blockOf s a) → ⊥) → b < 256 → markBit (superblockAt t m .live) b ≡ markBit (superblockAt s m .live) b) is (effect .marks);
+        marks = subst (λ (t : State). (m b : ℕ) → m < 64 → ((m ≡ superblockIndex a) × (b ≡ blockOf s a) → ⊥) → b < 256
+            → markBit (superblockAt t m .live) b ≡ markBit (superblockAt s m .live) b) is (effect .marks);
         not-live = subst (λ (t : State). markBit (liveBlocks (superblockHolding t a)) (blockOf s a) ≡ 0) is
-            (ap (λ (l : List ℕ). markBit l (blockOf s a)) (live-blocks-outside-run (superblockHolding (smallBlockFreed s a) a) (effect .runs (superblockIndex a) (freed-superblock-lt-64 freed s order a shape passed accepted small) .0 ∙ small)) ∙ effect .not-marked);
-        live-blocks = subst (λ (t : State). (m b : ℕ) → m < 64 → ((m ≡ superblockIndex a) × (b ≡ blockOf s a) → ⊥) → b < 256 → markBit (liveBlocks (superblockAt t m)) b ≡ markBit (liveBlocks (superblockAt s m)) b) is
-            (λ m b l apart in-block. live-bit-same (superblockAt s m) (superblockAt (smallBlockFreed s a) m) b (effect .runs m l .0) (effect .runs m l .1) (effect .marks m b l apart in-block));
+            (ap (λ (l : List ℕ). markBit l (blockOf s a))
+            (live-blocks-outside-run (superblockHolding (smallBlockFreed s a) a)
+            (effect .runs (superblockIndex a) (freed-superblock-lt-64 freed s order a shape passed accepted small) .0 ∙ small)) ∙ effect .not-marked);
+        live-blocks = subst (λ (t : State). (m b : ℕ) → m < 64 → ((m ≡ superblockIndex a) × (b ≡ blockOf s a) → ⊥) → b < 256
+            → markBit (liveBlocks (superblockAt t m)) b ≡ markBit (liveBlocks (superblockAt s m)) b) is
+            (λ m b l apart in-block. live-bit-same (superblockAt s m) (superblockAt (smallBlockFreed s a) m) b (effect .runs m l .0) (effect .runs m l .1)
+            (effect .marks m b l apart in-block));
         owned = subst (λ (t : State). (d : ℕ) → superblocksOfClass d t ≡ superblocksOfClass d s) is (effect .owned);
-        names = subst (λ (t : State). t .names ≡ withoutBlock (s .names) (blockNumber (superblockIndex a) (blockOf s a))) is (small-block-freed-names freed s order a shape passed accepted small);
+        names = subst (λ (t : State). t .names ≡ withoutBlock (s .names) (blockNumber (superblockIndex a) (blockOf s a))) is
+            (small-block-freed-names freed s order a shape passed accepted small);
         shape = subst Shape is (small-block-freed-shape freed s order a shape passed accepted small);
         passed = subst (λ (t : State). FreedTo freed s a t (orderPushed s order a)) is
-            (subst (FreedTo freed s a (smallBlockFreed s a)) (sym (order-pushed-outside-run s a order small)) (small-block-freed-passed freed s order a shape passed accepted small));
+            (subst (FreedTo freed s a (smallBlockFreed s a)) (sym (order-pushed-outside-run s a order small))
+            (small-block-freed-passed freed s order a shape passed accepted small));
       }
 
   module _ (long : isInRun s a ≡ true) where
@@ -116,7 +132,8 @@ module _ (freed : ℕ → ℕ → ℕ) (s : State) (order : List ℕ) (a : ℕ) 
     run-freed-passed : FreedTo freed s a (longBlockFreed s a) order
     run-freed-passed =
         passed-after-frees-cong freed (oneMoreFreed (superblockHolding s a .owner) (superblockHolding s a .class) freed) (longBlockFreed s a) order
-        (λ h c l. sym (one-more-freed-of-others (superblockHolding s a .owner) (superblockHolding s a .class) freed h c (λ q. let e = q .0 in omega (arith, freed-run-owner freed s order a shape passed accepted long))))
+        (λ h c l. sym (one-more-freed-of-others (superblockHolding s a .owner) (superblockHolding s a .class) freed h c
+        (λ q. let e = q .0 in omega (arith, freed-run-owner freed s order a shape passed accepted long))))
         (long-block-freed-passed freed s order a shape passed accepted long)
 
     run-address-freed : AddressFreed freed s order a
@@ -130,20 +147,28 @@ module _ (freed : ℕ → ℕ → ℕ) (s : State) (order : List ℕ) (a : ℕ) 
           below = lt-64;
           block = omega arith;
           setup = subst (λ (t : State). t .setup ≡ s .setup) is (effect .setup);
-          classes = subst (λ (t : State). (m : ℕ) → m < 64 → superblockAt t m .class ≡ superblockAt s m .class) is (long-block-freed-class freed s order a shape passed accepted long);
+          classes = subst (λ (t : State). (m : ℕ) → m < 64 → superblockAt t m .class ≡ superblockAt s m .class) is
+              (long-block-freed-class freed s order a shape passed accepted long);
           owners = subst (OwnersKeptOrRunFreed s) is (long-block-freed-owner freed s order a shape passed accepted long);
           not-marked = subst (λ (t : State). markBit (superblockHolding t a .live) (blockOf s a) ≡ 0) is
-              (marks-same (superblockIndex a) (blockOf s a) lt-64 (omega arith) ∙ freed-run-no-marks freed s order a shape passed accepted long (blockOf s a) (omega arith));
-          marks = subst (λ (t : State). (m b : ℕ) → m < 64 → ((m ≡ superblockIndex a) × (b ≡ blockOf s a) → ⊥) → b < 256 → markBit (superblockAt t m .live) b ≡ markBit (superblockAt s m .live) b) is (λ m b l apart small. marks-same m b l small);
+              (marks-same (superblockIndex a) (blockOf s a) lt-64 (omega arith) ∙ freed-run-no-marks freed s order a shape passed accepted long
+              (blockOf s a) (omega arith));
+          marks = subst (λ (t : State). (m b : ℕ) → m < 64 → ((m ≡ superblockIndex a) × (b ≡ blockOf s a) → ⊥) → b < 256
+              → markBit (superblockAt t m .live) b ≡ markBit (superblockAt s m .live) b) is (λ m b l apart small. marks-same m b l small);
           not-live = subst (λ (t : State). markBit (liveBlocks (superblockHolding t a)) (blockOf s a) ≡ 0) is
-              (ap (markBit (liveBlocks (superblockHolding (longBlockFreed s a) a))) block-is ∙ long-block-freed-not-live freed s order a shape passed accepted long);
-          live-blocks = subst (λ (t : State). (m b : ℕ) → m < 64 → ((m ≡ superblockIndex a) × (b ≡ blockOf s a) → ⊥) → b < 256 → markBit (liveBlocks (superblockAt t m)) b ≡ markBit (liveBlocks (superblockAt s m)) b) is
-              (λ m b l apart small. long-block-freed-live-blocks freed s order a shape passed accepted long m b l small (λ q. apart (q .0, q .1 ∙ sym block-is)));
+              (ap (markBit (liveBlocks (superblockHolding (longBlockFreed s a) a))) block-is
+              ∙ long-block-freed-not-live freed s order a shape passed accepted long);
+          live-blocks = subst (λ (t : State). (m b : ℕ) → m < 64 → ((m ≡ superblockIndex a) × (b ≡ blockOf s a) → ⊥) → b < 256
+              → markBit (liveBlocks (superblockAt t m)) b ≡ markBit (liveBlocks (superblockAt s m)) b) is
+              (λ m b l apart small. long-block-freed-live-blocks freed s order a shape passed accepted long m b l small
+              (λ q. apart (q .0, q .1 ∙ sym block-is)));
           owned = subst (λ (t : State). (d : ℕ) → superblocksOfClass d t ≡ superblocksOfClass d s) is (effect .owned);
           names = subst (λ (t : State). t .names ≡ withoutBlock (s .names) (blockNumber (superblockIndex a) (blockOf s a))) is
-              (long-block-freed-names freed s order a shape passed accepted long ∙ ap (λ (j : ℕ). withoutBlock (s .names) (blockNumber (superblockIndex a) j)) (sym block-is));
+              (long-block-freed-names freed s order a shape passed accepted long
+              ∙ ap (λ (j : ℕ). withoutBlock (s .names) (blockNumber (superblockIndex a) j)) (sym block-is));
           shape = subst Shape is (long-block-freed-shape freed s order a shape passed accepted long);
-          passed = subst (λ (t : State). FreedTo freed s a t (orderPushed s order a)) is (subst (FreedTo freed s a (longBlockFreed s a)) (sym (order-pushed-in-run s a order long)) run-freed-passed);
+          passed = subst (λ (t : State). FreedTo freed s a t (orderPushed s order a)) is
+              (subst (FreedTo freed s a (longBlockFreed s a)) (sym (order-pushed-in-run s a order long)) run-freed-passed);
         }
 
   -- the address meets no refusal
@@ -165,7 +190,8 @@ module _ (s t : State) (owners : OwnersKeptOrRunFreed s t) where
   unfolding isOfRun
   outside-run-kept long-after a e = go (decLt (superblockIndex a) 64)
     where
-      by-owners : (superblockHolding t a .owner ≡ superblockHolding s a .owner) ⊎ ((superblockHolding s a .owner ≡ runOwner) × (superblockHolding t a .owner ≡ unusedOwner)) → isInRun t a ≡ false
+      by-owners : (superblockHolding t a .owner ≡ superblockHolding s a .owner)
+          ⊎ ((superblockHolding s a .owner ≡ runOwner) × (superblockHolding t a .owner ≡ unusedOwner)) → isInRun t a ≡ false
       by-owners (inl same) = ap (λ (o : ℕ). eqb o runOwner) same ∙ e
       by-owners (inr (was, now)) = ap (λ (o : ℕ). eqb o runOwner) now
 
@@ -173,12 +199,14 @@ module _ (s t : State) (owners : OwnersKeptOrRunFreed s t) where
       go (yes l) = by-owners (owners (superblockIndex a) l)
       go (no f) = outside-run-past-table t a long-after (le-of-not-below f)
 
-  module _ (long : length (s .table) ≡ 64) (long-after : length (t .table) ≡ 64) (classes : (m : ℕ) → m < 64 → superblockAt t m .class ≡ superblockAt s m .class) where
+  module _ (long : length (s .table) ≡ 64) (long-after : length (t .table) ≡ 64)
+      (classes : (m : ℕ) → m < 64 → superblockAt t m .class ≡ superblockAt s m .class) where
     pub same-belongs : (h c m : ℕ) → h < runOwner → belongs h c (superblockAt t m) ≡ belongs h c (superblockAt s m)
     unfolding belongs
     same-belongs h c m l = go (decLt m 64)
       where
-        by-owners : (superblockAt t m .class ≡ superblockAt s m .class) → (superblockAt t m .owner ≡ superblockAt s m .owner) ⊎ ((superblockAt s m .owner ≡ runOwner) × (superblockAt t m .owner ≡ unusedOwner))
+        by-owners : (superblockAt t m .class ≡ superblockAt s m .class) → (superblockAt t m .owner ≡ superblockAt s m .owner)
+            ⊎ ((superblockAt s m .owner ≡ runOwner) × (superblockAt t m .owner ≡ unusedOwner))
             → belongs h c (superblockAt t m) ≡ belongs h c (superblockAt s m)
         by-owners class (inl e) = rw (e, class)
         by-owners class (inr (was, now)) =

@@ -61,18 +61,22 @@ module _ {Invariant : ℕ → ℕ → State → Type 0} (s : State) (order : Lis
   mapped-not-unused : Unused (superblockHolding s a) → ⊥
   unfolding isUnmapped
   mapped-not-unused u =
-      not-T-of-false (isUnused (superblockHolding s a)) (neither-right (leb (s .setup .superblocks * 4096) a) (isUnused (superblockHolding s a)) mapped) (is-unused-of-facts (superblockHolding s a) u)
+      not-T-of-false (isUnused (superblockHolding s a)) (neither-right (leb (s .setup .superblocks * 4096) a) (isUnused (superblockHolding s a)) mapped)
+      (is-unused-of-facts (superblockHolding s a) u)
 
   pub mapped-is-owned : isInRun s a ≡ false → Owned (s .setup) order (superblockIndex a) (superblockHolding s a)
   unfolding isOfRun
   mapped-is-owned outside = go (sound .each (superblockIndex a) mapped-below-64)
     where
-      go : Unowned (superblockHolding s a) ⊎ Owned (s .setup) order (superblockIndex a) (superblockHolding s a) → Owned (s .setup) order (superblockIndex a) (superblockHolding s a)
-      go (inl u) = absurd (⊎-elim (λ e. mapped-not-unused (unused-of-unowned (superblockHolding s a) u e)) (λ e. eqb-false (superblockHolding s a .owner) runOwner outside e) (u .owner))
+      go : Unowned (superblockHolding s a) ⊎ Owned (s .setup) order (superblockIndex a) (superblockHolding s a)
+          → Owned (s .setup) order (superblockIndex a) (superblockHolding s a)
+      go (inl u) = absurd (⊎-elim (λ e. mapped-not-unused (unused-of-unowned (superblockHolding s a) u e))
+          (λ e. eqb-false (superblockHolding s a .owner) runOwner outside e) (u .owner))
       go (inr o) = o
 
 -- an address is of the same class, and so of the same block, in states whose superblocks have the same classes
-module _ (s t : State) (long : length (s .table) ≡ 64) (long-after : length (t .table) ≡ 64) (classes : (k : ℕ) → k < 64 → superblockAt t k .class ≡ superblockAt s k .class) (a : ℕ) where
+module _ (s t : State) (long : length (s .table) ≡ 64) (long-after : length (t .table) ≡ 64)
+    (classes : (k : ℕ) → k < 64 → superblockAt t k .class ≡ superblockAt s k .class) (a : ℕ) where
   pub class-at-address-same : superblockHolding t a .class ≡ superblockHolding s a .class
   class-at-address-same = go (decLt (superblockIndex a) 64)
     where

@@ -75,28 +75,34 @@ freedOfHeaps freed p = sumBelow (λ i. sumBelow (freed (suc i)) classCount) p
 pub freed-of-heaps-le-length : (s : State) (p : ℕ) (addresses : List ℕ) → freedOfHeaps (freedOf s addresses) p ≤ length addresses
 unfolding freedOf
 freed-of-heaps-le-length s p [] =
-    let z = sum-of-zeros (λ i. sumBelow (λ c. freedOf s [] (suc i) c) classCount) p (λ i l. sum-of-zeros (λ c. freedOf s [] (suc i) c) classCount (λ c lc. refl)) in omega arith
+    let z = sum-of-zeros (λ i. sumBelow (λ c. freedOf s [] (suc i) c) classCount) p
+    (λ i l. sum-of-zeros (λ c. freedOf s [] (suc i) c) classCount (λ c lc. refl)) in omega arith
 freed-of-heaps-le-length s p (a ∷ addresses) = let l = freed-of-heaps-le-length s p addresses in let f = first in omega (arith, split)
   where
-    split : freedOfHeaps (freedOf s (a ∷ addresses)) p ≡ sumBelow (λ i. sumBelow (λ c. one (belongs (suc i) c (superblockHolding s a))) classCount) p + sumBelow (λ i. sumBelow (freedOf s addresses (suc i)) classCount) p
+    split : freedOfHeaps (freedOf s (a ∷ addresses)) p ≡ sumBelow (λ i. sumBelow (λ c. one (belongs (suc i) c (superblockHolding s a))) classCount)
+        p + sumBelow (λ i. sumBelow (freedOf s addresses (suc i)) classCount) p
     split =
-        sum-cong (λ i. sumBelow (freedOf s (a ∷ addresses) (suc i)) classCount) (λ i. sumBelow (λ c. one (belongs (suc i) c (superblockHolding s a))) classCount + sumBelow (freedOf s addresses (suc i)) classCount) p
+        sum-cong (λ i. sumBelow (freedOf s (a ∷ addresses) (suc i)) classCount)
+        (λ i. sumBelow (λ c. one (belongs (suc i) c (superblockHolding s a))) classCount + sumBelow (freedOf s addresses (suc i)) classCount) p
         (λ i l. sum-add (λ c. one (belongs (suc i) c (superblockHolding s a))) (freedOf s addresses (suc i)) classCount)
         ∙ sum-add (λ i. sumBelow (λ c. one (belongs (suc i) c (superblockHolding s a))) classCount) (λ i. sumBelow (freedOf s addresses (suc i)) classCount) p
 
     first : sumBelow (λ i. sumBelow (λ c. one (belongs (suc i) c (superblockHolding s a))) classCount) p ≤ 1
     first =
-        let few = sum-le-of-terms-le (λ i. sumBelow (λ c. one (belongs (suc i) c (superblockHolding s a))) classCount) (λ i. one (eqb (superblockHolding s a .owner) (suc i))) p (λ i l. one-class-of-superblock (suc i) (superblockHolding s a)) in
+        let few = sum-le-of-terms-le (λ i. sumBelow (λ c. one (belongs (suc i) c (superblockHolding s a))) classCount)
+        (λ i. one (eqb (superblockHolding s a .owner) (suc i))) p (λ i l. one-class-of-superblock (suc i) (superblockHolding s a)) in
         let one-heap = one-heap-of-superblock p (superblockHolding s a) in
         omega arith
 
 -- ---- the frees keep which superblocks are a heap's
-pub freed-of-same : (s t : State) → length (s .table) ≡ 64 → length (t .table) ≡ 64 → OwnersKeptOrRunFreed s t → ((m : ℕ) → m < 64 → superblockAt t m .class ≡ superblockAt s m .class)
+pub freed-of-same : (s t : State) → length (s .table) ≡ 64 → length (t .table) ≡ 64 → OwnersKeptOrRunFreed s t
+    → ((m : ℕ) → m < 64 → superblockAt t m .class ≡ superblockAt s m .class)
     → (addresses : List ℕ) (h c : ℕ) → h < runOwner → freedOf t addresses h c ≡ freedOf s addresses h c
 unfolding freedOf
 freed-of-same s t long long-after owners classes [] h c l = refl
 freed-of-same s t long long-after owners classes (a ∷ addresses) h c l =
-    ap₂ (λ (x : Bool) (n : ℕ). one x + n) (same-belongs s t owners long long-after classes h c (superblockIndex a) l) (freed-of-same s t long long-after owners classes addresses h c l)
+    ap₂ (λ (x : Bool) (n : ℕ). one x + n) (same-belongs s t owners long long-after classes h c (superblockIndex a) l)
+    (freed-of-same s t long long-after owners classes addresses h c l)
 
 -- ---- the blocks at the addresses
 -- one of the addresses is that of block b. A drop changes no class, so the state before it tells the block of each.
@@ -118,7 +124,8 @@ refusal-of-first-zero r n e = go (eqb r 0) refl e
     go true q z = (eqb-true r 0 q, z)
     go false q z = absurd (eqb-false r 0 q z)
 
-pub first-refusal-of-cons : (s : State) (a : ℕ) (addresses : List ℕ) → firstAddressRefusal s (a ∷ addresses) ≡ 0 → (addressRefusal s a ≡ 0) × (firstAddressRefusal (blockFreed s a) addresses ≡ 0)
+pub first-refusal-of-cons : (s : State) (a : ℕ) (addresses : List ℕ) → firstAddressRefusal s (a ∷ addresses) ≡ 0 → (addressRefusal s a ≡ 0)
+    × (firstAddressRefusal (blockFreed s a) addresses ≡ 0)
 unfolding firstAddressRefusal
 first-refusal-of-cons s a addresses e = refusal-of-first-zero (addressRefusal s a) (firstAddressRefusal (blockFreed s a) addresses) e
 
@@ -135,11 +142,13 @@ pub record AllFreed (freed : ℕ → ℕ → ℕ) (s : State) (order addresses :
 -- one more for the first of them, in the counts before and after it
 counted-with-first : (freed : ℕ → ℕ → ℕ) (s t : State) (a : ℕ) (addresses : List ℕ) → length (s .table) ≡ 64 → length (t .table) ≡ 64 → OwnersKeptOrRunFreed s t
     → ((m : ℕ) → m < 64 → superblockAt t m .class ≡ superblockAt s m .class) → (h c : ℕ) → h < runOwner
-    → oneMoreFreed (superblockHolding s a .owner) (superblockHolding s a .class) freed h c + freedOf t addresses h c ≡ freed h c + (one (belongs h c (superblockHolding s a)) + freedOf s addresses h c)
+    → oneMoreFreed (superblockHolding s a .owner) (superblockHolding s a .class) freed h c + freedOf t addresses h c
+    ≡ freed h c + (one (belongs h c (superblockHolding s a)) + freedOf s addresses h c)
 unfolding oneMoreFreed belongs
 counted-with-first freed s t a addresses long long-after owners classes h c l = omega (arith, freed-of-same s t long long-after owners classes addresses h c l)
 
-pub all-freed : (freed : ℕ → ℕ → ℕ) (s : State) (order addresses : List ℕ) → Shape s → PassedAfterFrees freed s order → firstAddressRefusal s addresses ≡ 0 → AllFreed freed s order addresses
+pub all-freed : (freed : ℕ → ℕ → ℕ) (s : State) (order addresses : List ℕ) → Shape s → PassedAfterFrees freed s order → firstAddressRefusal s addresses
+    ≡ 0 → AllFreed freed s order addresses
 unfolding allFreed allPushed freedOf
 all-freed freed s order [] shape passed ok =
     record {
@@ -156,7 +165,10 @@ all-freed freed s order (a ∷ addresses) shape passed ok =
     let more = oneMoreFreed (superblockHolding s a .owner) (superblockHolding s a .class) freed in
     let rest = all-freed more (blockFreed s a) (orderPushed s order a) addresses (here .shape) (here .passed) (first .1) in
     record {
-      passed = passed-after-frees-cong (λ h c. more h c + freedOf (blockFreed s a) addresses h c) (λ h c. freed h c + (one (belongs h c (superblockHolding s a)) + freedOf s addresses h c)) _ _ (counted-with-first freed s (blockFreed s a) a addresses (shape .length-is) (here .shape .length-is) (here .owners) (here .classes)) (rest .passed);
+      passed = passed-after-frees-cong (λ h c. more h c + freedOf (blockFreed s a) addresses h c)
+          (λ h c. freed h c + (one (belongs h c (superblockHolding s a)) + freedOf s addresses h c)) _ _
+          (counted-with-first freed s (blockFreed s a) a addresses (shape .length-is) (here .shape .length-is) (here .owners) (here .classes))
+          (rest .passed);
       shape = rest .shape;
       setup = rest .setup ∙ here .setup;
       owners = owners-kept-or-run-freed-then s (blockFreed s a) (allFreed (blockFreed s a) addresses) (here .owners) (rest .owners);
@@ -179,20 +191,23 @@ abbrev pub OfHeapAndClass : State → ℕ → Type 0
 OfHeapAndClass s a = (superblockHolding s a .owner < heapCount) × (superblockHolding s a .class < classCount)
 
 -- outside runs it was before the frees where it is after them
-of-heap-and-class-before : (s t : State) (a : ℕ) → superblockIndex a < 64 → OwnersKeptOrRunFreed s t → ((m : ℕ) → m < 64 → superblockAt t m .class ≡ superblockAt s m .class)
+of-heap-and-class-before : (s t : State) (a : ℕ) → superblockIndex a < 64 → OwnersKeptOrRunFreed s t
+    → ((m : ℕ) → m < 64 → superblockAt t m .class ≡ superblockAt s m .class)
     → (isInRun t a ≡ false → OfHeapAndClass t a) → isInRun s a ≡ false → OfHeapAndClass s a
 unfolding isOfRun
 of-heap-and-class-before s t a l owners classes there outside = go (owners (superblockIndex a) l)
   where
-    go : (superblockHolding t a .owner ≡ superblockHolding s a .owner) ⊎ ((superblockHolding s a .owner ≡ runOwner) × (superblockHolding t a .owner ≡ unusedOwner)) → OfHeapAndClass s a
+    go : (superblockHolding t a .owner ≡ superblockHolding s a .owner)
+        ⊎ ((superblockHolding s a .owner ≡ runOwner) × (superblockHolding t a .owner ≡ unusedOwner)) → OfHeapAndClass s a
     go (inl e) =
         let is = there (ap (λ (o : ℕ). eqb o runOwner) e ∙ outside) in
         (subst (λ (h : ℕ). h < heapCount) e (is .0), subst (λ (c : ℕ). c < classCount) (classes (superblockIndex a) l) (is .1))
     go (inr (was, now)) = absurd (eqb-false (superblockHolding s a .owner) runOwner outside was)
 
--- each address of a drop that meets no refusal lies in the table, in a superblock that a heap owns where it was in no run before the drop; in the state before its free
--- the run that may begin there ends in the table, and that state keeps its totals and ranks
-pub frees-in-table : (freed : ℕ → ℕ → ℕ) (s : State) (order addresses : List ℕ) → Shape s → PassedAfterFrees freed s order → firstAddressRefusal s addresses ≡ 0 → (i : ℕ) → i < length addresses
+-- each address of a drop that meets no refusal lies in the table, in a superblock that a heap owns where it was in no run before the drop; in the
+-- state before its free the run that may begin there ends in the table, and that state keeps its totals and ranks
+pub frees-in-table : (freed : ℕ → ℕ → ℕ) (s : State) (order addresses : List ℕ) → Shape s → PassedAfterFrees freed s order
+    → firstAddressRefusal s addresses ≡ 0 → (i : ℕ) → i < length addresses
     → (superblockIndex (getD addresses i 0) < 64) × (isInRun s (getD addresses i 0) ≡ false → OfHeapAndClass s (getD addresses i 0))
     × (superblockIndex (getD addresses i 0) + superblockHolding (allFreed s (take i addresses)) (getD addresses i 0) .run ≤ 64)
     × TotalsKept (allFreed s (take i addresses)) × RanksFit (allFreed s (take i addresses))

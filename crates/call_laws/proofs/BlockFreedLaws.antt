@@ -1,4 +1,5 @@
--- One block of a class freed, before any move: what becomes of a state that passed its check before these frees. A free is one of them, a drop several. Assumes nothing.
+-- One block of a class freed, before any move: what becomes of a state that passed its check before these frees. A free is one of them, a drop
+-- several. Assumes nothing.
 use mathlib.Core.Path.{_≡_, refl, sym, ap, ap₂, _∙_, subst}
 use mathlib.Core.Bool.{false, not}
 use mathlib.Core.Logic.{inl, inr, ⊎-elim}
@@ -30,17 +31,24 @@ use Rattle.heap_laws.proofs.MoveLaws.{owners-changed-self}
 use Rattle.heap_laws.proofs.StateCheckLaws.{not-of-heap-of-unowned, shape-with-names, sound-after-frees-with-names}
 use Rattle.heap_laws.proofs.TotalsLaws.{totals-kept-with-superblock}
 use Rattle.heap_laws.proofs.RankLaws.{ranks-sound-of-same-ranks, ranked-latest-ranks-sound}
-use Rattle.heap_laws.proofs.RerankedLaws.{superblock-at-reranked, reranked-owner, reranked-class, reranked-live, reranked-of-run, reranked-run, reranked-superblocks-of-class, reranked-live-of-class, reranked-owners-changed, reranked-totals-kept, reranked-shape, reranked-sound-after-frees, reranked-names-valid}
+use Rattle.heap_laws.proofs.RerankedLaws.{superblock-at-reranked, reranked-owner, reranked-class, reranked-live, reranked-of-run, reranked-run}
+use Rattle.heap_laws.proofs.RerankedLaws.{reranked-superblocks-of-class, reranked-live-of-class, reranked-owners-changed, reranked-totals-kept}
+use Rattle.heap_laws.proofs.RerankedLaws.{reranked-shape, reranked-sound-after-frees, reranked-names-valid}
 use Rattle.heap_laws.proofs.RunsKeptLaws.{runs-valid-of-kept, reranked-runs-valid, live-blocks-outside-run}
 use Rattle.call_rules.specs.Take.{addressOf}
-use Rattle.call_rules.specs.Free.{superblockIndex, offsetOf, superblockHolding, blockOf, isInRun, isOffBlock, isMisaligned, isLiveAt, addressRefusal, markCleared, blockPushed, blockNumberAt, smallBlockFreed}
+use Rattle.call_rules.specs.Free.{superblockIndex, offsetOf, superblockHolding, blockOf, isInRun, isOffBlock, isMisaligned, isLiveAt, addressRefusal}
+use Rattle.call_rules.specs.Free.{markCleared, blockPushed, blockNumberAt, smallBlockFreed}
 use Rattle.call_rules.proofs.AddressRefusalLaws.{mapped-of-no-refusal, aligned-of-no-refusal, live-of-no-refusal}
 use Rattle.call_laws.proofs.CallEffects.{PassedAfterFrees, FreeEffect, RankedLatest}
-use Rattle.call_laws.proofs.AddressLaws.{mapped-below-superblocks, mapped-is-owned, block-at-address-same}
+use Rattle.call_laws.proofs.AddressLaws.{mapped-below-superblocks, mapped-is-owned}
 use Rattle.call_laws.proofs.NamesKeptLaws.{names-valid-without-block, names-valid-after-free}
 use Rattle.call_laws.proofs.TransferredLaws.{oneMoreFreed}
 use Rattle.call_laws.proofs.MarkClearedLaws.{mark-cleared-at-others}
-use Rattle.call_laws.proofs.MarkClearedLaws.{LiveBlock, ownerAt, classAt, withMarkCleared, withBlockPushed, live-block-superblock-owned, mark-cleared-shape, mark-cleared-class, mark-cleared-owner, mark-cleared-rank, unowned-of-mark-cleared-unowned, mark-cleared-runs, mark-cleared-bit, mark-cleared-other-bits, mark-cleared-owned-of, mark-cleared-live-of-class, mark-cleared-live-of-other-classes, mark-cleared-owners-changed, mark-cleared-sound}
+use Rattle.call_laws.proofs.MarkClearedLaws.{LiveBlock, ownerAt, classAt, withMarkCleared, withBlockPushed, live-block-superblock-owned}
+use Rattle.call_laws.proofs.MarkClearedLaws.{mark-cleared-shape, mark-cleared-class, mark-cleared-owner, mark-cleared-rank}
+use Rattle.call_laws.proofs.MarkClearedLaws.{unowned-of-mark-cleared-unowned, mark-cleared-runs, mark-cleared-bit, mark-cleared-other-bits}
+use Rattle.call_laws.proofs.MarkClearedLaws.{mark-cleared-owned-of, mark-cleared-live-of-class, mark-cleared-live-of-other-classes}
+use Rattle.call_laws.proofs.MarkClearedLaws.{mark-cleared-owners-changed, mark-cleared-sound}
 
 -- a live block's mark cleared changes no owner
 mark-cleared-effect : (s : State) (order : List ℕ) (k j : ℕ) → LiveBlock s order k j → FreeEffect (classAt s k) k j 0 s (withMarkCleared s k j)
@@ -66,7 +74,8 @@ mark-cleared-effect s order k j live =
     }
 
 -- the names and the ranks are no part of a free's effect
-free-effect-of-reranked : (c k j moves : ℕ) (rank : ℕ → ℕ) (s t : State) (names : List ℕ) → length (s .table) ≡ 64 → FreeEffect c k j moves (withNames (reranked rank s) names) t → FreeEffect c k j moves s t
+free-effect-of-reranked : (c k j moves : ℕ) (rank : ℕ → ℕ) (s t : State) (names : List ℕ) → length (s .table) ≡ 64
+    → FreeEffect c k j moves (withNames (reranked rank s) names) t → FreeEffect c k j moves s t
 unfolding ownersChanged superblocksOfClass liveOfClass
 free-effect-of-reranked c k j moves rank s t names long e =
     record {
@@ -81,7 +90,8 @@ free-effect-of-reranked c k j moves rank s t names long e =
       marks = λ m b lm apart small. e .marks m b lm apart small ∙ bits m b;
       classes = λ m lm. e .classes m lm ∙ reranked-class rank s long m;
       owners = λ m lm.
-          ⊎-elim (λ q. inl (q ∙ reranked-owner rank s long m)) (λ h. inr (sym (reranked-owner rank s long m) ∙ h .0 ∙ reranked-owner rank s long k, h .1)) (e .owners m lm);
+          ⊎-elim (λ q. inl (q ∙ reranked-owner rank s long m)) (λ h. inr (sym (reranked-owner rank s long m) ∙ h .0 ∙ reranked-owner rank s long k, h .1))
+          (e .owners m lm);
       changed = sym (reranked-owners-changed rank s long t) ∙ e .changed;
       moves-le-q = e .moves-le-q;
       owned = λ d. e .owned d ∙ reranked-superblocks-of-class rank s long d;
@@ -94,7 +104,8 @@ free-effect-of-reranked c k j moves rank s t names long e =
     bits m b = ap (λ (x : List ℕ). markBit x b) (reranked-live rank s long m)
 
 -- the address meets no refusal, in a state that passed before these frees, and lies in no run
-module _ (freed : ℕ → ℕ → ℕ) (s : State) (order : List ℕ) (a : ℕ) (shape : Shape s) (passed : PassedAfterFrees freed s order) (accepted : addressRefusal s a ≡ 0) (small : isInRun s a ≡ false) where
+module _ (freed : ℕ → ℕ → ℕ) (s : State) (order : List ℕ) (a : ℕ) (shape : Shape s) (passed : PassedAfterFrees freed s order)
+    (accepted : addressRefusal s a ≡ 0) (small : isInRun s a ≡ false) where
   -- ---- the block at the address
   on-block : isOffBlock s a ≡ false
   unfolding isMisaligned
@@ -102,7 +113,10 @@ module _ (freed : ℕ → ℕ → ℕ) (s : State) (order : List ℕ) (a : ℕ) 
 
   offset-multiple-of-size : offsetOf a % sizeOf (superblockHolding s a .class) ≡ 0
   unfolding isOffBlock
-  offset-multiple-of-size = eqb-true (offsetOf a % sizeOf (superblockHolding s a .class)) 0 (not-false (eqb (offsetOf a % sizeOf (superblockHolding s a .class)) 0) (neither-left (not (eqb (offsetOf a % sizeOf (superblockHolding s a .class)) 0)) (leb (blocksOf (superblockHolding s a .class)) (blockOf s a)) on-block))
+  offset-multiple-of-size = eqb-true (offsetOf a % sizeOf (superblockHolding s a .class)) 0
+      (not-false (eqb (offsetOf a % sizeOf (superblockHolding s a .class)) 0)
+      (neither-left (not (eqb (offsetOf a % sizeOf (superblockHolding s a .class)) 0)) (leb (blocksOf (superblockHolding s a .class)) (blockOf s a))
+      on-block))
 
   -- the address is that of the block that is freed
   pub freed-address : a ≡ addressOf (superblockIndex a) (superblockHolding s a .class) (blockOf s a)
@@ -120,7 +134,9 @@ module _ (freed : ℕ → ℕ → ℕ) (s : State) (order : List ℕ) (a : ℕ) 
 
   block : blockOf s a < blocksOf (superblockHolding s a .class)
   unfolding isOffBlock
-  block = leb-false (blocksOf (superblockHolding s a .class)) (blockOf s a) (neither-right (not (eqb (offsetOf a % sizeOf (superblockHolding s a .class)) 0)) (leb (blocksOf (superblockHolding s a .class)) (blockOf s a)) on-block)
+  block = leb-false (blocksOf (superblockHolding s a .class)) (blockOf s a)
+      (neither-right (not (eqb (offsetOf a % sizeOf (superblockHolding s a .class)) 0)) (leb (blocksOf (superblockHolding s a .class)) (blockOf s a))
+      on-block)
 
   marked : markBit (superblockHolding s a .live) (blockOf s a) ≡ 1
   unfolding isLiveAt
@@ -155,7 +171,8 @@ module _ (freed : ℕ → ℕ → ℕ) (s : State) (order : List ℕ) (a : ℕ) 
   ready-ranks-sound : RanksSound ready
   unfolding rankedLatest
   ready-ranks-sound =
-      ranks-sound-of-same-ranks (reranked rank s) ready (λ m l. refl) (λ m l u. u) (ranked-latest-ranks-sound k s freed-superblock-lt-64 (λ u. not-of-heap-of-unowned (superblockHolding s a) u owned) (passed .ranks))
+      ranks-sound-of-same-ranks (reranked rank s) ready (λ m l. refl) (λ m l u. u)
+      (ranked-latest-ranks-sound k s freed-superblock-lt-64 (λ u. not-of-heap-of-unowned (superblockHolding s a) u owned) (passed .ranks))
 
   ready-passed : PassedAfterFrees freed ready order
   unfolding runsValid
@@ -171,7 +188,8 @@ module _ (freed : ℕ → ℕ → ℕ) (s : State) (order : List ℕ) (a : ℕ) 
   live-when-ready : LiveBlock ready order k (blockOf s a)
   live-when-ready =
       record {
-        shape = shape-with-names (reranked rank s) letGo (reranked-shape rank s (shape .length-is) shape) (length-without-block (s .names) (blockNumberAt s a) ∙ shape .names-length);
+        shape = shape-with-names (reranked rank s) letGo (reranked-shape rank s (shape .length-is) shape)
+            (length-without-block (s .names) (blockNumberAt s a) ∙ shape .names-length);
         freed = freed;
         passed = ready-passed;
         below = freed-superblock-below;
@@ -192,7 +210,8 @@ module _ (freed : ℕ → ℕ → ℕ) (s : State) (order : List ℕ) (a : ℕ) 
   block-pushed-is : blockPushed s order a ≡ withBlockPushed ready order k (blockOf s a)
   unfolding blockPushed
   block-pushed-is =
-      ap₂ (λ (c : ℕ) (l : List ℕ). withPlace order k (blocksOf c - liveCount l) (blockOf s a)) (sym (reranked-class rank s (shape .length-is) k)) (sym (reranked-live rank s (shape .length-is) k))
+      ap₂ (λ (c : ℕ) (l : List ℕ). withPlace order k (blocksOf c - liveCount l) (blockOf s a)) (sym (reranked-class rank s (shape .length-is) k))
+      (sym (reranked-live rank s (shape .length-is) k))
 
   pub small-block-freed-effect : FreeEffect (superblockHolding s a .class) k (blockOf s a) 0 s (smallBlockFreed s a)
   small-block-freed-effect =
@@ -204,7 +223,8 @@ module _ (freed : ℕ → ℕ → ℕ) (s : State) (order : List ℕ) (a : ℕ) 
   -- owners and classes are as they were
   pub small-block-freed-owner : (m : ℕ) → m < 64 → superblockAt (smallBlockFreed s a) m .owner ≡ superblockAt s m .owner
   small-block-freed-owner m l =
-      ap (λ (t : State). superblockAt t m .owner) small-block-freed-is ∙ mark-cleared-owner ready order k (blockOf s a) live-when-ready m l ∙ reranked-owner rank s (shape .length-is) m
+      ap (λ (t : State). superblockAt t m .owner) small-block-freed-is ∙ mark-cleared-owner ready order k (blockOf s a) live-when-ready m l
+      ∙ reranked-owner rank s (shape .length-is) m
 
   -- every other superblock keeps all but its rank
   pub small-block-freed-others : (m : ℕ) → m < 64 → (m ≡ superblockIndex a → ⊥)
@@ -236,17 +256,21 @@ module _ (freed : ℕ → ℕ → ℕ) (s : State) (order : List ℕ) (a : ℕ) 
   small-block-freed-sound =
       subst (λ (t : State). SoundAfterFrees oneMore t (blockPushed s order a)) (sym small-block-freed-is)
       (subst (λ (o : List ℕ). SoundAfterFrees oneMore (withMarkCleared ready k (blockOf s a)) o) (sym block-pushed-is)
-      (subst (λ (h : ℕ). SoundAfterFrees (oneMoreFreed h (superblockHolding s a .class) freed) (withMarkCleared ready k (blockOf s a)) (withBlockPushed ready order k (blockOf s a))) (reranked-owner rank s (shape .length-is) k)
-      (subst (λ (c : ℕ). SoundAfterFrees (oneMoreFreed (ownerAt ready k) c freed) (withMarkCleared ready k (blockOf s a)) (withBlockPushed ready order k (blockOf s a))) (reranked-class rank s (shape .length-is) k)
+      (subst (λ (h : ℕ). SoundAfterFrees (oneMoreFreed h (superblockHolding s a .class) freed) (withMarkCleared ready k (blockOf s a))
+      (withBlockPushed ready order k (blockOf s a))) (reranked-owner rank s (shape .length-is) k)
+      (subst (λ (c : ℕ). SoundAfterFrees (oneMoreFreed (ownerAt ready k) c freed) (withMarkCleared ready k (blockOf s a))
+      (withBlockPushed ready order k (blockOf s a))) (reranked-class rank s (shape .length-is) k)
       (mark-cleared-sound ready order k (blockOf s a) live-when-ready))))
 
   small-block-freed-ranks-sound : RanksSound (smallBlockFreed s a)
   small-block-freed-ranks-sound =
       subst RanksSound (sym small-block-freed-is)
-      (ranks-sound-of-same-ranks ready (withMarkCleared ready k (blockOf s a)) (mark-cleared-rank ready order k (blockOf s a) live-when-ready) (unowned-of-mark-cleared-unowned ready order k (blockOf s a) live-when-ready) ready-ranks-sound)
+      (ranks-sound-of-same-ranks ready (withMarkCleared ready k (blockOf s a)) (mark-cleared-rank ready order k (blockOf s a) live-when-ready)
+      (unowned-of-mark-cleared-unowned ready order k (blockOf s a) live-when-ready) ready-ranks-sound)
 
   small-block-freed-totals : TotalsKept (smallBlockFreed s a)
-  small-block-freed-totals = subst TotalsKept (sym small-block-freed-is) (totals-kept-with-superblock ready k (withoutMarkAt (superblockAt ready k) (blockOf s a)))
+  small-block-freed-totals =
+      subst TotalsKept (sym small-block-freed-is) (totals-kept-with-superblock ready k (withoutMarkAt (superblockAt ready k) (blockOf s a)))
 
   -- one block more of its heap and class was freed since the move rule was last followed
   pub small-block-freed-passed : PassedAfterFrees oneMore (smallBlockFreed s a) (blockPushed s order a)
@@ -254,9 +278,12 @@ module _ (freed : ℕ → ℕ → ℕ) (s : State) (order : List ℕ) (a : ℕ) 
   small-block-freed-passed =
       record {
         sound = small-block-freed-sound;
-        names = names-valid-after-free (superblockHolding s a .class) k (blockOf s a) 0 s (smallBlockFreed s a) (shape .length-is) small-block-freed-effect small-block-freed-names (passed .names);
+        names = names-valid-after-free (superblockHolding s a .class) k (blockOf s a) 0 s (smallBlockFreed s a)
+            (shape .length-is) small-block-freed-effect small-block-freed-names (passed .names);
         totals = small-block-freed-totals;
         ranks = small-block-freed-ranks-sound;
-        runs = runs-valid-of-kept s (smallBlockFreed s a) (shape .length-is) (small-block-freed-shape .length-is) (small-block-freed-effect .runs) (passed .runs);
-        room = subst (λ (n : ℕ). s .setup .superblocks * 256 ≤ n) (sym (length-with-place order k (blocksOf (superblockHolding s a .class) - liveIn (superblockHolding s a)) (blockOf s a))) (passed .room);
+        runs = runs-valid-of-kept s (smallBlockFreed s a) (shape .length-is) (small-block-freed-shape .length-is) (small-block-freed-effect .runs)
+            (passed .runs);
+        room = subst (λ (n : ℕ). s .setup .superblocks * 256 ≤ n)
+            (sym (length-with-place order k (blocksOf (superblockHolding s a .class) - liveIn (superblockHolding s a)) (blockOf s a))) (passed .room);
       }

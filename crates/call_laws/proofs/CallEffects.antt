@@ -148,7 +148,8 @@ pub record FreeEffect (c k j moves : ℕ) (s t : State) : Type 0 where
   pub marks : (m b : ℕ) → m < 64 → ((m ≡ k) × (b ≡ j) → ⊥) → b < 256 → markBit (superblockAt t m .live) b ≡ markBit (superblockAt s m .live) b
   pub classes : (m : ℕ) → m < 64 → superblockAt t m .class ≡ superblockAt s m .class
   -- an owner stays, or was a processor heap's and is 0
-  pub owners : (m : ℕ) → m < 64 → (superblockAt t m .owner ≡ superblockAt s m .owner) ⊎ ((superblockAt s m .owner ≡ superblockAt s k .owner) × (superblockAt t m .owner ≡ 0))
+  pub owners : (m : ℕ) → m < 64 → (superblockAt t m .owner ≡ superblockAt s m .owner)
+      ⊎ ((superblockAt s m .owner ≡ superblockAt s k .owner) × (superblockAt t m .owner ≡ 0))
   pub changed : ownersChanged s t ≡ moves
   pub moves-le-q : moves ≤ s .setup .q
   pub owned : (d : ℕ) → superblocksOfClass d t ≡ superblocksOfClass d s
@@ -202,11 +203,12 @@ Unranked k s t = (m : ℕ) → m < 64 → superblockAt t m .rank ≡ rankAfterRe
 pub record RunUnranked (k n : ℕ) (s t : State) : Type 0 where
   pub in-run : (m : ℕ) → InRun k n m → superblockAt t m .rank ≡ 0
   pub ranked-iff : (m : ℕ) → m < 64 → (InRun k n m → ⊥) → (superblockAt t m .rank ≡ 0) ↔ (superblockAt s m .rank ≡ 0)
-  pub order-kept : (m l : ℕ) → m < 64 → l < 64 → (InRun k n m → ⊥) → (InRun k n l → ⊥) → 0 < superblockAt s m .rank → superblockAt s m .rank < superblockAt s l .rank
+  pub order-kept : (m l : ℕ) → m < 64 → l < 64 → (InRun k n m → ⊥) → (InRun k n l → ⊥) → 0 < superblockAt s m .rank
+      → superblockAt s m .rank < superblockAt s l .rank
       → superblockAt t m .rank < superblockAt t l .rank
 
--- a take of heap i from superblock k renews it: it was not heap i's, and nothing was live. "A superblock with nothing live is renewed for c when it comes from place 2, 3
--- or 4; from place 1 it is not."
+-- a take of heap i from superblock k renews it: it was not heap i's, and nothing was live. "A superblock with nothing live is renewed for c when it
+-- comes from place 2, 3 or 4; from place 1 it is not."
 pub record Renews (s : State) (i k : ℕ) : Type 0 where
   pub not-own : superblockAt s k .owner ≡ i → ⊥
   pub empty : liveIn (superblockAt s k) ≡ 0
@@ -215,6 +217,7 @@ pub record Renews (s : State) (i k : ℕ) : Type 0 where
 abbrev pub RenewsNot : State → ℕ → ℕ → Type 0
 RenewsNot s i k = (superblockAt s k .owner ≡ i) ⊎ (liveIn (superblockAt s k) ≡ 0 → ⊥)
 
--- a take: a renewed superblock leaves the ranking, and else every rank stays, also that of an empty superblock from place 1 and that of one from place 2 with live blocks
+-- a take: a renewed superblock leaves the ranking, and else every rank stays, also that of an empty superblock from place 1 and that of one from
+-- place 2 with live blocks
 abbrev pub TakeRanks : ℕ → ℕ → State → State → Type 0
 TakeRanks i k s t = (Renews s i k × Unranked k s t) ⊎ (RenewsNot s i k × RanksKept s t)

@@ -28,15 +28,20 @@ use Rattle.call_laws.proofs.RefusalConditions.{rest-fails, check-fails-
 use Rattle.call_laws.proofs.TotalsKeptLaws.{setup-state-is-new, refused-call-keeps-state}
 
 -- ---- named calls do what the plain ones do (TakeLaws · take-ranks, FreeLaws · free-ranks)
-pub named-take-ranks : (s : State) (order : List ℕ) (i m size k : ℕ) → Shape s → NamedTakeAccepted s order i m size k → TakeRanks i k s (namedTakeOf s order i m size .answer .state)
+pub named-take-ranks : (s : State) (order : List ℕ) (i m size k : ℕ) → Shape s → NamedTakeAccepted s order i m size k
+    → TakeRanks i k s (namedTakeOf s order i m size .answer .state)
 named-take-ranks s order i m size k shape acc =
     subst (λ (t : State). TakeRanks i k s t) (sym (named-take-state s order i m size k shape acc)) (take-ranks s order i size k shape (acc .taken))
 
-pub named-free-ranks : (s : State) (order : List ℕ) (i m : ℕ) → Shape s → NamedFreeAccepted s order i m → RankedLatest (superblockIndex (heldAddress s m)) s (namedFreeOf s order i m .answer .state)
-named-free-ranks s order i m shape acc l h = ap (λ (x : After). superblockAt (x .answer .state) l .rank) (acc .result-is) ∙ free-ranks s order i (heldAddress s m) shape (acc .freed) l h
+pub named-free-ranks : (s : State) (order : List ℕ) (i m : ℕ) → Shape s → NamedFreeAccepted s order i m
+    → RankedLatest (superblockIndex (heldAddress s m)) s (namedFreeOf s order i m .answer .state)
+named-free-ranks s order i m shape acc l h = ap (λ (x : After). superblockAt (x .answer .state) l .rank) (acc .result-is)
+    ∙ free-ranks s order i (heldAddress s m) shape (acc .freed) l h
 
-pub named-long-free-ranks : (s : State) (order : List ℕ) (i m : ℕ) → Shape s → NamedLongFreeAccepted s order i m → RanksKept s (namedFreeOf s order i m .answer .state)
-named-long-free-ranks s order i m shape acc l h = ap (λ (x : After). superblockAt (x .answer .state) l .rank) (acc .result-is) ∙ long-free-ranks s order i (heldAddress s m) shape (acc .freed) l h
+pub named-long-free-ranks : (s : State) (order : List ℕ) (i m : ℕ) → Shape s → NamedLongFreeAccepted s order i m
+    → RanksKept s (namedFreeOf s order i m .answer .state)
+named-long-free-ranks s order i m shape acc l h = ap (λ (x : After). superblockAt (x .answer .state) l .rank) (acc .result-is)
+    ∙ long-free-ranks s order i (heldAddress s m) shape (acc .freed) l h
 
 -- ---- the superblock itself
 -- a superblock that a take renewed has no rank
@@ -58,10 +63,13 @@ module _ (s : State) (order : List ℕ) (call : Call) where
   pub accepted-call-keeps-ranking : Shape s → numberOf (callOf s order call .answer .outcome) ≡ 0 → RanksSound (callOf s order call .answer .state)
   accepted-call-keeps-ranking shape accepted =
       let after = callOf s order call in
-      ranks-sound-of-valid (after .answer .state) (ranks-valid-of-rest (after .answer .state) (after .order) (rest-of-passes (after .answer .state) (after .order) (T-of-true _ (call-passes-if-accepted s order call shape accepted))))
+      ranks-sound-of-valid (after .answer .state)
+      (ranks-valid-of-rest (after .answer .state) (after .order)
+      (rest-of-passes (after .answer .state) (after .order) (T-of-true _ (call-passes-if-accepted s order call shape accepted))))
 
   -- "and the state check tests this": a ranking with a gap, a double, a rank too high or an unused superblock in it is refused 13
-  pub call-refused-13-of-wrong-ranking : WithinLimits (s .setup) → s .setup .superblocks * 256 ≤ length order → (RanksSound s → ⊥) → callOf s order call ≡ refused 13 s order
+  pub call-refused-13-of-wrong-ranking : WithinLimits (s .setup) → s .setup .superblocks * 256 ≤ length order → (RanksSound s → ⊥)
+      → callOf s order call ≡ refused 13 s order
   call-refused-13-of-wrong-ranking numbers lent wrong =
       call-of-checks-first s order call ∙ check-fails-refused-13 s order 0 (callUnchecked s order call) (rest-fails numbers lent (λ h. wrong (h .3)))
 

@@ -26,12 +26,15 @@ module _ (s : State) (order : List ℕ) (call : Call) where
       (ap (λ (t : State). isOfRun (superblockAt t m)) same, ap (λ (t : State). superblockAt t m .run) same)
 
   -- "The state check tests .. that runs are whole and at most 16 long": a state with other runs is refused 13
-  pub call-refused-13-of-wrong-runs : length (s .table) ≡ 64 → WithinLimits (s .setup) → s .setup .superblocks * 256 ≤ length order → (RunsSound s → ⊥) → callOf s order call ≡ refused 13 s order
+  pub call-refused-13-of-wrong-runs : length (s .table) ≡ 64 → WithinLimits (s .setup) → s .setup .superblocks * 256 ≤ length order → (RunsSound s → ⊥)
+      → callOf s order call ≡ refused 13 s order
   call-refused-13-of-wrong-runs long numbers lent wrong =
-      call-of-checks-first s order call ∙ check-fails-refused-13 s order 0 (callUnchecked s order call) (rest-fails numbers lent (λ h. wrong (runs-sound-of-valid s long (h .4))))
+      call-of-checks-first s order call ∙ check-fails-refused-13 s order 0 (callUnchecked s order call)
+      (rest-fails numbers lent (λ h. wrong (runs-sound-of-valid s long (h .4))))
 
 -- a setup, accepted or refused, has no run: each superblock is unused
-pub new-or-refused-setup-has-no-runs : (u : Setup) (order : List ℕ) (k : ℕ) → k < 64 → (isOfRun (superblockAt (setupOf u order .answer .state) k) ≡ false) × (superblockAt (setupOf u order .answer .state) k .run ≡ 0)
+pub new-or-refused-setup-has-no-runs : (u : Setup) (order : List ℕ) (k : ℕ) → k < 64 → (isOfRun (superblockAt (setupOf u order .answer .state) k) ≡ false)
+    × (superblockAt (setupOf u order .answer .state) k .run ≡ 0)
 unfolding isOfRun
 new-or-refused-setup-has-no-runs u order k l =
     let new = setup-state-is-new u order in

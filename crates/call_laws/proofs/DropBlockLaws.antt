@@ -1,4 +1,5 @@
--- What a drop leaves of marks, live blocks and ranks, in the page's words (document 02, item 5). Long blocks have no marks and no ranks (item 7). Assumes nothing.
+-- What a drop leaves of marks, live blocks and ranks, in the page's words (document 02, item 5). Long blocks have no marks and no ranks (item 7).
+-- Assumes nothing.
 use mathlib.Core.Path.{_≡_, refl, sym, ap, ap₂, _∙_, subst}
 use mathlib.Core.Bool.{Bool, false}
 use mathlib.Core.Logic.{inl, inr, ⊎-elim}
@@ -27,8 +28,10 @@ use Rattle.call_laws.proofs.CallRankLaws.{freed-superblock-is-latest}
 -- ---- the frees: what marks read of a superblock, its own or its live blocks, say of block b of superblock m
 -- a free clears the mark of its block, and no other
 record ClearsItsBlock (of : Superblock → List ℕ) : Type 0 where
-  clears : (freed : ℕ → ℕ → ℕ) (s : State) (order : List ℕ) (a : ℕ) → AddressFreed freed s order a → markBit (of (superblockHolding (blockFreed s a) a)) (blockOf s a) ≡ 0
-  keeps : (freed : ℕ → ℕ → ℕ) (s : State) (order : List ℕ) (a : ℕ) → AddressFreed freed s order a → (m b : ℕ) → m < 64 → ((m ≡ superblockIndex a) × (b ≡ blockOf s a) → ⊥) → b < 256
+  clears : (freed : ℕ → ℕ → ℕ) (s : State) (order : List ℕ) (a : ℕ) → AddressFreed freed s order a → markBit (of (superblockHolding (blockFreed s a) a))
+      (blockOf s a) ≡ 0
+  keeps : (freed : ℕ → ℕ → ℕ) (s : State) (order : List ℕ) (a : ℕ) → AddressFreed freed s order a → (m b : ℕ) → m < 64
+      → ((m ≡ superblockIndex a) × (b ≡ blockOf s a) → ⊥) → b < 256
       → markBit (of (superblockAt (blockFreed s a) m)) b ≡ markBit (of (superblockAt s m)) b
 
 clears-its-mark : ClearsItsBlock (λ x. x .live)
@@ -42,7 +45,8 @@ module _ (of : Superblock → List ℕ) (one-block : ClearsItsBlock of) (m b : �
   markIn s = markBit (of (superblockAt s m)) b
 
   -- the first block freed: its mark is cleared, and no other changes
-  module _ (freed : ℕ → ℕ → ℕ) (s : State) (order : List ℕ) (a : ℕ) (shape : Shape s) (passed : PassedAfterFrees freed s order) (accepted : addressRefusal s a ≡ 0) where
+  module _ (freed : ℕ → ℕ → ℕ) (s : State) (order : List ℕ) (a : ℕ) (shape : Shape s) (passed : PassedAfterFrees freed s order)
+      (accepted : addressRefusal s a ≡ 0) where
     here : AddressFreed freed s order a
     here = address-freed freed s order a shape passed accepted
 
@@ -64,42 +68,50 @@ module _ (of : Superblock → List ℕ) (one-block : ClearsItsBlock of) (m b : �
         go (no f) = first-keeps-other f ∙ e
 
   -- of all of them: the mark of a block that is not listed stays ..
-  frees-keep-other-marks : (freed : ℕ → ℕ → ℕ) (s : State) (order addresses : List ℕ) → Shape s → PassedAfterFrees freed s order → firstAddressRefusal s addresses ≡ 0
+  frees-keep-other-marks : (freed : ℕ → ℕ → ℕ) (s : State) (order addresses : List ℕ) → Shape s → PassedAfterFrees freed s order
+      → firstAddressRefusal s addresses ≡ 0
       → (ListsBlock s addresses (blockNumber m b) → ⊥) → markIn (allFreed s addresses) ≡ markIn s
   unfolding allFreed
   frees-keep-other-marks freed s order [] shape passed ok other = refl
   frees-keep-other-marks freed s order (a ∷ addresses) shape passed ok other =
       let first = first-refusal-of-cons s a addresses ok in
-      frees-keep-other-marks _ (blockFreed s a) (orderPushed s order a) addresses (address-freed freed s order a shape passed (first .0) .shape) (address-freed freed s order a shape passed (first .0) .passed) (first .1)
+      frees-keep-other-marks _ (blockFreed s a) (orderPushed s order a) addresses (address-freed freed s order a shape passed (first .0) .shape)
+      (address-freed freed s order a shape passed (first .0) .passed) (first .1)
       (λ h. other (inr (listed-same s (blockFreed s a) (address-freed-block freed s order a shape passed (first .0)) addresses _ h)))
       ∙ first-keeps-other freed s order a shape passed (first .0) (λ e. other (inl e))
 
   -- .. one that is cleared stays so ..
-  frees-set-no-mark : (freed : ℕ → ℕ → ℕ) (s : State) (order addresses : List ℕ) → Shape s → PassedAfterFrees freed s order → firstAddressRefusal s addresses ≡ 0
+  frees-set-no-mark : (freed : ℕ → ℕ → ℕ) (s : State) (order addresses : List ℕ) → Shape s → PassedAfterFrees freed s order
+      → firstAddressRefusal s addresses ≡ 0
       → markIn s ≡ 0 → markIn (allFreed s addresses) ≡ 0
   unfolding allFreed
   frees-set-no-mark freed s order [] shape passed ok e = e
   frees-set-no-mark freed s order (a ∷ addresses) shape passed ok e =
       let first = first-refusal-of-cons s a addresses ok in
-      frees-set-no-mark _ (blockFreed s a) (orderPushed s order a) addresses (address-freed freed s order a shape passed (first .0) .shape) (address-freed freed s order a shape passed (first .0) .passed) (first .1)
+      frees-set-no-mark _ (blockFreed s a) (orderPushed s order a) addresses (address-freed freed s order a shape passed (first .0) .shape)
+      (address-freed freed s order a shape passed (first .0) .passed) (first .1)
       (first-sets-none freed s order a shape passed (first .0) e)
 
   -- .. and that of a listed one is cleared
-  frees-clear-marks : (freed : ℕ → ℕ → ℕ) (s : State) (order addresses : List ℕ) → Shape s → PassedAfterFrees freed s order → firstAddressRefusal s addresses ≡ 0
+  frees-clear-marks : (freed : ℕ → ℕ → ℕ) (s : State) (order addresses : List ℕ) → Shape s → PassedAfterFrees freed s order
+      → firstAddressRefusal s addresses ≡ 0
       → ListsBlock s addresses (blockNumber m b) → markIn (allFreed s addresses) ≡ 0
   unfolding allFreed
   frees-clear-marks freed s order [] shape passed ok h = absurd h
   frees-clear-marks freed s order (a ∷ addresses) shape passed ok (inl e) =
       let first = first-refusal-of-cons s a addresses ok in
-      frees-set-no-mark _ (blockFreed s a) (orderPushed s order a) addresses (address-freed freed s order a shape passed (first .0) .shape) (address-freed freed s order a shape passed (first .0) .passed) (first .1)
+      frees-set-no-mark _ (blockFreed s a) (orderPushed s order a) addresses (address-freed freed s order a shape passed (first .0) .shape)
+      (address-freed freed s order a shape passed (first .0) .passed) (first .1)
       (first-clears freed s order a shape passed (first .0) e)
   frees-clear-marks freed s order (a ∷ addresses) shape passed ok (inr h) =
       let first = first-refusal-of-cons s a addresses ok in
-      frees-clear-marks _ (blockFreed s a) (orderPushed s order a) addresses (address-freed freed s order a shape passed (first .0) .shape) (address-freed freed s order a shape passed (first .0) .passed) (first .1)
+      frees-clear-marks _ (blockFreed s a) (orderPushed s order a) addresses (address-freed freed s order a shape passed (first .0) .shape)
+      (address-freed freed s order a shape passed (first .0) .passed) (first .1)
       (listed-same (blockFreed s a) s (λ x. sym (address-freed-block freed s order a shape passed (first .0) x)) addresses _ h)
 
 -- ---- the frees: the superblock of the last address is in front of the ranking, unless a long block was freed there
-last-freed-ranked-1 : (freed : ℕ → ℕ → ℕ) (s : State) (order earlier : List ℕ) (a : ℕ) → Shape s → PassedAfterFrees freed s order → isInRun s a ≡ false → firstAddressRefusal s (earlier ++ (a ∷ [])) ≡ 0
+last-freed-ranked-1 : (freed : ℕ → ℕ → ℕ) (s : State) (order earlier : List ℕ) (a : ℕ) → Shape s → PassedAfterFrees freed s order → isInRun s a ≡ false
+    → firstAddressRefusal s (earlier ++ (a ∷ [])) ≡ 0
     → (superblockIndex a < 64) × (superblockAt (allFreed s (earlier ++ (a ∷ []))) (superblockIndex a) .rank ≡ 1)
 unfolding allFreed
 last-freed-ranked-1 freed s order [] a shape passed outside ok =
@@ -107,15 +119,18 @@ last-freed-ranked-1 freed s order [] a shape passed outside ok =
     let inside = address-freed freed s order a shape passed (first .0) .below in (
       inside,
       freed-superblock-is-latest s (blockFreed s a) (superblockIndex a) inside
-          (subst (RankedLatest (superblockIndex a) s) (sym (block-freed-outside-run s a outside)) (small-block-freed-ranks freed s order a shape passed (first .0) outside)),
+          (subst (RankedLatest (superblockIndex a) s) (sym (block-freed-outside-run s a outside))
+          (small-block-freed-ranks freed s order a shape passed (first .0) outside)),
     )
 last-freed-ranked-1 freed s order (x ∷ earlier) a shape passed outside ok =
     let first = first-refusal-of-cons s x (earlier ++ (a ∷ [])) ok in
     let here = address-freed freed s order x shape passed (first .0) in
-    last-freed-ranked-1 _ (blockFreed s x) (orderPushed s order x) earlier a (here .shape) (here .passed) (outside-run-kept s (blockFreed s x) (here .owners) (here .shape .length-is) a outside) (first .1)
+    last-freed-ranked-1 _ (blockFreed s x) (orderPushed s order x) earlier a (here .shape) (here .passed)
+    (outside-run-kept s (blockFreed s x) (here .owners) (here .shape .length-is) a outside) (first .1)
 
 -- ---- the moves: what does not depend on which heap the owner is stays
-transfers-keep : {A : Type 0} (of : Superblock → A) → ((b : Superblock) → b .owner < runOwner → of (withOwner 0 b) ≡ of b) → (touched : ℕ → ℕ → Bool) (s t : State) (n : ℕ) → Transfers touched s t n → (m : ℕ) → m < 64
+transfers-keep : {A : Type 0} (of : Superblock → A) → ((b : Superblock) → b .owner < runOwner → of (withOwner 0 b) ≡ of b)
+    → (touched : ℕ → ℕ → Bool) (s t : State) (n : ℕ) → Transfers touched s t n → (m : ℕ) → m < 64
     → of (superblockAt t m) ≡ of (superblockAt s m)
 transfers-keep of kept touched s t n moves m l = ⊎-elim (λ e. ap of e) (λ w. ap of (w .3) ∙ kept (superblockAt s m) (w .1)) (moves .each m l)
 
@@ -124,7 +139,8 @@ module _ (s : State) (order : List ℕ) (i : ℕ) (addresses : List ℕ) (shape 
   abbrev after : State
   after = dropOf s order i addresses .answer .state
 
-  drop-keeps : {A : Type 0} (of : Superblock → A) → ((b : Superblock) → b .owner < runOwner → of (withOwner 0 b) ≡ of b) → (m : ℕ) → m < 64 → of (superblockAt after m) ≡ of (superblockAt (allFreed s addresses) m)
+  drop-keeps : {A : Type 0} (of : Superblock → A) → ((b : Superblock) → b .owner < runOwner → of (withOwner 0 b) ≡ of b) → (m : ℕ) → m < 64
+      → of (superblockAt after m) ≡ of (superblockAt (allFreed s addresses) m)
   drop-keeps of kept m l =
       ap (λ (t : State). of (superblockAt t m)) (drop-state-is s order i addresses shape acc)
       ∙ transfers-keep of kept _ _ _ _ (drop-transfers s order addresses shape (acc .passed) (acc .no-refusal)) m l
@@ -133,13 +149,16 @@ module _ (s : State) (order : List ℕ) (i : ℕ) (addresses : List ℕ) (shape 
   pub drop-clears-marks : (m b : ℕ) → m < 64 → b < 256 → ListsBlock s addresses (blockNumber m b) → markBit (superblockAt after m .live) b ≡ 0
   drop-clears-marks m b inside small h =
       drop-keeps (λ x. markBit (x .live) b) (λ x l. refl) m inside
-      ∙ frees-clear-marks (λ x. x .live) clears-its-mark m b inside small (λ h c. 0) s order addresses shape (passed-after-no-frees s order (acc .passed)) (acc .no-refusal) h
+      ∙ frees-clear-marks (λ x. x .live) clears-its-mark m b inside small (λ h c. 0) s order addresses shape (passed-after-no-frees s order (acc .passed))
+      (acc .no-refusal) h
 
   -- .. and every other mark is as it was
-  pub drop-keeps-other-marks : (m b : ℕ) → m < 64 → b < 256 → (ListsBlock s addresses (blockNumber m b) → ⊥) → markBit (superblockAt after m .live) b ≡ markBit (superblockAt s m .live) b
+  pub drop-keeps-other-marks : (m b : ℕ) → m < 64 → b < 256 → (ListsBlock s addresses (blockNumber m b) → ⊥) → markBit (superblockAt after m .live) b
+      ≡ markBit (superblockAt s m .live) b
   drop-keeps-other-marks m b inside small other =
       drop-keeps (λ x. markBit (x .live) b) (λ x l. refl) m inside
-      ∙ frees-keep-other-marks (λ x. x .live) clears-its-mark m b inside small (λ h c. 0) s order addresses shape (passed-after-no-frees s order (acc .passed)) (acc .no-refusal) other
+      ∙ frees-keep-other-marks (λ x. x .live) clears-its-mark m b inside small (λ h c. 0) s order addresses shape
+      (passed-after-no-frees s order (acc .passed)) (acc .no-refusal) other
 
   -- long blocks as well: each block of the list is no longer live ..
   of-heap-keeps-live-blocks : (b : ℕ) (x : Superblock) → x .owner < runOwner → markBit (liveBlocks (withOwner 0 x)) b ≡ markBit (liveBlocks x) b
@@ -151,20 +170,24 @@ module _ (s : State) (order : List ℕ) (i : ℕ) (addresses : List ℕ) (shape 
   pub drop-frees-blocks : (m b : ℕ) → m < 64 → b < 256 → ListsBlock s addresses (blockNumber m b) → markBit (liveBlocks (superblockAt after m)) b ≡ 0
   drop-frees-blocks m b inside small h =
       drop-keeps (λ x. markBit (liveBlocks x) b) (of-heap-keeps-live-blocks b) m inside
-      ∙ frees-clear-marks liveBlocks clears-its-live-block m b inside small (λ h c. 0) s order addresses shape (passed-after-no-frees s order (acc .passed)) (acc .no-refusal) h
+      ∙ frees-clear-marks liveBlocks clears-its-live-block m b inside small (λ h c. 0) s order addresses shape
+      (passed-after-no-frees s order (acc .passed)) (acc .no-refusal) h
 
   -- .. and every other is live or not as it was
-  pub drop-keeps-other-blocks : (m b : ℕ) → m < 64 → b < 256 → (ListsBlock s addresses (blockNumber m b) → ⊥) → markBit (liveBlocks (superblockAt after m)) b ≡ markBit (liveBlocks (superblockAt s m)) b
+  pub drop-keeps-other-blocks : (m b : ℕ) → m < 64 → b < 256 → (ListsBlock s addresses (blockNumber m b) → ⊥)
+      → markBit (liveBlocks (superblockAt after m)) b ≡ markBit (liveBlocks (superblockAt s m)) b
   drop-keeps-other-blocks m b inside small other =
       drop-keeps (λ x. markBit (liveBlocks x) b) (of-heap-keeps-live-blocks b) m inside
-      ∙ frees-keep-other-marks liveBlocks clears-its-live-block m b inside small (λ h c. 0) s order addresses shape (passed-after-no-frees s order (acc .passed)) (acc .no-refusal) other
+      ∙ frees-keep-other-marks liveBlocks clears-its-live-block m b inside small (λ h c. 0) s order addresses shape
+      (passed-after-no-frees s order (acc .passed)) (acc .no-refusal) other
 
   -- a move changes no rank: the ranks are as the frees leave them
   pub drop-ranks : RanksKept (allFreed s addresses) after
   drop-ranks = drop-keeps (λ x. x .rank) (λ x l. refl)
 
 -- the superblock of the last address is the last freed into, where it was in no run: it has rank 1
-pub last-dropped-ranked-1 : (s : State) (order : List ℕ) (i : ℕ) (earlier : List ℕ) (a : ℕ) → Shape s → DropAccepted s order i (earlier ++ (a ∷ [])) → isInRun s a ≡ false
+pub last-dropped-ranked-1 : (s : State) (order : List ℕ) (i : ℕ) (earlier : List ℕ) (a : ℕ) → Shape s → DropAccepted s order i (earlier ++ (a ∷ []))
+    → isInRun s a ≡ false
     → superblockAt (dropOf s order i (earlier ++ (a ∷ [])) .answer .state) (superblockIndex a) .rank ≡ 1
 last-dropped-ranked-1 s order i earlier a shape acc outside =
     let last = last-freed-ranked-1 (λ h c. 0) s order earlier a shape (passed-after-no-frees s order (acc .passed)) outside (acc .no-refusal) in

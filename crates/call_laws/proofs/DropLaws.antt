@@ -43,14 +43,17 @@ pub record DropAccepted (s : State) (order : List ℕ) (i : ℕ) (addresses : Li
   pub result-is : dropOf s order i addresses ≡ droppedAll s order addresses
 
 -- a drop is refused and changes nothing, or is accepted
-pub drop-refused-or-accepted : (s : State) (order : List ℕ) (i : ℕ) (addresses : List ℕ) → ((r : ℕ) × (dropOf s order i addresses ≡ refused r s order)) ⊎ DropAccepted s order i addresses
+pub drop-refused-or-accepted : (s : State) (order : List ℕ) (i : ℕ) (addresses : List ℕ) → ((r : ℕ) × (dropOf s order i addresses ≡ refused r s order))
+    ⊎ DropAccepted s order i addresses
 unfolding dropOf dropUnchecked
 drop-refused-or-accepted s order i addresses = by-check (checked-refused-or-passed s order (dropUnchecked s order i addresses))
   where
     tests : (p e f : Bool) → After
-    tests p e f = pick (not p) (refused 2 s order) (pick e (refused 16 s order) (pick f (droppedAll s order addresses) (refused (firstAddressRefusal s addresses) s order)))
+    tests p e f = pick (not p) (refused 2 s order)
+        (pick e (refused 16 s order) (pick f (droppedAll s order addresses) (refused (firstAddressRefusal s addresses) s order)))
 
-    by-tests : (p e f : Bool) → isProcessor s i ≡ p → eqb (length addresses) 0 ≡ e → eqb (firstAddressRefusal s addresses) 0 ≡ f → Passed s order → dropOf s order i addresses ≡ tests p e f
+    by-tests : (p e f : Bool) → isProcessor s i ≡ p → eqb (length addresses) 0 ≡ e → eqb (firstAddressRefusal s addresses) 0 ≡ f → Passed s order
+        → dropOf s order i addresses ≡ tests p e f
         → ((r : ℕ) × (dropOf s order i addresses ≡ refused r s order)) ⊎ DropAccepted s order i addresses
     by-tests false e f ep ee ef passed q = inl (2, q)
     by-tests true true f ep ee ef passed q = inl (16, q)
@@ -64,7 +67,8 @@ drop-refused-or-accepted s order i addresses = by-check (checked-refused-or-pass
           result-is = q;
         })
 
-    by-check : ((r : ℕ) × (dropOf s order i addresses ≡ refused r s order)) ⊎ (Passed s order × (dropOf s order i addresses ≡ dropUnchecked s order i addresses))
+    by-check : ((r : ℕ) × (dropOf s order i addresses ≡ refused r s order))
+        ⊎ (Passed s order × (dropOf s order i addresses ≡ dropUnchecked s order i addresses))
         → ((r : ℕ) × (dropOf s order i addresses ≡ refused r s order)) ⊎ DropAccepted s order i addresses
     by-check (inl r) = inl r
     by-check (inr (passed, e)) = by-tests (isProcessor s i) (eqb (length addresses) 0) (eqb (firstAddressRefusal s addresses) 0) refl refl refl passed e
@@ -77,9 +81,11 @@ pub record DropEffect (addresses : List ℕ) (moves : ℕ) (s t : State) : Type 
   -- an owner stays, or was a processor heap's that lost a block of that class, and is 0, or was a run's, and the superblock is unused
   pub owners : (k : ℕ) → k < 64
       → (superblockAt t k .owner ≡ superblockAt s k .owner)
-      ⊎ (((0 < superblockAt s k .owner) × (superblockAt s k .owner < runOwner) × T (isTouched s addresses (superblockAt s k .owner) (superblockAt s k .class)) × (superblockAt t k .owner ≡ 0))
+      ⊎ (((0 < superblockAt s k .owner) × (superblockAt s k .owner < runOwner)
+      × T (isTouched s addresses (superblockAt s k .owner) (superblockAt s k .class)) × (superblockAt t k .owner ≡ 0))
       ⊎ ((superblockAt s k .owner ≡ runOwner) × (superblockAt t k .owner ≡ unusedOwner)))
-  -- "an accepted one changes exactly as many owners as it reports moves", where "the q and reported moves of a free or drop [count] only those that pass between heaps" (item 7)
+  -- "an accepted one changes exactly as many owners as it reports moves", where "the q and reported moves of a free or drop [count] only those that
+  -- pass between heaps" (item 7)
   pub passed-between-heaps : passedBetweenHeaps s t ≡ moves
   -- "a drop moves at most q superblocks for each address"
   pub moves-bound : moves ≤ s .setup .q * length addresses
@@ -91,7 +97,8 @@ module _ (s : State) (order addresses : List ℕ) (shape : Shape s) (start : Pas
   drop-frees = all-freed (λ h c. 0) s order addresses shape (passed-after-no-frees s order start) ok
 
   freed-passed : PassedAfterFrees (freedOf s addresses) (allFreed s addresses) (allPushed s order addresses)
-  freed-passed = passed-after-frees-cong (λ h c. 0 + freedOf s addresses h c) (freedOf s addresses) (allFreed s addresses) (allPushed s order addresses) (λ h c l. omega arith) (drop-frees .passed)
+  freed-passed = passed-after-frees-cong (λ h c. 0 + freedOf s addresses h c) (freedOf s addresses) (allFreed s addresses) (allPushed s order addresses)
+      (λ h c l. omega arith) (drop-frees .passed)
 
   -- ---- the moves
   abbrev bound : ℕ
@@ -100,12 +107,17 @@ module _ (s : State) (order addresses : List ℕ) (shape : Shape s) (start : Pas
   abbrev Below : ℕ → ℕ → Type 0
   Below i d = (1 ≤ i) × (i ≤ s .setup .processors) × (d < classCount)
 
-  restored : PairsRestored (isTouched s addresses) (freedOf s addresses) (allFreed s addresses) (allPushed s order addresses) Below bound (dropMoves s addresses)
+  restored : PairsRestored (isTouched s addresses) (freedOf s addresses) (allFreed s addresses) (allPushed s order addresses) Below bound
+      (dropMoves s addresses)
   restored =
-      subst (PairsRestored (isTouched s addresses) (freedOf s addresses) (allFreed s addresses) (allPushed s order addresses) Below bound) (sym (drop-moves-by-heaps s addresses))
-      (subst (λ (p : ℕ). PairsRestored (isTouched s addresses) (freedOf s addresses) (allFreed s addresses) (allPushed s order addresses) (λ i d. (1 ≤ i) × (i ≤ p) × (d < classCount)) (sumBelow (λ i. sumBelow (freedOf s addresses (suc i)) classCount) p) (heapsRestored (isTouched s addresses) p (record { moves = 0; state = allFreed s addresses })))
+      subst (PairsRestored (isTouched s addresses) (freedOf s addresses) (allFreed s addresses) (allPushed s order addresses) Below bound)
+      (sym (drop-moves-by-heaps s addresses))
+      (subst (λ (p : ℕ). PairsRestored (isTouched s addresses) (freedOf s addresses) (allFreed s addresses) (allPushed s order addresses)
+      (λ i d. (1 ≤ i) × (i ≤ p) × (d < classCount)) (sumBelow (λ i. sumBelow (freedOf s addresses (suc i)) classCount) p)
+      (heapsRestored (isTouched s addresses) p (record { moves = 0; state = allFreed s addresses })))
       (ap (λ (u : Setup). u .processors) (drop-frees .setup))
-      (all-pairs-restored (isTouched s addresses) (freedOf s addresses) (allFreed s addresses) (allPushed s order addresses) (freed-of-untouched s addresses) (drop-frees .shape) freed-passed))
+      (all-pairs-restored (isTouched s addresses) (freedOf s addresses) (allFreed s addresses) (allPushed s order addresses)
+      (freed-of-untouched s addresses) (drop-frees .shape) freed-passed))
 
   pub drop-transfers : Transfers (isTouched s addresses) (allFreed s addresses) (dropMoves s addresses .state) (dropMoves s addresses .moves)
   drop-transfers = restored .transfers
@@ -131,7 +143,9 @@ module _ (s : State) (order addresses : List ℕ) (shape : Shape s) (start : Pas
   abbrev Each : ℕ → Type 0
   Each k =
       (superblockAt after k ≡ superblockAt before k)
-      ⊎ ((0 < superblockAt before k .owner) × (superblockAt before k .owner < runOwner) × T (isTouched s addresses (superblockAt before k .owner) (superblockAt before k .class)) × (superblockAt after k ≡ withOwner 0 (superblockAt before k)))
+      ⊎ ((0 < superblockAt before k .owner) × (superblockAt before k .owner < runOwner)
+      × T (isTouched s addresses (superblockAt before k .owner) (superblockAt before k .class))
+      × (superblockAt after k ≡ withOwner 0 (superblockAt before k)))
 
   -- no superblock passes between heaps by the frees, and one that a move passes on was a heap's and is heap 0's
   passed-by-moves : passedBetweenHeaps s after ≡ dropMoves s addresses .moves
@@ -140,12 +154,14 @@ module _ (s : State) (order addresses : List ℕ) (shape : Shape s) (start : Pas
       ∙ passed-between-heaps-is-owners-changed before after (λ k l. of-heaps k (drop-transfers .each k l))
       ∙ drop-transfers .changed
     where
-      same-heap : (k : ℕ) → (superblockAt before k .owner ≡ superblockAt s k .owner) ⊎ ((superblockAt s k .owner ≡ runOwner) × (superblockAt before k .owner ≡ unusedOwner))
+      same-heap : (k : ℕ) → (superblockAt before k .owner ≡ superblockAt s k .owner)
+          ⊎ ((superblockAt s k .owner ≡ runOwner) × (superblockAt before k .owner ≡ unusedOwner))
           → (superblockAt s k .owner ≡ superblockAt before k .owner) ⊎ ((runOwner ≤ superblockAt s k .owner) × (runOwner ≤ superblockAt before k .owner))
       same-heap k (inl e) = inl (sym e)
       same-heap k (inr (was, now)) = inr (omega arith, omega arith)
 
-      of-heaps : (k : ℕ) → Each k → (superblockAt after k .owner ≡ superblockAt before k .owner) ⊎ ((superblockAt before k .owner < runOwner) × (superblockAt after k .owner < runOwner))
+      of-heaps : (k : ℕ) → Each k → (superblockAt after k .owner ≡ superblockAt before k .owner)
+          ⊎ ((superblockAt before k .owner < runOwner) × (superblockAt after k .owner < runOwner))
       of-heaps k (inl e) = inl (ap (λ (b : Superblock). b .owner) e)
       of-heaps k (inr w) = let zero : superblockAt after k .owner ≡ 0 = ap (λ (b : Superblock). b .owner) (w .3) in inr (w .1, omega arith)
 
@@ -167,9 +183,11 @@ module _ (s : State) (order addresses : List ℕ) (shape : Shape s) (start : Pas
       class-kept k (inl e) = ap (λ (b : Superblock). b .class) e
       class-kept k (inr w) = ap (λ (b : Superblock). b .class) (w .3)
 
-      owner-now : (k : ℕ) → k < 64 → Each k → (superblockAt before k .owner ≡ superblockAt s k .owner) ⊎ ((superblockAt s k .owner ≡ runOwner) × (superblockAt before k .owner ≡ unusedOwner))
+      owner-now : (k : ℕ) → k < 64 → Each k → (superblockAt before k .owner ≡ superblockAt s k .owner)
+          ⊎ ((superblockAt s k .owner ≡ runOwner) × (superblockAt before k .owner ≡ unusedOwner))
           → (superblockAt after k .owner ≡ superblockAt s k .owner)
-          ⊎ (((0 < superblockAt s k .owner) × (superblockAt s k .owner < runOwner) × T (isTouched s addresses (superblockAt s k .owner) (superblockAt s k .class)) × (superblockAt after k .owner ≡ 0))
+          ⊎ (((0 < superblockAt s k .owner) × (superblockAt s k .owner < runOwner)
+          × T (isTouched s addresses (superblockAt s k .owner) (superblockAt s k .class)) × (superblockAt after k .owner ≡ 0))
           ⊎ ((superblockAt s k .owner ≡ runOwner) × (superblockAt after k .owner ≡ unusedOwner)))
       owner-now k l (inl e) (inl q) = inl (ap (λ (b : Superblock). b .owner) e ∙ q)
       owner-now k l (inl e) (inr (was, now)) = inr (inr (was, ap (λ (b : Superblock). b .owner) e ∙ now))
@@ -177,7 +195,8 @@ module _ (s : State) (order addresses : List ℕ) (shape : Shape s) (start : Pas
           inr (inl (
             subst (λ (o : ℕ). 0 < o) q (w .0),
             subst (λ (o : ℕ). o < runOwner) q (w .1),
-            subst (λ (o : ℕ). T (isTouched s addresses o (superblockAt s k .class))) q (subst (λ (c : ℕ). T (isTouched s addresses (superblockAt before k .owner) c)) (drop-frees .classes k l) (w .2)),
+            subst (λ (o : ℕ). T (isTouched s addresses o (superblockAt s k .class))) q
+                (subst (λ (c : ℕ). T (isTouched s addresses (superblockAt before k .owner) c)) (drop-frees .classes k l) (w .2)),
             ap (λ (b : Superblock). b .owner) (w .3),
           ))
       owner-now k l (inr w) (inr (was, now)) = absurd (let z : ⊥ = omega (arith, w .1) in z)
@@ -197,7 +216,8 @@ module _ (s : State) (order : List ℕ) (i : ℕ) (addresses : List ℕ) (shape 
   drop-order-is = ap (λ (x : After). x .order) (acc .result-is)
 
   pub drop-effect : DropEffect addresses (dropMoves s addresses .moves) s (dropOf s order i addresses .answer .state)
-  drop-effect = subst (DropEffect addresses (dropMoves s addresses .moves) s) (sym drop-state-is) (dropped-effect s order addresses shape (acc .passed) (acc .no-refusal))
+  drop-effect = subst (DropEffect addresses (dropMoves s addresses .moves) s) (sym drop-state-is)
+      (dropped-effect s order addresses shape (acc .passed) (acc .no-refusal))
 
   pub drop-shape : Shape (dropOf s order i addresses .answer .state)
   drop-shape = subst Shape (sym drop-state-is) (dropped-shape s order addresses shape (acc .passed) (acc .no-refusal))
@@ -205,12 +225,15 @@ module _ (s : State) (order : List ℕ) (i : ℕ) (addresses : List ℕ) (shape 
   pub drop-passed : Passed (dropOf s order i addresses .answer .state) (dropOf s order i addresses .order)
   drop-passed =
       subst (λ (t : State). Passed t (dropOf s order i addresses .order)) (sym drop-state-is)
-      (subst (λ (l : List ℕ). Passed (dropMoves s addresses .state) l) (sym drop-order-is) (dropped-passed s order addresses shape (acc .passed) (acc .no-refusal)))
+      (subst (λ (l : List ℕ). Passed (dropMoves s addresses .state) l) (sym drop-order-is)
+      (dropped-passed s order addresses shape (acc .passed) (acc .no-refusal)))
 
--- ---- for code: each address of an accepted drop lies in the table, in a superblock of a heap and class where it was in no run before the drop, and in the state before its
--- free the run that may begin there ends in the table, and that state keeps totals and ranks
-pub frees-safe : (s : State) (order addresses : List ℕ) → Shape s → passes s order ≡ true → s .setup .superblocks * 256 ≤ length order → firstAddressRefusal s addresses ≡ 0 → (i : ℕ) → i < length addresses
+-- ---- for code: each address of an accepted drop lies in the table, in a superblock of a heap and class where it was in no run before the drop, and
+-- in the state before its free the run that may begin there ends in the table, and that state keeps totals and ranks
+pub frees-safe : (s : State) (order addresses : List ℕ) → Shape s → passes s order ≡ true → s .setup .superblocks * 256 ≤ length order
+    → firstAddressRefusal s addresses ≡ 0 → (i : ℕ) → i < length addresses
     → (superblockIndex (getD addresses i 0) < 64) × (isInRun s (getD addresses i 0) ≡ false → OfHeapAndClass s (getD addresses i 0))
     × (superblockIndex (getD addresses i 0) + superblockHolding (allFreed s (take i addresses)) (getD addresses i 0) .run ≤ 64)
     × TotalsKept (allFreed s (take i addresses)) × RanksFit (allFreed s (take i addresses))
-frees-safe s order addresses shape e room ok i l = frees-in-table (λ h c. 0) s order addresses shape (passed-after-no-frees s order (passed-of-passes s order e room)) ok i l
+frees-safe s order addresses shape e room ok i l =
+    frees-in-table (λ h c. 0) s order addresses shape (passed-after-no-frees s order (passed-of-passes s order e room)) ok i l

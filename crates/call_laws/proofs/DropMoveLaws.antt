@@ -27,7 +27,8 @@ module _ (P : Moved → Type 0) (kept : (h c : ℕ) (before : Moved) → P befor
   classes-restored-keep h zero before p = p
   classes-restored-keep h (suc c) before p =
       let q = classes-restored-keep h c before p in
-      pick-elim P (touched h c) (thenRestored h c (classesRestored touched h c before)) (classesRestored touched h c before) (λ e. kept h c (classesRestored touched h c before) q) (λ e. q)
+      pick-elim P (touched h c) (thenRestored h c (classesRestored touched h c before)) (classesRestored touched h c before)
+      (λ e. kept h c (classesRestored touched h c before) q) (λ e. q)
 
   pub heaps-restored-keep : (n : ℕ) (before : Moved) → P before → P (heapsRestored touched n before)
   unfolding heapsRestored
@@ -46,27 +47,35 @@ MovedOrOutside n m = (length (m .state .table) ≡ 64) × (movesAndOutsideGlobal
 
 then-restored-moved-or-outside : (n h c : ℕ) (before : Moved) → MovedOrOutside n before → MovedOrOutside n (thenRestored h c before)
 unfolding thenRestored
-then-restored-moved-or-outside n h c before p = (length-of-invariant-restored h c (before .state) (p .0), omega (arith, p .1, moves-leave-heaps h c (before .state) (p .0)))
+then-restored-moved-or-outside n h c before p =
+    (length-of-invariant-restored h c (before .state) (p .0), omega (arith, p .1, moves-leave-heaps h c (before .state) (p .0)))
 
-pub then-restored-leaves-heaps : (h c : ℕ) (before : Moved) → length (before .state .table) ≡ 64 → movesAndOutsideGlobal (thenRestored h c before) ≡ movesAndOutsideGlobal before
+pub then-restored-leaves-heaps : (h c : ℕ) (before : Moved) → length (before .state .table) ≡ 64 → movesAndOutsideGlobal (thenRestored h c before)
+    ≡ movesAndOutsideGlobal before
 then-restored-leaves-heaps h c before long = then-restored-moved-or-outside (movesAndOutsideGlobal before) h c before (long, refl) .1
 
 pub heaps-restored-leave-heaps : (touched : ℕ → ℕ → Bool) (n : ℕ) (before : Moved) → length (before .state .table) ≡ 64
     → heapsRestored touched n before .moves + outsideGlobal (heapsRestored touched n before .state) ≡ before .moves + outsideGlobal (before .state)
 heaps-restored-leave-heaps touched n before long =
-    heaps-restored-keep (MovedOrOutside (movesAndOutsideGlobal before)) (then-restored-moved-or-outside (movesAndOutsideGlobal before)) touched n before (long, refl) .1
+    heaps-restored-keep (MovedOrOutside (movesAndOutsideGlobal before)) (then-restored-moved-or-outside (movesAndOutsideGlobal before)) touched n before
+    (long, refl) .1
 
 pub drop-moves-le-64 : (s : State) (addresses : List ℕ) → length (allFreed s addresses .table) ≡ 64 → dropMoves s addresses .moves ≤ 64
 drop-moves-le-64 s addresses long =
     rw (drop-moves-by-heaps s addresses)
-    (omega (arith, heaps-restored-leave-heaps (isTouched s addresses) (s .setup .processors) (record { moves = 0; state = allFreed s addresses }) long, outside-global-le-64 (allFreed s addresses)))
+    (omega (
+      arith,
+      heaps-restored-leave-heaps (isTouched s addresses) (s .setup .processors) (record { moves = 0; state = allFreed s addresses }) long,
+      outside-global-le-64 (allFreed s addresses),
+    ))
 
 -- ---- the table has 64 superblocks
 -- ranking a superblock makes a table of 64, and a run's superblocks are replaced one by one
 pub length-of-block-freed : (s : State) (a : ℕ) → length (s .table) ≡ 64 → length (blockFreed s a .table) ≡ 64
 unfolding blockFreed longBlockFreed smallBlockFreed markCleared rankedLatest
 length-of-block-freed s a long =
-    pick-elim (λ (t : State). length (t .table) ≡ 64) (isInRun s a) (longBlockFreed s a) (smallBlockFreed s a) (λ e. run-freed-keeps-rest (superblockIndex a) (superblockHolding s a .run) s .length-is long)
+    pick-elim (λ (t : State). length (t .table) ≡ 64) (isInRun s a) (longBlockFreed s a) (smallBlockFreed s a)
+    (λ e. run-freed-keeps-rest (superblockIndex a) (superblockHolding s a .run) s .length-is long)
     (λ e. length-set (rankedLatest (superblockIndex a) s .table) (superblockIndex a) _ ∙ length-listed _ 64)
 
 pub length-of-all-freed : (s : State) (addresses : List ℕ) → length (s .table) ≡ 64 → length (allFreed s addresses .table) ≡ 64
@@ -78,5 +87,6 @@ pub length-of-drop-moves : (s : State) (addresses : List ℕ) → length (s .tab
 unfolding thenRestored
 length-of-drop-moves s addresses long =
     rw (drop-moves-by-heaps s addresses)
-    (heaps-restored-keep (λ m. length (m .state .table) ≡ 64) (λ h c before p. length-of-invariant-restored h c (before .state) p) (isTouched s addresses) (s .setup .processors)
+    (heaps-restored-keep (λ m. length (m .state .table) ≡ 64) (λ h c before p. length-of-invariant-restored h c (before .state) p) (isTouched s addresses)
+    (s .setup .processors)
     (record { moves = 0; state = allFreed s addresses }) (length-of-all-freed s addresses long))

@@ -12,7 +12,8 @@ use Rattle.call_rules.specs.LongBlocks.{eachOfRun}
 
 module _ (change : ℕ → State → State) (k : ℕ) (s : State) where
   -- what holds of a state in which so many are changed, from none on
-  pub each-of-run-by-steps : (n : ℕ) (P : ℕ → State → Type 0) → P 0 s → ((j : ℕ) (t : State) → j < n → P j t → P (suc j) (change (k + j) t)) → P n (eachOfRun change k n s)
+  pub each-of-run-by-steps : (n : ℕ) (P : ℕ → State → Type 0) → P 0 s → ((j : ℕ) (t : State) → j < n → P j t → P (suc j) (change (k + j) t))
+      → P n (eachOfRun change k n s)
   unfolding eachOfRun
   each-of-run-by-steps zero P start step = start
   each-of-run-by-steps (suc n) P start step =
@@ -28,12 +29,18 @@ pub record EachMade (Made : ℕ → Superblock → Type 0) (Kept : Superblock �
   pub outside : (m : ℕ) → m < 64 → Outside k n m → Kept (superblockAt s m) (superblockAt t m)
 
 -- so it is where each change makes one superblock what it becomes, keeps the others, and keeps what it asks of the state
-module _ (Made : ℕ → Superblock → Type 0) (Kept : Superblock → Superblock → Type 0) (kept-refl : (b : Superblock) → Kept b b) (kept-trans : (a b d : Superblock) → Kept a b → Kept b d → Kept a d)
-    (made-kept : (m : ℕ) (b d : Superblock) → Made m b → Kept b d → Made m d) (change : ℕ → State → State) (Asked : State → Type 0) (asked-kept : (m : ℕ) (t : State) → m < 64 → Asked t → Asked (change m t))
+module _ (Made : ℕ → Superblock → Type 0) (Kept : Superblock → Superblock → Type 0) (kept-refl : (b : Superblock) → Kept b b)
+    (kept-trans : (a b d : Superblock) → Kept a b → Kept b d → Kept a d)
+    (made-kept : (m : ℕ) (b d : Superblock) → Made m b → Kept b d → Made m d) (change : ℕ → State → State) (Asked : State → Type 0)
+    (asked-kept : (m : ℕ) (t : State) → m < 64 → Asked t → Asked (change m t))
     (made : (m : ℕ) (t : State) → m < 64 → Asked t → Made m (superblockAt (change m t) m))
     (kept : (m : ℕ) (t : State) → m < 64 → Asked t → (i : ℕ) → i < 64 → (i ≡ m → ⊥) → Kept (superblockAt t i) (superblockAt (change m t) i)) where
   one-more-made : (k j : ℕ) (s t : State) → k + j < 64 → Asked t → EachMade Made Kept k j s t → EachMade Made Kept k (suc j) s (change (k + j) t)
-  one-more-made k j s t l asked h = record { inside = λ m low high. inside m low (eq-or-lt-of-le (below m high)); outside = λ m lm out. outside m lm (apart m out) }
+  one-more-made k j s t l asked h = record {
+    inside = λ m low high. inside m low (eq-or-lt-of-le (below m high));
+    outside =
+        λ m lm out. outside m lm (apart m out);
+  }
     where
       below : (m : ℕ) → m < k + suc j → m ≤ k + j
       below m high = omega arith

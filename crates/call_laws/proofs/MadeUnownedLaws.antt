@@ -1,5 +1,6 @@
--- A superblock in which nothing is live, of heap 0 or of no heap, replaced by one that no heap owns, as when it joins a run (document 02, item 7): the state keeps its shape
--- and the check but for names and runs, each processor heap and class what it has, and each class its live blocks. Assumes nothing.
+-- A superblock in which nothing is live, of heap 0 or of no heap, replaced by one that no heap owns, as when it joins a run (document 02, item 7):
+-- the state keeps its shape and the check but for names and runs, each processor heap and class what it has, and each class its live blocks. Assumes
+-- nothing.
 use mathlib.Core.Path.{_≡_, refl, sym, ap, ap₂, _∙_, subst}
 use mathlib.Core.Logic.{_⊎_, inl, ⊎-elim}
 use mathlib.Core.List.{List}
@@ -16,7 +17,8 @@ use Rattle.heap_rules.specs.declared.Setup.{Setup}
 use Rattle.heap_rules.specs.declared.State.{State}
 use Rattle.heap_rules.specs.Table.{runOwner, superblockAt, liveIn}
 use Rattle.heap_rules.specs.States.{withSuperblock}
-use Rattle.heap_rules.specs.Counts.{total, belongs, isOwnedOfClass, oneIfBelongs, liveIfBelongs, superblocksOf, blocksIn, liveOf, superblocksOfClass, liveOfClass}
+use Rattle.heap_rules.specs.Counts.{total, belongs, isOwnedOfClass, oneIfBelongs, liveIfBelongs, superblocksOf, blocksIn, liveOf, superblocksOfClass}
+use Rattle.heap_rules.specs.Counts.{liveOfClass}
 use Rattle.heap_rules.specs.Ranks.{isRanked}
 use Rattle.move_rules.specs.Moves.{bothConditions, mustMove}
 use Rattle.check_rules.specs.Check.{rankedCount}
@@ -27,7 +29,8 @@ use Rattle.call_laws.proofs.SuperblockLaws.{unowned-of-no-class, no-liv
 
 -- what is said of a heap and class goes by the setup and by its superblocks and live blocks alone
 abbrev pub GoesByCounts : (ℕ → ℕ → State → Type 0) → Type 0
-GoesByCounts Invariant = (h c : ℕ) (s t : State) → t .setup ≡ s .setup → superblocksOf h c t ≡ superblocksOf h c s → liveOf h c t ≡ liveOf h c s → Invariant h c s → Invariant h c t
+GoesByCounts Invariant = (h c : ℕ) (s t : State) → t .setup ≡ s .setup → superblocksOf h c t ≡ superblocksOf h c s → liveOf h c t ≡ liveOf h c s
+    → Invariant h c s → Invariant h c t
 
 -- as the move rule does
 pub move-rule-goes-by-counts : GoesByCounts (λ h c t. T (mustMove h c t) → ⊥)
@@ -80,7 +83,8 @@ module _ (s : State) (k : ℕ) (b : Superblock) (becomes : BecomesUnowned s k b)
   unfolding superblocksOf
   made-unowned-superblocks-of h c low high =
       total-same (oneIfBelongs h c)
-      (one-if-belongs-other-owner h c b (λ (e : b .owner ≡ h). omega (arith, owner-after)) ∙ sym (one-if-belongs-other-owner h c (superblockAt s k) (not-of-heap h low high)))
+      (one-if-belongs-other-owner h c b (λ (e : b .owner ≡ h). omega (arith, owner-after))
+      ∙ sym (one-if-belongs-other-owner h c (superblockAt s k) (not-of-heap h low high)))
 
   pub made-unowned-live-of : (h c : ℕ) → liveOf h c after ≡ liveOf h c s
   unfolding liveOf liveIfBelongs
@@ -93,22 +97,31 @@ module _ (s : State) (k : ℕ) (b : Superblock) (becomes : BecomesUnowned s k b)
   pub made-unowned-superblocks-of-class : (d : ℕ) → superblocksOfClass d after ≤ superblocksOfClass d s
   unfolding superblocksOfClass
   made-unowned-superblocks-of-class d =
-      omega (arith, total-with-superblock (λ x. one (isOwnedOfClass d x)) s k b (becomes .shape .length-is) (becomes .in-table), ap one (unowned-of-no-class d b owner-after))
+      omega (
+        arith,
+        total-with-superblock (λ x. one (isOwnedOfClass d x)) s k b (becomes .shape .length-is) (becomes .in-table),
+        ap one (unowned-of-no-class d b owner-after),
+      )
 
   pub made-unowned-live-of-class : (d : ℕ) → liveOfClass d after ≡ liveOfClass d s
   unfolding liveOfClass
   made-unowned-live-of-class d =
-      total-same (λ x. pick (isOwnedOfClass d x) (liveIn x) 0) (no-live-adds-nothing d b (becomes .unowned .live) ∙ sym (no-live-adds-nothing d (superblockAt s k) (becomes .live-before)))
+      total-same (λ x. pick (isOwnedOfClass d x) (liveIn x) 0) (no-live-adds-nothing d b (becomes .unowned .live)
+      ∙ sym (no-live-adds-nothing d (superblockAt s k) (becomes .live-before)))
 
   -- ---- the check
-  pub made-unowned-sound : (Invariant : ℕ → ℕ → State → Type 0) → GoesByCounts Invariant → (order : List ℕ) → k < s .setup .superblocks → SoundWith Invariant s order → SoundWith Invariant after order
+  pub made-unowned-sound : (Invariant : ℕ → ℕ → State → Type 0) → GoesByCounts Invariant → (order : List ℕ) → k < s .setup .superblocks
+      → SoundWith Invariant s order → SoundWith Invariant after order
   made-unowned-sound Invariant by-counts order below sound =
       record {
         numbers = sound .numbers;
         each = each-after (λ m x. Unowned x ⊎ Owned (s .setup) order m x) (inl (becomes .unowned)) (λ m l f. sound .each m l);
         past-unused = each-after (λ m x. s .setup .superblocks ≤ m → Unused x) (λ far. absurd (let z : ⊥ = omega arith in z)) (λ m l f. sound .past-unused m l);
-        invariant = λ h c low high known. by-counts h c s after refl (made-unowned-superblocks-of h c low (omega (arith, sound .numbers .processors-high))) (made-unowned-live-of h c) (sound .invariant h c low high known);
-        sparse = each-after (λ m x. x .owner ≡ 0 → Sparse (s .setup) x) (λ (e : b .owner ≡ 0). absurd (let z : ⊥ = omega (arith, owner-after) in z)) (λ m l f. sound .sparse m l);
+        invariant = λ h c low high known. by-counts h c s after refl
+            (made-unowned-superblocks-of h c low (omega (arith, sound .numbers .processors-high))) (made-unowned-live-of h c)
+            (sound .invariant h c low high known);
+        sparse = each-after (λ m x. x .owner ≡ 0 → Sparse (s .setup) x) (λ (e : b .owner ≡ 0). absurd (let z : ⊥ = omega (arith, owner-after) in z))
+            (λ m l f. sound .sparse m l);
       }
 
   -- the ranking's facts, where it has no rank
@@ -116,7 +129,13 @@ module _ (s : State) (k : ℕ) (b : Superblock) (becomes : BecomesUnowned s k b)
   unfolding rankedCount isRanked
   made-unowned-ranks-sound before now sound =
       record {
-        bounded = λ m l. omega (arith, same m l, sound .bounded m l, total-cong (λ x. one (ltb 0 (x .rank))) after s (λ m l. ap (λ (r : ℕ). one (ltb 0 r)) (same m l)));
+        bounded = λ m l. omega (
+          arith,
+          same m l,
+          sound .bounded m l,
+          total-cong (λ x. one (ltb 0 (x .rank))) after s
+              (λ m l. ap (λ (r : ℕ). one (ltb 0 r)) (same m l)),
+        );
         distinct = λ m j lm lj pos e. sound .distinct m j lm lj (omega (arith, same m lm)) (sym (same m lm) ∙ e ∙ same j lj);
         unowned-unranked = each-after (λ m x. Unowned x → x .rank ≡ 0) (λ _. now) (λ m l f. sound .unowned-unranked m l);
       }

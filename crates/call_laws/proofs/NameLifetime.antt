@@ -25,7 +25,9 @@ use Rattle.call_laws.proofs.TakeLaws.{take-refused-or-accepted, take-na
 use Rattle.call_laws.proofs.RunTakenLaws.{long-take-names}
 use Rattle.call_laws.proofs.FreeLaws.{free-refused-or-accepted}
 use Rattle.call_laws.proofs.NamedLongTakeLaws.{named-long-take-keeps-other-names}
-use Rattle.call_laws.proofs.NamedCallLaws.{facts-of-available, named-take-refused-or-accepted, named-take-keeps-other-names, named-free-refused-or-accepted, free-lets-name-go, free-keeps-other-names, named-free-lets-name-go, named-free-keeps-other-names}
+use Rattle.call_laws.proofs.NamedCallLaws.{facts-of-available, named-take-refused-or-accepted, named-take-keeps-other-names}
+use Rattle.call_laws.proofs.NamedCallLaws.{named-free-refused-or-accepted, free-lets-name-go, free-keeps-other-names, named-free-lets-name-go}
+use Rattle.call_laws.proofs.NamedCallLaws.{named-free-keeps-other-names}
 use Rattle.call_laws.proofs.TransferredLaws.{oneMoreFreed, passed-after-no-frees}
 use Rattle.call_laws.proofs.AddressFreedLaws.{address-freed, address-freed-block}
 use Rattle.call_laws.proofs.AllFreedLaws.{ListsBlock, listed-same, first-refusal-of-cons}
@@ -35,7 +37,8 @@ use Rattle.call_laws.proofs.TotalsKeptLaws.{refused-call-keeps-state}
 -- the call frees the block that name m points at: by its address, alone or in a drop, or by the name
 abbrev pub FreesBlockOf : State → List ℕ → ℕ → Call → Type 0
 FreesBlockOf s order m (Take i size) = ⊥
-FreesBlockOf s order m (Free i a) = (FreeAccepted s order i a ⊎ LongFreeAccepted s order i a) × (blockNamed (s .names) m ≡ blockNumber (superblockIndex a) (blockOf s a))
+FreesBlockOf s order m (Free i a) = (FreeAccepted s order i a ⊎ LongFreeAccepted s order i a)
+    × (blockNamed (s .names) m ≡ blockNumber (superblockIndex a) (blockOf s a))
 FreesBlockOf s order m (NamedTake i n size) = ⊥
 FreesBlockOf s order m (NamedFree i n) = (NamedFreeAccepted s order i n ⊎ NamedLongFreeAccepted s order i n) × (n ≡ m)
 FreesBlockOf s order m (Drop i addresses) = DropAccepted s order i addresses × ListsBlock s addresses (blockNamed (s .names) m)
@@ -54,7 +57,8 @@ not-held-of-none names m e = false-of-not-T (isHeld names m) (λ t. held-facts n
 
 module _ (m : ℕ) where
   -- the first block freed: the state then has the names without it, and goes on to the other addresses
-  module _ (freed : ℕ → ℕ → ℕ) (s : State) (order : List ℕ) (a : ℕ) (shape : Shape s) (passed : PassedAfterFrees freed s order) (accepted : addressRefusal s a ≡ 0) where
+  module _ (freed : ℕ → ℕ → ℕ) (s : State) (order : List ℕ) (a : ℕ) (shape : Shape s) (passed : PassedAfterFrees freed s order)
+      (accepted : addressRefusal s a ≡ 0) where
     abbrev block : ℕ
     block = blockNumber (superblockIndex a) (blockOf s a)
 
@@ -65,7 +69,8 @@ module _ (m : ℕ) where
     first-keeps-other f = named-then _ (block-named-without-other-block (s .names) block m f)
 
     first-lets-go : blockNamed (s .names) m ≡ block → blockNamed (blockFreed s a .names) m ≡ notHeld
-    first-lets-go e = named-then _ (block-named-without-block (s .names) block m ∙ pick-true _ notHeld (blockNamed (s .names) m) (eq-eqb (blockNamed (s .names) m) block e))
+    first-lets-go e = named-then _ (block-named-without-block (s .names) block m ∙ pick-true _ notHeld (blockNamed (s .names) m)
+        (eq-eqb (blockNamed (s .names) m) block e))
 
     first-binds-none : blockNamed (s .names) m ≡ notHeld → blockNamed (blockFreed s a .names) m ≡ notHeld
     first-binds-none e = named-then _ (none-without-block (s .names) block m e)
@@ -78,8 +83,10 @@ module _ (m : ℕ) where
   frees-keep-other freed s order (a ∷ addresses) shape passed ok other =
       let first = first-refusal-of-cons s a addresses ok in
       let kept = first-keeps-other freed s order a shape passed (first .0) (λ e. other (inl e)) in
-      frees-keep-other _ (blockFreed s a) (orderPushed s order a) addresses (address-freed freed s order a shape passed (first .0) .shape) (address-freed freed s order a shape passed (first .0) .passed) (first .1)
-      (λ h. other (inr (subst (ListsBlock s addresses) kept (listed-same s (blockFreed s a) (address-freed-block freed s order a shape passed (first .0)) addresses _ h))))
+      frees-keep-other _ (blockFreed s a) (orderPushed s order a) addresses (address-freed freed s order a shape passed (first .0) .shape)
+      (address-freed freed s order a shape passed (first .0) .passed) (first .1)
+      (λ h. other (inr (subst (ListsBlock s addresses) kept
+      (listed-same s (blockFreed s a) (address-freed-block freed s order a shape passed (first .0)) addresses _ h))))
       ∙ kept
 
   -- .. one that is let go stays so ..
@@ -89,7 +96,8 @@ module _ (m : ℕ) where
   frees-bind-none freed s order [] shape passed ok e = e
   frees-bind-none freed s order (a ∷ addresses) shape passed ok e =
       let first = first-refusal-of-cons s a addresses ok in
-      frees-bind-none _ (blockFreed s a) (orderPushed s order a) addresses (address-freed freed s order a shape passed (first .0) .shape) (address-freed freed s order a shape passed (first .0) .passed) (first .1)
+      frees-bind-none _ (blockFreed s a) (orderPushed s order a) addresses (address-freed freed s order a shape passed (first .0) .shape)
+      (address-freed freed s order a shape passed (first .0) .passed) (first .1)
       (first-binds-none freed s order a shape passed (first .0) e)
 
   -- .. and one whose block is listed is let go
@@ -111,7 +119,8 @@ module _ (m : ℕ) where
       passed-then = address-freed freed s order a shape passed (first .0) .passed
 
       by-first : blockNamed (s .names) m ≡ blockNumber (superblockIndex a) (blockOf s a) → blockNamed (allFreed (blockFreed s a) addresses .names) m ≡ notHeld
-      by-first e = frees-bind-none _ (blockFreed s a) (orderPushed s order a) addresses shape-then passed-then (first .1) (first-lets-go freed s order a shape passed (first .0) e)
+      by-first e = frees-bind-none _ (blockFreed s a) (orderPushed s order a) addresses shape-then passed-then (first .1)
+          (first-lets-go freed s order a shape passed (first .0) e)
 
       go : Dec (blockNamed (s .names) m ≡ blockNumber (superblockIndex a) (blockOf s a)) → ListsBlock s (a ∷ addresses) (blockNamed (s .names) m)
           → (ListsBlock (blockFreed s a) addresses (blockNamed (blockFreed s a .names) m) → blockNamed (allFreed (blockFreed s a) addresses .names) m ≡ notHeld)
@@ -125,16 +134,20 @@ module _ (m : ℕ) where
   -- the moves of the drop change no name
   module _ (s : State) (order : List ℕ) (i : ℕ) (addresses : List ℕ) (shape : Shape s) (acc : DropAccepted s order i addresses) where
     drop-names : dropOf s order i addresses .answer .state .names ≡ allFreed s addresses .names
-    drop-names = ap (λ (t : State). t .names) (drop-state-is s order i addresses shape acc) ∙ drop-transfers s order addresses shape (acc .passed) (acc .no-refusal) .names
+    drop-names = ap (λ (t : State). t .names) (drop-state-is s order i addresses shape acc) ∙ drop-transfers s order addresses shape (acc .passed)
+        (acc .no-refusal) .names
 
-    pub drop-keeps-other-names : (ListsBlock s addresses (blockNamed (s .names) m) → ⊥) → blockNamed (dropOf s order i addresses .answer .state .names) m ≡ blockNamed (s .names) m
+    pub drop-keeps-other-names : (ListsBlock s addresses (blockNamed (s .names) m) → ⊥) → blockNamed (dropOf s order i addresses .answer .state .names) m
+        ≡ blockNamed (s .names) m
     drop-keeps-other-names other =
-        ap (λ (l : List ℕ). blockNamed l m) drop-names ∙ frees-keep-other (λ h c. 0) s order addresses shape (passed-after-no-frees s order (acc .passed)) (acc .no-refusal) other
+        ap (λ (l : List ℕ). blockNamed l m) drop-names ∙ frees-keep-other (λ h c. 0) s order addresses shape (passed-after-no-frees s order (acc .passed))
+        (acc .no-refusal) other
 
     -- "and their names let go"
     pub drop-lets-names-go : ListsBlock s addresses (blockNamed (s .names) m) → isHeld (dropOf s order i addresses .answer .state .names) m ≡ false
     drop-lets-names-go h =
-        not-held-of-none _ m (ap (λ (l : List ℕ). blockNamed l m) drop-names ∙ frees-let-go (λ h c. 0) s order addresses shape (passed-after-no-frees s order (acc .passed)) (acc .no-refusal) h)
+        not-held-of-none _ m (ap (λ (l : List ℕ). blockNamed l m) drop-names ∙ frees-let-go (λ h c. 0) s order addresses shape
+        (passed-after-no-frees s order (acc .passed)) (acc .no-refusal) h)
 
 module _ (s : State) (order : List ℕ) (shape : Shape s) (m : ℕ) where
   block-of-refused : (x : After) → ((r : ℕ) × (x ≡ refused r s order)) → blockNamed (x .answer .state .names) m ≡ blockNamed (s .names) m
@@ -145,22 +158,26 @@ module _ (s : State) (order : List ℕ) (shape : Shape s) (m : ℕ) where
   refused-call-keeps-names call r e = ap (λ (t : State). t .names) (refused-call-keeps-state s order call r e)
 
   -- "until its block is freed": a held name keeps its block through every call that does not free it
-  pub held-name-kept-until-freed : (call : Call) → T (isHeld (s .names) m) → (FreesBlockOf s order m call → ⊥) → blockNamed (callOf s order call .answer .state .names) m ≡ blockNamed (s .names) m
+  pub held-name-kept-until-freed : (call : Call) → T (isHeld (s .names) m) → (FreesBlockOf s order m call → ⊥)
+      → blockNamed (callOf s order call .answer .state .names) m ≡ blockNamed (s .names) m
   unfolding callOf
   held-name-kept-until-freed (Take i size) held other =
       ⊎-elim (block-of-refused _)
-      (⊎-elim (λ h. ap (λ (l : List ℕ). blockNamed l m) (take-names s order i size (h .0) shape (h .1))) (λ h. ap (λ (l : List ℕ). blockNamed l m) (long-take-names s order i size (h .0) shape (h .1)))) (take-refused-or-accepted s order i size)
+      (⊎-elim (λ h. ap (λ (l : List ℕ). blockNamed l m) (take-names s order i size (h .0) shape (h .1)))
+      (λ h. ap (λ (l : List ℕ). blockNamed l m) (long-take-names s order i size (h .0) shape (h .1)))) (take-refused-or-accepted s order i size)
   held-name-kept-until-freed (Free i a) held other =
       ⊎-elim (block-of-refused _) (λ h. free-keeps-other-names s order i a shape h m (λ e. other (h, e))) (free-refused-or-accepted s order i a)
   held-name-kept-until-freed (NamedTake i n size) held other =
       ⊎-elim (block-of-refused _)
-      (⊎-elim (λ h. named-take-keeps-other-names s order i n size (h .0) shape (h .1) m (apart (h .1 .available))) (λ h. named-long-take-keeps-other-names s order i n size (h .0) shape (h .1) m (apart (h .1 .available))))
+      (⊎-elim (λ h. named-take-keeps-other-names s order i n size (h .0) shape (h .1) m (apart (h .1 .available)))
+      (λ h. named-long-take-keeps-other-names s order i n size (h .0) shape (h .1) m (apart (h .1 .available))))
       (named-take-refused-or-accepted s order i n size)
     where
       apart : isUnavailable s n ≡ false → m ≡ n → ⊥
       apart available e = not-T-of-false (isHeld (s .names) n) (facts-of-available s n available .1) (subst (λ (x : ℕ). T (isHeld (s .names) x)) e held)
   held-name-kept-until-freed (NamedFree i n) held other =
-      ⊎-elim (block-of-refused _) (λ h. named-free-keeps-other-names s order i n shape h m held (λ e. other (h, sym e))) (named-free-refused-or-accepted s order i n)
+      ⊎-elim (block-of-refused _) (λ h. named-free-keeps-other-names s order i n shape h m held (λ e. other (h, sym e)))
+      (named-free-refused-or-accepted s order i n)
   held-name-kept-until-freed (Drop i addresses) held other =
       ⊎-elim (block-of-refused _) (λ h. drop-keeps-other-names m s order i addresses shape h (λ q. other (h, q))) (drop-refused-or-accepted s order i addresses)
 
@@ -170,7 +187,8 @@ module _ (s : State) (order : List ℕ) (shape : Shape s) (m : ℕ) where
   name-let-go-when-freed (Take i size) h = absurd h
   name-let-go-when-freed (Free i a) h = free-lets-name-go s order i a shape (h .0) m (h .1)
   name-let-go-when-freed (NamedTake i n size) h = absurd h
-  name-let-go-when-freed (NamedFree i n) h = ap (isHeld (callOf s order (NamedFree i n) .answer .state .names)) (sym (h .1)) ∙ named-free-lets-name-go s order i n shape (h .0)
+  name-let-go-when-freed (NamedFree i n) h = ap (isHeld (callOf s order (NamedFree i n) .answer .state .names)) (sym (h .1))
+      ∙ named-free-lets-name-go s order i n shape (h .0)
   name-let-go-when-freed (Drop i addresses) h = drop-lets-names-go m s order i addresses shape (h .0) (h .1)
 
 -- "then may be used again": a name of 0 to 1023 that is not held is free

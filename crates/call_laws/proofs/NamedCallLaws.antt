@@ -17,7 +17,8 @@ use Rattle.marks_rules.specs.Marks.{markBit, noMarks, withMark}
 use Rattle.marks_laws.proofs.MarkLaws.{mark-of-mark-bit-one, mark-bit-of-no-marks, marks-clear-of-live-count-zero, with-mark-same, with-mark-other}
 use Rattle.marks_laws.proofs.NoMarkFromLaws.{mark-clear-of-no-mark-from}
 use Rattle.names_rules.specs.Names.{blockNumber, isName, blockNamed, isHeld, withName, withoutBlock}
-use Rattle.names_laws.proofs.NameLaws.{held-facts, block-named-with-name, block-named-with-other-name, length-with-name, not-held-without-block, block-named-without-other-block}
+use Rattle.names_laws.proofs.NameLaws.{held-facts, block-named-with-name, block-named-with-other-name, length-with-name, not-held-without-block}
+use Rattle.names_laws.proofs.NameLaws.{block-named-without-other-block}
 use Rattle.filled_rules.proofs.PlacesValidLaws.{no-mark-from-of-places-valid}
 use Rattle.heap_rules.specs.declared.State.{State}
 use Rattle.heap_rules.specs.Table.{runOwner, unusedOwner, superblockAt, isUnused, isOfRun, startsRun, liveBlocks}
@@ -25,23 +26,28 @@ use Rattle.heap_rules.specs.States.{withNames}
 use Rattle.heap_rules.specs.Counts.{superblocksOf, superblocksOfClass, liveOfClass, ownersChanged}
 use Rattle.check_rules.specs.Check.{namesValid}
 use Rattle.heap_laws.proofs.StateFacts.{Shape, Unowned, Owned}
-use Rattle.heap_laws.proofs.RunsKeptLaws.{runs-valid-with-names, live-blocks-outside-run, live-blocks-of-first, live-blocks-not-first, outside-run-of-owner, owner-of-run}
-use Rattle.heap_laws.proofs.StateCheckLaws.{shape-with-names, sound-with-names, names-sound-of-valid, owned-below-superblocks, owned-of-owner, unowned-of-owner, not-unused-of-owner}
+use Rattle.heap_laws.proofs.RunsKeptLaws.{runs-valid-with-names, live-blocks-outside-run, live-blocks-of-first, live-blocks-not-first, outside-run-of-owner}
+use Rattle.heap_laws.proofs.RunsKeptLaws.{owner-of-run}
+use Rattle.heap_laws.proofs.StateCheckLaws.{shape-with-names, sound-with-names, names-sound-of-valid, owned-below-superblocks, owned-of-owner}
+use Rattle.heap_laws.proofs.StateCheckLaws.{unowned-of-owner, not-unused-of-owner}
 use Rattle.call_rules.specs.declared.Outcome.{Outcome}
 use Rattle.call_rules.specs.declared.Outcome.the-variants.{Address}
 use Rattle.call_rules.specs.Answers.{After, refused, isProcessor}
 use Rattle.call_rules.specs.Take.{addressOf, takeUnchecked, takeOf}
-use Rattle.call_rules.specs.Free.{superblockIndex, offsetOf, superblockHolding, blockOf, isUnmapped, isInRun, isRunStart, isOffBlock, isMisaligned, isLiveAt, blockNumberAt, smallFreedAt, longFreedAt, freedAt, freeUnchecked, freeOf}
-use Rattle.call_rules.specs.Named.{isUnavailable, nameBound, boundBy, withNameBound, namedTakeUnchecked, namedTakeOf, heldAddress, namedFreeUnchecked, namedFreeOf}
+use Rattle.call_rules.specs.Free.{superblockIndex, offsetOf, superblockHolding, blockOf, isUnmapped, isInRun, isRunStart, isOffBlock, isMisaligned}
+use Rattle.call_rules.specs.Free.{isLiveAt, blockNumberAt, smallFreedAt, longFreedAt, freedAt, freeUnchecked, freeOf}
+use Rattle.call_rules.specs.Named.{isUnavailable, nameBound, boundBy, withNameBound, namedTakeUnchecked, namedTakeOf, heldAddress, namedFreeUnchecked}
+use Rattle.call_rules.specs.Named.{namedFreeOf}
 use Rattle.heap_laws.proofs.RankLaws.{ranks-sound-of-same-ranks}
-use Rattle.call_laws.proofs.CallEffects.{Passed, TakeAccepted, LongTakeAccepted, FreeAccepted, LongFreeAccepted, NamedTakeAccepted, NamedLongTakeAccepted, NamedFreeAccepted, NamedLongFreeAccepted, TakeEffect}
+use Rattle.call_laws.proofs.CallEffects.{Passed, TakeAccepted, LongTakeAccepted, FreeAccepted, LongFreeAccepted, NamedTakeAccepted}
+use Rattle.call_laws.proofs.CallEffects.{NamedLongTakeAccepted, NamedFreeAccepted, NamedLongFreeAccepted, TakeEffect}
 use Rattle.call_laws.proofs.CheckedLaws.{checked-refused-or-passed, checked-is-next-of-passed, bounds-of-is-processor}
 use Rattle.call_laws.proofs.TransferredLaws.{passed-after-no-frees}
 use Rattle.call_laws.proofs.NamesKeptLaws.{mark-of-live-block, live-block-in-table, names-valid-after-named-take}
 use Rattle.call_laws.proofs.AddressLaws.{address-superblock, address-offset, address-block, address-block-number}
 use Rattle.call_laws.proofs.TakeLaws.{take-refused-or-accepted, taken-block, take-address, take-effect, take-names, take-shape, take-passed}
 use Rattle.call_laws.proofs.MarkClearedLaws.{LiveBlock}
-use Rattle.call_laws.proofs.FreeLaws.{free-refused-or-accepted, free-names, free-shape, free-passed, long-free-block, long-free-names, long-free-shape, long-free-passed}
+use Rattle.call_laws.proofs.FreeLaws.{free-refused-or-accepted, free-names, free-passed, long-free-block, long-free-names, long-free-passed}
 use Rattle.call_laws.proofs.RefusalOrder.{take-is-unchecked, free-is-unchecked, free-of-live-block}
 
 -- ---- the start of a run: block 0 of its first superblock, whose class field is 0
@@ -56,8 +62,11 @@ start-block-is-0 s k e =
 -- a name that is free is one of 0 to 1023 and not held
 pub facts-of-available : (s : State) (m : ℕ) → isUnavailable s m ≡ false → (m < 1024) × (isHeld (s .names) m ≡ false)
 unfolding isUnavailable isName
-facts-of-available s m e =
-    (ltb-true m 1024 (not-false (ltb m 1024) (neither-left (not (ltb m 1024)) (isHeld (s .names) m) e)), neither-right (not (ltb m 1024)) (isHeld (s .names) m) e)
+facts-of-available s m e = (
+  ltb-true m 1024 (not-false (ltb m 1024) (neither-left (not (ltb m 1024)) (isHeld (s .names) m) e)),
+  neither-right (not (ltb m 1024))
+      (isHeld (s .names) m) e,
+)
 
 -- "a refused take binds none"
 pub name-bound-of-refused : (r m : ℕ) (s : State) (order : List ℕ) → withNameBound m (refused r s order) ≡ refused r s order
@@ -75,31 +84,38 @@ module _ (s : State) (order : List ℕ) (i m : ℕ) where
 
   -- "A named call does what the plain one does": on a state that passes, for a processor in range and a name that is free, a named take is the plain
   -- take with the name bound
-  pub named-take-is-plain-take : (size : ℕ) → Passed s order → isProcessor s i ≡ true → isUnavailable s m ≡ false → namedTakeOf s order i m size ≡ withNameBound m (takeOf s order i size)
+  pub named-take-is-plain-take : (size : ℕ) → Passed s order → isProcessor s i ≡ true → isUnavailable s m ≡ false → namedTakeOf s order i m size
+      ≡ withNameBound m (takeOf s order i size)
   unfolding namedTakeUnchecked
-  named-take-is-plain-take size passed p u = named-take-is-unchecked size passed ∙ rw (p, u) (ap (withNameBound m) (sym (take-is-unchecked s order i passed size)))
+  named-take-is-plain-take size passed p u = named-take-is-unchecked size passed
+      ∙ rw (p, u) (ap (withNameBound m) (sym (take-is-unchecked s order i passed size)))
 
   -- a named take is refused and changes nothing, or is accepted, for a block of a class or a long block
   abbrev NamedTakeCases : ℕ → Type 0
-  NamedTakeCases size = ((r : ℕ) × (namedTakeOf s order i m size ≡ refused r s order)) ⊎ (((k : ℕ) × NamedTakeAccepted s order i m size k) ⊎ ((k : ℕ) × NamedLongTakeAccepted s order i m size k))
+  NamedTakeCases size = ((r : ℕ) × (namedTakeOf s order i m size ≡ refused r s order))
+      ⊎ (((k : ℕ) × NamedTakeAccepted s order i m size k) ⊎ ((k : ℕ) × NamedLongTakeAccepted s order i m size k))
 
   pub named-take-refused-or-accepted : (size : ℕ) → NamedTakeCases size
   unfolding namedTakeOf namedTakeUnchecked
   named-take-refused-or-accepted size = by-check (checked-refused-or-passed s order (namedTakeUnchecked s order i m size))
     where
-      by-plain : isUnavailable s m ≡ false → namedTakeOf s order i m size ≡ withNameBound m (takeOf s order i size) → ((r : ℕ) × (takeOf s order i size ≡ refused r s order)) ⊎ (((k : ℕ) × TakeAccepted s order i size k) ⊎ ((k : ℕ) × LongTakeAccepted s order i size k))
+      by-plain : isUnavailable s m ≡ false → namedTakeOf s order i m size ≡ withNameBound m (takeOf s order i size)
+          → ((r : ℕ) × (takeOf s order i size ≡ refused r s order))
+          ⊎ (((k : ℕ) × TakeAccepted s order i size k) ⊎ ((k : ℕ) × LongTakeAccepted s order i size k))
           → NamedTakeCases size
       by-plain u e (inl (r, f)) = inl (r, e ∙ ap (withNameBound m) f ∙ name-bound-of-refused r m s order)
       by-plain u e (inr (inl (k, acc))) = inr (inl (k, record { taken = acc; available = u; result-is = e }))
       by-plain u e (inr (inr (k, acc))) = inr (inr (k, record { taken = acc; available = u; result-is = e }))
 
-      by-tests : (p u : Bool) → isProcessor s i ≡ p → isUnavailable s m ≡ u → Passed s order → namedTakeOf s order i m size ≡ namedTakeByTests p u (takeUnchecked s order i size)
+      by-tests : (p u : Bool) → isProcessor s i ≡ p → isUnavailable s m ≡ u → Passed s order → namedTakeOf s order i m size ≡ namedTakeByTests p u
+          (takeUnchecked s order i size)
           → NamedTakeCases size
       by-tests false u ep eu passed e = inl (2, e)
       by-tests true true ep eu passed e = inl (14, e)
       by-tests true false ep eu passed e = by-plain eu (named-take-is-plain-take size passed ep eu) (take-refused-or-accepted s order i size)
 
-      by-check : ((r : ℕ) × (namedTakeOf s order i m size ≡ refused r s order)) ⊎ (Passed s order × (namedTakeOf s order i m size ≡ namedTakeUnchecked s order i m size))
+      by-check : ((r : ℕ) × (namedTakeOf s order i m size ≡ refused r s order))
+          ⊎ (Passed s order × (namedTakeOf s order i m size ≡ namedTakeUnchecked s order i m size))
           → NamedTakeCases size
       by-check (inl r) = inl r
       by-check (inr (passed, e)) = by-tests (isProcessor s i) (isUnavailable s m) refl refl passed e
@@ -139,7 +155,8 @@ module _ (s : State) (order : List ℕ) (i m size b : ℕ) where
   bound = withNames (plain-take .answer .state) (withName (s .names) m b)
 
   -- its answer and its order places are the plain take's
-  pub named-outcome-is-plain : namedTakeOf s order i m size ≡ withNameBound m plain-take → namedTakeOf s order i m size .answer .outcome ≡ plain-take .answer .outcome
+  pub named-outcome-is-plain : namedTakeOf s order i m size ≡ withNameBound m plain-take → namedTakeOf s order i m size .answer .outcome
+      ≡ plain-take .answer .outcome
   unfolding withNameBound
   named-outcome-is-plain e = ap (λ (x : After). x .answer .outcome) e
 
@@ -148,7 +165,8 @@ module _ (s : State) (order : List ℕ) (i m size b : ℕ) where
   named-order-is-plain e = ap (λ (x : After). x .order) e
 
   -- its state is the plain take's with the name bound to the block that was taken
-  pub named-state-is-bound : (a : ℕ) → namedTakeOf s order i m size ≡ withNameBound m plain-take → plain-take .answer .outcome ≡ Address a → plain-take .answer .state .names ≡ s .names → blockNumberAt (plain-take .answer .state) a ≡ b
+  pub named-state-is-bound : (a : ℕ) → namedTakeOf s order i m size ≡ withNameBound m plain-take → plain-take .answer .outcome ≡ Address a
+      → plain-take .answer .state .names ≡ s .names → blockNumberAt (plain-take .answer .state) a ≡ b
       → namedTakeOf s order i m size .answer .state ≡ bound
   unfolding withNameBound boundBy nameBound
   named-state-is-bound a e address names number =
@@ -158,10 +176,12 @@ module _ (s : State) (order : List ℕ) (i m size b : ℕ) where
 
   module _ (shape : Shape s) (state-is : namedTakeOf s order i m size .answer .state ≡ bound) where
     pub shape-of-bound : Shape (plain-take .answer .state) → Shape (namedTakeOf s order i m size .answer .state)
-    shape-of-bound x = subst Shape (sym state-is) (shape-with-names (plain-take .answer .state) (withName (s .names) m b) x (length-with-name (s .names) m b ∙ shape .names-length))
+    shape-of-bound x = subst Shape (sym state-is)
+        (shape-with-names (plain-take .answer .state) (withName (s .names) m b) x (length-with-name (s .names) m b ∙ shape .names-length))
 
     -- an accepted named take yields a state that passes
-    pub passed-of-bound : namedTakeOf s order i m size .order ≡ plain-take .order → Passed (plain-take .answer .state) (plain-take .order) → T (namesValid bound) → Passed (namedTakeOf s order i m size .answer .state) (namedTakeOf s order i m size .order)
+    pub passed-of-bound : namedTakeOf s order i m size .order ≡ plain-take .order → Passed (plain-take .answer .state) (plain-take .order)
+        → T (namesValid bound) → Passed (namedTakeOf s order i m size .answer .state) (namedTakeOf s order i m size .order)
     passed-of-bound order-is passed names =
         subst (λ (t : State). Passed t (namedTakeOf s order i m size .order)) (sym state-is)
         (subst (λ (l : List ℕ). Passed bound l) (sym order-is)
@@ -177,7 +197,8 @@ module _ (s : State) (order : List ℕ) (i m size b : ℕ) where
     -- "A name holds from its take": the name points at the block that was taken, and every other name at what it did
     pub name-points-at-taken : isUnavailable s m ≡ false → blockNamed (namedTakeOf s order i m size .answer .state .names) m ≡ b
     name-points-at-taken available =
-        ap (λ (t : State). blockNamed (t .names) m) state-is ∙ block-named-with-name (s .names) m b (let l = facts-of-available s m available .0 in let n = shape .names-length in omega arith)
+        ap (λ (t : State). blockNamed (t .names) m) state-is ∙ block-named-with-name (s .names) m b (let l = facts-of-available s m available .0 in
+        let n = shape .names-length in omega arith)
 
     pub other-names-point-as-before : (l : ℕ) → (l ≡ m → ⊥) → blockNamed (namedTakeOf s order i m size .answer .state .names) l ≡ blockNamed (s .names) l
     other-names-point-as-before l f = ap (λ (t : State). blockNamed (t .names) l) state-is ∙ block-named-with-other-name (s .names) m b l f
@@ -208,9 +229,11 @@ module _ (s : State) (order : List ℕ) (i m size k : ℕ) (shape : Shape s) (ac
   pub named-take-order : namedTakeOf s order i m size .order ≡ plain .order
   named-take-order = named-order-is-plain s order i m size b (acc .result-is)
 
-  pub named-take-state : namedTakeOf s order i m size .answer .state ≡ withNames (plain .answer .state) (withName (s .names) m (blockNumber k named-taken-block))
+  pub named-take-state : namedTakeOf s order i m size .answer .state ≡ withNames (plain .answer .state)
+      (withName (s .names) m (blockNumber k named-taken-block))
   named-take-state =
-      named-state-is-bound s order i m size b (addressOf k (classOf size) named-taken-block) (acc .result-is) (take-address s order i size k shape (acc .taken)) (take-names s order i size k shape (acc .taken))
+      named-state-is-bound s order i m size b (addressOf k (classOf size) named-taken-block) (acc .result-is)
+      (take-address s order i size k shape (acc .taken)) (take-names s order i size k shape (acc .taken))
       (address-block-number (classOf size) k named-taken-block (effect .class-lt-27) (effect .block) (plain .answer .state) (effect .class) below)
 
   pub named-take-names : namedTakeOf s order i m size .answer .state .names ≡ withName (s .names) m (blockNumber k named-taken-block)
@@ -230,7 +253,8 @@ module _ (s : State) (order : List ℕ) (i m size k : ℕ) (shape : Shape s) (ac
   pub named-take-passed : Passed (namedTakeOf s order i m size .answer .state) (namedTakeOf s order i m size .order)
   named-take-passed =
       passed-of-bound s order i m size b shape named-take-state named-take-order (take-passed s order i size k shape (acc .taken))
-      (names-valid-after-named-take i (classOf size) k named-taken-block s (plain .answer .state) block (shape .length-is) effect m below (take-names s order i size k shape (acc .taken)) (acc .taken .passed .names))
+      (names-valid-after-named-take i (classOf size) k named-taken-block s (plain .answer .state) block (shape .length-is) effect m below
+      (take-names s order i size k shape (acc .taken)) (acc .taken .passed .names))
 
   pub named-take-binds-name : blockNamed (namedTakeOf s order i m size .answer .state .names) m ≡ blockNumber k named-taken-block
   named-take-binds-name = name-points-at-taken s order i m size b shape named-take-state (acc .available)
@@ -248,7 +272,8 @@ module _ (s : State) (order : List ℕ) (i m : ℕ) where
   named-free-is-unchecked passed = checked-is-next-of-passed s order _ passed
 
   -- "a free with the held address": on a state that passes, for a processor in range and a name that is held, a named free is the free of that address
-  pub named-free-is-free-of-held-address : Passed s order → isProcessor s i ≡ true → isHeld (s .names) m ≡ true → namedFreeOf s order i m ≡ freeOf s order i (heldAddress s m)
+  pub named-free-is-free-of-held-address : Passed s order → isProcessor s i ≡ true → isHeld (s .names) m ≡ true → namedFreeOf s order i m
+      ≡ freeOf s order i (heldAddress s m)
   unfolding namedFreeUnchecked
   named-free-is-free-of-held-address passed p h = named-free-is-unchecked passed ∙ rw (p, h) (sym (free-is-unchecked s order i passed (heldAddress s m)))
 
@@ -260,13 +285,16 @@ module _ (s : State) (order : List ℕ) (i m : ℕ) where
   unfolding namedFreeOf namedFreeUnchecked
   named-free-refused-or-accepted = by-check (checked-refused-or-passed s order (namedFreeUnchecked s order i m))
     where
-      by-plain : isHeld (s .names) m ≡ true → namedFreeOf s order i m ≡ freeOf s order i (heldAddress s m) → ((r : ℕ) × (freeOf s order i (heldAddress s m) ≡ refused r s order)) ⊎ (FreeAccepted s order i (heldAddress s m) ⊎ LongFreeAccepted s order i (heldAddress s m))
+      by-plain : isHeld (s .names) m ≡ true → namedFreeOf s order i m ≡ freeOf s order i (heldAddress s m)
+          → ((r : ℕ) × (freeOf s order i (heldAddress s m) ≡ refused r s order))
+          ⊎ (FreeAccepted s order i (heldAddress s m) ⊎ LongFreeAccepted s order i (heldAddress s m))
           → NamedFreeCases
       by-plain h e (inl (r, f)) = inl (r, e ∙ f)
       by-plain h e (inr (inl acc)) = inr (inl (record { held = T-of-true _ h; freed = acc; result-is = e }))
       by-plain h e (inr (inr acc)) = inr (inr (record { held = T-of-true _ h; freed = acc; result-is = e }))
 
-      by-tests : (p h : Bool) → isProcessor s i ≡ p → isHeld (s .names) m ≡ h → Passed s order → namedFreeOf s order i m ≡ namedFreeByTests p h (freeUnchecked s order i (heldAddress s m))
+      by-tests : (p h : Bool) → isProcessor s i ≡ p → isHeld (s .names) m ≡ h → Passed s order → namedFreeOf s order i m ≡ namedFreeByTests p h
+          (freeUnchecked s order i (heldAddress s m))
           → NamedFreeCases
       by-tests false h ep eh passed e = inl (2, e)
       by-tests true false ep eh passed e = inl (15, e)
@@ -326,7 +354,8 @@ module _ (s : State) (order : List ℕ) (shape : Shape s) (passed : Passed s ord
         go (yes l) = l
         go (no f) =
             let places = owned-of-owner s order (passed .sound) k in-table owned .places in
-            let clear = mark-clear-of-no-mark-from (superblockAt s k .live) (blocksOf (superblockAt s k .class)) (no-mark-from-of-places-valid order (superblockAt s k .live) k (blocksOf (superblockAt s k .class)) places) j (omega arith) (omega arith) in
+            let clear = mark-clear-of-no-mark-from (superblockAt s k .live) (blocksOf (superblockAt s k .class))
+            (no-mark-from-of-places-valid order (superblockAt s k .live) k (blocksOf (superblockAt s k .class)) places) j (omega arith) (omega arith) in
             absurd (let z : ⊥ = omega (arith, marked) in z)
 
     pub held-block-is-live : LiveBlock s order (blockNamed (s .names) m / 256) (blockNamed (s .names) m % 256)
@@ -342,7 +371,8 @@ module _ (s : State) (order : List ℕ) (shape : Shape s) (passed : Passed s ord
         }
 
   -- in a run: block 0 of its first superblock
-  pub held-block-is-run : isOfRun (superblockAt s (blockNamed (s .names) m / 256)) ≡ true → (blockNamed (s .names) m % 256 ≡ 0) × (startsRun (superblockAt s (blockNamed (s .names) m / 256)) ≡ true)
+  pub held-block-is-run : isOfRun (superblockAt s (blockNamed (s .names) m / 256)) ≡ true → (blockNamed (s .names) m % 256 ≡ 0)
+      × (startsRun (superblockAt s (blockNamed (s .names) m / 256)) ≡ true)
   held-block-is-run inside = go (startsRun (superblockAt s k)) refl
     where
       no-heap : Unowned (superblockAt s k)
@@ -382,30 +412,47 @@ module _ (s : State) (order : List ℕ) (k j : ℕ) (live : LiveBlock s order k 
   live-block-mapped =
       ap₂ either
       (lt-leb (s .setup .superblocks * 4096) a (let o = offset-lt-4096 class live-class-lt-27 j (live .block) in let l = live .below in omega arith))
-      (ap (λ (n : ℕ). isUnused (superblockAt s n)) holding ∙ not-unused-of-owner (superblockAt s k) (λ (e : superblockAt s k .owner ≡ unusedOwner). omega (arith, live .owned)))
+      (ap (λ (n : ℕ). isUnused (superblockAt s n)) holding ∙ not-unused-of-owner (superblockAt s k)
+      (λ (e : superblockAt s k .owner ≡ unusedOwner). omega (arith, live .owned)))
 
   live-block-outside-run : isInRun s a ≡ false
-  live-block-outside-run = ap (λ (n : ℕ). isOfRun (superblockAt s n)) holding ∙ outside-run-of-owner (superblockAt s k) (λ (e : superblockAt s k .owner ≡ runOwner). omega (arith, live .owned))
+  live-block-outside-run = ap (λ (n : ℕ). isOfRun (superblockAt s n)) holding ∙ outside-run-of-owner (superblockAt s k)
+      (λ (e : superblockAt s k .owner ≡ runOwner). omega (arith, live .owned))
 
   live-block-aligned : isMisaligned s a ≡ false
   unfolding isMisaligned isOffBlock
   live-block-aligned =
       rw live-block-outside-run
       (ap₂ either
-      (ap not (eq-eqb (a % 4096 % sizeOf (superblockHolding s a .class)) 0 (rw (holding, address-offset class k j live-class-lt-27 (live .block)) (offset-mod-size class live-class-lt-27 j))))
-      (ap₂ leb (ap (λ (n : ℕ). blocksOf (superblockAt s n .class)) holding) (address-block class k j live-class-lt-27 (live .block) s refl) ∙ lt-leb (blocksOf class) j (live .block)))
+      (ap not (eq-eqb (a % 4096 % sizeOf (superblockHolding s a .class)) 0
+      (rw (holding, address-offset class k j live-class-lt-27 (live .block)) (offset-mod-size class live-class-lt-27 j))))
+      (ap₂ leb (ap (λ (n : ℕ). blocksOf (superblockAt s n .class)) holding) (address-block class k j live-class-lt-27 (live .block) s refl)
+      ∙ lt-leb (blocksOf class) j (live .block)))
 
   live-block-live : isLiveAt s a ≡ true
   unfolding isLiveAt
-  live-block-live = rw (live-blocks-outside-run (superblockHolding s a) live-block-outside-run, address-block class k j live-class-lt-27 (live .block) s refl, holding) (mark-of-mark-bit-one (superblockAt s k .live) j (live .marked))
+  live-block-live = rw (
+    live-blocks-outside-run (superblockHolding s a) live-block-outside-run,
+    address-block class k j live-class-lt-27
+        (live .block) s refl,
+    holding,
+  ) (mark-of-mark-bit-one (superblockAt s k .live) j (live .marked))
 
   pub free-accepted-of-live-block : (i : ℕ) → Passed s order → isProcessor s i ≡ true → FreeAccepted s order i (addressOf k (superblockAt s k .class) j)
   unfolding freedAt
   free-accepted-of-live-block i passed p =
       record {
-        address = record { passed = passed; processor = bounds-of-is-processor s i (T-of-true _ p); mapped = live-block-mapped; block-aligned = live-block-aligned; live = live-block-live };
+        address = record {
+          passed = passed;
+          processor = bounds-of-is-processor s i (T-of-true _ p);
+          mapped = live-block-mapped;
+          block-aligned =
+              live-block-aligned;
+          live = live-block-live;
+        };
         outside-run = live-block-outside-run;
-        result-is = free-of-live-block s order i passed a p live-block-mapped live-block-aligned live-block-live ∙ pick-false (isInRun s a) (longFreedAt s order a) (smallFreedAt s order a) live-block-outside-run;
+        result-is = free-of-live-block s order i passed a p live-block-mapped live-block-aligned live-block-live
+            ∙ pick-false (isInRun s a) (longFreedAt s order a) (smallFreedAt s order a) live-block-outside-run;
       }
 
 -- ---- and every long block by its start
@@ -433,7 +480,8 @@ module _ (s : State) (order : List ℕ) (k : ℕ) (passed : Passed s order) (bel
   unfolding isUnmapped
   start-mapped =
       ap₂ either (lt-leb (s .setup .superblocks * 4096) (k * 4096) (let l = start-below in omega arith))
-      (ap (λ (n : ℕ). isUnused (superblockAt s n)) at-start ∙ not-unused-of-owner (superblockAt s k) (λ (e : superblockAt s k .owner ≡ unusedOwner). omega (arith, start-owner)))
+      (ap (λ (n : ℕ). isUnused (superblockAt s n)) at-start ∙ not-unused-of-owner (superblockAt s k)
+      (λ (e : superblockAt s k .owner ≡ unusedOwner). omega (arith, start-owner)))
 
   start-aligned : isMisaligned s (k * 4096) ≡ false
   unfolding isMisaligned isRunStart
@@ -447,15 +495,24 @@ module _ (s : State) (order : List ℕ) (k : ℕ) (passed : Passed s order) (bel
   start-live : isLiveAt s (k * 4096) ≡ true
   unfolding isLiveAt
   start-live =
-      rw (start-block, at-start, live-blocks-of-first (superblockAt s k) starts) (mark-of-mark-bit-one (withMark noMarks 0) 0 (with-mark-same noMarks 0 refl (omega arith)))
+      rw (start-block, at-start, live-blocks-of-first (superblockAt s k) starts)
+      (mark-of-mark-bit-one (withMark noMarks 0) 0 (with-mark-same noMarks 0 refl (omega arith)))
 
   pub long-free-accepted-of-start : (i : ℕ) → isProcessor s i ≡ true → LongFreeAccepted s order i (k * 4096)
   unfolding freedAt
   long-free-accepted-of-start i p =
       record {
-        address = record { passed = passed; processor = bounds-of-is-processor s i (T-of-true _ p); mapped = start-mapped; block-aligned = start-aligned; live = start-live };
+        address = record {
+          passed = passed;
+          processor = bounds-of-is-processor s i (T-of-true _ p);
+          mapped = start-mapped;
+          block-aligned =
+              start-aligned;
+          live = start-live;
+        };
         in-run = start-in-run;
-        result-is = free-of-live-block s order i passed (k * 4096) p start-mapped start-aligned start-live ∙ pick-true (isInRun s (k * 4096)) (longFreedAt s order (k * 4096)) (smallFreedAt s order (k * 4096)) start-in-run;
+        result-is = free-of-live-block s order i passed (k * 4096) p start-mapped start-aligned start-live
+            ∙ pick-true (isInRun s (k * 4096)) (longFreedAt s order (k * 4096)) (smallFreedAt s order (k * 4096)) start-in-run;
       }
 
 -- A held name's free meets none of 5, 6 and 7: for a processor in range it is accepted, on every state that passes.
@@ -464,7 +521,8 @@ module _ (s : State) (order : List ℕ) (m : ℕ) (shape : Shape s) (passed : Pa
   home = blockNamed (s .names) m / 256
 
   home-below : home < 64
-  home-below = live-block-in-table s (blockNamed (s .names) m) (shape .length-is) (names-sound-of-valid s (passed .names) .live m (held-facts (s .names) m held .1))
+  home-below = live-block-in-table s (blockNamed (s .names) m) (shape .length-is)
+      (names-sound-of-valid s (passed .names) .live m (held-facts (s .names) m held .1))
 
   -- a named run's held address is its start
   pub held-address-of-run : isOfRun (superblockAt s (blockNamed (s .names) m / 256)) ≡ true → heldAddress s m ≡ blockNamed (s .names) m / 256 * 4096
@@ -478,7 +536,8 @@ module _ (s : State) (order : List ℕ) (m : ℕ) (shape : Shape s) (passed : Pa
       go : (t : Bool) → isOfRun (superblockAt s home) ≡ t → FreeAccepted s order i (heldAddress s m) ⊎ LongFreeAccepted s order i (heldAddress s m)
       go false e = inl (free-accepted-of-live-block s order home (blockNamed (s .names) m % 256) (held-block-is-live s order shape passed m held e) i passed p)
       go true e =
-          inr (subst (LongFreeAccepted s order i) (sym (held-address-of-run e)) (long-free-accepted-of-start s order home passed home-below (held-block-is-run s order shape passed m held e .1) i p))
+          inr (subst (LongFreeAccepted s order i) (sym (held-address-of-run e))
+          (long-free-accepted-of-start s order home passed home-below (held-block-is-run s order shape passed m held e .1) i p))
 
 -- ---- "A name holds .. until its block is freed by either command"
 -- the block at the held address is the name's
@@ -492,8 +551,10 @@ held-address-block s order m shape passed held = go (isOfRun (superblockAt s (bl
     go false e =
         let live = held-block-is-live s order shape passed m held e in
         let known = live-class-lt-27 s order (blockNamed (s .names) m / 256) (blockNamed (s .names) m % 256) live in (
-          address-superblock (superblockAt s (blockNamed (s .names) m / 256) .class) (blockNamed (s .names) m / 256) (blockNamed (s .names) m % 256) known (live .block),
-          address-block (superblockAt s (blockNamed (s .names) m / 256) .class) (blockNamed (s .names) m / 256) (blockNamed (s .names) m % 256) known (live .block) s refl,
+          address-superblock (superblockAt s (blockNamed (s .names) m / 256) .class) (blockNamed (s .names) m / 256) (blockNamed (s .names) m % 256) known
+              (live .block),
+          address-block (superblockAt s (blockNamed (s .names) m / 256) .class) (blockNamed (s .names) m / 256) (blockNamed (s .names) m % 256) known
+              (live .block) s refl,
         )
     go true e =
         let run = held-block-is-run s order shape passed m held e in
@@ -507,14 +568,17 @@ held-address-block s order m shape passed held = go (isOfRun (superblockAt s (bl
 pub freed-names : (s : State) (order : List ℕ) (i a : ℕ) → Shape s → FreeAccepted s order i a ⊎ LongFreeAccepted s order i a
     → freeOf s order i a .answer .state .names ≡ withoutBlock (s .names) (blockNumber (superblockIndex a) (blockOf s a))
 freed-names s order i a shape (inl acc) = free-names s order i a shape acc
-freed-names s order i a shape (inr acc) = long-free-names s order i a shape acc ∙ ap (λ (j : ℕ). withoutBlock (s .names) (blockNumber (superblockIndex a) j)) (sym (long-free-block s order i a shape acc))
+freed-names s order i a shape (inr acc) = long-free-names s order i a shape acc
+    ∙ ap (λ (j : ℕ). withoutBlock (s .names) (blockNumber (superblockIndex a) j)) (sym (long-free-block s order i a shape acc))
 
 module _ (s : State) (order : List ℕ) (i a : ℕ) (shape : Shape s) (acc : FreeAccepted s order i a ⊎ LongFreeAccepted s order i a) (m : ℕ) where
   pub free-lets-name-go : blockNamed (s .names) m ≡ blockNumber (superblockIndex a) (blockOf s a) → isHeld (freeOf s order i a .answer .state .names) m ≡ false
   free-lets-name-go e = rw (freed-names s order i a shape acc) (not-held-without-block (s .names) (blockNumber (superblockIndex a) (blockOf s a)) m e)
 
-  pub free-keeps-other-names : (blockNamed (s .names) m ≡ blockNumber (superblockIndex a) (blockOf s a) → ⊥) → blockNamed (freeOf s order i a .answer .state .names) m ≡ blockNamed (s .names) m
-  free-keeps-other-names f = rw (freed-names s order i a shape acc) (block-named-without-other-block (s .names) (blockNumber (superblockIndex a) (blockOf s a)) m f)
+  pub free-keeps-other-names : (blockNamed (s .names) m ≡ blockNumber (superblockIndex a) (blockOf s a) → ⊥)
+      → blockNamed (freeOf s order i a .answer .state .names) m ≡ blockNamed (s .names) m
+  free-keeps-other-names f =
+      rw (freed-names s order i a shape acc) (block-named-without-other-block (s .names) (blockNumber (superblockIndex a) (blockOf s a)) m f)
 
 -- and by a named free: its name is let go, and no other
 module _ (s : State) (order : List ℕ) (i m : ℕ) (shape : Shape s) (acc : NamedFreeAccepted s order i m ⊎ NamedLongFreeAccepted s order i m) where
@@ -536,7 +600,8 @@ module _ (s : State) (order : List ℕ) (i m : ℕ) (shape : Shape s) (acc : Nam
   pub named-free-lets-name-go : isHeld (namedFreeOf s order i m .answer .state .names) m ≡ false
   named-free-lets-name-go = rw result (free-lets-name-go s order i (heldAddress s m) shape plain-accepted m (sym freed-number))
 
-  pub named-free-keeps-other-names : (l : ℕ) → T (isHeld (s .names) l) → (l ≡ m → ⊥) → blockNamed (namedFreeOf s order i m .answer .state .names) l ≡ blockNamed (s .names) l
+  pub named-free-keeps-other-names : (l : ℕ) → T (isHeld (s .names) l) → (l ≡ m → ⊥) → blockNamed (namedFreeOf s order i m .answer .state .names) l
+      ≡ blockNamed (s .names) l
   named-free-keeps-other-names l held f =
       rw result
       (free-keeps-other-names s order i (heldAddress s m) shape plain-accepted l

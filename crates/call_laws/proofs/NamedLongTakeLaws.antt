@@ -23,7 +23,8 @@ use Rattle.call_rules.specs.Named.{namedTakeOf}
 use Rattle.call_laws.proofs.CallEffects.{Passed, NamedLongTakeAccepted, LongTakeEffect, RunUnranked}
 use Rattle.call_laws.proofs.NamesKeptLaws.{names-valid-after-named-long-take}
 use Rattle.call_laws.proofs.RunTakenLaws.{long-take-address, long-take-effect, long-take-names, long-take-ranks, long-take-shape, long-take-passed}
-use Rattle.call_laws.proofs.NamedCallLaws.{start-block-is-0, named-outcome-is-plain, named-order-is-plain, named-state-is-bound, shape-of-bound, passed-of-bound, name-points-at-taken, other-names-point-as-before}
+use Rattle.call_laws.proofs.NamedCallLaws.{start-block-is-0, named-outcome-is-plain, named-order-is-plain, named-state-is-bound, shape-of-bound}
+use Rattle.call_laws.proofs.NamedCallLaws.{passed-of-bound, name-points-at-taken, other-names-point-as-before}
 
 -- the number by which a name points at the start of a run
 start-block-number : (s : State) (k : ℕ) → k < 64 → superblockAt s k .class ≡ 0 → blockNumberAt s (k * 4096) ≡ blockNumber k 0
@@ -78,7 +79,8 @@ module _ (s : State) (order : List ℕ) (i m size k : ℕ) (shape : Shape s) (ac
 
   pub named-long-take-state : namedTakeOf s order i m size .answer .state ≡ withNames (plain .answer .state) (withName (s .names) m (blockNumber k 0))
   named-long-take-state =
-      named-state-is-bound s order i m size b (k * 4096) (acc .result-is) (long-take-address s order i size k shape (acc .taken)) (long-take-names s order i size k shape (acc .taken))
+      named-state-is-bound s order i m size b (k * 4096) (acc .result-is) (long-take-address s order i size k shape (acc .taken))
+      (long-take-names s order i size k shape (acc .taken))
       (start-block-number (plain .answer .state) k below (ap (λ (b : Superblock). b .class) first))
 
   pub named-long-take-names : namedTakeOf s order i m size .answer .state .names ≡ withName (s .names) m (blockNumber k 0)
@@ -99,7 +101,8 @@ module _ (s : State) (order : List ℕ) (i m size k : ℕ) (shape : Shape s) (ac
   pub named-long-take-passed : Passed (namedTakeOf s order i m size .answer .state) (namedTakeOf s order i m size .order)
   named-long-take-passed =
       passed-of-bound s order i m size b shape named-long-take-state named-long-take-order (long-take-passed s order i size k shape (acc .taken))
-      (names-valid-after-named-long-take k n s (plain .answer .state) effect m below (long-take-names s order i size k shape (acc .taken)) (acc .taken .passed .names))
+      (names-valid-after-named-long-take k n s (plain .answer .state) effect m below (long-take-names s order i size k shape (acc .taken))
+      (acc .taken .passed .names))
 
   pub named-long-take-binds-name : blockNamed (namedTakeOf s order i m size .answer .state .names) m ≡ blockNumber k 0
   named-long-take-binds-name = name-points-at-taken s order i m size b shape named-long-take-state (acc .available)

@@ -23,8 +23,12 @@ use Rattle.call_rules.specs.Named.{isUnavailable, withNameBound, namedTakeUnche
 use Rattle.call_laws.proofs.CallEffects.{Passed}
 use Rattle.call_laws.proofs.FreeLaws.{free-outcome, long-free-outcome}
 use Rattle.call_laws.proofs.RefusalOrder.{take-is-unchecked, take-refused-3-of-too-large, free-is-unchecked}
-use Rattle.call_laws.proofs.NamedCallLaws.{namedTakeByTests, namedFreeByTests, named-take-is-unchecked, named-take-is-plain-take, named-free-is-unchecked, held-name-free-accepted, name-bound-of-refused}
-use Rattle.call_laws.proofs.RefusalConditions.{CheckFails, StorageShort, IsProcessor, NotProcessor, TooLarge, NothingOffered, NoRun, takeRefusals, ConditionOf, condition-by-number, refused-iff-condition, condition-at-number, moves-not-refused, decides-processor, checked-refused, check-fails-refused-13, storage-short-refused-12, nothing-offered-refused-4, no-run-refused-17, take-refused-iff-condition}
+use Rattle.call_laws.proofs.NamedCallLaws.{namedTakeByTests, namedFreeByTests, named-take-is-unchecked, named-take-is-plain-take}
+use Rattle.call_laws.proofs.NamedCallLaws.{named-free-is-unchecked, held-name-free-accepted, name-bound-of-refused}
+use Rattle.call_laws.proofs.RefusalConditions.{CheckFails, StorageShort, IsProcessor, NotProcessor, TooLarge, NothingOffered, NoRun, takeRefusals}
+use Rattle.call_laws.proofs.RefusalConditions.{ConditionOf, condition-by-number, refused-iff-condition, condition-at-number, moves-not-refused}
+use Rattle.call_laws.proofs.RefusalConditions.{decides-processor, checked-refused, check-fails-refused-13, storage-short-refused-12}
+use Rattle.call_laws.proofs.RefusalConditions.{nothing-offered-refused-4, no-run-refused-17, take-refused-iff-condition}
 
 -- ---- the conditions
 -- name m is held: it is one of 0 to 1023, and points at a block
@@ -80,7 +84,8 @@ module _ (s : State) (order : List ℕ) (i m : ℕ) where
     -- what refuses the plain take refuses the named one, where its name is free
     condition-of-plain-refusal : NameAvailable s m → (r : ℕ) → ConditionOf (takeRefusals s order i size) r → ConditionOf (namedTakeRefusals s order i m size) r
     condition-of-plain-refusal free =
-        condition-by-number (ConditionOf (namedTakeRefusals s order i m size)) (takeRefusals s order i size) (λ h. h) (λ h. h) (λ h. h) (λ h. (free, h)) (λ h. (free, h)) (λ h. (free, h))
+        condition-by-number (ConditionOf (namedTakeRefusals s order i m size)) (takeRefusals s order i size) (λ h. h) (λ h. h) (λ h. h) (λ h. (free, h))
+        (λ h. (free, h)) (λ h. (free, h))
 
     condition-of-named-take-refused : (r : ℕ) → namedTakeOf s order i m size .answer .outcome ≡ Refused r → ConditionOf (namedTakeRefusals s order i m size) r
     unfolding namedTakeOf namedTakeUnchecked withNameBound
@@ -89,9 +94,11 @@ module _ (s : State) (order : List ℕ) (i m : ℕ) where
         (go (isProcessor s i) (isUnavailable s m) (decides-processor s order i) (decides-unavailable s m))
       where
         go : (p u : Bool) → Decides p (IsProcessor s i) ((i ≡ 0) ⊎ (s .setup .processors < i)) → Decides u ((1024 ≤ m) ⊎ Held s m) ((m < 1024) × (Held s m → ⊥))
-            → Passed s order → namedTakeByTests s order i m p u (takeUnchecked s order i size) .answer .outcome ≡ Refused r → ConditionOf (namedTakeRefusals s order i m size) r
+            → Passed s order → namedTakeByTests s order i m p u (takeUnchecked s order i size) .answer .outcome ≡ Refused r
+            → ConditionOf (namedTakeRefusals s order i m size) r
         go false u p t passed e = condition-at-number (namedTakeRefusals s order i m size) 2 r e (record { passed = passed; out = p .says })
-        go true true p t passed e = condition-at-number (namedTakeRefusals s order i m size) 14 r e (record { passed = passed; processor = p .says; taken = t .says })
+        go true true p t passed e = condition-at-number (namedTakeRefusals s order i m size) 14 r e
+            (record { passed = passed; processor = p .says; taken = t .says })
         go true false p t passed e =
             condition-of-plain-refusal (record { is-name = t .says .0; not-held = t .says .1 }) r
             (take-refused-iff-condition s order i size r .0 (ap (λ (x : After). x .answer .outcome) (take-is-unchecked s order i passed size) ∙ e))
@@ -100,20 +107,26 @@ module _ (s : State) (order : List ℕ) (i m : ℕ) where
     available h = false-of-decides (decides-unavailable s m) (h .is-name, h .not-held)
 
     -- a refusal of the plain take is the named take's
-    refused-as-plain : (n : ℕ) → NameAvailable s m → Passed s order → IsProcessor s i → takeOf s order i size ≡ refused n s order → namedTakeOf s order i m size ≡ refused n s order
+    refused-as-plain : (n : ℕ) → NameAvailable s m → Passed s order → IsProcessor s i → takeOf s order i size ≡ refused n s order
+        → namedTakeOf s order i m size ≡ refused n s order
     refused-as-plain n free passed p e =
-        named-take-is-plain-take s order i m size passed (true-of-decides (decides-processor s order i) p) (available free) ∙ ap (withNameBound m) e ∙ name-bound-of-refused n m s order
+        named-take-is-plain-take s order i m size passed (true-of-decides (decides-processor s order i) p) (available free) ∙ ap (withNameBound m) e
+        ∙ name-bound-of-refused n m s order
 
     -- a named take is refused with number r exactly if r's condition holds: it applies, and none before it in the order
-    pub named-take-refused-iff-condition : (r : ℕ) → (namedTakeOf s order i m size .answer .outcome ≡ Refused r) ↔ ConditionOf (namedTakeRefusals s order i m size) r
+    pub named-take-refused-iff-condition : (r : ℕ) → (namedTakeOf s order i m size .answer .outcome ≡ Refused r)
+        ↔ ConditionOf (namedTakeRefusals s order i m size) r
     unfolding namedTakeOf namedTakeUnchecked
-    named-take-refused-iff-condition = refused-iff-condition (namedTakeOf s order i m size) s order (namedTakeRefusals s order i m size) condition-of-named-take-refused
+    named-take-refused-iff-condition = refused-iff-condition (namedTakeOf s order i m size) s order (namedTakeRefusals s order i m size)
+        condition-of-named-take-refused
         (check-fails-refused-13 s order i _) (storage-short-refused-12 s order i _)
         (λ h. named-take-is-unchecked s order i m size (h .passed) ∙ rw (false-of-decides (decides-processor s order i) (h .out)))
-        (λ h. named-take-is-unchecked s order i m size (h .passed) ∙ rw (true-of-decides (decides-processor s order i) (h .processor), true-of-decides (decides-unavailable s m) (h .taken)))
+        (λ h. named-take-is-unchecked s order i m size (h .passed)
+        ∙ rw (true-of-decides (decides-processor s order i) (h .processor), true-of-decides (decides-unavailable s m) (h .taken)))
         (λ h.
         refused-as-plain 3 (h .0) (h .1 .passed) (h .1 .processor)
-        (take-refused-3-of-too-large s order i (h .1 .passed) size (true-of-decides (decides-processor s order i) (h .1 .processor)) (true-of-decides (decides-too-large size) (h .1 .large))))
+        (take-refused-3-of-too-large s order i (h .1 .passed) size (true-of-decides (decides-processor s order i) (h .1 .processor))
+        (true-of-decides (decides-too-large size) (h .1 .large))))
         (λ h. refused-as-plain 4 (h .0) (h .1 .passed) (h .1 .processor) (nothing-offered-refused-4 s order i size (h .1)))
         (λ h. refused-as-plain 17 (h .0) (h .1 .passed) (h .1 .processor) (no-run-refused-17 s order i size (h .1)))
 
@@ -143,13 +156,17 @@ module _ (s : State) (order : List ℕ) (i m : ℕ) where
         (namedFreeRefusals s order i m) r (λ h. h) (λ h. h)
         (go (isProcessor s i) (isHeld (s .names) m) (decides-processor s order i) (decides-held s m) refl refl)
       where
-        go : (p h : Bool) → Decides p (IsProcessor s i) ((i ≡ 0) ⊎ (s .setup .processors < i)) → Decides h (Held s m) (Held s m → ⊥) → isProcessor s i ≡ p → isHeld (s .names) m ≡ h
-            → Passed s order → namedFreeByTests s order i m p h (freeUnchecked s order i (heldAddress s m)) .answer .outcome ≡ Refused r → ConditionOf (namedFreeRefusals s order i m) r
+        go : (p h : Bool) → Decides p (IsProcessor s i) ((i ≡ 0) ⊎ (s .setup .processors < i)) → Decides h (Held s m) (Held s m → ⊥) → isProcessor s i ≡ p
+            → isHeld (s .names) m ≡ h
+            → Passed s order → namedFreeByTests s order i m p h (freeUnchecked s order i (heldAddress s m)) .answer .outcome ≡ Refused r
+            → ConditionOf (namedFreeRefusals s order i m) r
         go false h p t ep eh passed e = condition-at-number (namedFreeRefusals s order i m) 2 r e (record { passed = passed; out = p .says })
-        go true false p t ep eh passed e = condition-at-number (namedFreeRefusals s order i m) 15 r e (record { passed = passed; processor = p .says; not-held = t .says })
+        go true false p t ep eh passed e = condition-at-number (namedFreeRefusals s order i m) 15 r e
+            (record { passed = passed; processor = p .says; not-held = t .says })
         go true true p t ep eh passed e =
             let unchecked = ap (λ (x : After). x .answer .outcome) (free-is-unchecked s order i passed (heldAddress s m)) ∙ e in
-            absurd (⊎-elim (λ acc. moves-not-refused _ r (sym (free-outcome s order i (heldAddress s m) shape acc) ∙ unchecked)) (λ acc. moves-not-refused _ r (sym (long-free-outcome s order i (heldAddress s m) shape acc) ∙ unchecked))
+            absurd (⊎-elim (λ acc. moves-not-refused _ r (sym (free-outcome s order i (heldAddress s m) shape acc) ∙ unchecked))
+            (λ acc. moves-not-refused _ r (sym (long-free-outcome s order i (heldAddress s m) shape acc) ∙ unchecked))
             (held-name-free-accepted s order m shape passed (T-of-true _ eh) i ep))
 
     -- a named free is refused with number r exactly if r's condition holds: so never with 5, 6 or 7
@@ -158,10 +175,12 @@ module _ (s : State) (order : List ℕ) (i m : ℕ) where
     named-free-refused-iff-condition = refused-iff-condition (namedFreeOf s order i m) s order (namedFreeRefusals s order i m) condition-of-named-free-refused
         (check-fails-refused-13 s order i _) (storage-short-refused-12 s order i _)
         (λ h. named-free-is-unchecked s order i m (h .passed) ∙ rw (false-of-decides (decides-processor s order i) (h .out)))
-        (λ h. named-free-is-unchecked s order i m (h .passed) ∙ rw (true-of-decides (decides-processor s order i) (h .processor), false-of-decides (decides-held s m) (h .not-held)))
+        (λ h. named-free-is-unchecked s order i m (h .passed)
+        ∙ rw (true-of-decides (decides-processor s order i) (h .processor), false-of-decides (decides-held s m) (h .not-held)))
 
     pub named-free-refused-15 : (namedFreeOf s order i m .answer .outcome ≡ Refused 15) ↔ NameNotHeld s order i m
     named-free-refused-15 = named-free-refused-iff-condition 15
 
-    pub named-free-not-refused-5-6-7 : (namedFreeOf s order i m .answer .outcome ≡ Refused 5 → ⊥) × (namedFreeOf s order i m .answer .outcome ≡ Refused 6 → ⊥) × (namedFreeOf s order i m .answer .outcome ≡ Refused 7 → ⊥)
+    pub named-free-not-refused-5-6-7 : (namedFreeOf s order i m .answer .outcome ≡ Refused 5 → ⊥)
+        × (namedFreeOf s order i m .answer .outcome ≡ Refused 6 → ⊥) × (namedFreeOf s order i m .answer .outcome ≡ Refused 7 → ⊥)
     named-free-not-refused-5-6-7 = (named-free-refused-iff-condition 5 .0, named-free-refused-iff-condition 6 .0, named-free-refused-iff-condition 7 .0)

@@ -1,4 +1,5 @@
--- Which superblocks the four places of a take offer, as facts on one superblock; the four choices find nothing exactly if none of the 64 is offered. Assumes nothing.
+-- Which superblocks the four places of a take offer, as facts on one superblock; the four choices find nothing exactly if none of the 64 is offered.
+-- Assumes nothing.
 use mathlib.Core.Path.{_≡_}
 use mathlib.Core.Logic.{_↔_}
 use Prim.Native.Nat.{ℕ, _≤_, _<_}
@@ -11,7 +12,9 @@ use Rattle.heap_rules.specs.Table.{superblockAt, liveIn, isUnused}
 use Rattle.choice_rules.specs.Choice.{fullerOrMoreRecent, neverPreferred, hasFree, emptyInGlobal, fullest, lowestEmpty, lowestUnused}
 use Rattle.heap_laws.proofs.StateFacts.{Unused}
 use Rattle.heap_laws.proofs.StateCheckLaws.{facts-of-is-unused, is-unused-of-facts}
-use Rattle.heap_laws.proofs.ChoiceLaws.{chosen-nothing-of-none-meets, facts-of-has-free, has-free-of-facts, facts-of-empty-in-global, empty-in-global-of-facts, none-free-of-fullest-nothing, none-empty-of-lowest-empty-nothing, none-unused-of-lowest-unused-nothing}
+use Rattle.heap_laws.proofs.ChoiceLaws.{chosen-nothing-of-none-meets, facts-of-has-free, has-free-of-facts, facts-of-empty-in-global}
+use Rattle.heap_laws.proofs.ChoiceLaws.{empty-in-global-of-facts, none-free-of-fullest-nothing, none-empty-of-lowest-empty-nothing}
+use Rattle.heap_laws.proofs.ChoiceLaws.{none-unused-of-lowest-unused-nothing}
 
 -- places 1 and 2: heap h's superblock of "class c with a free block"
 pub record HasFree (h c : ℕ) (b : Superblock) : Type 0 where
@@ -63,7 +66,8 @@ module _ (s : State) (i c : ℕ) (few : s .setup .superblocks ≤ 64) where
 
   lowest-unused-nothing-of-none-unused : ((k : ℕ) → k < s .setup .superblocks → Unused (superblockAt s k) → ⊥) → lowestUnused s ≡ Nothing
   unfolding lowestUnused
-  lowest-unused-nothing-of-none-unused f = chosen-nothing-of-none-meets isUnused neverPreferred (s .table) (s .setup .superblocks) (λ k l t. f k l (facts-of-is-unused (superblockAt s k) t))
+  lowest-unused-nothing-of-none-unused f = chosen-nothing-of-none-meets isUnused neverPreferred (s .table) (s .setup .superblocks)
+      (λ k l t. f k l (facts-of-is-unused (superblockAt s k) t))
 
   nothing-found-of-not-offered : ((k : ℕ) → k < 64 → NotOffered s i c k) → NothingFound s i c
   nothing-found-of-not-offered f = record {

@@ -1,4 +1,5 @@
--- No call reads an order place from N × 256 on: storages with the same first N × 256 places get the same answers, for every state and argument. Assumes nothing.
+-- No call reads an order place from N × 256 on: storages with the same first N × 256 places get the same answers, for every state and argument.
+-- Assumes nothing.
 use mathlib.Core.Path.{_≡_, refl, ap, subst}
 use mathlib.Core.Bool.{Bool, true, false, not}
 use mathlib.Core.Logic.{_⊎_, inl, inr}
@@ -14,7 +15,8 @@ use Rattle.class_rules.specs.Classes.{blocksOf, classOf, isLong, runLength, isT
 use Rattle.class_rules.proofs.ClassTableLaws.{blocks-of-le-256}
 use Rattle.names_rules.specs.Names.{isHeld}
 use Rattle.order_rules.specs.Order.{place, lastFilled, renewed}
-use Rattle.order_laws.proofs.FirstPlaces.{SameFirst, take-equal-of-same-first, same-first-of-take-equal, same-first-place, same-first-renewed, same-first-with-place, same-first-cleared}
+use Rattle.order_laws.proofs.FirstPlaces.{SameFirst, take-equal-of-same-first, same-first-of-take-equal, same-first-place, same-first-renewed}
+use Rattle.order_laws.proofs.FirstPlaces.{same-first-with-place, same-first-cleared}
 use Rattle.heap_rules.specs.declared.Setup.{Setup}
 use Rattle.heap_rules.specs.declared.Superblock.{Superblock}
 use Rattle.heap_rules.specs.declared.State.{State}
@@ -33,8 +35,10 @@ use Rattle.call_rules.specs.declared.Outcome.the-variants.{Address}
 use Rattle.call_rules.specs.Answers.{After, refused, checked, isProcessor}
 use Rattle.call_rules.specs.Setup.{setupOf}
 use Rattle.call_rules.specs.LongBlocks.{longTakenFrom, longTakenAt}
-use Rattle.call_rules.specs.Take.{otherPlaces, acquired, acquiredOrder, unrankedIfEmpty, nextBlock, addressOf, takenFrom, takenFromOther, takenAt, takeUnchecked}
-use Rattle.call_rules.specs.Free.{superblockIndex, superblockHolding, blockOf, isUnmapped, isInRun, isMisaligned, isLiveAt, blockPushed, orderPushed, blockFreed, smallFreedAt, longFreedAt, freedAt, freeUnchecked}
+use Rattle.call_rules.specs.Take.{otherPlaces, acquired, acquiredOrder, unrankedIfEmpty, nextBlock, addressOf, takenFrom, takenFromOther, takenAt}
+use Rattle.call_rules.specs.Take.{takeUnchecked}
+use Rattle.call_rules.specs.Free.{superblockIndex, superblockHolding, blockOf, isUnmapped, isInRun, isMisaligned, isLiveAt, blockPushed, orderPushed}
+use Rattle.call_rules.specs.Free.{blockFreed, smallFreedAt, longFreedAt, freedAt, freeUnchecked}
 use Rattle.call_rules.specs.Drop.{allPushed, firstAddressRefusal, droppedAll, dropUnchecked}
 use Rattle.call_rules.specs.Named.{isUnavailable, boundBy, withNameBound, heldAddress, namedTakeUnchecked, namedFreeUnchecked}
 use Rattle.call_rules.specs.Calls.{Call, Take, Free, NamedTake, NamedFree, Drop, callOf, callUnchecked}
@@ -77,7 +81,8 @@ taken-from-agrees n k s x y h l = record {
   order = h;
 }
 
-acquired-order-agrees : (n c k : ℕ) (b : Superblock) (x y : List ℕ) → SameFirst n x y → k * 256 + 256 ≤ n → SameFirst n (acquiredOrder c k b x) (acquiredOrder c k b y)
+acquired-order-agrees : (n c k : ℕ) (b : Superblock) (x y : List ℕ) → SameFirst n x y → k * 256 + 256 ≤ n
+    → SameFirst n (acquiredOrder c k b x) (acquiredOrder c k b y)
 unfolding acquiredOrder
 acquired-order-agrees n c k b x y h l = go (eqb (liveIn b) 0)
   where
@@ -88,7 +93,8 @@ acquired-order-agrees n c k b x y h l = go (eqb (liveIn b) 0)
 -- a block's number goes in one place of its superblock, on both storages the same
 block-pushed-agrees : (n : ℕ) (s : State) (a : ℕ) (x y : List ℕ) → SameFirst n x y → SameFirst n (blockPushed s x a) (blockPushed s y a)
 unfolding blockPushed
-block-pushed-agrees n s a x y h = same-first-with-place n x y h (superblockIndex a) (blocksOf (superblockHolding s a .class) - liveIn (superblockHolding s a)) (blockOf s a)
+block-pushed-agrees n s a x y h =
+    same-first-with-place n x y h (superblockIndex a) (blocksOf (superblockHolding s a .class) - liveIn (superblockHolding s a)) (blockOf s a)
 
 -- that of a long block nowhere
 pushed-agrees : (n : ℕ) (s : State) (a : ℕ) (x y : List ℕ) → SameFirst n x y → SameFirst n (orderPushed s x a) (orderPushed s y a)
@@ -117,25 +123,39 @@ module _ (s : State) (x y : List ℕ) (h : SameFirst (s .setup .superblocks * 25
   checked-agree a b f =
       rw (le-leb n (length x) (h .first-covers), le-leb n (length y) (h .second-covers), ← (rest-valid-reads-only-first-places s x y h))
       (agree-pick n (withinLimits (s .setup))
-      (λ l. agree-pick n (restValid s x) (λ g. f (record { sound = sound-of-limits-and-rest s x (T-of-true (withinLimits (s .setup)) l) (T-of-true (restValid s x) g); names = names-valid-of-rest s x (T-of-true (restValid s x) g); totals = totals-kept-of-rest s x (T-of-true (restValid s x) g); ranks = ranks-sound-of-valid s (ranks-valid-of-rest s x (T-of-true (restValid s x) g)); runs = runs-valid-of-rest s x (T-of-true (restValid s x) g); room = h .first-covers })) (λ g. same-refusal 13))
+      (λ l. agree-pick n (restValid s x)
+      (λ g. f (record {
+        sound = sound-of-limits-and-rest s x (T-of-true (withinLimits (s .setup)) l) (T-of-true (restValid s x) g);
+        names =
+            names-valid-of-rest s x (T-of-true (restValid s x) g);
+        totals = totals-kept-of-rest s x (T-of-true (restValid s x) g);
+        ranks =
+            ranks-sound-of-valid s (ranks-valid-of-rest s x (T-of-true (restValid s x) g));
+        runs = runs-valid-of-rest s x (T-of-true (restValid s x) g);
+        room = h .first-covers;
+      })) (λ g. same-refusal 13))
       (λ l. same-refusal 13))
 
   -- a take
   take-agrees : (i size : ℕ) → Passed s x → Agree n (takeUnchecked s x i size) (takeUnchecked s y i size)
   unfolding takeUnchecked takenAt takenFromOther longTakenAt longTakenFrom
-  take-agrees i size = go (isProcessor s i) (isTooLarge size) (isLong size) (lowestRun (runLength size) s) (fullest i (classOf size) s) (otherPlaces (classOf size) s) refl refl refl
+  take-agrees i size = go (isProcessor s i) (isTooLarge size) (isLong size) (lowestRun (runLength size) s) (fullest i (classOf size) s)
+      (otherPlaces (classOf size) s) refl refl refl
     where
-      go : (processor large long : Bool) (run own other : Found) → isProcessor s i ≡ processor → fullest i (classOf size) s ≡ own → otherPlaces (classOf size) s ≡ other → Passed s x
+      go : (processor large long : Bool) (run own other : Found) → isProcessor s i ≡ processor → fullest i (classOf size) s ≡ own
+          → otherPlaces (classOf size) s ≡ other → Passed s x
           → Agree n (takenByTests s x i size processor large long run own other) (takenByTests s y i size processor large long run own other)
       go false large long run own other ep eo et passed = same-refusal 2
       go true true long run own other ep eo et passed = same-refusal 3
       go true false true (At k) own other ep eo et passed = record { answer = refl; order = h }
       go true false true Nothing own other ep eo et passed = same-refusal 17
       go true false false run (At k) other ep eo et passed =
-          taken-from-agrees n k s x y h (omega (arith, fullest-below-superblocks s x passed i (classOf size) k (bounds-of-is-processor s i (T-of-true (isProcessor s i) ep) .1) eo))
+          taken-from-agrees n k s x y h
+          (omega (arith, fullest-below-superblocks s x passed i (classOf size) k (bounds-of-is-processor s i (T-of-true (isProcessor s i) ep) .1) eo))
       go true false false run Nothing (At k) ep eo et passed =
           let l : k * 256 + 256 ≤ n = omega (arith, other-places-below-superblocks s x passed (classOf size) k et) in
-          taken-from-agrees n k (withSuperblock (unrankedIfEmpty k s) k (acquired i (classOf size) (superblockAt s k))) (acquiredOrder (classOf size) k (superblockAt s k) x) (acquiredOrder (classOf size) k (superblockAt s k) y)
+          taken-from-agrees n k (withSuperblock (unrankedIfEmpty k s) k (acquired i (classOf size) (superblockAt s k)))
+          (acquiredOrder (classOf size) k (superblockAt s k) x) (acquiredOrder (classOf size) k (superblockAt s k) y)
           (acquired-order-agrees n (classOf size) k (superblockAt s k) x y h l) l
       go true false false run Nothing Nothing ep eo et passed = same-refusal 4
 
@@ -161,7 +181,8 @@ module _ (s : State) (x y : List ℕ) (h : SameFirst (s .setup .superblocks * 25
   -- a name bound
   name-bound-agrees : (m : ℕ) (a b : After) → Agree n a b → Agree n (withNameBound m a) (withNameBound m b)
   unfolding withNameBound
-  name-bound-agrees m a b g = record { answer = ap (λ (r : Answer). record { outcome = r .outcome; state = boundBy (r .outcome) m (r .state) }) (g .answer); order = g .order }
+  name-bound-agrees m a b g =
+      record { answer = ap (λ (r : Answer). record { outcome = r .outcome; state = boundBy (r .outcome) m (r .state) }) (g .answer); order = g .order }
 
   unchecked-agrees : (call : Call) → Passed s x → Agree n (callUnchecked s x call) (callUnchecked s y call)
   unfolding callUnchecked namedTakeUnchecked namedFreeUnchecked
@@ -177,14 +198,16 @@ module _ (s : State) (x y : List ℕ) (h : SameFirst (s .setup .superblocks * 25
   unchecked-agrees (Drop i addresses) passed = drop-agrees i addresses
 
   call-agrees : (call : Call) → Agree n (callOf s x call) (callOf s y call)
-  call-agrees call = rw (call-of-checks-first s x call, call-of-checks-first s y call) (checked-agree (callUnchecked s x call) (callUnchecked s y call) (unchecked-agrees call))
+  call-agrees call = rw (call-of-checks-first s x call, call-of-checks-first s y call)
+      (checked-agree (callUnchecked s x call) (callUnchecked s y call) (unchecked-agrees call))
 
 -- a setup
 setup-agrees : (u : Setup) (x y : List ℕ) → SameFirst (u .superblocks * 256) x y → Agree (u .superblocks * 256) (setupOf u x) (setupOf u y)
 unfolding setupOf
 setup-agrees u x y h =
     rw (le-leb (u .superblocks * 256) (length x) (h .first-covers), le-leb (u .superblocks * 256) (length y) (h .second-covers))
-    (agree-pick (u .superblocks * 256) (withinLimits u) (λ e. record { answer = refl; order = same-first-cleared (u .superblocks * 256) x y h }) (λ e. record { answer = refl; order = h }))
+    (agree-pick (u .superblocks * 256) (withinLimits u) (λ e. record { answer = refl; order = same-first-cleared (u .superblocks * 256) x y h })
+    (λ e. record { answer = refl; order = h }))
 
 same-call-of-agree : (n : ℕ) (a b : After) → Agree n a b → SameCall n a b
 same-call-of-agree n a b g = record { answer = g .answer; first = take-equal-of-same-first n (a .order) (b .order) (g .order) }
@@ -200,7 +223,8 @@ call-reads-only-first-places s x y call e = go (same-first-of-take-equal (s .set
     go (inr h) = same-call-of-agree (s .setup .superblocks * 256) (callOf s x call) (callOf s y call) (call-agrees s x y h call)
 
 -- and so does a setup
-pub setup-reads-only-first-places : (u : Setup) (x y : List ℕ) → take (u .superblocks * 256) x ≡ take (u .superblocks * 256) y → SameCall (u .superblocks * 256) (setupOf u x) (setupOf u y)
+pub setup-reads-only-first-places : (u : Setup) (x y : List ℕ) → take (u .superblocks * 256) x ≡ take (u .superblocks * 256) y
+    → SameCall (u .superblocks * 256) (setupOf u x) (setupOf u y)
 setup-reads-only-first-places u x y e = go (same-first-of-take-equal (u .superblocks * 256) x y e)
   where
     go : (x ≡ y) ⊎ SameFirst (u .superblocks * 256) x y → SameCall (u .superblocks * 256) (setupOf u x) (setupOf u y)

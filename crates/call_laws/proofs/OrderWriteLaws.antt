@@ -1,4 +1,5 @@
--- The order places that a call writes: a take those of a renewal, a free one, a drop one for each address, a setup the first N × 256, and none for a long block. Assumes nothing.
+-- The order places that a call writes: a take those of a renewal, a free one, a drop one for each address, a setup the first N × 256, and none for a
+-- long block. Assumes nothing.
 use mathlib.Core.Path.{_≡_, refl, sym, ap, _∙_, subst}
 use mathlib.Core.Bool.{Bool, true, false, not}
 use mathlib.Core.Logic.{_⊎_, inl, inr, ⊎-elim}
@@ -15,7 +16,8 @@ use Rattle.class_rules.proofs.ClassTableLaws.{blocks-of-le-256}
 use Rattle.marks_rules.specs.Marks.{markBit}
 use Rattle.marks_laws.proofs.MarkLaws.{mark-bit-one-of-mark, marks-clear-of-live-count-zero}
 use Rattle.order_rules.specs.Order.{place, renewed, cleared}
-use Rattle.order_laws.proofs.OrderLaws.{length-renewed, renewed-index-below, renewed-index-above, length-with-place, with-place-other-index, with-place-same, length-cleared, cleared-index-below, cleared-index-above}
+use Rattle.order_laws.proofs.OrderLaws.{length-renewed, renewed-index-below, renewed-index-above, length-with-place, with-place-other-index}
+use Rattle.order_laws.proofs.OrderLaws.{with-place-same, length-cleared, cleared-index-below, cleared-index-above}
 use Rattle.order_laws.proofs.FirstPlaces.{renewed-at-index, drop-equal-of-same-rest}
 use Rattle.heap_rules.specs.declared.Setup.{Setup}
 use Rattle.heap_rules.specs.declared.State.{State}
@@ -33,7 +35,9 @@ use Rattle.call_rules.specs.Answers.{After, refused}
 use Rattle.call_rules.specs.Setup.{acceptedSetup, setupOf}
 use Rattle.call_rules.specs.LongBlocks.{longTakenFrom}
 use Rattle.call_rules.specs.Take.{otherPlaces, acquiredOrder, takenFrom, takenFromOther, takeOf}
-use Rattle.call_rules.specs.Free.{superblockIndex, offsetOf, superblockHolding, blockOf, isUnmapped, isInRun, isRunStart, isOffBlock, isMisaligned, isLiveAt, addressRefusal, markCleared, blockPushed, orderPushed, smallBlockFreed, longBlockFreed, blockFreed, smallFreedAt, longFreedAt, freeOf}
+use Rattle.call_rules.specs.Free.{superblockIndex, offsetOf, superblockHolding, blockOf, isUnmapped, isInRun, isRunStart, isOffBlock, isMisaligned}
+use Rattle.call_rules.specs.Free.{isLiveAt, addressRefusal, markCleared, blockPushed, orderPushed, smallBlockFreed, longBlockFreed, blockFreed}
+use Rattle.call_rules.specs.Free.{smallFreedAt, longFreedAt, freeOf}
 use Rattle.call_rules.specs.Drop.{allPushed, firstAddressRefusal, droppedAll, dropOf}
 use Rattle.call_rules.specs.Named.{withNameBound, heldAddress}
 use Rattle.call_rules.specs.Calls.{Call, Take, Free, NamedTake, NamedFree, Drop, callOf}
@@ -73,13 +77,14 @@ pub record WritesOne (x v : ℕ) (before after : List ℕ) : Type 0 where
 abbrev pub nextPlace : State → ℕ → ℕ
 nextPlace s a = superblockIndex a * 256 + (blocksOf (superblockHolding s a .class) - liveIn (superblockHolding s a))
 
--- the blocks at the addresses are freed in the order written, from state s on: each has its number written in the next place of its superblock's order then, and for a
--- long block nothing is written ("order places keep what they had")
+-- the blocks at the addresses are freed in the order written, from state s on: each has its number written in the next place of its superblock's
+-- order then, and for a long block nothing is written ("order places keep what they had")
 pub data WritesEach : State → List ℕ → List ℕ → List ℕ → Type 0 where
   done : {s : State} {order : List ℕ} → WritesEach s order [] order
   next : {s : State} {a : ℕ} {before between addresses after : List ℕ} → isInRun s a ≡ false → WritesOne (nextPlace s a) (blockOf s a) before between
       → WritesEach (blockFreed s a) between addresses after → WritesEach s before (a ∷ addresses) after
-  unwritten : {s : State} {a : ℕ} {before addresses after : List ℕ} → isInRun s a ≡ true → WritesEach (blockFreed s a) before addresses after → WritesEach s before (a ∷ addresses) after
+  unwritten : {s : State} {a : ℕ} {before addresses after : List ℕ} → isInRun s a ≡ true → WritesEach (blockFreed s a) before addresses after
+      → WritesEach s before (a ∷ addresses) after
 
 -- no address lies in superblock k
 abbrev pub NoneIn : ℕ → List ℕ → Type 0
@@ -99,7 +104,8 @@ module _ (s : State) (order : List ℕ) (passed : Passed s order) where
   fullest-below-superblocks h c k l e =
       let best = best-of-fullest h c s k e in
       let w = facts-of-has-free h c (superblockAt s k) (best .meets-criterion) in
-      owned-below-superblocks s order (passed .sound) k (best .below) (λ (q : superblockAt s k .owner ≡ unusedOwner). omega (arith, w .0, passed .sound .numbers .processors-high))
+      owned-below-superblocks s order (passed .sound) k (best .below)
+      (λ (q : superblockAt s k .owner ≡ unusedOwner). omega (arith, w .0, passed .sound .numbers .processors-high))
 
   lowest-empty-below-superblocks : (k : ℕ) → lowestEmpty s ≡ At k → k < s .setup .superblocks
   lowest-empty-below-superblocks k e =
@@ -117,7 +123,8 @@ module _ (s : State) (order : List ℕ) (passed : Passed s order) where
       go Nothing Nothing p q e = best-of-lowest-unused s k e .below
 
 module _ (s : State) (order : List ℕ) (i size : ℕ) where
-  renews-places : (k : ℕ) → k < s .setup .superblocks → Passed s order → WritesRenewedPlaces k (blocksOf (classOf size)) order (renewed order k (blocksOf (classOf size)))
+  renews-places : (k : ℕ) → k < s .setup .superblocks → Passed s order → WritesRenewedPlaces k (blocksOf (classOf size)) order
+      (renewed order k (blocksOf (classOf size)))
   renews-places k below passed =
       record {
         written = λ x l h. renewed-at-index order k n x (blocks-of-le-256 (classOf size)) (omega (arith, passed .room, blocks-of-le-256 (classOf size))) l h;
@@ -150,13 +157,15 @@ module _ (s : State) (order : List ℕ) (i size : ℕ) where
               from-others = found;
               below = other-places-below-superblocks s order (acc .passed) (classOf size) k found;
               empty = eqb-true (liveIn (superblockAt s k)) 0 q;
-              places = subst (WritesRenewedPlaces k (blocksOf (classOf size)) order) (sym e) (renews-places k (other-places-below-superblocks s order (acc .passed) (classOf size) k found) (acc .passed));
+              places = subst (WritesRenewedPlaces k (blocksOf (classOf size)) order) (sym e)
+                  (renews-places k (other-places-below-superblocks s order (acc .passed) (classOf size) k found) (acc .passed));
             },
           )
 
       by-place : (k : ℕ) → TakeAccepted s order i size k
           → ((fullest i (classOf size) s ≡ At k) × (takeOf s order i size ≡ takenFrom k s order))
-          ⊎ ((fullest i (classOf size) s ≡ Nothing) × (otherPlaces (classOf size) s ≡ At k) × (takeOf s order i size ≡ takenFromOther i (classOf size) k s order))
+          ⊎ ((fullest i (classOf size) s ≡ Nothing) × (otherPlaces (classOf size) s ≡ At k)
+          × (takeOf s order i size ≡ takenFromOther i (classOf size) k s order))
           → (takeOf s order i size .order ≡ order) ⊎ ((m : ℕ) × Renewal s order i size m)
       by-place k acc (inl (f, e)) = inl (ap (λ (x : After). x .order) e)
       by-place k acc (inr (f, g, e)) = renewal k acc f g (eqb (liveIn (superblockAt s k)) 0) refl (ap (λ (x : After). x .order) e)
@@ -176,7 +185,8 @@ module _ (s : State) (order : List ℕ) (i size : ℕ) where
       found-one q = let z : _≡_ {A = ℕ} 0 1 = cc in omega arith
 
       go : ((fullest i (classOf size) s ≡ At k) × (takeOf s order i size ≡ takenFrom k s order))
-          ⊎ ((fullest i (classOf size) s ≡ Nothing) × (otherPlaces (classOf size) s ≡ At k) × (takeOf s order i size ≡ takenFromOther i (classOf size) k s order))
+          ⊎ ((fullest i (classOf size) s ≡ Nothing) × (otherPlaces (classOf size) s ≡ At k)
+          × (takeOf s order i size ≡ takenFromOther i (classOf size) k s order))
           → Renewal s order i size k
       go (inl (f, e)) = absurd (found-one (sym f ∙ none))
       go (inr (f, g, e)) = record {
@@ -187,7 +197,8 @@ module _ (s : State) (order : List ℕ) (i size : ℕ) where
         empty = empty;
         places =
             subst (WritesRenewedPlaces k (blocksOf (classOf size)) order)
-            (sym (ap (λ (x : After). x .order) e ∙ ap (λ (t : Bool). pick t (renewed order k (blocksOf (classOf size))) order) (eq-eqb (liveIn (superblockAt s k)) 0 empty)))
+            (sym (ap (λ (x : After). x .order) e ∙ ap (λ (t : Bool). pick t (renewed order k (blocksOf (classOf size))) order)
+            (eq-eqb (liveIn (superblockAt s k)) 0 empty)))
             (renews-places k (other-places-below-superblocks s order (acc .passed) (classOf size) k g) (acc .passed));
       }
 
@@ -195,7 +206,8 @@ module _ (s : State) (order : List ℕ) (i size : ℕ) where
 pub freed-superblock-below-superblocks : (s : State) (a : ℕ) → addressRefusal s a ≡ 0 → superblockIndex a < s .setup .superblocks
 unfolding isUnmapped
 freed-superblock-below-superblocks s a accepted =
-    let l = leb-false (s .setup .superblocks * 4096) a (neither-left (leb (s .setup .superblocks * 4096) a) (isUnused (superblockHolding s a)) (mapped-of-no-refusal s a accepted)) in
+    let l = leb-false (s .setup .superblocks * 4096) a (neither-left (leb (s .setup .superblocks * 4096) a) (isUnused (superblockHolding s a))
+    (mapped-of-no-refusal s a accepted)) in
     omega arith
 
 -- of a block of a class
@@ -207,7 +219,9 @@ module _ (s : State) (a : ℕ) (accepted : addressRefusal s a ≡ 0) (outside : 
   freed-block-lt-256 : blockOf s a < 256
   unfolding isOffBlock
   freed-block-lt-256 =
-      let l = leb-false (blocksOf (superblockHolding s a .class)) (blockOf s a) (neither-right (not (eqb (offsetOf a % sizeOf (superblockHolding s a .class)) 0)) (leb (blocksOf (superblockHolding s a .class)) (blockOf s a)) aligned-outside-run) in
+      let l = leb-false (blocksOf (superblockHolding s a .class)) (blockOf s a)
+      (neither-right (not (eqb (offsetOf a % sizeOf (superblockHolding s a .class)) 0)) (leb (blocksOf (superblockHolding s a .class)) (blockOf s a))
+      aligned-outside-run) in
       omega (arith, blocks-of-le-256 (superblockHolding s a .class))
 
   some-live : liveIn (superblockHolding s a) ≡ 0 → ⊥
@@ -246,26 +260,31 @@ module _ (s : State) (order : List ℕ) (i a : ℕ) where
 
     next-written : WritesOne (nextPlace s a) (blockOf s a) order (freeOf s order i a .order)
     unfolding smallFreedAt
-    next-written = subst (WritesOne (nextPlace s a) (blockOf s a) order) (sym (ap (λ (x : After). x .order) (acc .result-is))) (push-writes-next s a no-refusal (acc .outside-run) order (acc .address .passed .room))
+    next-written = subst (WritesOne (nextPlace s a) (blockOf s a) order) (sym (ap (λ (x : After). x .order) (acc .result-is)))
+        (push-writes-next s a no-refusal (acc .outside-run) order (acc .address .passed .room))
 
-  -- a refused free leaves all as it was; an accepted one writes the block's number in the next place of its superblock's order, and no other place; that of a long
-  -- block writes none
+  -- a refused free leaves all as it was; an accepted one writes the block's number in the next place of its superblock's order, and no other place;
+  -- that of a long block writes none
   abbrev pub FreeWrites : Type 0
   FreeWrites =
       ((r : ℕ) × (freeOf s order i a ≡ refused r s order))
-      ⊎ ((FreeAccepted s order i a × WritesOne (nextPlace s a) (blockOf s a) order (freeOf s order i a .order)) ⊎ (LongFreeAccepted s order i a × (freeOf s order i a .order ≡ order)))
+      ⊎ ((FreeAccepted s order i a × WritesOne (nextPlace s a) (blockOf s a) order (freeOf s order i a .order))
+      ⊎ (LongFreeAccepted s order i a × (freeOf s order i a .order ≡ order)))
 
   pub free-writes : FreeWrites
   unfolding longFreedAt
-  free-writes = ⊎-elim inl (λ h. inr (⊎-elim (λ acc. inl (acc, next-written acc)) (λ acc. inr (acc, ap (λ (x : After). x .order) (acc .result-is))) h)) (free-refused-or-accepted s order i a)
+  free-writes = ⊎-elim inl (λ h. inr (⊎-elim (λ acc. inl (acc, next-written acc)) (λ acc. inr (acc, ap (λ (x : After). x .order) (acc .result-is))) h))
+      (free-refused-or-accepted s order i a)
 
 -- ---- a drop
 -- a block freed keeps the setup
 pub block-freed-setup : (s : State) (a : ℕ) → blockFreed s a .setup ≡ s .setup
 unfolding blockFreed longBlockFreed smallBlockFreed markCleared rankedLatest
-block-freed-setup s a = pick-elim (λ (t : State). t .setup ≡ s .setup) (isInRun s a) _ _ (λ e. run-freed-keeps-rest (superblockIndex a) (superblockHolding s a .run) s .setup) (λ e. refl)
+block-freed-setup s a = pick-elim (λ (t : State). t .setup ≡ s .setup) (isInRun s a) _ _
+    (λ e. run-freed-keeps-rest (superblockIndex a) (superblockHolding s a .run) s .setup) (λ e. refl)
 
-all-pushed-writes-each : (s : State) (order addresses : List ℕ) → s .setup .superblocks * 256 ≤ length order → firstAddressRefusal s addresses ≡ 0 → WritesEach s order addresses (allPushed s order addresses)
+all-pushed-writes-each : (s : State) (order addresses : List ℕ) → s .setup .superblocks * 256 ≤ length order → firstAddressRefusal s addresses ≡ 0
+    → WritesEach s order addresses (allPushed s order addresses)
 unfolding allPushed
 all-pushed-writes-each s order [] room ok = done
 all-pushed-writes-each s order (a ∷ addresses) room ok =
@@ -274,14 +293,17 @@ all-pushed-writes-each s order (a ∷ addresses) room ok =
     Rest : List ℕ → Type 0
     Rest places = WritesEach (blockFreed s a) places addresses (allPushed (blockFreed s a) (orderPushed s order a) addresses)
 
-    rest : ((places : List ℕ) → blockFreed s a .setup .superblocks * 256 ≤ length places → WritesEach (blockFreed s a) places addresses (allPushed (blockFreed s a) places addresses))
+    rest : ((places : List ℕ) → blockFreed s a .setup .superblocks * 256 ≤ length places → WritesEach (blockFreed s a) places addresses
+        (allPushed (blockFreed s a) places addresses))
         → (places : List ℕ) → length places ≡ length order → orderPushed s order a ≡ places → Rest places
     rest all places long e =
         subst (λ (l : List ℕ). WritesEach (blockFreed s a) places addresses (allPushed (blockFreed s a) l addresses)) (sym e)
-        (all places (subst (λ (u : Setup). u .superblocks * 256 ≤ length places) (sym (block-freed-setup s a)) (subst (λ (n : ℕ). s .setup .superblocks * 256 ≤ n) (sym long) room)))
+        (all places (subst (λ (u : Setup). u .superblocks * 256 ≤ length places) (sym (block-freed-setup s a))
+        (subst (λ (n : ℕ). s .setup .superblocks * 256 ≤ n) (sym long) room)))
 
     go : (t : Bool) → isInRun s a ≡ t
-        → ((places : List ℕ) → blockFreed s a .setup .superblocks * 256 ≤ length places → WritesEach (blockFreed s a) places addresses (allPushed (blockFreed s a) places addresses))
+        → ((places : List ℕ) → blockFreed s a .setup .superblocks * 256 ≤ length places → WritesEach (blockFreed s a) places addresses
+        (allPushed (blockFreed s a) places addresses))
         → WritesEach s order (a ∷ addresses) (allPushed (blockFreed s a) (orderPushed s order a) addresses)
     go true e all = unwritten e (rest all order refl (order-pushed-in-run s a order e))
     go false e all =
@@ -294,10 +316,12 @@ writes-each-keeps-length (next outside one rest) = writes-each-keeps-length rest
 writes-each-keeps-length (unwritten inside rest) = writes-each-keeps-length rest
 
 -- a place of a superblock in which no address lies is not written
-all-pushed-keeps : (s : State) (order addresses : List ℕ) → firstAddressRefusal s addresses ≡ 0 → (x : ℕ) → NoneIn (x / 256) addresses → getD (allPushed s order addresses) x 0 ≡ getD order x 0
+all-pushed-keeps : (s : State) (order addresses : List ℕ) → firstAddressRefusal s addresses ≡ 0 → (x : ℕ) → NoneIn (x / 256) addresses
+    → getD (allPushed s order addresses) x 0 ≡ getD order x 0
 unfolding allPushed blockPushed
 all-pushed-keeps s order [] ok x apart = refl
-all-pushed-keeps s order (a ∷ addresses) ok x apart = all-pushed-keeps (blockFreed s a) (orderPushed s order a) addresses (accepted .1) x (apart .1) ∙ go (isInRun s a) refl
+all-pushed-keeps s order (a ∷ addresses) ok x apart = all-pushed-keeps (blockFreed s a) (orderPushed s order a) addresses (accepted .1) x (apart .1)
+    ∙ go (isInRun s a) refl
   where
     accepted : (addressRefusal s a ≡ 0) × (firstAddressRefusal (blockFreed s a) addresses ≡ 0)
     accepted = first-refusal-of-cons s a addresses ok
@@ -307,7 +331,8 @@ all-pushed-keeps s order (a ∷ addresses) ok x apart = all-pushed-keeps (blockF
     go false e =
         let p = blocksOf (superblockHolding s a .class) - liveIn (superblockHolding s a) in
         ap (λ (l : List ℕ). getD l x 0) (order-pushed-outside-run s a order e)
-        ∙ with-place-other-index order (superblockIndex a) p (blockOf s a) x (λ (q : x ≡ superblockIndex a * 256 + p). apart .0 (omega (arith, filled-lt-256 s a (accepted .0) e)))
+        ∙ with-place-other-index order (superblockIndex a) p (blockOf s a) x
+        (λ (q : x ≡ superblockIndex a * 256 + p). apart .0 (omega (arith, filled-lt-256 s a (accepted .0) e)))
 
 -- no address of an accepted drop lies past the first N superblocks
 none-past-superblocks : (s : State) (addresses : List ℕ) → firstAddressRefusal s addresses ≡ 0 → (k : ℕ) → s .setup .superblocks ≤ k → NoneIn k addresses
@@ -324,9 +349,14 @@ module _ (s : State) (order : List ℕ) (i : ℕ) (addresses : List ℕ) where
   dropped-order acc = ap (λ (x : After). x .order) (acc .result-is)
 
   -- a refused drop leaves all as it was; an accepted one writes one place for each address
-  pub drop-writes : ((r : ℕ) × (dropOf s order i addresses ≡ refused r s order)) ⊎ (DropAccepted s order i addresses × WritesEach s order addresses (dropOf s order i addresses .order))
+  pub drop-writes : ((r : ℕ) × (dropOf s order i addresses ≡ refused r s order))
+      ⊎ (DropAccepted s order i addresses × WritesEach s order addresses (dropOf s order i addresses .order))
   drop-writes =
-      ⊎-elim inl (λ acc. inr (acc, subst (WritesEach s order addresses) (sym (dropped-order acc)) (all-pushed-writes-each s order addresses (acc .passed .room) (acc .no-refusal))))
+      ⊎-elim inl (λ acc. inr (
+        acc,
+        subst (WritesEach s order addresses) (sym (dropped-order acc))
+            (all-pushed-writes-each s order addresses (acc .passed .room) (acc .no-refusal)),
+      ))
       (drop-refused-or-accepted s order i addresses)
 
   -- and none of a superblock in which no address lies
@@ -335,12 +365,14 @@ module _ (s : State) (order : List ℕ) (i : ℕ) (addresses : List ℕ) where
   drop-keeps-other-places k p apart l =
       ⊎-elim (λ h. ap (λ (x : After). getD (x .order) (k * 256 + p) 0) (h .1))
       (λ acc. ap (λ (x : List ℕ). getD x (k * 256 + p) 0) (dropped-order acc)
-      ∙ all-pushed-keeps s order addresses (acc .no-refusal) (k * 256 + p) (subst (λ (m : ℕ). NoneIn m addresses) (let e : k ≡ (k * 256 + p) / 256 = omega arith in e) apart))
+      ∙ all-pushed-keeps s order addresses (acc .no-refusal) (k * 256 + p)
+      (subst (λ (m : ℕ). NoneIn m addresses) (let e : k ≡ (k * 256 + p) / 256 = omega arith in e) apart))
       (drop-refused-or-accepted s order i addresses)
 
 -- ---- a setup
 -- a refused setup leaves the order as it was; an accepted one clears the first N × 256 places and writes no other
-pub setup-writes : (u : Setup) (order : List ℕ) → ((r : ℕ) × (setupOf u order ≡ refused r noState order)) ⊎ ((setupOf u order ≡ acceptedSetup u order) × ClearsFirst (u .superblocks * 256) order (setupOf u order .order))
+pub setup-writes : (u : Setup) (order : List ℕ) → ((r : ℕ) × (setupOf u order ≡ refused r noState order))
+    ⊎ ((setupOf u order ≡ acceptedSetup u order) × ClearsFirst (u .superblocks * 256) order (setupOf u order .order))
 unfolding setupOf
 setup-writes u order = go (withinLimits u) (leb (u .superblocks * 256) (length order))
   where
@@ -359,16 +391,19 @@ setup-writes u order = go (withinLimits u) (leb (u .superblocks * 256) (length o
     go false y = inl (1, refl)
 
 -- ---- no place from N × 256 on
-take-writes-no-place-past-N : (s : State) (order : List ℕ) (i size : ℕ) → drop (s .setup .superblocks * 256) (takeOf s order i size .order) ≡ drop (s .setup .superblocks * 256) order
+take-writes-no-place-past-N : (s : State) (order : List ℕ) (i size : ℕ) → drop (s .setup .superblocks * 256) (takeOf s order i size .order)
+    ≡ drop (s .setup .superblocks * 256) order
 take-writes-no-place-past-N s order i size = go (take-writes s order i size)
   where
-    go : (takeOf s order i size .order ≡ order) ⊎ ((k : ℕ) × Renewal s order i size k) → drop (s .setup .superblocks * 256) (takeOf s order i size .order) ≡ drop (s .setup .superblocks * 256) order
+    go : (takeOf s order i size .order ≡ order) ⊎ ((k : ℕ) × Renewal s order i size k) → drop (s .setup .superblocks * 256) (takeOf s order i size .order)
+        ≡ drop (s .setup .superblocks * 256) order
     go (inl e) = ap (drop (s .setup .superblocks * 256)) e
     go (inr (k, r)) =
         drop-equal-of-same-rest (s .setup .superblocks * 256) (takeOf s order i size .order) order (r .places .length-is)
         (λ x l. r .places .kept x (inr (omega (arith, r .below, blocks-of-le-256 (classOf size)))))
 
-free-writes-no-place-past-N : (s : State) (order : List ℕ) (i a : ℕ) → drop (s .setup .superblocks * 256) (freeOf s order i a .order) ≡ drop (s .setup .superblocks * 256) order
+free-writes-no-place-past-N : (s : State) (order : List ℕ) (i a : ℕ) → drop (s .setup .superblocks * 256) (freeOf s order i a .order)
+    ≡ drop (s .setup .superblocks * 256) order
 free-writes-no-place-past-N s order i a = go (free-writes s order i a)
   where
     go : FreeWrites s order i a → drop (s .setup .superblocks * 256) (freeOf s order i a .order) ≡ drop (s .setup .superblocks * 256) order
@@ -378,34 +413,40 @@ free-writes-no-place-past-N s order i a = go (free-writes s order i a)
         drop-equal-of-same-rest (s .setup .superblocks * 256) (freeOf s order i a .order) order (w .length-is)
         (λ x l. w .kept x (λ (q : x ≡ nextPlace s a). omega (arith, next-place-below-superblocks s order i a acc)))
 
-drop-writes-no-place-past-N : (s : State) (order : List ℕ) (i : ℕ) (addresses : List ℕ) → drop (s .setup .superblocks * 256) (dropOf s order i addresses .order) ≡ drop (s .setup .superblocks * 256) order
+drop-writes-no-place-past-N : (s : State) (order : List ℕ) (i : ℕ) (addresses : List ℕ)
+    → drop (s .setup .superblocks * 256) (dropOf s order i addresses .order) ≡ drop (s .setup .superblocks * 256) order
 drop-writes-no-place-past-N s order i addresses =
     ⊎-elim (λ h. ap (λ (x : After). drop (s .setup .superblocks * 256) (x .order)) (h .1))
     (λ h. drop-equal-of-same-rest (s .setup .superblocks * 256) (dropOf s order i addresses .order) order (writes-each-keeps-length (h .1))
-    (λ x l. ap (λ (y : List ℕ). getD y x 0) (dropped-order s order i addresses (h .0)) ∙ all-pushed-keeps s order addresses (h .0 .no-refusal) x (none-past-superblocks s addresses (h .0 .no-refusal) (x / 256) (omega arith))))
+    (λ x l. ap (λ (y : List ℕ). getD y x 0) (dropped-order s order i addresses (h .0)) ∙ all-pushed-keeps s order addresses (h .0 .no-refusal) x
+    (none-past-superblocks s addresses (h .0 .no-refusal) (x / 256) (omega arith))))
     (drop-writes s order i addresses)
 
 -- a call writes no place from N × 256 on
-pub call-writes-only-first-places : (s : State) (order : List ℕ) (call : Call) → drop (s .setup .superblocks * 256) (callOf s order call .order) ≡ drop (s .setup .superblocks * 256) order
+pub call-writes-only-first-places : (s : State) (order : List ℕ) (call : Call) → drop (s .setup .superblocks * 256) (callOf s order call .order)
+    ≡ drop (s .setup .superblocks * 256) order
 unfolding callOf withNameBound
 call-writes-only-first-places s order (Take i size) = take-writes-no-place-past-N s order i size
 call-writes-only-first-places s order (Free i a) = free-writes-no-place-past-N s order i a
 call-writes-only-first-places s order (NamedTake i m size) =
     ⊎-elim
     (λ h. ap (λ (x : After). drop (s .setup .superblocks * 256) (x .order)) (h .1))
-    (λ h. ap (λ (x : After). drop (s .setup .superblocks * 256) (x .order)) (⊎-elim (λ a. a .1 .result-is) (λ a. a .1 .result-is) h) ∙ take-writes-no-place-past-N s order i size)
+    (λ h. ap (λ (x : After). drop (s .setup .superblocks * 256) (x .order)) (⊎-elim (λ a. a .1 .result-is) (λ a. a .1 .result-is) h)
+    ∙ take-writes-no-place-past-N s order i size)
     (named-take-refused-or-accepted s order i m size)
 call-writes-only-first-places s order (NamedFree i m) =
     ⊎-elim
     (λ h. ap (λ (x : After). drop (s .setup .superblocks * 256) (x .order)) (h .1))
-    (λ h. ap (λ (x : After). drop (s .setup .superblocks * 256) (x .order)) (⊎-elim (λ a. a .result-is) (λ a. a .result-is) h) ∙ free-writes-no-place-past-N s order i (heldAddress s m))
+    (λ h. ap (λ (x : After). drop (s .setup .superblocks * 256) (x .order)) (⊎-elim (λ a. a .result-is) (λ a. a .result-is) h)
+    ∙ free-writes-no-place-past-N s order i (heldAddress s m))
     (named-free-refused-or-accepted s order i m)
 call-writes-only-first-places s order (Drop i addresses) = drop-writes-no-place-past-N s order i addresses
 
 pub setup-writes-only-first-places : (u : Setup) (order : List ℕ) → drop (u .superblocks * 256) (setupOf u order .order) ≡ drop (u .superblocks * 256) order
 setup-writes-only-first-places u order = go (setup-writes u order)
   where
-    go : ((r : ℕ) × (setupOf u order ≡ refused r noState order)) ⊎ ((setupOf u order ≡ acceptedSetup u order) × ClearsFirst (u .superblocks * 256) order (setupOf u order .order))
+    go : ((r : ℕ) × (setupOf u order ≡ refused r noState order))
+        ⊎ ((setupOf u order ≡ acceptedSetup u order) × ClearsFirst (u .superblocks * 256) order (setupOf u order .order))
         → drop (u .superblocks * 256) (setupOf u order .order) ≡ drop (u .superblocks * 256) order
     go (inl (r, e)) = ap (λ (x : After). drop (u .superblocks * 256) (x .order)) e
     go (inr (e, c)) = drop-equal-of-same-rest (u .superblocks * 256) (setupOf u order .order) order (c .length-is) (c .kept)

@@ -43,6 +43,7 @@ unfolding numberOf valuesOf
 free-number-and-values s order i a shape acc = rw (free-outcome s order i a shape acc) (record { number-is = refl; values-are = refl })
 
 -- of a long block: "Its free line has moved 0" (document 02, item 7)
-pub long-free-number-and-values : (s : State) (order : List ℕ) (i a : ℕ) (shape : Shape s) (acc : LongFreeAccepted s order i a) → HasNumberAndValues (freeOf s order i a .answer .outcome) 0 (0 ∷ [])
+pub long-free-number-and-values : (s : State) (order : List ℕ) (i a : ℕ) (shape : Shape s) (acc : LongFreeAccepted s order i a)
+    → HasNumberAndValues (freeOf s order i a .answer .outcome) 0 (0 ∷ [])
 unfolding numberOf valuesOf
 long-free-number-and-values s order i a shape acc = rw (long-free-outcome s order i a shape acc) (record { number-is = refl; values-are = refl })

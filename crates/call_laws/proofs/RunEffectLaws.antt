@@ -47,7 +47,13 @@ pub run-freed-keeps-rest : (k n : ℕ) (s : State) → RestKept s (runFreed k n 
 unfolding runFreed madeUnused
 run-freed-keeps-rest k n s =
     each-of-run-keeps madeUnused k s n (RestKept s)
-    (λ m t low high h. record { setup = h .setup; names = h .names; length-is = λ long. length-set (t .table) m unused ∙ h .length-is long; totals = λ _. refl })
+    (λ m t low high h. record {
+      setup = h .setup;
+      names = h .names;
+      length-is = λ long. length-set (t .table) m unused ∙ h .length-is long;
+      totals =
+          λ _. refl;
+    })
     (rest-kept-refl s)
 
 pub run-freed-runs-sound : (k n : ℕ) (s : State) → length (s .table) ≡ 64 → RunAt s k n → RunsSound s → RunsSound (runFreed k n s)
@@ -70,7 +76,8 @@ same-but-rank-trans a b d (p, zero-p) (q, zero-q) = (q ∙ ap (withRank (d .rank
 -- once superblock m is out of the ranking, each has the rank that it had or one less
 same-but-rank-of-unranked : (m : ℕ) (t : State) (i : ℕ) → i < 64 → SameButRank (superblockAt t i) (superblockAt (unranked m t) i)
 unfolding unranked rankAfterRenewal
-same-but-rank-of-unranked m t i l = (e ∙ ap (λ (r : ℕ). withRank r (superblockAt t i)) (sym (ap (λ (b : Superblock). b .rank) e)), λ z. ap (λ (b : Superblock). b .rank) e ∙ none z)
+same-but-rank-of-unranked m t i l =
+    (e ∙ ap (λ (r : ℕ). withRank r (superblockAt t i)) (sym (ap (λ (b : Superblock). b .rank) e)), λ z. ap (λ (b : Superblock). b .rank) e ∙ none z)
   where
     e : superblockAt (unranked m t) i ≡ withRank (rankAfterRenewal m (t .table) i) (superblockAt t i)
     e = superblock-at-reranked (rankAfterRenewal m (t .table)) t i l
@@ -84,13 +91,16 @@ length-unranked m t = length-listed (λ i. withRank (rankAfterRenewal m (t .tabl
 
 -- "They get owner 254, class field 0, no marks and no rank"; "The first carries the run's length, every other superblock 0". The other superblocks
 -- keep all but their ranks
-pub run-taken-made : (k n : ℕ) (s : State) → length (s .table) ≡ 64 → k + n ≤ 64 → EachMade (λ m b. b ≡ runPart (pick (eqb m k) n 0)) SameButRank k n s (runTaken k n s)
+pub run-taken-made : (k n : ℕ) (s : State) → length (s .table) ≡ 64 → k + n ≤ 64 → EachMade (λ m b. b ≡ runPart (pick (eqb m k) n 0)) SameButRank k n s
+    (runTaken k n s)
 unfolding runTaken joinedToRun unranked
 run-taken-made k n s long l =
-    each-of-run-made (λ m b. b ≡ runPart (pick (eqb m k) n 0)) SameButRank (λ b. (refl, λ z. z)) same-but-rank-trans made-kept (joinedToRun k n) (λ t. length (t .table) ≡ 64)
+    each-of-run-made (λ m b. b ≡ runPart (pick (eqb m k) n 0)) SameButRank (λ b. (refl, λ z. z)) same-but-rank-trans made-kept (joinedToRun k n)
+    (λ t. length (t .table) ≡ 64)
     (λ m t lm h. length-set (unranked m t .table) m (part m) ∙ length-unranked m t)
     (λ m t lm h. superblock-at-replaced (unranked m t) m (part m) (length-unranked m t) lm)
-    (λ m t lm h i li other. subst (SameButRank (superblockAt t i)) (sym (superblock-at-others (unranked m t) m (part m) i other)) (same-but-rank-of-unranked m t i li))
+    (λ m t lm h i li other. subst (SameButRank (superblockAt t i)) (sym (superblock-at-others (unranked m t) m (part m) i other))
+    (same-but-rank-of-unranked m t i li))
     k n s l long
   where
     part : ℕ → Superblock
@@ -103,7 +113,13 @@ pub run-taken-keeps-rest : (k n : ℕ) (s : State) → RestKept s (runTaken k n 
 unfolding runTaken joinedToRun unranked
 run-taken-keeps-rest k n s =
     each-of-run-keeps (joinedToRun k n) k s n (RestKept s)
-    (λ m t low high h. record { setup = h .setup; names = h .names; length-is = λ _. length-set (unranked m t .table) m (runPart (pick (eqb m k) n 0)) ∙ length-unranked m t; totals = λ _. refl })
+    (λ m t low high h. record {
+      setup = h .setup;
+      names = h .names;
+      length-is = λ _. length-set (unranked m t .table) m (runPart (pick (eqb m k) n 0))
+          ∙ length-unranked m t;
+      totals = λ _. refl;
+    })
     (rest-kept-refl s)
 
 pub run-at-of-run-taken : (k n : ℕ) (s : State) → length (s .table) ≡ 64 → 1 ≤ n → n ≤ 16 → k + n ≤ 64 → RunAt (runTaken k n s) k n
@@ -119,7 +135,8 @@ run-at-of-run-taken k n s long low high l =
       others-carry-0 = λ m p q. ap (λ (b : Superblock). b .run) (made .inside m (omega arith) q) ∙ pick-false (eqb m k) n 0 (ne-eqb m k (λ e. omega arith));
     }
 
-pub run-taken-runs-sound : (k n : ℕ) (s : State) → length (s .table) ≡ 64 → 1 ≤ n → n ≤ 16 → k + n ≤ 64 → ((m : ℕ) → k ≤ m → m < k + n → isOfRun (superblockAt s m) ≡ false)
+pub run-taken-runs-sound : (k n : ℕ) (s : State) → length (s .table) ≡ 64 → 1 ≤ n → n ≤ 16 → k + n ≤ 64
+    → ((m : ℕ) → k ≤ m → m < k + n → isOfRun (superblockAt s m) ≡ false)
     → RunsSound s → RunsSound (runTaken k n s)
 unfolding isOfRun
 run-taken-runs-sound k n s long low high l free h =

@@ -16,7 +16,8 @@ use Rattle.base_laws.proofs.Inequalities.{le-of-not-below}
 use Rattle.base_laws.proofs.TestLaws.{T-of-true, true-of-T, both-left, both-right, pick-true}
 use Rattle.base_laws.proofs.SumLaws.{sum-cong}
 use Rattle.marks_rules.specs.Marks.{isMarked, markBit, noMarks, withMark}
-use Rattle.marks_laws.proofs.MarkLaws.{mark-bit-one-of-mark, mark-bit-zero-of-no-mark, with-mark-other, mark-bit-of-no-marks, live-count-of-no-marks, marks-clear-of-live-count-zero}
+use Rattle.marks_laws.proofs.MarkLaws.{mark-bit-one-of-mark, mark-bit-zero-of-no-mark, with-mark-other, mark-bit-of-no-marks, live-count-of-no-marks}
+use Rattle.marks_laws.proofs.MarkLaws.{marks-clear-of-live-count-zero}
 use Rattle.names_rules.specs.Names.{blockNumber, withoutBlock}
 use Rattle.names_laws.proofs.NameLaws.{length-without-block}
 use Rattle.heap_rules.specs.declared.Superblock.{Superblock}
@@ -36,7 +37,8 @@ use Rattle.heap_laws.proofs.RunLaws.{Outside, side-of-range, outside-not-inside
 use Rattle.heap_laws.proofs.RunsKeptLaws.{owner-of-run, live-blocks-outside-run, live-blocks-of-first, live-blocks-not-first}
 use Rattle.heap_laws.proofs.PassedBetweenHeapsLaws.{none-passed-between-heaps}
 use Rattle.call_rules.specs.LongBlocks.{runFreed}
-use Rattle.call_rules.specs.Free.{superblockIndex, offsetOf, superblockHolding, blockOf, isInRun, isRunStart, isMisaligned, addressRefusal, blockNumberAt, longBlockFreed}
+use Rattle.call_rules.specs.Free.{superblockIndex, offsetOf, superblockHolding, blockOf, isInRun, isRunStart, isMisaligned, addressRefusal, blockNumberAt}
+use Rattle.call_rules.specs.Free.{longBlockFreed}
 use Rattle.call_rules.proofs.AddressRefusalLaws.{mapped-of-no-refusal, aligned-of-no-refusal}
 use Rattle.call_laws.proofs.CallEffects.{PassedAfterFrees, LongFreeEffect, RanksKept}
 use Rattle.call_laws.proofs.EachOfRunLaws.{EachMade}
@@ -53,7 +55,8 @@ unfolding isOfRun
 none-live-in-unused j = ap (λ (l : List ℕ). markBit l j) (live-blocks-outside-run unused refl) ∙ mark-bit-of-no-marks j
 
 -- the address meets no refusal, in a state that passed before these frees, and lies in a run
-module _ (freed : ℕ → ℕ → ℕ) (s : State) (order : List ℕ) (a : ℕ) (shape : Shape s) (passed : PassedAfterFrees freed s order) (accepted : addressRefusal s a ≡ 0) (long : isInRun s a ≡ true) where
+module _ (freed : ℕ → ℕ → ℕ) (s : State) (order : List ℕ) (a : ℕ) (shape : Shape s) (passed : PassedAfterFrees freed s order)
+    (accepted : addressRefusal s a ≡ 0) (long : isInRun s a ≡ true) where
   abbrev k : ℕ
   k = superblockIndex a
 
@@ -85,7 +88,8 @@ module _ (freed : ℕ → ℕ → ℕ) (s : State) (order : List ℕ) (a : ℕ) 
 
   pub freed-run : RunAt s (superblockIndex a) (superblockHolding s a .run)
   unfolding startsRun
-  freed-run = runs-sound .first-of-run k freed-run-lt-64 long (ltb-true 0 n (true-of-T _ (both-right (isOfRun (superblockHolding s a)) (ltb 0 n) (T-of-true _ starts))))
+  freed-run = runs-sound .first-of-run k freed-run-lt-64 long
+      (ltb-true 0 n (true-of-T _ (both-right (isOfRun (superblockHolding s a)) (ltb 0 n) (T-of-true _ starts))))
 
   pub freed-run-below : superblockIndex a + superblockHolding s a .run ≤ s .setup .superblocks
   freed-run-below = run-below-superblocks s k n freed-run (λ m l far. passed .sound .past-unused m l far .owner)
@@ -146,10 +150,12 @@ module _ (freed : ℕ → ℕ → ℕ) (s : State) (order : List ℕ) (a : ℕ) 
       go : Dec (m < 64) → Outside k n m ⊎ ((k ≤ m) × (m < k + n)) → superblockAt after m ≡ superblockAt s m
       go (yes l) (inl out) = made .outside m l out
       go (yes l) (inr inside) = absurd (other inside)
-      go (no f) _ = let g = le-of-not-below f in List·getD-eq-default (after .table) blank (omega (arith, length-after)) ∙ sym (List·getD-eq-default (s .table) blank (omega (arith, shape .length-is)))
+      go (no f) _ = let g = le-of-not-below f in List·getD-eq-default (after .table) blank (omega (arith, length-after))
+          ∙ sym (List·getD-eq-default (s .table) blank (omega (arith, shape .length-is)))
 
   -- what holds of an unused superblock in place of each of the run, and of each other, holds of each
-  each-after : (P : ℕ → Superblock → Type 0) → ((m : ℕ) → InRun k n m → P m unused) → ((m : ℕ) → m < 64 → P m (superblockAt s m)) → (m : ℕ) → m < 64 → P m (superblockAt after m)
+  each-after : (P : ℕ → Superblock → Type 0) → ((m : ℕ) → InRun k n m → P m unused) → ((m : ℕ) → m < 64 → P m (superblockAt s m)) → (m : ℕ) → m < 64
+      → P m (superblockAt after m)
   each-after P here others m l = go (side-of-range k n m)
     where
       go : Outside k n m ⊎ ((k ≤ m) × (m < k + n)) → P m (superblockAt after m)
@@ -160,27 +166,36 @@ module _ (freed : ℕ → ℕ → ℕ) (s : State) (order : List ℕ) (a : ℕ) 
   long-block-freed-class = each-after (λ m b. b .class ≡ superblockAt s m .class) (λ m inside. sym (part-unowned m inside .class)) (λ m l. refl)
 
   -- an owner stays, or was 254 and is 255
-  pub long-block-freed-owner : (m : ℕ) → m < 64 → (superblockAt (longBlockFreed s a) m .owner ≡ superblockAt s m .owner) ⊎ ((superblockAt s m .owner ≡ runOwner) × (superblockAt (longBlockFreed s a) m .owner ≡ unusedOwner))
-  long-block-freed-owner = each-after (λ m b. (b .owner ≡ superblockAt s m .owner) ⊎ ((superblockAt s m .owner ≡ runOwner) × (b .owner ≡ unusedOwner))) (λ m inside. inr (part-owner m inside, refl)) (λ m l. inl refl)
+  pub long-block-freed-owner : (m : ℕ) → m < 64 → (superblockAt (longBlockFreed s a) m .owner ≡ superblockAt s m .owner)
+      ⊎ ((superblockAt s m .owner ≡ runOwner) × (superblockAt (longBlockFreed s a) m .owner ≡ unusedOwner))
+  long-block-freed-owner = each-after (λ m b. (b .owner ≡ superblockAt s m .owner) ⊎ ((superblockAt s m .owner ≡ runOwner) × (b .owner ≡ unusedOwner)))
+      (λ m inside. inr (part-owner m inside, refl)) (λ m l. inl refl)
 
   -- a run has no marks, before and after
   pub long-block-freed-marks : (m b : ℕ) → m < 64 → b < 256 → markBit (superblockAt (longBlockFreed s a) m .live) b ≡ markBit (superblockAt s m .live) b
   long-block-freed-marks m b l small =
       each-after (λ m x. markBit (x .live) b ≡ markBit (superblockAt s m .live) b)
-      (λ m inside. marks-clear-of-live-count-zero noMarks live-count-of-no-marks b small ∙ sym (marks-clear-of-live-count-zero (superblockAt s m .live) (part-unowned m inside .live) b small)) (λ m l. refl) m l
+      (λ m inside. marks-clear-of-live-count-zero noMarks live-count-of-no-marks b small
+      ∙ sym (marks-clear-of-live-count-zero (superblockAt s m .live) (part-unowned m inside .live) b small)) (λ m l. refl) m l
 
   -- and no rank
   pub long-block-freed-ranks : RanksKept s (longBlockFreed s a)
-  long-block-freed-ranks = each-after (λ m b. b .rank ≡ superblockAt s m .rank) (λ m inside. sym (passed .ranks .unowned-unranked m (part-lt-64 m inside) (part-unowned m inside))) (λ m l. refl)
+  long-block-freed-ranks = each-after (λ m b. b .rank ≡ superblockAt s m .rank)
+      (λ m inside. sym (passed .ranks .unowned-unranked m (part-lt-64 m inside) (part-unowned m inside))) (λ m l. refl)
 
   -- ---- the counts
   total-same : (f : Superblock → ℕ) → ((m : ℕ) → InRun k n m → f unused ≡ f (superblockAt s m)) → total f (after .table) ≡ total f (s .table)
   unfolding total
-  total-same f same = sum-cong (λ m. f (superblockAt after m)) (λ m. f (superblockAt s m)) 64 (each-after (λ m b. f b ≡ f (superblockAt s m)) same (λ m l. refl))
+  total-same f same = sum-cong (λ m. f (superblockAt after m)) (λ m. f (superblockAt s m)) 64
+      (each-after (λ m b. f b ≡ f (superblockAt s m)) same (λ m l. refl))
 
   -- none of its superblocks counts for a heap, before and after
   not-of-heap : (h c m : ℕ) → h < runOwner → InRun k n m → (belongs h c unused ≡ false) × (belongs h c (superblockAt s m) ≡ false)
-  not-of-heap h c m l inside = (not-belongs-of-other-owner h c unused (λ (q : unused .owner ≡ h). omega arith), not-belongs-of-other-owner h c (superblockAt s m) (λ (q : superblockAt s m .owner ≡ h). omega (arith, part-owner m inside)))
+  not-of-heap h c m l inside = (
+    not-belongs-of-other-owner h c unused (λ (q : unused .owner ≡ h). omega arith),
+    not-belongs-of-other-owner h c (superblockAt s m)
+        (λ (q : superblockAt s m .owner ≡ h). omega (arith, part-owner m inside)),
+  )
 
   long-block-freed-superblocks-of : (h c : ℕ) → h < runOwner → superblocksOf h c after ≡ superblocksOf h c s
   unfolding superblocksOf oneIfBelongs
@@ -214,7 +229,9 @@ module _ (freed : ℕ → ℕ → ℕ) (s : State) (order : List ℕ) (a : ℕ) 
         setup = setup-same;
         run = made-unused;
         others = others-kept;
-        passed-between-heaps = none-passed-between-heaps s after (each-after (λ m b. (b .owner ≡ superblockAt s m .owner) ⊎ ((runOwner ≤ superblockAt s m .owner) ⊎ (runOwner ≤ b .owner))) (λ m inside. inr (inr (omega arith))) (λ m l. inl refl));
+        passed-between-heaps = none-passed-between-heaps s after
+            (each-after (λ m b. (b .owner ≡ superblockAt s m .owner) ⊎ ((runOwner ≤ superblockAt s m .owner) ⊎ (runOwner ≤ b .owner)))
+            (λ m inside. inr (inr (omega arith))) (λ m l. inl refl));
         owned = long-block-freed-owned-of;
         live = long-block-freed-live-of-class;
       }
@@ -241,7 +258,8 @@ module _ (freed : ℕ → ℕ → ℕ) (s : State) (order : List ℕ) (a : ℕ) 
   -- ---- the check
   long-block-freed-ranks-sound : RanksSound after
   long-block-freed-ranks-sound =
-      ranks-sound-of-same-ranks s after long-block-freed-ranks (each-after (λ m b. Unowned b → Unowned (superblockAt s m)) (λ m inside u. part-unowned m inside) (λ m l u. u)) (passed .ranks)
+      ranks-sound-of-same-ranks s after long-block-freed-ranks
+      (each-after (λ m b. Unowned b → Unowned (superblockAt s m)) (λ m inside u. part-unowned m inside) (λ m l u. u)) (passed .ranks)
 
   long-block-freed-sound : SoundAfterFrees freed after order
   long-block-freed-sound =
@@ -253,13 +271,15 @@ module _ (freed : ℕ → ℕ → ℕ) (s : State) (order : List ℕ) (a : ℕ) 
             (each-after (λ m b. s .setup .superblocks ≤ m → Unused b) (λ m inside far. unused-is-unused) (passed .sound .past-unused));
         invariant = λ h c low high known. holds h c low (subst (λ (u : Setup). h ≤ u .processors) setup-same high) known;
         sparse = subst (λ (u : Setup). (m : ℕ) → m < 64 → superblockAt after m .owner ≡ 0 → Sparse u (superblockAt after m)) (sym setup-same)
-            (each-after (λ m b. b .owner ≡ 0 → Sparse (s .setup) b) (λ m inside (zero : unused .owner ≡ 0). absurd (let z : ⊥ = omega arith in z)) (passed .sound .sparse));
+            (each-after (λ m b. b .owner ≡ 0 → Sparse (s .setup) b) (λ m inside (zero : unused .owner ≡ 0). absurd (let z : ⊥ = omega arith in z))
+            (passed .sound .sparse));
       }
     where
       holds : (h c : ℕ) → 1 ≤ h → h ≤ s .setup .processors → c < classCount → InvariantBeforeFrees (freed h c) h c after
       holds h c low high known =
           let l : h < runOwner = omega (arith, passed .sound .numbers .processors-high) in
-          invariant-before-frees-cong (freed h c) h c s after setup-same (long-block-freed-superblocks-of h c l) (long-block-freed-live-of h c l) (passed .sound .invariant h c low high known)
+          invariant-before-frees-cong (freed h c) h c s after setup-same (long-block-freed-superblocks-of h c l) (long-block-freed-live-of h c l)
+          (passed .sound .invariant h c low high known)
 
   -- the block of the run is the only one of its superblocks
   only-block-of-run : (m j : ℕ) → InRun k n m → j < 256 → markBit (liveBlocks (superblockAt s m)) j ≡ 1 → (m ≡ k) × (j ≡ 0)
@@ -269,22 +289,29 @@ module _ (freed : ℕ → ℕ → ℕ) (s : State) (order : List ℕ) (a : ℕ) 
       go : Dec (m ≡ k) → Dec (j ≡ 0) → (m ≡ k) × (j ≡ 0)
       go (yes e) (yes q) = (e, q)
       go (yes e) (no f) =
-          let first : liveBlocks (superblockAt s m) ≡ withMark noMarks 0 = ap (λ (x : ℕ). liveBlocks (superblockAt s x)) e ∙ live-blocks-of-first (superblockAt s k) starts in
-          let clear : markBit (liveBlocks (superblockAt s m)) j ≡ 0 = ap (λ (x : List ℕ). markBit x j) first ∙ with-mark-other noMarks 0 j f ∙ mark-bit-of-no-marks j in
+          let first : liveBlocks (superblockAt s m) ≡ withMark noMarks 0 = ap (λ (x : ℕ). liveBlocks (superblockAt s x)) e
+          ∙ live-blocks-of-first (superblockAt s k) starts in
+          let clear : markBit (liveBlocks (superblockAt s m)) j ≡ 0 = ap (λ (x : List ℕ). markBit x j) first ∙ with-mark-other noMarks 0 j f
+          ∙ mark-bit-of-no-marks j in
           absurd (let z : ⊥ = omega arith in z)
       go (no f) q =
           let carries : superblockAt s m .run ≡ 0 = freed-run .others-carry-0 m (let l = inside .0 in omega arith) (inside .1) in
           let of-run = freed-run .of-run m (inside .0) (inside .1) in
           let not-first : startsRun (superblockAt s m) ≡ false = rw (of-run, carries) in
-          let clear : markBit (liveBlocks (superblockAt s m)) j ≡ 0 = ap (λ (x : List ℕ). markBit x j) (live-blocks-not-first (superblockAt s m) not-first) ∙ marks-clear-of-live-count-zero (superblockAt s m .live) (part-unowned m inside .live) j small in
+          let clear : markBit (liveBlocks (superblockAt s m)) j ≡ 0 =
+          ap (λ (x : List ℕ). markBit x j) (live-blocks-not-first (superblockAt s m) not-first)
+          ∙ marks-clear-of-live-count-zero (superblockAt s m .live) (part-unowned m inside .live) j small in
           absurd (let z : ⊥ = omega arith in z)
 
   -- it is no longer live, and every other block is live or not as it was
-  pub long-block-freed-live-blocks : (m j : ℕ) → m < 64 → j < 256 → ((m ≡ superblockIndex a) × (j ≡ 0) → ⊥) → markBit (liveBlocks (superblockAt (longBlockFreed s a) m)) j ≡ markBit (liveBlocks (superblockAt s m)) j
+  pub long-block-freed-live-blocks : (m j : ℕ) → m < 64 → j < 256 → ((m ≡ superblockIndex a) × (j ≡ 0) → ⊥)
+      → markBit (liveBlocks (superblockAt (longBlockFreed s a) m)) j ≡ markBit (liveBlocks (superblockAt s m)) j
   long-block-freed-live-blocks m j l small =
-      each-after (λ i b. ((i ≡ k) × (j ≡ 0) → ⊥) → markBit (liveBlocks b) j ≡ markBit (liveBlocks (superblockAt s i)) j) (λ i inside apart. none-live-in-unused j ∙ sym (clear i inside apart (isMarked (liveBlocks (superblockAt s i)) j) refl)) (λ i li apart. refl) m l
+      each-after (λ i b. ((i ≡ k) × (j ≡ 0) → ⊥) → markBit (liveBlocks b) j ≡ markBit (liveBlocks (superblockAt s i)) j)
+      (λ i inside apart. none-live-in-unused j ∙ sym (clear i inside apart (isMarked (liveBlocks (superblockAt s i)) j) refl)) (λ i li apart. refl) m l
     where
-      clear : (i : ℕ) → InRun k n i → ((i ≡ k) × (j ≡ 0) → ⊥) → (t : Bool) → isMarked (liveBlocks (superblockAt s i)) j ≡ t → markBit (liveBlocks (superblockAt s i)) j ≡ 0
+      clear : (i : ℕ) → InRun k n i → ((i ≡ k) × (j ≡ 0) → ⊥) → (t : Bool) → isMarked (liveBlocks (superblockAt s i)) j ≡ t
+          → markBit (liveBlocks (superblockAt s i)) j ≡ 0
       clear i inside apart true e = absurd (apart (only-block-of-run i j inside small (mark-bit-one-of-mark (liveBlocks (superblockAt s i)) j e)))
       clear i inside apart false e = mark-bit-zero-of-no-mark (liveBlocks (superblockAt s i)) j e
 
@@ -298,7 +325,8 @@ module _ (freed : ℕ → ℕ → ℕ) (s : State) (order : List ℕ) (a : ℕ) 
       go : Outside k n (b / 256) ⊎ ((k ≤ b / 256) × (b / 256 < k + n)) → T (isLiveBlock after b)
       go (inl out) =
           live-block-of-mark after b
-          (ap (λ (x : Superblock). markBit (liveBlocks x) (b % 256)) (others-kept (b / 256) (λ inside. outside-not-inside k n (b / 256) out (inside .0) (inside .1))) ∙ mark-of-live-block s b live)
+          (ap (λ (x : Superblock). markBit (liveBlocks x) (b % 256))
+          (others-kept (b / 256) (λ inside. outside-not-inside k n (b / 256) out (inside .0) (inside .1))) ∙ mark-of-live-block s b live)
       go (inr inside) =
           let is = only-block-of-run (b / 256) (b % 256) inside (omega arith) (mark-of-live-block s b live) in
           absurd (other (let p = is .0 in let q = is .1 in omega arith))
@@ -308,7 +336,8 @@ module _ (freed : ℕ → ℕ → ℕ) (s : State) (order : List ℕ) (a : ℕ) 
 
   long-block-freed-runs-valid : T (runsValid after)
   unfolding longBlockFreed runsValid
-  long-block-freed-runs-valid = runs-valid-of-sound (runFreed k n s) (rest-kept .length-is (shape .length-is)) (run-freed-runs-sound k n s (shape .length-is) freed-run runs-sound)
+  long-block-freed-runs-valid = runs-valid-of-sound (runFreed k n s) (rest-kept .length-is (shape .length-is))
+      (run-freed-runs-sound k n s (shape .length-is) freed-run runs-sound)
 
   -- no heap and class has lost a block that the move rule counts
   pub long-block-freed-passed : PassedAfterFrees freed (longBlockFreed s a) order

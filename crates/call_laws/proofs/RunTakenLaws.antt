@@ -1,5 +1,5 @@
--- Laws of a take of a long block (document 02, item 7), in the page's words: the superblocks of its run leave the ranking and become parts of the run one after another, and
--- the state still passes. Assumes nothing.
+-- Laws of a take of a long block (document 02, item 7), in the page's words: the superblocks of its run leave the ranking and become parts of the run
+-- one after another, and the state still passes. Assumes nothing.
 use mathlib.Core.Path.{_≡_, refl, sym, ap, _∙_, subst}
 use mathlib.Core.Bool.{false}
 use mathlib.Core.Logic.{_⊎_, inl, inr, ⊎-elim, _↔_}
@@ -27,7 +27,8 @@ use Rattle.move_rules.specs.Moves.{mustMove}
 use Rattle.check_rules.specs.Check.{runsValid}
 use Rattle.heap_laws.proofs.StateFacts.{Shape, Sound, RanksSound}
 use Rattle.heap_laws.proofs.CountLaws.{superblock-at-replaced, superblock-at-others}
-use Rattle.heap_laws.proofs.RankLaws.{rank-after-renewal-of-superblock, ranked-of-ranked-after-renewal, ranked-after-renewal-of-ranked, order-kept-by-renewal, unranked-ranks-sound}
+use Rattle.heap_laws.proofs.RankLaws.{rank-after-renewal-of-superblock, ranked-of-ranked-after-renewal, ranked-after-renewal-of-ranked}
+use Rattle.heap_laws.proofs.RankLaws.{order-kept-by-renewal, unranked-ranks-sound}
 use Rattle.heap_laws.proofs.RerankedLaws.{superblock-at-reranked, reranked-superblocks-of-class, reranked-live-of-class, reranked-shape, reranked-sound}
 use Rattle.heap_laws.proofs.RunsKeptLaws.{outside-run-of-owner}
 use Rattle.heap_laws.proofs.RunLaws.{Outside, runs-sound-of-valid, runs-valid-of-sound}
@@ -40,7 +41,8 @@ use Rattle.call_laws.proofs.CallEffects.{Passed, LongTakeAccepted, Long
 use Rattle.call_laws.proofs.NamesKeptLaws.{names-valid-after-long-take}
 use Rattle.call_laws.proofs.EachOfRunLaws.{each-of-run-by-steps}
 use Rattle.call_laws.proofs.RunEffectLaws.{run-taken-made, run-taken-keeps-rest, run-taken-runs-sound}
-use Rattle.call_laws.proofs.MadeUnownedLaws.{BecomesUnowned, move-rule-goes-by-counts, made-unowned-shape, made-unowned-superblocks-of-class, made-unowned-live-of-class, made-unowned-sound, made-unowned-ranks-sound}
+use Rattle.call_laws.proofs.MadeUnownedLaws.{BecomesUnowned, move-rule-goes-by-counts, made-unowned-shape, made-unowned-superblocks-of-class}
+use Rattle.call_laws.proofs.MadeUnownedLaws.{made-unowned-live-of-class, made-unowned-sound, made-unowned-ranks-sound}
 use Rattle.heap_rules.specs.Runs.{InRun}
 
 -- ---- a superblock that is "unused or empty in heap 0"
@@ -92,14 +94,17 @@ module _ (t : State) (m n : ℕ) (shape : Shape t) (below : m < 64) (available :
 
   joined-sound : (order : List ℕ) → m < t .setup .superblocks → Sound t order → Sound joined order
   joined-sound order l sound =
-      made-unowned-sound outRanked m (runPart n) becomes (λ h c r. T (mustMove h c r) → ⊥) move-rule-goes-by-counts order l (reranked-sound rank t (shape .length-is) order sound)
+      made-unowned-sound outRanked m (runPart n) becomes (λ h c r. T (mustMove h c r) → ⊥) move-rule-goes-by-counts order l
+      (reranked-sound rank t (shape .length-is) order sound)
 
   joined-ranks-sound : RanksSound t → RanksSound joined
   unfolding unranked
-  joined-ranks-sound sound = made-unowned-ranks-sound outRanked m (runPart n) becomes (ap (λ (b : Superblock). b .rank) out-at) refl (unranked-ranks-sound m t below sound)
+  joined-ranks-sound sound = made-unowned-ranks-sound outRanked m (runPart n) becomes (ap (λ (b : Superblock). b .rank) out-at) refl
+      (unranked-ranks-sound m t below sound)
 
   joined-superblocks-of-class : (d : ℕ) → superblocksOfClass d joined ≤ superblocksOfClass d t
-  joined-superblocks-of-class d = omega (arith, made-unowned-superblocks-of-class outRanked m (runPart n) becomes d, reranked-superblocks-of-class rank t (shape .length-is) d)
+  joined-superblocks-of-class d =
+      omega (arith, made-unowned-superblocks-of-class outRanked m (runPart n) becomes d, reranked-superblocks-of-class rank t (shape .length-is) d)
 
   joined-live-of-class : (d : ℕ) → liveOfClass d joined ≡ liveOfClass d t
   joined-live-of-class d = made-unowned-live-of-class outRanked m (runPart n) becomes d ∙ reranked-live-of-class rank t (shape .length-is) d
@@ -123,7 +128,8 @@ module _ (t : State) (m n : ℕ) (shape : Shape t) (below : m < 64) (available :
         stays z (yes p) = absurd (let y : ⊥ = omega (arith, ranked-of-ranked-after-renewal m (t .table) j other p) in y)
         stays z (no f) = omega (arith, joined-rank)
 
-  joined-order-kept : RanksSound t → (i j : ℕ) → i < 64 → j < 64 → (i ≡ m → ⊥) → (j ≡ m → ⊥) → 0 < superblockAt t i .rank → superblockAt t i .rank < superblockAt t j .rank
+  joined-order-kept : RanksSound t → (i j : ℕ) → i < 64 → j < 64 → (i ≡ m → ⊥) → (j ≡ m → ⊥) → 0 < superblockAt t i .rank
+      → superblockAt t i .rank < superblockAt t j .rank
       → superblockAt joined i .rank < superblockAt joined j .rank
   joined-order-kept sound i j li lj f g pos h = omega (arith, order-kept-by-renewal m t below sound i j li lj f g pos h, joined-rank i li f, joined-rank j lj g)
 
@@ -143,7 +149,8 @@ record Joined (s : State) (order : List ℕ) (k n j : ℕ) (t : State) : Type 0 
   ranking : RunUnranked k j s t
 
 -- one more leaves the ranking
-run-unranked-of-one-more : (k j n : ℕ) (s t : State) (shape : Shape t) (below : k + j < 64) (available : Available (superblockAt t (k + j))) → RanksSound t → RunUnranked k j s t
+run-unranked-of-one-more : (k j n : ℕ) (s t : State) (shape : Shape t) (below : k + j < 64) (available : Available (superblockAt t (k + j)))
+    → RanksSound t → RunUnranked k j s t
     → RunUnranked k (suc j) s (joined t (k + j) n shape below available)
 run-unranked-of-one-more k j n s t shape below available sound before = record { in-run = in-run; ranked-iff = ranked-iff; order-kept = order-kept }
   where
@@ -166,11 +173,13 @@ run-unranked-of-one-more k j n s t shape below available sound before = record {
         let earlier = before .ranked-iff m l (apart m f .0) in
         (λ z. earlier .0 (step .0 z), λ z. step .1 (earlier .1 z))
 
-    order-kept : (m l : ℕ) → m < 64 → l < 64 → (InRun k (suc j) m → ⊥) → (InRun k (suc j) l → ⊥) → 0 < superblockAt s m .rank → superblockAt s m .rank < superblockAt s l .rank
+    order-kept : (m l : ℕ) → m < 64 → l < 64 → (InRun k (suc j) m → ⊥) → (InRun k (suc j) l → ⊥) → 0 < superblockAt s m .rank
+        → superblockAt s m .rank < superblockAt s l .rank
         → superblockAt after m .rank < superblockAt after l .rank
     order-kept m l lm ll f g pos h =
         let ranked : 0 < superblockAt t m .rank = pos-of-ne-zero (λ z. let y : ⊥ = omega (arith, before .ranked-iff m lm (apart m f .0) .0 z) in y) in
-        joined-order-kept t (k + j) n shape below available sound m l lm ll (apart m f .1) (apart l g .1) ranked (before .order-kept m l lm ll (apart m f .0) (apart l g .0) pos h)
+        joined-order-kept t (k + j) n shape below available sound m l lm ll (apart m f .1) (apart l g .1) ranked
+        (before .order-kept m l lm ll (apart m f .0) (apart l g .0) pos h)
 
 module _ (s : State) (order : List ℕ) (k n : ℕ) (shape : Shape s) (passed : Passed s order) (free : FreeRun n s k) where
   few : s .setup .superblocks ≤ 64
@@ -186,7 +195,12 @@ module _ (s : State) (order : List ℕ) (k n : ℕ) (shape : Shape s) (passed : 
         owned = λ d. omega arith;
         live = λ d. refl;
         available = λ m low high. facts-of-is-available (superblockAt s m) (free .available m (omega arith) high);
-        ranking = record { in-run = λ m h. absurd (let low = h .0 in let high = h .1 in let z : ⊥ = omega arith in z); ranked-iff = λ m l f. (λ z. z, λ z. z); order-kept = λ m l lm ll f g pos h. h };
+        ranking = record {
+          in-run = λ m h. absurd (let low = h .0 in let high = h .1 in let z : ⊥ = omega arith in z);
+          ranked-iff =
+              λ m l f. (λ z. z, λ z. z);
+          order-kept = λ m l lm ll f g pos h. h;
+        };
       }
 
   one-more-joined : (j : ℕ) (t : State) → j < n → Joined s order k n j t → Joined s order k n (suc j) (joinedToRun k n (k + j) t)
@@ -195,11 +209,14 @@ module _ (s : State) (order : List ℕ) (k n : ℕ) (shape : Shape s) (passed : 
       record {
         shape = joined-shape t (k + j) part (h .shape) below now;
         setup = h .setup;
-        sound = joined-sound t (k + j) part (h .shape) below now order (subst (λ (u : Setup). k + j < u .superblocks) (sym (h .setup)) (omega (arith, free .below))) (h .sound);
+        sound = joined-sound t (k + j) part (h .shape) below now order
+            (subst (λ (u : Setup). k + j < u .superblocks) (sym (h .setup)) (omega (arith, free .below))) (h .sound);
         ranks = joined-ranks-sound t (k + j) part (h .shape) below now (h .ranks);
         owned = λ d. omega (arith, joined-superblocks-of-class t (k + j) part (h .shape) below now d, h .owned d);
         live = λ d. joined-live-of-class t (k + j) part (h .shape) below now d ∙ h .live d;
-        available = λ m low high. subst Available (sym (joined-at-others t (k + j) part (h .shape) below now m (omega (arith, free .below, few)) (λ e. omega arith))) (available-with-rank _ _ (h .available m (omega arith) high));
+        available = λ m low high. subst Available
+            (sym (joined-at-others t (k + j) part (h .shape) below now m (omega (arith, free .below, few)) (λ e. omega arith)))
+            (available-with-rank _ _ (h .available m (omega arith) high));
         ranking = run-unranked-of-one-more k j part s t (h .shape) below now (h .ranks) (h .ranking);
       }
     where

@@ -24,12 +24,15 @@ refused-not-ready : (r : ℕ) → Refused r ≡ Ready → ⊥
 refused-not-ready r e = let z : _≡_ {A = ℕ} 0 1 = cc in omega arith
 
 -- an accepted setup hands back a new state that is sound, and the storage with its first N × 256 places 0 and no other changed
-pub accepted-setup-of-ready : (u : Setup) (order : List ℕ) → setupOf u order .answer .outcome ≡ Ready → T (withinLimits u) × (setupOf u order ≡ acceptedSetup u order) × Sound (newState u) (cleared order (u .superblocks * 256)) × Shape (newState u)
+pub accepted-setup-of-ready : (u : Setup) (order : List ℕ) → setupOf u order .answer .outcome ≡ Ready → T (withinLimits u)
+    × (setupOf u order ≡ acceptedSetup u order) × Sound (newState u) (cleared order (u .superblocks * 256)) × Shape (newState u)
 unfolding setupOf
 accepted-setup-of-ready u order e = go (withinLimits u) (leb (u .superblocks * 256) (length order)) refl e
   where
-    go : (a b : Bool) → withinLimits u ≡ a → pick a (pick b (acceptedSetup u order) (refused 12 noState order)) (refused 1 noState order) .answer .outcome ≡ Ready
-        → T (withinLimits u) × (pick a (pick b (acceptedSetup u order) (refused 12 noState order)) (refused 1 noState order) ≡ acceptedSetup u order) × Sound (newState u) (cleared order (u .superblocks * 256)) × Shape (newState u)
+    go : (a b : Bool) → withinLimits u ≡ a → pick a (pick b (acceptedSetup u order) (refused 12 noState order)) (refused 1 noState order) .answer .outcome
+        ≡ Ready
+        → T (withinLimits u) × (pick a (pick b (acceptedSetup u order) (refused 12 noState order)) (refused 1 noState order) ≡ acceptedSetup u order)
+        × Sound (newState u) (cleared order (u .superblocks * 256)) × Shape (newState u)
     go true true f r =
         let t : T (withinLimits u) = T-of-true (withinLimits u) f in
         (t, refl, new-state-sound u (cleared order (u .superblocks * 256)) t, new-state-shape u)
@@ -41,10 +44,12 @@ pub setup-refused-1-of-limits : (u : Setup) (order : List ℕ) → withinLimits 
 unfolding setupOf
 setup-refused-1-of-limits u order e = rw e
 
-pub setup-refused-12-of-storage : (u : Setup) (order : List ℕ) → withinLimits u ≡ true → length order < u .superblocks * 256 → setupOf u order ≡ refused 12 noState order
+pub setup-refused-12-of-storage : (u : Setup) (order : List ℕ) → withinLimits u ≡ true → length order < u .superblocks * 256
+    → setupOf u order ≡ refused 12 noState order
 unfolding setupOf
 setup-refused-12-of-storage u order e l = rw (e, lt-leb (u .superblocks * 256) (length order) l)
 
-pub setup-accepted-of-limits-and-storage : (u : Setup) (order : List ℕ) → withinLimits u ≡ true → u .superblocks * 256 ≤ length order → setupOf u order ≡ acceptedSetup u order
+pub setup-accepted-of-limits-and-storage : (u : Setup) (order : List ℕ) → withinLimits u ≡ true → u .superblocks * 256 ≤ length order
+    → setupOf u order ≡ acceptedSetup u order
 unfolding setupOf
 setup-accepted-of-limits-and-storage u order e l = rw (e, le-leb (u .superblocks * 256) (length order) l)

@@ -21,9 +21,11 @@ unfolding callOf takeOf takeUnchecked isTooLarge isLong sizeOf sizes classOf fir
 take-of-size-0 s order i = refl
 
 -- "Size 0 now takes class 0": an accepted one, on a state of 64 superblocks, takes a block of a superblock of class 0, with all that a take does
-pub size-0-takes-class-0 : (s : State) (order : List ℕ) (i k : ℕ) (shape : Shape s) (acc : TakeAccepted s order i 0 k) → TakeEffect i 0 k (taken-block s order i 0 k shape acc) s (takeOf s order i 0 .answer .state)
+pub size-0-takes-class-0 : (s : State) (order : List ℕ) (i k : ℕ) (shape : Shape s) (acc : TakeAccepted s order i 0 k)
+    → TakeEffect i 0 k (taken-block s order i 0 k shape acc) s (takeOf s order i 0 .answer .state)
 size-0-takes-class-0 s order i k shape acc =
-    subst (λ (c : ℕ). TakeEffect i c k (taken-block s order i 0 k shape acc) s (takeOf s order i 0 .answer .state)) class-of-size-0 (take-effect s order i 0 k shape acc)
+    subst (λ (c : ℕ). TakeEffect i c k (taken-block s order i 0 k shape acc) s (takeOf s order i 0 .answer .state)) class-of-size-0
+    (take-effect s order i 0 k shape acc)
 
 -- no size of 16 bits meets refusal 3, and so size 0 does not
 pub size-0-not-refused-3 : (s : State) (order : List ℕ) (i : ℕ) → takeOf s order i 0 .answer .outcome ≡ Refused 3 → ⊥

@@ -49,7 +49,8 @@ owners-changed-with-superblock-le-1 s k b long l =
     omega (
       arith,
       sum-set-indexed (s .table) blank k b changed 64 l (omega arith),
-      sum-of-zeros (λ m. changed m (superblockAt s m)) 64 (λ m h. ap (λ (x : Bool). one (not x)) (eq-eqb (superblockAt s m .owner) (superblockAt s m .owner) refl)),
+      sum-of-zeros (λ m. changed m (superblockAt s m)) 64
+          (λ m h. ap (λ (x : Bool). one (not x)) (eq-eqb (superblockAt s m .owner) (superblockAt s m .owner) refl)),
       one-le-one (not (eqb (superblockAt s k .owner) (b .owner))),
     )
   where

@@ -26,11 +26,13 @@ use Rattle.heap_rules.specs.States.{withSuperblock}
 use Rattle.heap_rules.specs.Counts.{total, oneIfBelongs, liveIfBelongs, isOwnedOfClass, superblocksOf, blocksIn, liveOf, superblocksOfClass, liveOfClass}
 use Rattle.move_rules.specs.Moves.{bothConditions, mustMove}
 use Rattle.heap_laws.proofs.StateFacts.{Shape, Unused, Unowned, Owned, Sparse, Sound, RanksSound, RunsKept}
-use Rattle.heap_laws.proofs.CountLaws.{total-with-superblock, one-if-belongs-is-1, one-if-belongs-other-owner, one-if-belongs-other-class, live-if-belongs-is-live-in, live-if-belongs-other-owner, live-if-belongs-other-class}
+use Rattle.heap_laws.proofs.CountLaws.{total-with-superblock, one-if-belongs-is-1, one-if-belongs-other-owner, one-if-belongs-other-class}
+use Rattle.heap_laws.proofs.CountLaws.{live-if-belongs-is-live-in, live-if-belongs-other-owner, live-if-belongs-other-class}
 use Rattle.heap_laws.proofs.StateCheckLaws.{shape-with-superblock, not-of-heap-of-unowned}
 use Rattle.heap_laws.proofs.TotalsLaws.{totals-kept-with-superblock}
 use Rattle.heap_laws.proofs.RankLaws.{ranks-sound-of-same-ranks}
-use Rattle.heap_laws.proofs.RerankedLaws.{superblock-keeps-all-but-rank, reranked-owner, reranked-class, reranked-live, reranked-run, reranked-of-run, reranked-superblocks-of-class, reranked-live-of-class, reranked-owners-changed}
+use Rattle.heap_laws.proofs.RerankedLaws.{superblock-keeps-all-but-rank, reranked-owner, reranked-class, reranked-live, reranked-run, reranked-of-run}
+use Rattle.heap_laws.proofs.RerankedLaws.{reranked-superblocks-of-class, reranked-live-of-class, reranked-owners-changed}
 use Rattle.heap_laws.proofs.RunsKeptLaws.{runs-valid-of-kept, outside-run-of-owner}
 use Rattle.heap_rules.specs.Ranks.{reranked}
 use Rattle.heap_laws.proofs.MoveLaws.{conditions-of-must-move, must-move-of-conditions}
@@ -51,7 +53,8 @@ pub record TakeResult (i c k j : ℕ) (s t : State) (places : List ℕ) : Type 0
   pub ranks : (m : ℕ) → superblockAt t m .rank ≡ superblockAt s m .rank
 
 module _ (s : State) (order : List ℕ) (i c k : ℕ) (b : Superblock) (places : List ℕ)
-    (shape : Shape s) (passed : Passed s order) (low : 1 ≤ i) (high : i ≤ s .setup .processors) (known : c < classCount) (gives : TakeSource s order i c k b places) where
+    (shape : Shape s) (passed : Passed s order) (low : 1 ≤ i) (high : i ≤ s .setup .processors) (known : c < classCount)
+    (gives : TakeSource s order i c k b places) where
   abbrev j : ℕ
   j = lastBlockOf places k b
 
@@ -70,18 +73,21 @@ module _ (s : State) (order : List ℕ) (i c k : ℕ) (b : Superblock) (places :
 
   in-class : j < blocksOf (b .class)
   unfolding lastBlockOf
-  in-class = last-filled-below-n places (b .live) k (blocksOf (b .class)) (blocks-of-le-256 (b .class)) (gives .places-valid) (gives .marks-length) (gives .room)
+  in-class = last-filled-below-n places (b .live) k (blocksOf (b .class)) (blocks-of-le-256 (b .class)) (gives .places-valid) (gives .marks-length)
+      (gives .room)
 
   in-marks : j < 256
   in-marks = omega (arith, in-class, blocks-of-le-256 (b .class))
 
   clear : markBit (b .live) j ≡ 0
   unfolding lastBlockOf
-  clear = last-filled-not-marked places (b .live) k (blocksOf (b .class)) (blocks-of-le-256 (b .class)) (gives .places-valid) (gives .marks-length) (gives .room)
+  clear = last-filled-not-marked places (b .live) k (blocksOf (b .class)) (blocks-of-le-256 (b .class)) (gives .places-valid) (gives .marks-length)
+      (gives .room)
 
   places-valid-after : T (placesValid places (new .live) k (blocksOf (b .class)))
   unfolding lastBlockOf
-  places-valid-after = places-valid-after-take places (b .live) k (blocksOf (b .class)) (blocks-of-le-256 (b .class)) (gives .places-valid) (gives .marks-length) (gives .room)
+  places-valid-after = places-valid-after-take places (b .live) k (blocksOf (b .class)) (blocks-of-le-256 (b .class)) (gives .places-valid)
+      (gives .marks-length) (gives .room)
 
   -- ---- the superblocks afterwards
   after-at-superblock : superblockAt after k ≡ new
@@ -105,7 +111,8 @@ module _ (s : State) (order : List ℕ) (i c k : ℕ) (b : Superblock) (places :
   new-owner-lt-254 = omega (arith, gives .owner, high, passed .sound .numbers .processors-high)
 
   -- a superblock of heap i and class c counts for no other pair
-  counts-for-no-other-pair : (h d : ℕ) (x : Superblock) → ((h ≡ i) × (d ≡ c) → ⊥) → x .owner ≡ i → x .class ≡ c → (oneIfBelongs h d x ≡ 0) × (liveIfBelongs h d x ≡ 0)
+  counts-for-no-other-pair : (h d : ℕ) (x : Superblock) → ((h ≡ i) × (d ≡ c) → ⊥) → x .owner ≡ i → x .class ≡ c → (oneIfBelongs h d x ≡ 0)
+      × (liveIfBelongs h d x ≡ 0)
   counts-for-no-other-pair h d x f e g = go (ℕ-discrete h i)
     where
       go : Dec (h ≡ i) → (oneIfBelongs h d x ≡ 0) × (liveIfBelongs h d x ≡ 0)
@@ -113,15 +120,18 @@ module _ (s : State) (order : List ℕ) (i c k : ℕ) (b : Superblock) (places :
       go (no n) = (one-if-belongs-other-owner h d x (λ q. n (sym q ∙ e)), live-if-belongs-other-owner h d x (λ q. n (sym q ∙ e)))
 
   -- one of heap 0 or of nobody counts for no processor heap
-  counts-for-no-processor-heap : (h d : ℕ) → 1 ≤ h → h ≤ s .setup .processors → (old .owner ≡ 0) ⊎ (old .owner ≡ unusedOwner) → (oneIfBelongs h d old ≡ 0) × (liveIfBelongs h d old ≡ 0)
+  counts-for-no-processor-heap : (h d : ℕ) → 1 ≤ h → h ≤ s .setup .processors → (old .owner ≡ 0) ⊎ (old .owner ≡ unusedOwner) → (oneIfBelongs h d old ≡ 0)
+      × (liveIfBelongs h d old ≡ 0)
   counts-for-no-processor-heap h d l m e = (one-if-belongs-other-owner h d old (differs e), live-if-belongs-other-owner h d old (differs e))
     where
       differs : (old .owner ≡ 0) ⊎ (old .owner ≡ unusedOwner) → old .owner ≡ h → ⊥
       differs (inl z) q = omega arith
       differs (inr z) q = omega (arith, passed .sound .numbers .processors-high)
 
-  old-counts-for-no-other-pair : (h d : ℕ) → 1 ≤ h → h ≤ s .setup .processors → ((h ≡ i) × (d ≡ c) → ⊥) → (oneIfBelongs h d old ≡ 0) × (liveIfBelongs h d old ≡ 0)
-  old-counts-for-no-other-pair h d l m f = ⊎-elim (λ e. counts-for-no-other-pair h d old f (e .0) (e .1)) (λ e. counts-for-no-processor-heap h d l m (e .0)) (gives .source)
+  old-counts-for-no-other-pair : (h d : ℕ) → 1 ≤ h → h ≤ s .setup .processors → ((h ≡ i) × (d ≡ c) → ⊥) → (oneIfBelongs h d old ≡ 0)
+      × (liveIfBelongs h d old ≡ 0)
+  old-counts-for-no-other-pair h d l m f = ⊎-elim (λ e. counts-for-no-other-pair h d old f (e .0) (e .1))
+      (λ e. counts-for-no-processor-heap h d l m (e .0)) (gives .source)
 
   -- ---- the move rule
   superblocks-after : (h d : ℕ) → superblocksOf h d after + oneIfBelongs h d old ≡ superblocksOf h d s + oneIfBelongs h d new
@@ -147,11 +157,20 @@ module _ (s : State) (order : List ℕ) (i c k : ℕ) (b : Superblock) (places :
   unfolding blocksIn
   invariant-of-own e g t =
       let m = conditions-of-must-move i c after t in
-      let h : superblocksOf i c after ≡ superblocksOf i c s = omega (arith, superblocks-after i c, one-if-belongs-is-1 i c old e g, one-if-belongs-is-1 i c new (gives .owner) (gives .class)) in
-      let u : liveOf i c after ≡ suc (liveOf i c s) = omega (arith, live-of-after i c, live-if-belongs-is-live-in i c old e g, live-if-belongs-is-live-in i c new (gives .owner) (gives .class), live-in-one-more) in
+      let h : superblocksOf i c after ≡ superblocksOf i c s =
+      omega (arith, superblocks-after i c, one-if-belongs-is-1 i c old e g, one-if-belongs-is-1 i c new (gives .owner) (gives .class)) in
+      let u : liveOf i c after ≡ suc (liveOf i c s) =
+      omega (
+        arith,
+        live-of-after i c,
+        live-if-belongs-is-live-in i c old e g,
+        live-if-belongs-is-live-in i c new (gives .owner) (gives .class),
+        live-in-one-more,
+      ) in
       let a : blocksIn i c after ≡ blocksIn i c s = ap (λ (x : ℕ). x * blocksOf c) h in
       let v : s .setup .q * liveOf i c s ≤ s .setup .q * liveOf i c after = mul-le-mul-left (s .setup .q) (omega arith) in
-      let w : (s .setup .q - s .setup .p) * blocksIn i c after ≡ (s .setup .q - s .setup .p) * blocksIn i c s = ap (λ (x : ℕ). (s .setup .q - s .setup .p) * x) a in
+      let w : (s .setup .q - s .setup .p) * blocksIn i c after ≡ (s .setup .q - s .setup .p) * blocksIn i c s =
+      ap (λ (x : ℕ). (s .setup .q - s .setup .p) * x) a in
       passed .sound .invariant i c low high known (must-move-of-conditions i c s (omega arith) (omega arith))
 
   -- places 2 to 4: heap i's other superblocks of the class are full, so no more than one superblock's blocks are free
@@ -160,7 +179,8 @@ module _ (s : State) (order : List ℕ) (i c k : ℕ) (b : Superblock) (places :
   invariant-of-acquired e full t =
       let m = conditions-of-must-move i c after t .0 in
       let x = counts-for-no-processor-heap i c low high e in
-      let h : superblocksOf i c after ≡ suc (superblocksOf i c s) = omega (arith, superblocks-after i c, one-if-belongs-is-1 i c new (gives .owner) (gives .class)) in
+      let h : superblocksOf i c after ≡ suc (superblocksOf i c s) =
+      omega (arith, superblocks-after i c, one-if-belongs-is-1 i c new (gives .owner) (gives .class)) in
       let a : superblocksOf i c after * blocksOf c ≡ suc (superblocksOf i c s) * blocksOf c = ap (λ (y : ℕ). y * blocksOf c) h in
       let u : liveOf i c s ≤ liveOf i c after = omega (arith, live-of-after i c) in
       let v : 1 * blocksOf c ≤ s .setup .spare * blocksOf c = mul-le-mul-right (blocksOf c) (passed .sound .numbers .spare-low) in
@@ -179,7 +199,8 @@ module _ (s : State) (order : List ℕ) (i c k : ℕ) (b : Superblock) (places :
   each-after m l (no f) = subst (λ (x : Superblock). Unowned x ⊎ Owned (s .setup) places m x) (sym (after-at-others m f)) (go (passed .sound .each m l))
     where
       framed : (x : Superblock) → placesValid places (x .live) m (blocksOf (x .class)) ≡ placesValid order (x .live) m (blocksOf (x .class))
-      framed x = places-valid-cong places order (x .live) m (blocksOf (x .class)) (gives .length-is) (λ p h. gives .others m p f (omega (arith, blocks-of-le-256 (x .class))))
+      framed x = places-valid-cong places order (x .live) m (blocksOf (x .class)) (gives .length-is)
+          (λ p h. gives .others m p f (omega (arith, blocks-of-le-256 (x .class))))
 
       go : Unowned (superblockAt s m) ⊎ Owned (s .setup) order m (superblockAt s m) → Unowned (superblockAt s m) ⊎ Owned (s .setup) places m (superblockAt s m)
       go (inl u) = inl u
@@ -201,9 +222,11 @@ module _ (s : State) (order : List ℕ) (i c k : ℕ) (b : Superblock) (places :
 
       at-sparse : (m : ℕ) → m < 64 → superblockAt after m .owner ≡ 0 → Dec (m ≡ k) → Sparse (s .setup) (superblockAt after m)
       at-sparse m l e (yes q) =
-          let o : superblockAt after m .owner ≡ i = ap (λ (x : ℕ). superblockAt after x .owner) q ∙ ap (λ (x : Superblock). x .owner) after-at-superblock ∙ gives .owner in
+          let o : superblockAt after m .owner ≡ i = ap (λ (x : ℕ). superblockAt after x .owner) q ∙ ap (λ (x : Superblock). x .owner) after-at-superblock
+          ∙ gives .owner in
           absurd (let z : ⊥ = omega (arith, low) in z)
-      at-sparse m l e (no f) = subst (Sparse (s .setup)) (sym (after-at-others m f)) (passed .sound .sparse m l (sym (ap (λ (x : Superblock). x .owner) (after-at-others m f)) ∙ e))
+      at-sparse m l e (no f) = subst (Sparse (s .setup)) (sym (after-at-others m f))
+          (passed .sound .sparse m l (sym (ap (λ (x : Superblock). x .owner) (after-at-others m f)) ∙ e))
 
   shape-after : Shape after
   shape-after = shape-with-superblock s k new shape in-table (length-with-mark (b .live) j ∙ gives .marks-length)
@@ -213,7 +236,8 @@ module _ (s : State) (order : List ℕ) (i c k : ℕ) (b : Superblock) (places :
   unfolding superblocksOfClass
   owned-after d = total-after (λ x. one (isOwnedOfClass d x))
 
-  live-of-class-after : (d : ℕ) → liveOfClass d after + pick (isOwnedOfClass d old) (liveIn old) 0 ≡ liveOfClass d s + pick (isOwnedOfClass d new) (liveIn new) 0
+  live-of-class-after : (d : ℕ) → liveOfClass d after + pick (isOwnedOfClass d old) (liveIn old) 0 ≡ liveOfClass d s + pick (isOwnedOfClass d new)
+      (liveIn new) 0
   unfolding liveOfClass
   live-of-class-after d = total-after (λ x. pick (isOwnedOfClass d x) (liveIn x) 0)
 
@@ -237,10 +261,12 @@ module _ (s : State) (order : List ℕ) (i c k : ℕ) (b : Superblock) (places :
 
   -- the old superblock's live blocks, of class c
   old-live : pick (isOwnedOfClass c old) (liveIn old) 0 ≡ liveIn old
-  old-live = ⊎-elim (λ e. no-live-adds-nothing c old e ∙ sym e) (λ h. ap (λ (t : Bool). pick t (liveIn old) 0) (owned-of-class-true c old (h .1) (h .0))) (gives .before)
+  old-live = ⊎-elim (λ e. no-live-adds-nothing c old e ∙ sym e) (λ h. ap (λ (t : Bool). pick t (liveIn old) 0) (owned-of-class-true c old (h .1) (h .0)))
+      (gives .before)
 
   old-other : (d : ℕ) → (d ≡ c → ⊥) → pick (isOwnedOfClass d old) (liveIn old) 0 ≡ 0
-  old-other d f = ⊎-elim (no-live-adds-nothing d old) (λ h. ap (λ (t : Bool). pick t (liveIn old) 0) (owned-of-class-false d old (λ q. f (sym q ∙ h .0)))) (gives .before)
+  old-other d f = ⊎-elim (no-live-adds-nothing d old) (λ h. ap (λ (t : Bool). pick t (liveIn old) 0) (owned-of-class-false d old (λ q. f (sym q ∙ h .0))))
+      (gives .before)
 
   live-class-after : liveOfClass c after ≡ suc (liveOfClass c s)
   live-class-after = omega (arith, live-of-class-after c, old-live, ap (λ (t : Bool). pick t (liveIn new) 0) new-of-class, live-in-one-more)
@@ -293,7 +319,8 @@ module _ (s : State) (order : List ℕ) (i c k : ℕ) (b : Superblock) (places :
   ranks-same m = go (ℕ-discrete m k)
     where
       go : Dec (m ≡ k) → superblockAt after m .rank ≡ superblockAt s m .rank
-      go (yes e) = ap (λ (x : ℕ). superblockAt after x .rank) e ∙ ap (λ (x : Superblock). x .rank) after-at-superblock ∙ gives .rank ∙ ap (λ (x : ℕ). superblockAt s x .rank) (sym e)
+      go (yes e) = ap (λ (x : ℕ). superblockAt after x .rank) e ∙ ap (λ (x : Superblock). x .rank) after-at-superblock ∙ gives .rank
+          ∙ ap (λ (x : ℕ). superblockAt s x .rank) (sym e)
       go (no f) = ap (λ (x : Superblock). x .rank) (after-at-others m f)
 
   ranks-after : RanksSound after
@@ -319,7 +346,8 @@ module _ (s : State) (order : List ℕ) (i c k : ℕ) (b : Superblock) (places :
   take-result-of-source = record { effect = effect; shape = shape-after; passed = passed-after; ranks = ranks-same }
 
 -- a take from the state with other ranks is one from the state: ranks are no part of its effect
-pub take-effect-of-reranked : (i c k j : ℕ) (rank : ℕ → ℕ) (s t : State) → length (s .table) ≡ 64 → TakeEffect i c k j (reranked rank s) t → TakeEffect i c k j s t
+pub take-effect-of-reranked : (i c k j : ℕ) (rank : ℕ → ℕ) (s t : State) → length (s .table) ≡ 64 → TakeEffect i c k j (reranked rank s) t
+    → TakeEffect i c k j s t
 take-effect-of-reranked i c k j rank s t long e =
     record {
       below = e .below;
@@ -329,7 +357,8 @@ take-effect-of-reranked i c k j rank s t long e =
       others = λ m f. e .others m f ∙ ap (withRank (superblockAt t m .rank)) (superblock-keeps-all-but-rank rank s long m);
       owner = e .owner;
       class = e .class;
-      before = ⊎-elim (λ z. inl (sym (live-in k) ∙ z)) (λ h. inr (sym (reranked-class rank s long k) ∙ h .0, subst (λ (x : ℕ). x < runOwner) (reranked-owner rank s long k) (h .1))) (e .before);
+      before = ⊎-elim (λ z. inl (sym (live-in k) ∙ z))
+          (λ h. inr (sym (reranked-class rank s long k) ∙ h .0, subst (λ (x : ℕ). x < runOwner) (reranked-owner rank s long k) (h .1))) (e .before);
       outside-run = sym (reranked-of-run rank s long k) ∙ e .outside-run;
       runs = λ m l. (e .runs m l .0 ∙ reranked-of-run rank s long m, e .runs m l .1 ∙ reranked-run rank s long m);
       not-marked = sym (bits j) ∙ e .not-marked;
@@ -338,7 +367,8 @@ take-effect-of-reranked i c k j rank s t long e =
       live = e .live ∙ ap suc (live-in k);
       one-owner-changed = subst (λ (n : ℕ). n ≤ 1) (reranked-owners-changed rank s long t) (e .one-owner-changed);
       owned-of-others = λ d f. subst (λ (n : ℕ). superblocksOfClass d t ≤ n) (reranked-superblocks-of-class rank s long d) (e .owned-of-others d f);
-      owned-of-class = ⊎-elim (λ l. inl (subst (λ (n : ℕ). superblocksOfClass c t ≤ n) (reranked-superblocks-of-class rank s long c) l)) inr (e .owned-of-class);
+      owned-of-class = ⊎-elim (λ l. inl (subst (λ (n : ℕ). superblocksOfClass c t ≤ n) (reranked-superblocks-of-class rank s long c) l)) inr
+          (e .owned-of-class);
       live-of-class = e .live-of-class ∙ ap suc (reranked-live-of-class rank s long c);
       live-of-others = λ d f. e .live-of-others d f ∙ reranked-live-of-class rank s long d;
     }

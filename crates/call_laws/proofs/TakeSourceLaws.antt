@@ -35,11 +35,13 @@ use Rattle.heap_laws.proofs.StateFacts.{Shape}
 use Rattle.call_rules.specs.Answers.{After}
 use Rattle.call_rules.specs.declared.Outcome.the-variants.{Address}
 use Rattle.call_rules.specs.Take.{otherPlaces, renewedFor, acquired, acquiredOrder, unrankedIfEmpty, nextBlock, addressOf, takenFrom, takenFromOther}
-use Rattle.heap_laws.proofs.ChoiceLaws.{best-of-fullest, none-free-of-fullest-nothing, facts-of-has-free, has-free-of-facts, facts-of-empty-in-global, best-of-lowest-empty, best-of-lowest-unused}
+use Rattle.heap_laws.proofs.ChoiceLaws.{best-of-fullest, none-free-of-fullest-nothing, facts-of-has-free, has-free-of-facts, facts-of-empty-in-global}
+use Rattle.heap_laws.proofs.ChoiceLaws.{best-of-lowest-empty, best-of-lowest-unused}
 use Rattle.heap_laws.proofs.CountLaws.{owner-and-class-of-belongs, superblocks-zero-of-none-belongs, live-of-at-least-each}
 use Rattle.heap_laws.proofs.StateCheckLaws.{facts-of-is-unused, owned-below-superblocks, owned-of-owner, free-block-in-global}
 use Rattle.heap_laws.proofs.RankLaws.{superblock-at-unranked, rank-after-renewal-of-superblock}
-use Rattle.heap_laws.proofs.RerankedLaws.{reranked-owner, reranked-class, reranked-live, reranked-run, reranked-of-run, reranked-superblocks-of, reranked-live-of}
+use Rattle.heap_laws.proofs.RerankedLaws.{reranked-owner, reranked-class, reranked-live, reranked-run, reranked-of-run, reranked-superblocks-of}
+use Rattle.heap_laws.proofs.RerankedLaws.{reranked-live-of}
 use Rattle.heap_laws.proofs.RunLaws.{runs-sound-of-valid}
 use Rattle.heap_laws.proofs.RunsKeptLaws.{outside-run-of-owner}
 use Rattle.call_laws.proofs.CallEffects.{Passed}
@@ -62,15 +64,24 @@ taken-from-is-taken-with k s order = refl
 
 pub length-unranked-if-empty : (k : ℕ) (s : State) → length (s .table) ≡ 64 → length (unrankedIfEmpty k s .table) ≡ 64
 unfolding unrankedIfEmpty unranked
-length-unranked-if-empty k s long = pick-elim (λ (t : State). length (t .table) ≡ 64) (eqb (liveIn (superblockAt s k)) 0) _ _ (λ e. length-listed _ 64) (λ e. long)
+length-unranked-if-empty k s long = pick-elim (λ (t : State). length (t .table) ≡ 64) (eqb (liveIn (superblockAt s k)) 0) _ _ (λ e. length-listed _ 64)
+    (λ e. long)
 
 pub taken-from-other-is-taken-with : (i c k : ℕ) (s : State) (order : List ℕ) → k < 64 → length (s .table) ≡ 64
     → takenFromOther i c k s order ≡ takenWith k (unrankedIfEmpty k s) (acquired i c (superblockAt s k)) (acquiredOrder c k (superblockAt s k) order)
 unfolding takenFromOther
 taken-from-other-is-taken-with i c k s order l long =
     taken-from-is-taken-with k (withSuperblock t k b) places
-    ∙ ap (λ (x : Superblock). takenWith k (withSuperblock t k b) x places) (getD-set-same (t .table) k b blank (omega (arith, length-unranked-if-empty k s long)))
-    ∙ ap (λ (x : List Superblock). record { answer = record { outcome = Address (addressOf k (b .class) (lastBlockOf places k b)); state = record { setup = t .setup; table = x; names = t .names; totals = recounted x } }; order = places })
+    ∙ ap (λ (x : Superblock). takenWith k (withSuperblock t k b) x places)
+    (getD-set-same (t .table) k b blank (omega (arith, length-unranked-if-empty k s long)))
+    ∙ ap (λ (x : List Superblock). record {
+      answer = record {
+        outcome = Address (addressOf k (b .class) (lastBlockOf places k b));
+        state =
+            record { setup = t .setup; table = x; names = t .names; totals = recounted x };
+      };
+      order = places;
+    })
     (set-set (t .table) k b (withMarkAt b (lastBlockOf places k b)))
   where
     t : State
@@ -101,7 +112,8 @@ pub record TakeSource (s : State) (order : List ℕ) (i c k : ℕ) (b : Superblo
   pub others : (m p : ℕ) → (m ≡ k → ⊥) → p < 256 → place places m p ≡ place order m p
   pub before : (liveIn (superblockAt s k) ≡ 0) ⊎ ((superblockAt s k .class ≡ c) × (superblockAt s k .owner < runOwner))
   -- it was heap i's of the class, or no processor heap's, and then heap i's superblocks of the class are full
-  pub source : ((superblockAt s k .owner ≡ i) × (superblockAt s k .class ≡ c)) ⊎ (((superblockAt s k .owner ≡ 0) ⊎ (superblockAt s k .owner ≡ unusedOwner)) × (superblocksOf i c s * blocksOf c ≤ liveOf i c s))
+  pub source : ((superblockAt s k .owner ≡ i) × (superblockAt s k .class ≡ c))
+      ⊎ (((superblockAt s k .owner ≡ 0) ⊎ (superblockAt s k .owner ≡ unusedOwner)) × (superblocksOf i c s * blocksOf c ≤ liveOf i c s))
   -- it was a superblock of the class, or heap 0 has none of the class
   pub supply : ((superblockAt s k .owner < runOwner) × (superblockAt s k .class ≡ c)) ⊎ (superblocksOf 0 c s ≡ 0)
 
@@ -109,7 +121,8 @@ pub record TakeSource (s : State) (order : List ℕ) (i c k : ℕ) (b : Superblo
 pub record OfferedByOthers (s : State) (c k : ℕ) : Type 0 where
   pub below : k < s .setup .superblocks
   pub owner : (superblockAt s k .owner ≡ 0) ⊎ (superblockAt s k .owner ≡ unusedOwner)
-  pub live : (liveIn (superblockAt s k) ≡ 0) ⊎ ((superblockAt s k .owner ≡ 0) × (superblockAt s k .class ≡ c) × (liveIn (superblockAt s k) < blocksOf (superblockAt s k .class)))
+  pub live : (liveIn (superblockAt s k) ≡ 0)
+      ⊎ ((superblockAt s k .owner ≡ 0) × (superblockAt s k .class ≡ c) × (liveIn (superblockAt s k) < blocksOf (superblockAt s k .class)))
   pub supply : ((superblockAt s k .owner < runOwner) × (superblockAt s k .class ≡ c)) ⊎ (superblocksOf 0 c s ≡ 0)
 
 module _ (s : State) (order : List ℕ) (shape : Shape s) (passed : Passed s order) where
@@ -147,14 +160,19 @@ module _ (s : State) (order : List ℕ) (shape : Shape s) (passed : Passed s ord
   -- ---- places 2 to 4
   -- a heap that place 1 offers nothing of is full
   heap-full-of-fullest-nothing : (i c : ℕ) → fullest i c s ≡ Nothing → superblocksOf i c s * blocksOf c ≤ liveOf i c s
-  heap-full-of-fullest-nothing i c e = live-of-at-least-each i c (blocksOf c) s (λ m l t. le-of-not-below (λ h. none-free-of-fullest-nothing i c s e m l (let o = owner-and-class-of-belongs i c (superblockAt s m) t in has-free-of-facts i c (superblockAt s m) (o .0) (o .1) h)))
+  heap-full-of-fullest-nothing i c e =
+      live-of-at-least-each i c (blocksOf c) s
+      (λ m l t. le-of-not-below (λ h. none-free-of-fullest-nothing i c s e m l (let o = owner-and-class-of-belongs i c (superblockAt s m) t in
+      has-free-of-facts i c (superblockAt s m) (o .0) (o .1) h)))
 
   -- each superblock of heap 0 is sparse and so has a free block: place 2 offers nothing only where heap 0 has none of the class
   none-in-global-of-fullest-nothing : (c : ℕ) → fullest 0 c s ≡ Nothing → superblocksOf 0 c s ≡ 0
   none-in-global-of-fullest-nothing c e =
       superblocks-zero-of-none-belongs 0 c s (λ m l t.
       let h = owner-and-class-of-belongs 0 c (superblockAt s m) t in
-      none-free-of-fullest-nothing 0 c s e m l (has-free-of-facts 0 c (superblockAt s m) (h .0) (h .1) (subst (λ (d : ℕ). liveIn (superblockAt s m) < blocksOf d) (h .1) (free-block-in-global s order (passed .sound) m l (h .0)))))
+      none-free-of-fullest-nothing 0 c s e m l
+      (has-free-of-facts 0 c (superblockAt s m) (h .0) (h .1)
+      (subst (λ (d : ℕ). liveIn (superblockAt s m) < blocksOf d) (h .1) (free-block-in-global s order (passed .sound) m l (h .0)))))
 
   global-below-superblocks : (k : ℕ) → k < 64 → superblockAt s k .owner ≡ 0 → k < s .setup .superblocks
   global-below-superblocks k l e = owned-below-superblocks s order (passed .sound) k l (λ (q : superblockAt s k .owner ≡ unusedOwner). omega arith)
@@ -174,7 +192,13 @@ module _ (s : State) (order : List ℕ) (shape : Shape s) (passed : Passed s ord
   offered-by-place-3 c k none e =
       let best = best-of-lowest-empty s k e in
       let h = facts-of-empty-in-global (superblockAt s k) (best .meets-criterion) in
-      record { below = global-below-superblocks k (best .below) (h .0); owner = inl (h .0); live = inl (h .1); supply = inr (none-in-global-of-fullest-nothing c none) }
+      record {
+        below = global-below-superblocks k (best .below) (h .0);
+        owner = inl (h .0);
+        live = inl (h .1);
+        supply =
+            inr (none-in-global-of-fullest-nothing c none);
+      }
 
   offered-by-place-4 : (c k : ℕ) → fullest 0 c s ≡ Nothing → lowestUnused s ≡ At k → OfferedByOthers s c k
   offered-by-place-4 c k none e =
@@ -214,12 +238,14 @@ module _ (s : State) (order : List ℕ) (shape : Shape s) (passed : Passed s ord
       rank = sym (ap (λ (b : Superblock). b .rank) (superblock-at-unranked k s k in-table) ∙ rank-after-renewal-of-superblock k (s .table));
       outside-run = reranked-of-run rank s long k ∙ offered-outside-run;
       run = sym (reranked-run rank s long k ∙ length-outside-run k in-table offered-outside-run);
-      marks = λ m l. mark-bit-of-no-marks m ∙ sym (ap (λ (x : List ℕ). markBit x m) (reranked-live rank s long k) ∙ marks-clear-of-live-count-zero (superblockAt s k .live) e m l);
+      marks = λ m l. mark-bit-of-no-marks m
+          ∙ sym (ap (λ (x : List ℕ). markBit x m) (reranked-live rank s long k) ∙ marks-clear-of-live-count-zero (superblockAt s k .live) e m l);
       length-is = length-renewed order k (blocksOf c);
       others = λ m p f l. renewed-other-superblock order k (blocksOf c) m p f l;
       before = inl (ap liveCount (reranked-live rank s long k) ∙ e);
       source = inr (⊎-elim (λ z. inl (reranked-owner rank s long k ∙ z)) (λ z. inr (reranked-owner rank s long k ∙ z)) (offered .owner), full-after);
-      supply = ⊎-elim (λ h. inl (subst (λ (x : ℕ). x < runOwner) (sym (reranked-owner rank s long k)) (h .0), reranked-class rank s long k ∙ h .1)) (λ z. inr (reranked-superblocks-of rank s long 0 c ∙ z)) (offered .supply);
+      supply = ⊎-elim (λ h. inl (subst (λ (x : ℕ). x < runOwner) (sym (reranked-owner rank s long k)) (h .0), reranked-class rank s long k ∙ h .1))
+          (λ z. inr (reranked-superblocks-of rank s long 0 c ∙ z)) (offered .supply);
     }
       where
         rank : ℕ → ℕ
@@ -232,7 +258,8 @@ module _ (s : State) (order : List ℕ) (shape : Shape s) (passed : Passed s ord
         full-after = rw (reranked-superblocks-of rank s long i c, reranked-live-of rank s long i c) (heap-full-of-fullest-nothing i c none)
 
     -- else from place 2, with the class
-    source-of-acquired : (superblockAt s k .owner ≡ 0) × (superblockAt s k .class ≡ c) × (liveIn (superblockAt s k) < blocksOf (superblockAt s k .class)) → TakeSource s order i c k (withOwner i (superblockAt s k)) order
+    source-of-acquired : (superblockAt s k .owner ≡ 0) × (superblockAt s k .class ≡ c) × (liveIn (superblockAt s k) < blocksOf (superblockAt s k .class))
+        → TakeSource s order i c k (withOwner i (superblockAt s k)) order
     source-of-acquired h = record {
       below = offered .below;
       owner = refl;
@@ -259,8 +286,10 @@ module _ (s : State) (order : List ℕ) (shape : Shape s) (passed : Passed s ord
     source-of-other-places = go (eqb (liveIn (superblockAt s k)) 0) refl (offered .live)
       where
         go : (t : Bool) → eqb (liveIn (superblockAt s k)) 0 ≡ t
-            → (liveIn (superblockAt s k) ≡ 0) ⊎ ((superblockAt s k .owner ≡ 0) × (superblockAt s k .class ≡ c) × (liveIn (superblockAt s k) < blocksOf (superblockAt s k .class)))
-            → TakeSource (pick t (unranked k s) s) order i c k (pick t (renewedFor i c) (withOwner i (superblockAt s k))) (pick t (renewed order k (blocksOf c)) order)
+            → (liveIn (superblockAt s k) ≡ 0)
+            ⊎ ((superblockAt s k .owner ≡ 0) × (superblockAt s k .class ≡ c) × (liveIn (superblockAt s k) < blocksOf (superblockAt s k .class)))
+            → TakeSource (pick t (unranked k s) s) order i c k (pick t (renewedFor i c) (withOwner i (superblockAt s k)))
+            (pick t (renewed order k (blocksOf c)) order)
         go true e h = source-of-renewed (eqb-true (liveIn (superblockAt s k)) 0 e)
         go false e (inl z) = absurd (eqb-false (liveIn (superblockAt s k)) 0 e z)
         go false e (inr h) = source-of-acquired h

@@ -29,14 +29,17 @@ use Rattle.check_rules.specs.Check.{withinLimits, restValid}
 use Rattle.heap_laws.proofs.StateFacts.{Shape, WithinLimits}
 use Rattle.heap_laws.proofs.StateCheckLaws.{sound-of-passes, totals-kept-of-rest, owned-of-owner}
 use Rattle.heap_laws.proofs.CountLaws.{owned-is-sum-over-heaps, live-is-sum-over-heaps}
-use Rattle.heap_laws.proofs.TotalsLaws.{new-state-totals-kept, recounted-superblocks, recounted-live, superblocks-kept-are-counted, live-kept-is-counted, totals-equal-of-each, length-recounted-superblocks, length-recounted-live, superblocks-kept-above-processors, live-kept-above-processors}
+use Rattle.heap_laws.proofs.TotalsLaws.{new-state-totals-kept, recounted-superblocks, recounted-live, superblocks-kept-are-counted, live-kept-is-counted}
+use Rattle.heap_laws.proofs.TotalsLaws.{totals-equal-of-each, length-recounted-superblocks, length-recounted-live, superblocks-kept-above-processors}
+use Rattle.heap_laws.proofs.TotalsLaws.{live-kept-above-processors}
 use Rattle.call_rules.specs.declared.Outcome.{Outcome}
 use Rattle.call_rules.specs.declared.Outcome.the-variants.{Ready, Address, Moves, Refused}
 use Rattle.call_rules.specs.Answers.{After, numberOf, refused, checked, isProcessor}
 use Rattle.call_rules.specs.Setup.{acceptedSetup, setupOf}
 use Rattle.call_rules.specs.LongBlocks.{joinedToRun, runTaken, longTakenFrom, longTakenAt, madeUnused, runFreed}
 use Rattle.call_rules.specs.Take.{otherPlaces, takenFrom, takenFromOther, takenAt, takeUnchecked}
-use Rattle.call_rules.specs.Free.{superblockIndex, superblockHolding, isUnmapped, isInRun, isMisaligned, isLiveAt, markCleared, smallBlockFreed, longBlockFreed, blockFreed, smallFreedAt, longFreedAt, freedAt, freeUnchecked}
+use Rattle.call_rules.specs.Free.{superblockIndex, superblockHolding, isUnmapped, isInRun, isMisaligned, isLiveAt, markCleared, smallBlockFreed}
+use Rattle.call_rules.specs.Free.{longBlockFreed, blockFreed, smallFreedAt, longFreedAt, freedAt, freeUnchecked}
 use Rattle.call_rules.specs.Named.{isUnavailable, nameBound, boundBy, withNameBound, namedTakeUnchecked, heldAddress, namedFreeUnchecked}
 use Rattle.call_rules.specs.Drop.{allFreed, firstAddressRefusal, isTouched, dropMoves, droppedAll, dropUnchecked}
 use Rattle.call_rules.specs.Calls.{Call, Take, Free, NamedTake, NamedFree, Drop, callOf, callUnchecked}
@@ -61,8 +64,10 @@ totals-kept-iff-counted s shape = (totals-counted-of-kept s, kept)
     kept : TotalsCounted s → TotalsKept s
     kept each =
         ap₂ (λ (a b : List ℕ). record { superblocks = a; live = b })
-        (totals-equal-of-each (s .totals .superblocks) _ (shape .superblock-totals-length) (length-recounted-superblocks (s .table)) (λ h c lh lc. each h c lh lc .0 ∙ sym (recounted-superblocks s h c lh lc)))
-        (totals-equal-of-each (s .totals .live) _ (shape .live-totals-length) (length-recounted-live (s .table)) (λ h c lh lc. each h c lh lc .1 ∙ sym (recounted-live s h c lh lc)))
+        (totals-equal-of-each (s .totals .superblocks) _ (shape .superblock-totals-length) (length-recounted-superblocks (s .table))
+        (λ h c lh lc. each h c lh lc .0 ∙ sym (recounted-superblocks s h c lh lc)))
+        (totals-equal-of-each (s .totals .live) _ (shape .live-totals-length) (length-recounted-live (s .table))
+        (λ h c lh lc. each h c lh lc .1 ∙ sym (recounted-live s h c lh lc)))
 
 -- ---- calls, by their definitions alone
 -- a run taken or freed replaces its superblocks one after another
@@ -77,7 +82,8 @@ run-freed-recounted k n s kept = each-of-run-keeps madeUnused k s n TotalsKept (
 -- a block freed replaces a superblock, a long one those of its run, and the moves of a drop keep them as those of a free do
 pub block-freed-recounted : (s : State) (a : ℕ) → TotalsKept s → TotalsKept (blockFreed s a)
 unfolding blockFreed longBlockFreed smallBlockFreed markCleared
-block-freed-recounted s a kept = pick-elim TotalsKept (isInRun s a) _ _ (λ e. run-freed-recounted (superblockIndex a) (superblockHolding s a .run) s kept) (λ e. refl)
+block-freed-recounted s a kept = pick-elim TotalsKept (isInRun s a) _ _ (λ e. run-freed-recounted (superblockIndex a) (superblockHolding s a .run) s kept)
+    (λ e. refl)
 
 pub all-freed-recounted : (s : State) (addresses : List ℕ) → TotalsKept s → TotalsKept (allFreed s addresses)
 unfolding allFreed
@@ -86,7 +92,8 @@ all-freed-recounted s (a ∷ addresses) kept = all-freed-recounted (blockFreed s
 
 drop-moves-recounted : (s : State) (addresses : List ℕ) → TotalsKept (allFreed s addresses) → TotalsKept (dropMoves s addresses .state)
 drop-moves-recounted s addresses kept =
-    rw (drop-moves-by-heaps s addresses) (heaps-restored-keep (λ m. TotalsKept (m .state)) then-restored-keeps-totals (isTouched s addresses) (s .setup .processors) (record { moves = 0; state = allFreed s addresses }) kept)
+    rw (drop-moves-by-heaps s addresses) (heaps-restored-keep (λ m. TotalsKept (m .state)) then-restored-keeps-totals (isTouched s addresses)
+    (s .setup .processors) (record { moves = 0; state = allFreed s addresses }) kept)
 
 -- a name bound leaves them as they are
 bound-recounted : (o : Outcome) (m : ℕ) (s : State) → TotalsKept s → TotalsKept (boundBy o m s)
@@ -115,7 +122,8 @@ module _ (s : State) (order : List ℕ) where
   check-refuses-or next f =
       by-test (withinLimits (s .setup)) _ _
       (by-test (leb (s .setup .superblocks * 256) (length order)) _ _
-      (pick-elim (RefusedOrRecounted s order) (restValid s order) next _ (λ e. f (totals-kept-of-rest s order (T-of-true _ e))) (λ e. with-refusal 13 (omega arith)))
+      (pick-elim (RefusedOrRecounted s order) (restValid s order) next _ (λ e. f (totals-kept-of-rest s order (T-of-true _ e)))
+      (λ e. with-refusal 13 (omega arith)))
       (with-refusal 12 (omega arith)))
       (with-refusal 13 (omega arith))
 
@@ -149,7 +157,11 @@ module _ (s : State) (order : List ℕ) where
       (by-test (isMisaligned s a) _ _ (with-refusal 6 (omega arith))
       (by-test (not (isLiveAt s a)) _ _ (with-refusal 7 (omega arith))
       (by-test (isInRun s a) _ _ (inr (moves-not-refused _, run-freed-recounted (superblockIndex a) (superblockHolding s a .run) s kept))
-      (inr (moves-not-refused _, totals-kept-of-invariant-restored (superblockHolding s a .owner) (superblockHolding s a .class) (smallBlockFreed s a) refl))))))
+      (inr (
+        moves-not-refused _,
+        totals-kept-of-invariant-restored (superblockHolding s a .owner) (superblockHolding s a .class)
+            (smallBlockFreed s a) refl,
+      ))))))
 
   drop-recounts : TotalsKept s → (i : ℕ) (addresses : List ℕ) → RefusedOrRecounted s order (dropUnchecked s order i addresses)
   unfolding dropUnchecked droppedAll
@@ -157,7 +169,8 @@ module _ (s : State) (order : List ℕ) where
       by-test (not (isProcessor s i)) _ _ (with-refusal 2 (omega arith))
       (by-test (eqb (length addresses) 0) _ _ (with-refusal 16 (omega arith)) (go (eqb (firstAddressRefusal s addresses) 0) refl))
     where
-      go : (t : Bool) → eqb (firstAddressRefusal s addresses) 0 ≡ t → RefusedOrRecounted s order (pick t (droppedAll s order addresses) (refused (firstAddressRefusal s addresses) s order))
+      go : (t : Bool) → eqb (firstAddressRefusal s addresses) 0 ≡ t
+          → RefusedOrRecounted s order (pick t (droppedAll s order addresses) (refused (firstAddressRefusal s addresses) s order))
       go true e = inr (moves-not-refused _, drop-moves-recounted s addresses (all-freed-recounted s addresses kept))
       go false e = with-refusal (firstAddressRefusal s addresses) (pos-of-ne-zero (eqb-false (firstAddressRefusal s addresses) 0 e))
 
@@ -185,7 +198,8 @@ module _ (s : State) (order : List ℕ) where
     accepted-call-recounts : numberOf (callOf s order call .answer .outcome) ≡ 0 → TotalsKept (callOf s order call .answer .state)
     unfolding numberOf
     accepted-call-recounts accepted = ⊎-elim
-        (λ h. let r : numberOf (callOf s order call .answer .outcome) ≡ h .0 = ap (λ (x : After). numberOf (x .answer .outcome)) (h .2) in absurd (let z : ⊥ = omega (arith, h .1) in z))
+        (λ h. let r : numberOf (callOf s order call .answer .outcome) ≡ h .0 = ap (λ (x : After). numberOf (x .answer .outcome)) (h .2) in
+        absurd (let z : ⊥ = omega (arith, h .1) in z))
         (λ h. h .1) refused-or-recounted
 
     -- "Every operation keeps them equal to the recount": after every accepted call they are it, whatever the state before ..
@@ -204,9 +218,11 @@ module _ (s : State) (order : List ℕ) where
     call-keeps-totals kept = ⊎-elim (λ h. subst (λ (x : After). TotalsKept (x .answer .state)) (sym (h .2)) kept) (λ h. h .1) refused-or-recounted
 
     -- "the state check adds this equality to 13's conditions": one total that is not the recount is enough
-    pub call-refused-13-of-wrong-total : WithinLimits (s .setup) → s .setup .superblocks * 256 ≤ length order → (TotalsCounted s → ⊥) → callOf s order call ≡ refused 13 s order
+    pub call-refused-13-of-wrong-total : WithinLimits (s .setup) → s .setup .superblocks * 256 ≤ length order → (TotalsCounted s → ⊥)
+        → callOf s order call ≡ refused 13 s order
     call-refused-13-of-wrong-total numbers lent wrong =
-        call-of-checks-first s order call ∙ check-fails-refused-13 s order 0 (callUnchecked s order call) (rest-fails numbers lent (λ h. wrong (totals-counted-of-kept s (h .2))))
+        call-of-checks-first s order call ∙ check-fails-refused-13 s order 0 (callUnchecked s order call)
+        (rest-fails numbers lent (λ h. wrong (totals-counted-of-kept s (h .2))))
 
 -- ---- a setup
 -- accepted or refused, it hands back a new state
@@ -235,8 +251,11 @@ new-or-refused-setup-totals-kept u order = let new = setup-state-is-new u order 
 -- none has a superblock: in a state that passes their totals are 0 ..
 pub heaps-above-processors-have-0 : (s : State) (order : List ℕ) → Passed s order → (h c : ℕ) → s .setup .processors < h → h < heapCount → c < classCount
     → (superblocksKept h c s ≡ 0) × (liveKept h c s ≡ 0)
-heaps-above-processors-have-0 s order passed h c above lh lc =
-    (superblocks-kept-above-processors s order (passed .sound) (passed .totals) h c above lh lc, live-kept-above-processors s order (passed .sound) (passed .totals) h c above lh lc)
+heaps-above-processors-have-0 s order passed h c above lh lc = (
+  superblocks-kept-above-processors s order (passed .sound) (passed .totals) h c above lh lc,
+  live-kept-above-processors s order (passed .sound)
+      (passed .totals) h c above lh lc,
+)
 
 -- .. so also in that after an accepted call
 pub heaps-above-processors-have-0-after-call : (s : State) (order : List ℕ) (call : Call) → Shape s → numberOf (callOf s order call .answer .outcome) ≡ 0
@@ -245,8 +264,11 @@ pub heaps-above-processors-have-0-after-call : (s : State) (order : List ℕ) (c
 heaps-above-processors-have-0-after-call s order call shape accepted h c above lh lc =
     let after = callOf s order call in
     let sound = sound-of-passes (after .answer .state) (after .order) (T-of-true _ (call-passes-if-accepted s order call shape accepted)) in
-    let kept = accepted-call-recounts s order call accepted in
-    (superblocks-kept-above-processors (after .answer .state) (after .order) sound kept h c above lh lc, live-kept-above-processors (after .answer .state) (after .order) sound kept h c above lh lc)
+    let kept = accepted-call-recounts s order call accepted in (
+      superblocks-kept-above-processors (after .answer .state) (after .order) sound kept h c above lh lc,
+      live-kept-above-processors (after .answer .state)
+          (after .order) sound kept h c above lh lc,
+    )
 
 -- ---- a class's totals over heap 0 and the P processor heaps, in a state that passes
 module _ (s : State) (order : List ℕ) (passed : Passed s order) (c : ℕ) (lc : c < classCount) where
@@ -263,7 +285,8 @@ module _ (s : State) (order : List ℕ) (passed : Passed s order) (c : ℕ) (lc 
   owner-le-processors k l f = owned-of-owner s order (passed .sound) k l f .owner
 
   -- the superblock totals are the A of the bound ..
-  pub superblock-totals-are-superblocks-of-class : superblocksKept 0 c s + sumBelow (λ i. superblocksKept (suc i) c s) (s .setup .processors) ≡ superblocksOfClass c s
+  pub superblock-totals-are-superblocks-of-class : superblocksKept 0 c s + sumBelow (λ i. superblocksKept (suc i) c s) (s .setup .processors)
+      ≡ superblocksOfClass c s
   superblock-totals-are-superblocks-of-class =
       sum-over-heaps-cong (λ h. superblocksKept h c s) (λ h. superblocksOf h c s) (λ h lh. superblocks-kept-are-counted s h c lh lc (passed .totals))
       ∙ sym (owned-is-sum-over-heaps (s .setup .processors) c s few-processors owner-le-processors)

@@ -2,7 +2,8 @@
 use mathlib.Core.Path.{_≡_, refl, sym, ap, _∙_, subst}
 use mathlib.Core.Bool.{Bool, true, false}
 use mathlib.Core.Logic.{_↔_, _⊎_, inl, inr, ⊎-elim}
-use mathlib.Core.List.{List, [], _∷_, _++_, List·Memᴰ, List·Memᴰ·head, List·Memᴰ·tail, List·Memᴰ·not-nil, List·Memᴰ·cases-cons, List·Memᴰ·append-cases, List·Memᴰ·eq-of-singleton, Memᴰ·append-left, Memᴰ·append-right}
+use mathlib.Core.List.{List, [], _∷_, _++_, List·Memᴰ, List·Memᴰ·head, List·Memᴰ·tail, List·Memᴰ·not-nil, List·Memᴰ·cases-cons, List·Memᴰ·append-cases}
+use mathlib.Core.List.{List·Memᴰ·eq-of-singleton, Memᴰ·append-left, Memᴰ·append-right}
 use Prim.Native.Nat.{ℕ, zero, suc, _≤_, _<_}
 use native.Mathlib.Decide.{ℕ-discrete}
 use native.Mathlib.Omega.{arith}
@@ -11,11 +12,9 @@ use Rattle.base_laws.specs.Sums.{pick}
 use Rattle.class_rules.specs.Classes.{classCount}
 use Rattle.base_laws.proofs.TestLaws.{T-of-true, either-left, either-right, either-right-of-left-false}
 use Rattle.heap_rules.specs.declared.State.{State}
-use Rattle.heap_rules.specs.Table.{runOwner}
 use Rattle.heap_rules.specs.Counts.{belongs}
 use Rattle.heap_laws.proofs.CountLaws.{owner-and-class-of-belongs, belongs-of-owner-and-class}
-use Rattle.heap_laws.proofs.RunsKeptLaws.{outside-run-of-owner}
-use Rattle.call_rules.specs.Free.{superblockHolding, isInRun}
+use Rattle.call_rules.specs.Free.{superblockHolding}
 use Rattle.call_rules.specs.Drop.{Pair, isTouched, touchedClasses, touchedPairs}
 
 -- ---- which are touched
@@ -39,18 +38,22 @@ touches-of-is-touched s (a ∷ addresses) h c t = go (belongs h c (superblockHol
         let later = rest (either-right-of-left-false (belongs h c (superblockHolding s a)) (isTouched s addresses h c) t e) in
         record { address = later .address; listed = List·Memᴰ·tail (later .listed); owner-is = later .owner-is; class-is = later .class-is }
 
-is-touched-of-listed : (s : State) (addresses : List ℕ) (h c a : ℕ) → T (belongs h c (superblockHolding s a)) → List·Memᴰ a addresses → T (isTouched s addresses h c)
+is-touched-of-listed : (s : State) (addresses : List ℕ) (h c a : ℕ) → T (belongs h c (superblockHolding s a)) → List·Memᴰ a addresses
+    → T (isTouched s addresses h c)
 unfolding isTouched
 is-touched-of-listed s [] h c a b listed = absurd (List·Memᴰ·not-nil listed)
 is-touched-of-listed s (x ∷ addresses) h c a b listed =
-    ⊎-elim (λ (e : a ≡ x). either-left (belongs h c (superblockHolding s x)) (isTouched s addresses h c) (subst (λ (y : ℕ). T (belongs h c (superblockHolding s y))) e b))
-    (λ m. either-right (belongs h c (superblockHolding s x)) (isTouched s addresses h c) (is-touched-of-listed s addresses h c a b m)) (List·Memᴰ·cases-cons listed)
+    ⊎-elim (λ (e : a ≡ x). either-left (belongs h c (superblockHolding s x)) (isTouched s addresses h c)
+    (subst (λ (y : ℕ). T (belongs h c (superblockHolding s y))) e b))
+    (λ m. either-right (belongs h c (superblockHolding s x)) (isTouched s addresses h c) (is-touched-of-listed s addresses h c a b m))
+    (List·Memᴰ·cases-cons listed)
 
 -- heap h and class c are touched exactly if one of the addresses is in a superblock of theirs
 pub is-touched-iff : (s : State) (addresses : List ℕ) (h c : ℕ) → T (isTouched s addresses h c) ↔ Touches s addresses h c
 is-touched-iff s addresses h c = (
   touches-of-is-touched s addresses h c,
-  λ t. is-touched-of-listed s addresses h c (t .address) (belongs-of-owner-and-class h c (superblockHolding s (t .address)) (t .owner-is) (t .class-is)) (t .listed),
+  λ t. is-touched-of-listed s addresses h c (t .address) (belongs-of-owner-and-class h c (superblockHolding s (t .address)) (t .owner-is) (t .class-is))
+      (t .listed),
 )
 
 -- ---- "each processor heap and class touched"
@@ -60,7 +63,8 @@ PairAmong h c pairs = List·Memᴰ (record { heap = h; class = c }) pairs
 
 module _ (touched : ℕ → ℕ → Bool) where
   -- the one pair of heap h and class c where they are touched, else none
-  pair-if-touched : (h c : ℕ) (p : Pair) → List·Memᴰ p (pick (touched h c) (record { heap = h; class = c } ∷ []) []) → (p ≡ record { heap = h; class = c }) × T (touched h c)
+  pair-if-touched : (h c : ℕ) (p : Pair) → List·Memᴰ p (pick (touched h c) (record { heap = h; class = c } ∷ []) [])
+      → (p ≡ record { heap = h; class = c }) × T (touched h c)
   pair-if-touched h c p m = go (touched h c) m
     where
       go : (t : Bool) → List·Memᴰ p (pick t (record { heap = h; class = c } ∷ []) []) → (p ≡ record { heap = h; class = c }) × T t
@@ -86,14 +90,16 @@ module _ (touched : ℕ → ℕ → Bool) where
   class-listed-of-touched h zero c l t = absurd (let z : ⊥ = omega arith in z)
   class-listed-of-touched h (suc n) c l t = go (ℕ-discrete c n) (λ k. class-listed-of-touched h n c k t)
     where
-      go : Dec (c ≡ n) → (c < n → PairAmong h c (touchedClasses touched h n)) → PairAmong h c (touchedClasses touched h n ++ pick (touched h n) (record { heap = h; class = n } ∷ []) [])
+      go : Dec (c ≡ n) → (c < n → PairAmong h c (touchedClasses touched h n))
+          → PairAmong h c (touchedClasses touched h n ++ pick (touched h n) (record { heap = h; class = n } ∷ []) [])
       go (yes e) rest =
           Memᴰ·append-right (touchedClasses touched h n)
           (subst (λ (d : ℕ). PairAmong h d (pick (touched h n) (record { heap = h; class = n } ∷ []) [])) (sym e)
           (pair-of-touched h n (touched h n) (subst (λ (d : ℕ). T (touched h d)) e t)))
       go (no f) rest = Memᴰ·append-left (pick (touched h n) (record { heap = h; class = n } ∷ []) []) (rest (omega arith))
 
-  touched-of-pair-listed : (n : ℕ) (p : Pair) → List·Memᴰ p (touchedPairs touched n) → (1 ≤ p .heap) × (p .heap ≤ n) × (p .class < classCount) × T (touched (p .heap) (p .class))
+  touched-of-pair-listed : (n : ℕ) (p : Pair) → List·Memᴰ p (touchedPairs touched n) → (1 ≤ p .heap) × (p .heap ≤ n) × (p .class < classCount)
+      × T (touched (p .heap) (p .class))
   unfolding touchedPairs
   touched-of-pair-listed zero p m = absurd (List·Memᴰ·not-nil m)
   touched-of-pair-listed (suc n) p m =
@@ -108,7 +114,8 @@ module _ (touched : ℕ → ℕ → Bool) where
   pair-listed-of-touched zero h c low high l t = absurd (let z : ⊥ = omega arith in z)
   pair-listed-of-touched (suc n) h c low high l t = go (ℕ-discrete h (suc n)) (λ k. pair-listed-of-touched n h c low k l t)
     where
-      go : Dec (h ≡ suc n) → (h ≤ n → PairAmong h c (touchedPairs touched n)) → PairAmong h c (touchedPairs touched n ++ touchedClasses touched (suc n) classCount)
+      go : Dec (h ≡ suc n) → (h ≤ n → PairAmong h c (touchedPairs touched n))
+          → PairAmong h c (touchedPairs touched n ++ touchedClasses touched (suc n) classCount)
       go (yes e) rest =
           Memᴰ·append-right (touchedPairs touched n)
           (subst (λ (g : ℕ). PairAmong h c (touchedClasses touched g classCount)) e (class-listed-of-touched h classCount c l t))
@@ -151,7 +158,8 @@ module _ (touched : ℕ → ℕ → Bool) where
   unfolding touchedClasses Rising Before
   touched-classes-rising h zero = tt
   touched-classes-rising h (suc n) =
-      rising-append (touchedClasses touched h n) (pick (touched h n) (record { heap = h; class = n } ∷ []) []) (touched-classes-rising h n) (rising-of-pair-if-touched (touched h n) (record { heap = h; class = n }))
+      rising-append (touchedClasses touched h n) (pick (touched h n) (record { heap = h; class = n } ∷ []) []) (touched-classes-rising h n)
+      (rising-of-pair-if-touched (touched h n) (record { heap = h; class = n }))
       (λ p q m k.
       let a = touched-of-class-listed touched h n p m in
       let b = pair-if-touched touched h n q k in

@@ -46,12 +46,32 @@ one-unused-state = stateWith (unused ∷ [])
 -- superblock 0 for the class, so that its first place holds the class's last block
 abbrev pub class-case : ℕ → ℕ → ℕ → MarkedCase
 class-case size c last =
-    record { state = one-unused-state; order = replicate 256 0; call = Take 1 size; outcome = Address 0; owner-after = 1; class-after = c; run-after = 0; place-after = last }
+    record {
+      state = one-unused-state;
+      order = replicate 256 0;
+      call = Take 1 size;
+      outcome = Address 0;
+      owner-after = 1;
+      class-after = c;
+      run-after =
+          0;
+      place-after = last;
+    }
 
 -- "2049: refusal 3", but "marked size 2049 becomes a run of one" (document 02, item 7): its order places "keep what they had"
 abbrev pub run-of-one-case : ℕ → MarkedCase
 run-of-one-case size =
-    record { state = one-unused-state; order = replicate 256 9; call = Take 1 size; outcome = Address 0; owner-after = 254; class-after = 0; run-after = 1; place-after = 9 }
+    record {
+      state = one-unused-state;
+      order = replicate 256 9;
+      call = Take 1 size;
+      outcome = Address 0;
+      owner-after = 254;
+      class-after = 0;
+      run-after =
+          1;
+      place-after = 9;
+    }
 
 -- "Class 1 in superblock 0": all its 170 blocks live, so that a block that is freed goes in the first place
 abbrev pub all-live-state : State
@@ -60,12 +80,32 @@ all-live-state = stateWith (heap-1-superblock 1 ((2 ^ 64 - 1) ∷ (2 ^ 64 - 1) �
 -- "address 4056 is block 169"
 abbrev pub last-block-case : MarkedCase
 last-block-case =
-    record { state = all-live-state; order = replicate 256 0; call = Free 1 4056; outcome = Moves 0; owner-after = 1; class-after = 1; run-after = 0; place-after = 169 }
+    record {
+      state = all-live-state;
+      order = replicate 256 0;
+      call = Free 1 4056;
+      outcome = Moves 0;
+      owner-after = 1;
+      class-after = 1;
+      run-after =
+          0;
+      place-after = 169;
+    }
 
 -- "4080 is refusal 6"
 abbrev pub misaligned-case : MarkedCase
 misaligned-case =
-    record { state = all-live-state; order = replicate 256 0; call = Free 1 4080; outcome = Refused 6; owner-after = 1; class-after = 1; run-after = 0; place-after = 0 }
+    record {
+      state = all-live-state;
+      order = replicate 256 0;
+      call = Free 1 4080;
+      outcome = Refused 6;
+      owner-after = 1;
+      class-after = 1;
+      run-after =
+          0;
+      place-after = 0;
+    }
 
 -- "p/q = 1/4, K = 1, heap 1 class 16 with live counts 7, 7, 7, 8, 8, 8: freeing from an 8 moves two superblocks"
 abbrev pub sevens-and-eights : State
@@ -82,11 +122,22 @@ sevens-and-eights-order =
 
 abbrev pub two-moves-case : ℕ → MarkedCase
 two-moves-case address =
-    record { state = sevens-and-eights; order = sevens-and-eights-order; call = Free 1 address; outcome = Moves 2; owner-after = 0; class-after = 16; run-after = 0; place-after = 9 }
+    record {
+      state = sevens-and-eights;
+      order = sevens-and-eights-order;
+      call = Free 1 address;
+      outcome = Moves 2;
+      owner-after = 0;
+      class-after =
+          16;
+      run-after = 0;
+      place-after = 9;
+    }
 
 abbrev pub marked-cases : List MarkedCase
 marked-cases =
-    class-case 0 0 255 ∷ class-case 1 0 255 ∷ class-case 16 0 255 ∷ class-case 17 1 169 ∷ class-case 64 6 63 ∷ class-case 65 7 50 ∷ class-case 80 7 50 ∷ class-case 81 8 41
+    class-case 0 0 255 ∷ class-case 1 0 255 ∷ class-case 16 0 255 ∷ class-case 17 1 169 ∷ class-case 64 6 63 ∷ class-case 65 7 50 ∷ class-case 80 7 50
+    ∷ class-case 81 8 41
     ∷ class-case 2048 26 1 ∷ run-of-one-case 2049 ∷ last-block-case ∷ misaligned-case ∷ two-moves-case 12288 ∷ two-moves-case 20480 ∷ []
 
 abbrev pub seen : After → Outcome × ℕ × ℕ × ℕ × ℕ
@@ -107,7 +158,8 @@ marked-cases-behind-check : map (λ (k : MarkedCase). seen (callUnchecked (k .st
 unfolding uncheckedCallDefinitions
 marked-cases-behind-check = refl
 
-pub marked-cases-are-computed : map result-of marked-cases ≡ map (λ (k : MarkedCase). (k .outcome, k .owner-after, k .class-after, k .run-after, k .place-after)) marked-cases
+pub marked-cases-are-computed : map result-of marked-cases
+    ≡ map (λ (k : MarkedCase). (k .outcome, k .owner-after, k .class-after, k .run-after, k .place-after)) marked-cases
 marked-cases-are-computed =
     ap (map seen)
     (calls-past-used-part (λ (k : MarkedCase). k .state) (λ (k : MarkedCase). k .order) (λ (k : MarkedCase). k .call) marked-cases refl refl marked-cases-pass)

@@ -3,7 +3,7 @@ use mathlib.Core.Path.{_≡_, refl, sym, ap}
 use mathlib.Core.Bool.{Bool, true, false, not}
 use mathlib.Core.Logic.{_⊎_, inl, inr}
 use mathlib.Core.List.{List}
-use Prim.Native.Nat.{ℕ, _<_}
+use Prim.Native.Nat.{ℕ}
 use native.Mathlib.Omega.{arith}
 use lib.Dec.{eqb}
 use Rattle.base_laws.specs.Sums.{pick}
@@ -80,7 +80,9 @@ module _ (s : State) (a : ℕ) where
 
 -- ---- a free behind the check: 2, and then the refusal of its address
 pub free-unchecked-by-address-refusal : (s : State) (order : List ℕ) (i a : ℕ)
-    → freeUnchecked s order i a ≡ pick (not (isProcessor s i)) (refused 2 s order) (pick (eqb (addressRefusal s a) 0) (freedAt s order a) (refused (addressRefusal s a) s order))
+    → freeUnchecked s order i a ≡ pick (not (isProcessor s i)) (refused 2 s order)
+    (pick (eqb (addressRefusal s a) 0) (freedAt s order a) (refused (addressRefusal s a) s order))
 unfolding freeUnchecked addressRefusal
 free-unchecked-by-address-refusal s order i a =
-    ap (pick (not (isProcessor s i)) (refused 2 s order)) (pick-by-refusal (isUnmapped s a) (isMisaligned s a) (isLiveAt s a) (λ n. refused n s order) (freedAt s order a))
+    ap (pick (not (isProcessor s i)) (refused 2 s order)) (pick-by-refusal (isUnmapped s a) (isMisaligned s a) (isLiveAt s a) (λ n. refused n s order)
+    (freedAt s order a))

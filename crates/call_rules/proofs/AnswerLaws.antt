@@ -7,7 +7,7 @@ use Rattle.heap_rules.specs.declared.State.{State}
 use Rattle.call_rules.specs.declared.Answer.{Answer}
 use Rattle.call_rules.specs.declared.Outcome.{Outcome}
 use Rattle.call_rules.specs.declared.Outcome.the-variants.{Address, Moves, Refused}
-use Rattle.call_rules.specs.Answers.{After, numberOf, valuesOf, HasNumberAndValuesOf, PassesIfAccepted, MovesAtMost, refused}
+use Rattle.call_rules.specs.Answers.{After, HasNumberAndValuesOf, PassesIfAccepted, MovesAtMost, refused}
 
 -- an outcome that is the rules' has their number and values
 pub has-number-and-values-of-equal : (outcome rules : Outcome) → outcome ≡ rules → HasNumberAndValuesOf outcome rules
@@ -31,7 +31,8 @@ module _ (r : Answer) (order : List ℕ) (rules : After) (e : _≡_ {A = After} 
   number-and-values-by-rules = has-number-and-values-of-equal (r .outcome) (rules .answer .outcome) (ap (λ (x : After). x .answer .outcome) e)
 
   -- and pass where the rules' do
-  pub passes-if-accepted-by-rules : PassesIfAccepted (rules .answer .outcome) (rules .answer .state) (rules .order) → PassesIfAccepted (r .outcome) (r .state) order
+  pub passes-if-accepted-by-rules : PassesIfAccepted (rules .answer .outcome) (rules .answer .state) (rules .order)
+      → PassesIfAccepted (r .outcome) (r .state) order
   passes-if-accepted-by-rules = subst (λ (x : After). PassesIfAccepted (x .answer .outcome) (x .answer .state) (x .order)) (sym e)
 
   -- and report at most what the rules' may
@@ -39,5 +40,6 @@ module _ (r : Answer) (order : List ℕ) (rules : After) (e : _≡_ {A = After} 
   moves-at-most-by-rules most = subst (λ (x : After). MovesAtMost most (x .answer .outcome)) (sym e)
 
 -- ---- a refusal's answer, with the order handed in, is what the rules leave
-pub refused-of-answer : (s : State) (order : List ℕ) (number : ℕ) (r : Answer) → r ≡ record { outcome = Refused number; state = s } → _≡_ {A = After} (record { answer = r; order = order }) (refused number s order)
+pub refused-of-answer : (s : State) (order : List ℕ) (number : ℕ) (r : Answer) → r ≡ record { outcome = Refused number; state = s }
+    → _≡_ {A = After} (record { answer = r; order = order }) (refused number s order)
 refused-of-answer s order number r e = ap (λ (x : Answer). record { answer = x; order = order }) e

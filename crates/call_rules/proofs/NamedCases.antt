@@ -1,12 +1,10 @@
 -- The parts of named calls in cases that tell them from near misses, by computation. Assumes nothing.
 use mathlib.Core.Path.{_≡_, refl}
 use mathlib.Core.Bool.{true, false}
-use mathlib.Core.List.{List, [], _∷_, map}
-use Prim.Native.Nat.{ℕ}
+use mathlib.Core.List.{[], _∷_, map}
 use lib.ListN.{replicate}
 use Rattle.base_laws.proofs.Stages.{_also_}
 use Rattle.names_rules.specs.Names.{noNames, withName}
-use Rattle.heap_rules.specs.declared.State.{State}
 use Rattle.heap_rules.specs.Table.{unused}
 use Rattle.heap_rules.specs.States.{withNames}
 use Rattle.heap_rules.proofs.CaseStates.{unnamedState}
@@ -19,12 +17,14 @@ use Rattle.call_rules.proofs.RuleCases.{setup-with, refusal-state, rule
 use Rattle.call_rules.proofs.PairStates.{named-state}
 
 -- 14: "taken name or one above 1023"
-pub is-unavailable-cases : map (isUnavailable named-state) (5 ∷ 1022 ∷ 4 ∷ 0 ∷ 1023 ∷ 1024 ∷ 65535 ∷ []) ≡ true ∷ true ∷ false ∷ false ∷ false ∷ true ∷ true ∷ []
+pub is-unavailable-cases : map (isUnavailable named-state) (5 ∷ 1022 ∷ 4 ∷ 0 ∷ 1023 ∷ 1024 ∷ 65535 ∷ []) ≡ true ∷ true ∷ false ∷ false ∷ false ∷ true
+    ∷ true ∷ []
 unfolding rulesHold uncheckedCallDefinitions
 is-unavailable-cases = refl
 
 -- superblock 3 of class 20, of blocks of 768 bytes, and 4 of class 1, of 24; the first and the last block of superblock 63; past the table there is no block
-pub block-number-at-cases : map (blockNumberAt refusal-state) (12288 ∷ 13824 ∷ 20440 ∷ 258048 ∷ 262143 ∷ 262144 ∷ []) ≡ 768 ∷ 770 ∷ 1193 ∷ 16128 ∷ 16383 ∷ 65535 ∷ []
+pub block-number-at-cases : map (blockNumberAt refusal-state) (12288 ∷ 13824 ∷ 20440 ∷ 258048 ∷ 262143 ∷ 262144 ∷ []) ≡ 768 ∷ 770 ∷ 1193 ∷ 16128 ∷ 16383
+    ∷ 65535 ∷ []
 unfolding rulesHold uncheckedCallDefinitions
 block-number-at-cases = refl
 
@@ -54,7 +54,8 @@ quickNamedHold = is-unavailable-cases also block-number-at-cases also held-addre
 -- block 2 of superblock 3 loses its mark and its name 7; name 8, of block 0, stays; superblock 3 is the last freed into, and those that were ranked follow
 pub block-freed-case :
     blockFreed (withNames refusal-state (withName (withName noNames 8 768) 7 770)) 13824
-    ≡ withNames (unnamedState (setup-with 2 5 1 3 7) (ranked 1 26 3 3 ∷ unused ∷ ranked 2 26 1 4 ∷ ranked 2 20 9 1 ∷ record { owner = 1; class = 1; live = 0 ∷ 0 ∷ 2199023255552 ∷ 0 ∷ []; rank = 2; run = 0 } ∷ replicate 59 unused)) (withName noNames 8 768)
+    ≡ withNames (unnamedState (setup-with 2 5 1 3 7) (ranked 1 26 3 3 ∷ unused ∷ ranked 2 26 1 4 ∷ ranked 2 20 9 1
+    ∷ record { owner = 1; class = 1; live = 0 ∷ 0 ∷ 2199023255552 ∷ 0 ∷ []; rank = 2; run = 0 } ∷ replicate 59 unused)) (withName noNames 8 768)
 unfolding quickNamedHold uncheckedCallDefinitions
 block-freed-case = refl
 

@@ -63,14 +63,16 @@ moves-at-most-cases = (
 abbrev pub state-with-wrong-owner : ℕ → State
 state-with-wrong-owner q = unnamedState (setup-with 2 5 1 3 q) (of 3 26 3 ∷ replicate 63 unused)
 
--- an outcome has the number and the values of another only where both are the same: not of another refusal or none, another address, other moves, nor where only one of the two has a value
+-- an outcome has the number and the values of another only where both are the same: not of another refusal or none, another address, other moves, nor
+-- where only one of the two has a value
 pub other-number-fails :
     (HasNumberAndValuesOf (Refused 5) (Refused 6) → ⊥) × (HasNumberAndValuesOf (Refused 4) Ready → ⊥) × (HasNumberAndValuesOf (Moves 0) (Refused 7) → ⊥)
 unfolding numberOf valuesOf
 other-number-fails = (λ h. let z = h .number-is in omega arith, λ h. let z = h .number-is in omega arith, λ h. let z = h .number-is in omega arith)
 
 pub other-values-fail :
-    (HasNumberAndValuesOf (Address 5) (Address 6) → ⊥) × (HasNumberAndValuesOf (Moves 1) (Moves 2) → ⊥) × (HasNumberAndValuesOf Ready (Moves 0) → ⊥) × (HasNumberAndValuesOf (Address 0) Ready → ⊥)
+    (HasNumberAndValuesOf (Address 5) (Address 6) → ⊥) × (HasNumberAndValuesOf (Moves 1) (Moves 2) → ⊥) × (HasNumberAndValuesOf Ready (Moves 0) → ⊥)
+    × (HasNumberAndValuesOf (Address 0) Ready → ⊥)
 unfolding numberOf valuesOf
 other-values-fail = (
   λ h. let z : _≡_ {A = ℕ} 5 6 = ap (λ (l : List ℕ). getD l 0 9) (h .values-are) in omega arith,
@@ -81,10 +83,14 @@ other-values-fail = (
 
 -- "An accepted call yields a state that passes", of a setup, a take and a free alike; nothing is asked of a refused one
 pub accepted-with-failing-state-fails :
-    (PassesIfAccepted Ready (state-with-wrong-owner 7) [] → ⊥) × (PassesIfAccepted (Address 9) (state-with-wrong-owner 7) [] → ⊥) × (PassesIfAccepted (Moves 3) (state-with-wrong-owner 7) [] → ⊥)
+    (PassesIfAccepted Ready (state-with-wrong-owner 7) [] → ⊥) × (PassesIfAccepted (Address 9) (state-with-wrong-owner 7) [] → ⊥)
+    × (PassesIfAccepted (Moves 3) (state-with-wrong-owner 7) [] → ⊥)
 unfolding numberOf callDefinitions
-accepted-with-failing-state-fails =
-    (λ h. true-not-false (passes (state-with-wrong-owner 7) []) (h refl) refl, λ h. true-not-false (passes (state-with-wrong-owner 7) []) (h refl) refl, λ h. true-not-false (passes (state-with-wrong-owner 7) []) (h refl) refl)
+accepted-with-failing-state-fails = (
+  λ h. true-not-false (passes (state-with-wrong-owner 7) []) (h refl) refl,
+  λ h. true-not-false (passes (state-with-wrong-owner 7) []) (h refl) refl,
+  λ h. true-not-false (passes (state-with-wrong-owner 7) []) (h refl) refl,
+)
 
 pub refused-with-failing-state-holds : PassesIfAccepted (Refused 13) (state-with-wrong-owner 7) []
 unfolding numberOf
@@ -92,19 +98,24 @@ refused-with-failing-state-holds e = absurd (omega arith)
 
 -- the call of each header, its numbers in their order; only a drop has the addresses that are lent beside it
 pub call-with-cases :
-    map (λ (c : CallHeader). callWith c (7 ∷ 8 ∷ [])) (header.Take 1 2 ∷ header.Free 1 2 ∷ header.NamedTake 1 2 3 ∷ header.NamedFree 1 2 ∷ header.Drop 1 ∷ []) ≡ Take 1 2 ∷ Free 1 2 ∷ NamedTake 1 2 3 ∷ NamedFree 1 2 ∷ Drop 1 (7 ∷ 8 ∷ []) ∷ []
+    map (λ (c : CallHeader). callWith c (7 ∷ 8 ∷ [])) (header.Take 1 2 ∷ header.Free 1 2 ∷ header.NamedTake 1 2 3 ∷ header.NamedFree 1 2 ∷ header.Drop 1
+    ∷ []) ≡ Take 1 2 ∷ Free 1 2 ∷ NamedTake 1 2 3 ∷ NamedFree 1 2 ∷ Drop 1 (7 ∷ 8 ∷ []) ∷ []
 unfolding callWith
 call-with-cases = refl
 
 -- a refusal: its number, the state and the storage as they were
-pub refused-case : refused 9 (state-with-wrong-owner 7) (4 ∷ 5 ∷ []) ≡ record { answer = record { outcome = Refused 9; state = state-with-wrong-owner 7 }; order = 4 ∷ 5 ∷ [] }
+pub refused-case : refused 9 (state-with-wrong-owner 7) (4 ∷ 5 ∷ []) ≡ record {
+  answer = record { outcome = Refused 9; state = state-with-wrong-owner 7 };
+  order = 4 ∷ 5 ∷ [];
+}
 refused-case = refl
 
 -- ---- the conditions of refusals. P = 2, N = 5; superblock 3, of class 20 with 5 blocks of 768 bytes, has blocks 0, 2 and 3 live; superblock 4, of class 1
 -- with 170 blocks of 24, has block 169 live; superblock 1 is unused; superblocks 4, 0 and 2 are ranked, in this order
 abbrev pub refusal-state : State
 refusal-state =
-    unnamedState (setup-with 2 5 1 3 7) (ranked 1 26 3 2 ∷ unused ∷ ranked 2 26 1 3 ∷ of 2 20 13 ∷ record { owner = 1; class = 1; live = 0 ∷ 0 ∷ 2199023255552 ∷ 0 ∷ []; rank = 1; run = 0 } ∷ replicate 59 unused)
+    unnamedState (setup-with 2 5 1 3 7) (ranked 1 26 3 2 ∷ unused ∷ ranked 2 26 1 3 ∷ of 2 20 13
+    ∷ record { owner = 1; class = 1; live = 0 ∷ 0 ∷ 2199023255552 ∷ 0 ∷ []; rank = 1; run = 0 } ∷ replicate 59 unused)
 
 -- 2: "0 or above P"
 pub is-processor-cases : map (isProcessor refusal-state) (0 ∷ 1 ∷ 2 ∷ 3 ∷ []) ≡ false ∷ true ∷ true ∷ false ∷ []
@@ -122,7 +133,8 @@ is-unmapped-cases = refl
 abbrev pub all-used : ℕ → State
 all-used n = unnamedState (setup-with 2 n 1 3 7) (replicate 64 (of 1 26 3))
 
-pub is-unmapped-past-N-cases : map (isUnmapped (all-used 1)) (4095 ∷ 4096 ∷ []) ≡ false ∷ true ∷ [] × map (isUnmapped (all-used 64)) (262143 ∷ 262144 ∷ []) ≡ false ∷ true ∷ []
+pub is-unmapped-past-N-cases : map (isUnmapped (all-used 1)) (4095 ∷ 4096 ∷ []) ≡ false ∷ true ∷ []
+    × map (isUnmapped (all-used 64)) (262143 ∷ 262144 ∷ []) ≡ false ∷ true ∷ []
 unfolding uncheckedCallDefinitions
 is-unmapped-past-N-cases = (refl, refl)
 
@@ -138,7 +150,8 @@ unfolding uncheckedCallDefinitions
 block-of-cases = refl
 
 -- 7: "the block is not live"
-pub is-live-at-cases : map (isLiveAt refusal-state) (12288 ∷ 13056 ∷ 13824 ∷ 14592 ∷ 15360 ∷ 16384 ∷ 20440 ∷ []) ≡ true ∷ false ∷ true ∷ true ∷ false ∷ false ∷ true ∷ []
+pub is-live-at-cases : map (isLiveAt refusal-state) (12288 ∷ 13056 ∷ 13824 ∷ 14592 ∷ 15360 ∷ 16384 ∷ 20440 ∷ []) ≡ true ∷ false ∷ true ∷ true ∷ false
+    ∷ false ∷ true ∷ []
 unfolding uncheckedCallDefinitions
 is-live-at-cases = refl
 
@@ -147,9 +160,10 @@ pub address-of-cases : addressOf 3 20 2 ∷ addressOf 63 0 255 ∷ addressOf 17 
 unfolding uncheckedCallDefinitions
 address-of-cases = refl
 
--- "From places 2 to 4 it becomes owned by heap i. A superblock with nothing live is renewed for c": with nothing live, and with block 2 live. A renewed one has no
--- rank, another keeps its
-pub acquired-cases : acquired 2 20 (ranked 0 23 0 7) ∷ acquired 2 20 (of 255 0 0) ∷ acquired 2 20 (ranked 0 20 4 7) ∷ [] ≡ of 2 20 0 ∷ of 2 20 0 ∷ ranked 2 20 4 7 ∷ []
+-- "From places 2 to 4 it becomes owned by heap i. A superblock with nothing live is renewed for c": with nothing live, and with block 2 live. A
+-- renewed one has no rank, another keeps its
+pub acquired-cases : acquired 2 20 (ranked 0 23 0 7) ∷ acquired 2 20 (of 255 0 0) ∷ acquired 2 20 (ranked 0 20 4 7) ∷ [] ≡ of 2 20 0 ∷ of 2 20 0
+    ∷ ranked 2 20 4 7 ∷ []
 unfolding uncheckedCallDefinitions
 acquired-cases = refl
 
@@ -163,7 +177,8 @@ order-of-3 = replicate 768 61 ++ 4 ∷ 1 ∷ replicate 254 62
 
 abbrev pub state-with-3 : ℕ → State
 state-with-3 marks =
-    unnamedState (setup-with 2 5 1 3 7) (ranked 1 26 3 2 ∷ unused ∷ ranked 2 26 1 3 ∷ of 2 20 marks ∷ record { owner = 1; class = 1; live = 0 ∷ 0 ∷ 2199023255552 ∷ 0 ∷ []; rank = 1; run = 0 } ∷ replicate 59 unused)
+    unnamedState (setup-with 2 5 1 3 7) (ranked 1 26 3 2 ∷ unused ∷ ranked 2 26 1 3 ∷ of 2 20 marks
+    ∷ record { owner = 1; class = 1; live = 0 ∷ 0 ∷ 2199023255552 ∷ 0 ∷ []; rank = 1; run = 0 } ∷ replicate 59 unused)
 
 pub taken-from-case : takenFrom 3 refusal-state order-of-3 ≡ record { answer = record { outcome = Address 13056; state = state-with-3 15 }; order = order-of-3 }
 unfolding uncheckedCallDefinitions
@@ -194,7 +209,8 @@ taken-at-place-1-case = refl
 
 -- "last in first out": blocks 0 and 3 are freed, 3 last, and 3 is the next one taken
 pub next-block-cases :
-    nextBlock (one-superblock-state 20) (orderPushed (one-superblock-state 28) (orderPushed (one-superblock-state 29) (1 ∷ 7 ∷ 8 ∷ 9 ∷ []) 0) 2304) 0 ∷ nextBlock (one-superblock-state 20) (3 ∷ 0 ∷ 1 ∷ 9 ∷ []) 0 ∷ []
+    nextBlock (one-superblock-state 20) (orderPushed (one-superblock-state 28) (orderPushed (one-superblock-state 29) (1 ∷ 7 ∷ 8 ∷ 9 ∷ []) 0) 2304) 0
+    ∷ nextBlock (one-superblock-state 20) (3 ∷ 0 ∷ 1 ∷ 9 ∷ []) 0 ∷ []
     ≡ 3 ∷ 1 ∷ []
 unfolding uncheckedCallDefinitions
 next-block-cases = refl
@@ -232,7 +248,8 @@ abbrev pub state-offering : Superblock → Superblock → State
 state-offering a b = unnamedState (setup-with 2 3 1 3 7) (unused ∷ a ∷ b ∷ replicate 61 unused)
 
 pub other-places-cases :
-    map (otherPlaces 24) (state-offering (of 0 23 0) (of 0 24 1) ∷ state-offering (of 0 23 0) (of 0 24 0) ∷ state-offering (of 0 26 0) (of 0 23 0) ∷ state-offering (of 1 24 0) (of 2 24 1) ∷ [])
+    map (otherPlaces 24) (state-offering (of 0 23 0) (of 0 24 1) ∷ state-offering (of 0 23 0) (of 0 24 0) ∷ state-offering (of 0 26 0) (of 0 23 0)
+    ∷ state-offering (of 1 24 0) (of 2 24 1) ∷ [])
     ≡ At 2 ∷ At 2 ∷ At 1 ∷ At 0 ∷ []
 unfolding uncheckedCallDefinitions
 other-places-cases = let before = refused-drop-keeps-cases in refl
@@ -246,7 +263,8 @@ freed-at-case = let before = other-places-cases in refl
 
 -- in heap 0 it is so too, and one that was ranked follows
 pub freed-in-heap-0-case :
-    freedAt (three-ranked (of 0 20 29) (ranked 1 20 31 1) unused) (1 ∷ 8 ∷ 9 ∷ []) 2304 ≡ after-with (Moves 0) (three-ranked (ranked 0 20 21 1) (ranked 1 20 31 2) unused) (1 ∷ 3 ∷ 9 ∷ [])
+    freedAt (three-ranked (of 0 20 29) (ranked 1 20 31 1) unused) (1 ∷ 8 ∷ 9 ∷ []) 2304 ≡ after-with (Moves 0)
+    (three-ranked (ranked 0 20 21 1) (ranked 1 20 31 2) unused) (1 ∷ 3 ∷ 9 ∷ [])
 unfolding uncheckedCallDefinitions
 freed-in-heap-0-case = let before = freed-at-case in refl
 
@@ -257,8 +275,8 @@ pub freed-with-move-case :
 unfolding uncheckedCallDefinitions
 freed-with-move-case = let before = freed-in-heap-0-case in refl
 
--- heap 2 acquires heap 0's superblock 1, in a state whose name 0 holds block 0 of superblock 0: empty, it is renewed for class 26 and leaves the ranking, which closes its gap, and its block 0 is taken; with
--- block 0 live it keeps its class and its rank, and block 1 is taken. The name stays
+-- heap 2 acquires heap 0's superblock 1, in a state whose name 0 holds block 0 of superblock 0: empty, it is renewed for class 26 and leaves the
+-- ranking, which closes its gap, and its block 0 is taken; with block 0 live it keeps its class and its rank, and block 1 is taken. The name stays
 abbrev pub name-0-held : State → State
 name-0-held s = withNames s (withName noNames 0 0)
 
@@ -279,7 +297,8 @@ accepted-with order =
     record {
       answer = record {
         outcome = Ready;
-        state = unnamedState (record { processors = 2; superblocks = 5; spare = 1; p = 3; q = 7 }) (replicate 64 (record { owner = 255; class = 0; live = 0 ∷ 0 ∷ 0 ∷ 0 ∷ []; rank = 0; run = 0 }));
+        state = unnamedState (record { processors = 2; superblocks = 5; spare = 1; p = 3; q = 7 })
+            (replicate 64 (record { owner = 255; class = 0; live = 0 ∷ 0 ∷ 0 ∷ 0 ∷ []; rank = 0; run = 0 }));
       };
       order = order;
     }
@@ -290,7 +309,8 @@ refused-setup-with r order =
     record {
       answer = record {
         outcome = Refused r;
-        state = unnamedState (record { processors = 0; superblocks = 0; spare = 0; p = 0; q = 0 }) (replicate 64 (record { owner = 255; class = 0; live = 0 ∷ 0 ∷ 0 ∷ 0 ∷ []; rank = 0; run = 0 }));
+        state = unnamedState (record { processors = 0; superblocks = 0; spare = 0; p = 0; q = 0 })
+            (replicate 64 (record { owner = 255; class = 0; live = 0 ∷ 0 ∷ 0 ∷ 0 ∷ []; rank = 0; run = 0 }));
       };
       order = order;
     }
@@ -305,13 +325,15 @@ setup-refused-cases = let before = taken-from-other-cases in refl
 -- "put n - 1 - j in place j for j below n": superblock 1 with nothing live, of the class or of another, and with block 2 live
 pub acquired-order-cases :
     map (λ (b : Superblock). acquiredOrder 20 1 b (used-order 4)) (of 0 20 0 ∷ of 0 26 0 ∷ of 0 20 4 ∷ [])
-    ≡ (replicate 256 61 ++ 4 ∷ 3 ∷ 2 ∷ 1 ∷ 0 ∷ replicate 1018 61 ++ replicate 4 62) ∷ (replicate 256 61 ++ 4 ∷ 3 ∷ 2 ∷ 1 ∷ 0 ∷ replicate 1018 61 ++ replicate 4 62) ∷ used-order 4 ∷ []
+    ≡ (replicate 256 61 ++ 4 ∷ 3 ∷ 2 ∷ 1 ∷ 0 ∷ replicate 1018 61 ++ replicate 4 62)
+    ∷ (replicate 256 61 ++ 4 ∷ 3 ∷ 2 ∷ 1 ∷ 0 ∷ replicate 1018 61 ++ replicate 4 62) ∷ used-order 4 ∷ []
 unfolding uncheckedCallDefinitions
 acquired-order-cases = let before = setup-refused-cases in refl
 
 -- 1280 places are enough; of 1283 the last three keep what they had
 pub setup-accepted-cases :
-    setupOf (setup-with 2 5 1 3 7) (used-order 1) ∷ setupOf (setup-with 2 5 1 3 7) (used-order 4) ∷ [] ≡ accepted-with (replicate 1280 0) ∷ accepted-with (replicate 1280 0 ++ 62 ∷ 62 ∷ 62 ∷ []) ∷ []
+    setupOf (setup-with 2 5 1 3 7) (used-order 1) ∷ setupOf (setup-with 2 5 1 3 7) (used-order 4) ∷ [] ≡ accepted-with (replicate 1280 0)
+    ∷ accepted-with (replicate 1280 0 ++ 62 ∷ 62 ∷ 62 ∷ []) ∷ []
 unfolding callDefinitions
 setup-accepted-cases = let before = acquired-order-cases in refl
 
@@ -320,14 +342,17 @@ after-check = accepted-with []
 
 -- ---- "Take or free: 13 for setup numbers, 12, the rest of 13": q = 2 and storage short, storage short, and storage enough
 pub checked-cases :
-    checked (state-with-wrong-owner 2) (used-order 0) after-check ∷ checked (state-with-wrong-owner 7) (used-order 0) after-check ∷ checked (state-with-wrong-owner 7) (used-order 1) after-check ∷ []
-    ≡ refused 13 (state-with-wrong-owner 2) (used-order 0) ∷ refused 12 (state-with-wrong-owner 7) (used-order 0) ∷ refused 13 (state-with-wrong-owner 7) (used-order 1) ∷ []
+    checked (state-with-wrong-owner 2) (used-order 0) after-check ∷ checked (state-with-wrong-owner 7) (used-order 0) after-check
+    ∷ checked (state-with-wrong-owner 7) (used-order 1) after-check ∷ []
+    ≡ refused 13 (state-with-wrong-owner 2) (used-order 0) ∷ refused 12 (state-with-wrong-owner 7) (used-order 0)
+    ∷ refused 13 (state-with-wrong-owner 7) (used-order 1) ∷ []
 unfolding callDefinitions
 checked-cases = let before = setup-accepted-cases in refl
 
 -- each call is checked first: none is made on that state, with its own refusals before it
 pub each-call-checked-case :
-    map (λ (c : Call). callOf (state-with-wrong-owner 7) (used-order 1) c .answer .outcome) (Take 0 16 ∷ Free 0 0 ∷ NamedTake 0 5 16 ∷ NamedFree 0 5 ∷ Drop 0 [] ∷ []) ≡ replicate 5 (Refused 13)
+    map (λ (c : Call). callOf (state-with-wrong-owner 7) (used-order 1) c .answer .outcome) (Take 0 16 ∷ Free 0 0 ∷ NamedTake 0 5 16 ∷ NamedFree 0 5
+    ∷ Drop 0 [] ∷ []) ≡ replicate 5 (Refused 13)
 unfolding callDefinitions
 each-call-checked-case = let before = checked-cases in refl
 

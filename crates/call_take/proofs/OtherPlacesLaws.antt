@@ -23,11 +23,13 @@ pub other-places-is-fullest-of-global : (c : ℕ) (s : State) (a : Found) (k : �
 unfolding otherPlaces
 other-places-is-fullest-of-global c s a k e f = rw (← e, f)
 
-pub other-places-is-lowest-empty : (c : ℕ) (s : State) (a b : Found) (k : ℕ) → a ≡ fullest 0 c s → a ≡ Nothing → b ≡ lowestEmpty s → b ≡ At k → At k ≡ otherPlaces c s
+pub other-places-is-lowest-empty : (c : ℕ) (s : State) (a b : Found) (k : ℕ) → a ≡ fullest 0 c s → a ≡ Nothing → b ≡ lowestEmpty s → b ≡ At k
+    → At k ≡ otherPlaces c s
 unfolding otherPlaces
 other-places-is-lowest-empty c s a b k e f g h = rw (← e, f, ← g, h)
 
-pub other-places-is-lowest-unused : (c : ℕ) (s : State) (a b d : Found) → a ≡ fullest 0 c s → a ≡ Nothing → b ≡ lowestEmpty s → b ≡ Nothing → d ≡ lowestUnused s → d ≡ otherPlaces c s
+pub other-places-is-lowest-unused : (c : ℕ) (s : State) (a b d : Found) → a ≡ fullest 0 c s → a ≡ Nothing → b ≡ lowestEmpty s → b ≡ Nothing
+    → d ≡ lowestUnused s → d ≡ otherPlaces c s
 unfolding otherPlaces
 other-places-is-lowest-unused c s a b d e f g h i = i ∙ rw (← e, f, ← g, h)
 
@@ -62,21 +64,25 @@ pub other-places-lt-256 : (c : ℕ) (s : State) (a : Found) (k : ℕ) → length
 other-places-lt-256 c s a k long e f = omega (arith, other-places-lt-64 c s a k long e f)
 
 -- what a take answers
-pub taken-at-of-own : (h c : ℕ) (s : State) (order : List ℕ) (own : Found) (k : ℕ) (after : After) → own ≡ fullest h c s → own ≡ At k → after ≡ takenFrom k s order
+pub taken-at-of-own : (h c : ℕ) (s : State) (order : List ℕ) (own : Found) (k : ℕ) (after : After) → own ≡ fullest h c s → own ≡ At k
+    → after ≡ takenFrom k s order
     → after ≡ takenAt h c s order (fullest h c s) (otherPlaces c s)
 unfolding takenAt
 taken-at-of-own h c s order own k after e f g = g ∙ rw (← e, f)
 
-pub taken-at-of-no-own : (h c : ℕ) (s : State) (order : List ℕ) (own : Found) (after : After) → own ≡ fullest h c s → own ≡ Nothing → after ≡ takenAt h c s order Nothing (otherPlaces c s)
+pub taken-at-of-no-own : (h c : ℕ) (s : State) (order : List ℕ) (own : Found) (after : After) → own ≡ fullest h c s → own ≡ Nothing
+    → after ≡ takenAt h c s order Nothing (otherPlaces c s)
     → after ≡ takenAt h c s order (fullest h c s) (otherPlaces c s)
 taken-at-of-no-own h c s order own after e f g = g ∙ ap (λ (x : Found). takenAt h c s order x (otherPlaces c s)) (sym f ∙ e)
 
-pub taken-at-of-other : (h c : ℕ) (s : State) (order : List ℕ) (other : Found) (k : ℕ) (after : After) → other ≡ otherPlaces c s → other ≡ At k → after ≡ takenFromOther h c k s order
+pub taken-at-of-other : (h c : ℕ) (s : State) (order : List ℕ) (other : Found) (k : ℕ) (after : After) → other ≡ otherPlaces c s → other ≡ At k
+    → after ≡ takenFromOther h c k s order
     → after ≡ takenAt h c s order Nothing (otherPlaces c s)
 unfolding takenAt
 taken-at-of-other h c s order other k after e f g = g ∙ rw (← e, f)
 
-pub taken-at-of-nothing-offered : (h c : ℕ) (s : State) (order : List ℕ) (other : Found) (r : Answer) → other ≡ otherPlaces c s → other ≡ Nothing → r ≡ record { outcome = Refused 4; state = s }
+pub taken-at-of-nothing-offered : (h c : ℕ) (s : State) (order : List ℕ) (other : Found) (r : Answer) → other ≡ otherPlaces c s → other ≡ Nothing
+    → r ≡ record { outcome = Refused 4; state = s }
     → record { answer = r; order = order } ≡ takenAt h c s order Nothing (otherPlaces c s)
 unfolding takenAt
 taken-at-of-nothing-offered h c s order other r e f g = ap (λ (x : Answer). record { answer = x; order = order }) g ∙ rw (← e, f)

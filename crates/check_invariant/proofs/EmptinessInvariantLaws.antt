@@ -35,7 +35,8 @@ module _ (u : Setup) (class superblocks live : ℕ) where
       let h : superblocks * blocksOf class ≤ live + u .spare * blocksOf class = rw (z, zero-mul) zero-le in
       ap not (both-conditions-false-where-first-fails (u .spare) (u .p) (u .q) (blocksOf class) (superblocks * blocksOf class) live h)
 
-  pub pair-invariant-by-both-conditions : (n : ℕ) (r : Bool) → n ≡ blocksOf class → r ≡ bothConditions (u .spare) (u .p) (u .q) n (superblocks * n) live → not r ≡ pairInvariant u class superblocks live
+  pub pair-invariant-by-both-conditions : (n : ℕ) (r : Bool) → n ≡ blocksOf class → r ≡ bothConditions (u .spare) (u .p) (u .q) n (superblocks * n) live
+      → not r ≡ pairInvariant u class superblocks live
   unfolding pairInvariant
   pair-invariant-by-both-conditions n r e f = ap not (f ∙ ap (λ (m : ℕ). bothConditions (u .spare) (u .p) (u .q) m (superblocks * m) live) e)
 
@@ -56,7 +57,8 @@ module _ (u : Setup) (t : Totals) (h : ℕ) where
       either-no : (a b : Bool) → a ≡ false → either (not a) b ≡ true
       either-no a b e = rw e
 
-  pub class-invariants-step : (c : ℕ) (r : Bool) → r ≡ classInvariant u t h c → not r ≡ false → ((d : ℕ) → d < c → T (classInvariant u t h d)) → (d : ℕ) → d < c + 1 → T (classInvariant u t h d)
+  pub class-invariants-step : (c : ℕ) (r : Bool) → r ≡ classInvariant u t h c → not r ≡ false → ((d : ℕ) → d < c → T (classInvariant u t h d)) → (d : ℕ)
+      → d < c + 1 → T (classInvariant u t h d)
   class-invariants-step c r e f below = below-more (λ d. T (classInvariant u t h d)) c below (T-of-true _ (sym e ∙ not-false r f))
 
   module _ (low : 1 ≤ h) (high : h ≤ u .processors) where
@@ -76,7 +78,8 @@ module _ (u : Setup) (t : Totals) (h : ℕ) where
   unfolding totalsInvariant
   totals-invariant-false-of-heap r l e f = all-false (heapInvariant u t) heapCount h l (sym e ∙ not-true r f)
 
-  pub heap-invariants-step : (r : Bool) → r ≡ heapInvariant u t h → not r ≡ false → ((i : ℕ) → i < h → T (heapInvariant u t i)) → (i : ℕ) → i < h + 1 → T (heapInvariant u t i)
+  pub heap-invariants-step : (r : Bool) → r ≡ heapInvariant u t h → not r ≡ false → ((i : ℕ) → i < h → T (heapInvariant u t i)) → (i : ℕ) → i < h + 1
+      → T (heapInvariant u t i)
   heap-invariants-step r e f below = below-more (λ i. T (heapInvariant u t i)) h below (T-of-true _ (sym e ∙ not-false r f))
 
   pub totals-invariant-of-all-heaps : heapCount ≤ h → ((i : ℕ) → i < h → T (heapInvariant u t i)) → true ≡ totalsInvariant u t
@@ -93,7 +96,8 @@ module _ (s : State) where
   unfolding pairInvariant mustMove blocksIn noClassMustMove
   classes-by-recount h lh =
       all-cong (classInvariant (s .setup) (recounted (s .table)) h) (λ c. not (mustMove h c s)) classCount
-      (λ c lc. ap₂ (λ (m l : ℕ). not (bothConditions (s .setup .spare) (s .setup .p) (s .setup .q) (blocksOf c) (m * blocksOf c) l)) (recounted-superblocks s h c lh lc) (recounted-live s h c lh lc))
+      (λ c lc. ap₂ (λ (m l : ℕ). not (bothConditions (s .setup .spare) (s .setup .p) (s .setup .q) (blocksOf c) (m * blocksOf c) l))
+      (recounted-superblocks s h c lh lc) (recounted-live s h c lh lc))
 
   module _ (few : s .setup .processors < heapCount) where
     emptiness-invariant-of-totals : T (totalsInvariant (s .setup) (recounted (s .table))) → T (emptinessInvariant s)
@@ -106,19 +110,24 @@ module _ (s : State) where
             let high : suc i ≤ s .setup .processors = omega arith in
             let at : suc i < heapCount = omega arith in
             subst T (classes-by-recount (suc i) at)
-            (either-right-of-left-false (not (within 1 (s .setup .processors) (suc i))) _ (all-at (heapInvariant (s .setup) (recounted (s .table))) heapCount all (suc i) at) (simp (le-leb 1 (suc i) low, le-leb (suc i) (s .setup .processors) high)))
+            (either-right-of-left-false (not (within 1 (s .setup .processors) (suc i))) _
+            (all-at (heapInvariant (s .setup) (recounted (s .table))) heapCount all (suc i) at)
+            (simp (le-leb 1 (suc i) low, le-leb (suc i) (s .setup .processors) high)))
 
     totals-of-emptiness-invariant : T (emptinessInvariant s) → T (totalsInvariant (s .setup) (recounted (s .table)))
     unfolding totalsInvariant heapInvariant emptinessInvariant noClassMustMove
-    totals-of-emptiness-invariant all = all-of-each (heapInvariant (s .setup) (recounted (s .table))) heapCount (λ h l. go h l (within 1 (s .setup .processors) h) refl)
+    totals-of-emptiness-invariant all = all-of-each (heapInvariant (s .setup) (recounted (s .table))) heapCount
+        (λ h l. go h l (within 1 (s .setup .processors) h) refl)
       where
-        go : (h : ℕ) → h < heapCount → (b : Bool) → within 1 (s .setup .processors) h ≡ b → T (either (not b) (allBelow (classInvariant (s .setup) (recounted (s .table)) h) classCount))
+        go : (h : ℕ) → h < heapCount → (b : Bool) → within 1 (s .setup .processors) h ≡ b
+            → T (either (not b) (allBelow (classInvariant (s .setup) (recounted (s .table)) h) classCount))
         go h l true e =
             let w = T-of-true _ e in
             let low : 1 ≤ h = leb→le 1 h (both-left (leb 1 h) (leb h (s .setup .processors)) w) in
             let high : h ≤ s .setup .processors = leb→le h (s .setup .processors) (both-right (leb 1 h) (leb h (s .setup .processors)) w) in
             let m : suc (h - 1) ≡ h = omega arith in
-            subst T (sym (classes-by-recount h l)) (subst (λ (i : ℕ). T (noClassMustMove i)) m (all-at (λ i. noClassMustMove (suc i)) (s .setup .processors) all (h - 1) (omega arith)))
+            subst T (sym (classes-by-recount h l))
+            (subst (λ (i : ℕ). T (noClassMustMove i)) m (all-at (λ i. noClassMustMove (suc i)) (s .setup .processors) all (h - 1) (omega arith)))
         go h l false e = tt
 
     -- where there is a total for each processor's heap, the totals of a recount keep the invariant exactly if the state does

@@ -15,7 +15,8 @@ within-false-of-wider a b m n x r l h e f =
     false-of-not-T (within a b x) (λ (t : T (within a b x)).
     let p : a ≤ x = leb→le a x (both-left (leb a x) (leb x b) t) in
     let q : x ≤ b = leb→le x b (both-right (leb a x) (leb x b) t) in
-    not-T-of-false (within m n x) (sym e ∙ not-true r f) (both-make (leb m x) (leb x n) (T-of-true _ (le-leb m x (omega arith))) (T-of-true _ (le-leb x n (omega arith)))))
+    not-T-of-false (within m n x) (sym e ∙ not-true r f)
+    (both-make (leb m x) (leb x n) (T-of-true _ (le-leb m x (omega arith))) (T-of-true _ (le-leb x n (omega arith)))))
 
 module _ (u : Setup) (m n : ℕ) (r : Bool) where
   pub within-limits-false-of-processors : m ≤ 1 → 8 ≤ n → r ≡ within m n (u .processors) → not r ≡ true → false ≡ withinLimits u
@@ -38,7 +39,9 @@ pub within-limits-false-of-q : (u : Setup) → u .q ≤ u .p → false ≡ withi
 unfolding withinLimits
 within-limits-false-of-q u h = sym (simp (le-ltb (u .p) (u .q) h, both-false-right))
 
-pub within-limits-is-q-test : (u : Setup) (a b d r : Bool) → a ≡ within 1 8 (u .processors) → not a ≡ false → b ≡ within 1 64 (u .superblocks) → not b ≡ false → d ≡ within 1 16 (u .spare) → not d ≡ false
+pub within-limits-is-q-test : (u : Setup) (a b d r : Bool) → a ≡ within 1 8 (u .processors) → not a ≡ false → b ≡ within 1 64 (u .superblocks)
+    → not b ≡ false → d ≡ within 1 16 (u .spare) → not d ≡ false
     → 1 ≤ u .p → u .p < u .q → r ≡ within 2 8 (u .q) → r ≡ withinLimits u
 unfolding withinLimits
-within-limits-is-q-test u a b d r e e' f f' g g' p q h = h ∙ sym (simp (sym e ∙ not-false a e', sym f ∙ not-false b f', sym g ∙ not-false d g', le-leb 1 (u .p) p, lt-ltb (u .p) (u .q) q))
+within-limits-is-q-test u a b d r e e' f f' g g' p q h =
+    h ∙ sym (simp (sym e ∙ not-false a e', sym f ∙ not-false b f', sym g ∙ not-false d g', le-leb 1 (u .p) p, lt-ltb (u .p) (u .q) q))

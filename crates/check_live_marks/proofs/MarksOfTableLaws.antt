@@ -25,7 +25,8 @@ pub numbers-none : (table : List Superblock) (n : ℕ) (marks : List ℕ) → n 
 numbers-none table n marks z long = record { long = long; number = λ w h. absurd (let f : ⊥ = omega arith in f) }
 
 -- one number more
-numbers-step : (table : List Superblock) (n m v : ℕ) (marks : List ℕ) → n < 256 → m ≡ n + 1 → v ≡ numberAt table n → NumbersBelow table n marks → NumbersBelow table m (set marks n v)
+numbers-step : (table : List Superblock) (n m v : ℕ) (marks : List ℕ) → n < 256 → m ≡ n + 1 → v ≡ numberAt table n → NumbersBelow table n marks
+    → NumbersBelow table m (set marks n v)
 numbers-step table n m v marks h q e b = record { long = length-set marks n v ∙ b .long; number = λ w l. go w l (ℕ-discrete w n) }
   where
     go : (w : ℕ) → w < m → Dec (w ≡ n) → getD (set marks n v) w 0 ≡ numberAt table w
@@ -33,8 +34,10 @@ numbers-step table n m v marks h q e b = record { long = length-set marks n v �
     go w l (no f) = getD-set-other marks n w v 0 f ∙ b .number w (omega arith)
 
 -- one superblock more
-pub numbers-of-superblock : (table : List Superblock) (k : ℕ) (marks live : List ℕ) → k < 64 → live ≡ liveBlocks (getD table k blank) → NumbersBelow table (4 * k) marks
-    → NumbersBelow table (4 * (k + 1)) (set (set (set (set marks (4 * k) (getD live 0 0)) (4 * k + 1) (getD live 1 0)) (4 * k + 2) (getD live 2 0)) (4 * k + 3) (getD live 3 0))
+pub numbers-of-superblock : (table : List Superblock) (k : ℕ) (marks live : List ℕ) → k < 64 → live ≡ liveBlocks (getD table k blank)
+    → NumbersBelow table (4 * k) marks
+    → NumbersBelow table (4 * (k + 1)) (set (set (set (set marks (4 * k) (getD live 0 0)) (4 * k + 1) (getD live 1 0)) (4 * k + 2) (getD live 2 0))
+    (4 * k + 3) (getD live 3 0))
 numbers-of-superblock table k marks live h e b =
     numbers-step table (4 * k + 3) (4 * (k + 1)) _ _ (omega arith) (omega arith) (number 3 (4 * k + 3) (omega arith) (omega arith))
     (numbers-step table (4 * k + 2) (4 * k + 3) _ _ (omega arith) (omega arith) (number 2 (4 * k + 2) (omega arith) (omega arith))
@@ -45,7 +48,8 @@ numbers-of-superblock table k marks live h e b =
     number j w p q = rw (e, p, q)
 
 -- all of them: block b of the table is marked just where it is live
-pub marks-are-live-blocks : (s : State) (k : ℕ) (marks : List ℕ) → length (s .table) ≡ 64 → 64 ≤ k → NumbersBelow (s .table) (4 * k) marks → (b : ℕ) → isMarked marks b ≡ isLiveBlock s b
+pub marks-are-live-blocks : (s : State) (k : ℕ) (marks : List ℕ) → length (s .table) ≡ 64 → 64 ≤ k → NumbersBelow (s .table) (4 * k) marks → (b : ℕ)
+    → isMarked marks b ≡ isLiveBlock s b
 unfolding isMarked markBit isLiveBlock liveBlocks startsRun isOfRun
 marks-are-live-blocks s k marks long h n b =
     ap (λ (x : ℕ). eqb (bit x (b % 64)) 1) (number (decLt (b / 64) 256))
@@ -58,5 +62,6 @@ marks-are-live-blocks s k marks long h n b =
         ∙ ap (λ (x : Superblock). getD (liveBlocks x) (b / 64 % 4) 0) (sym (List·getD-eq-default (s .table) blank {n = b / 64 / 4} (omega arith)))
 
     place : (w j i : ℕ) → w ≡ b / 256 → j ≡ b % 256 / 64 → i ≡ b % 256 % 64
-        → eqb (bit (getD (liveBlocks (getD (s .table) w blank)) j 0) i) 1 ≡ eqb (bit (getD (liveBlocks (getD (s .table) (b / 256) blank)) (b % 256 / 64) 0) (b % 256 % 64)) 1
+        → eqb (bit (getD (liveBlocks (getD (s .table) w blank)) j 0) i) 1
+        ≡ eqb (bit (getD (liveBlocks (getD (s .table) (b / 256) blank)) (b % 256 / 64) 0) (b % 256 % 64)) 1
     place w j i p q r = rw (p, q, r)

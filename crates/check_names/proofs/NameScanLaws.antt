@@ -1,4 +1,5 @@
--- The pass over the names: what it answers is the two clauses of the check, what one name more leaves of it, and that it may end at the last held name. Assumes nothing.
+-- The pass over the names: what it answers is the two clauses of the check, what one name more leaves of it, and that it may end at the last held
+-- name. Assumes nothing.
 use mathlib.Core.Path.{_≡_, refl, sym, ap, ap₂, _∙_}
 use mathlib.Core.Bool.{Bool, true, false, not}
 use mathlib.Core.List.{List, [], _∷_}
@@ -15,7 +16,8 @@ use Rattle.base_laws.specs.Sums.{pick, both, either, one}
 use Rattle.base_laws.proofs.TestLaws.{both-false-right, one-le-one}
 use Rattle.marks_rules.specs.Marks.{markBit, isMarked, withoutMark}
 use Rattle.marks_laws.proofs.BitLaws.{shl-one}
-use Rattle.marks_laws.proofs.MarkLaws.{length-without-mark, without-mark-same, without-mark-other, mark-bit-lt-two, mark-of-mark-bit-one, no-mark-of-mark-bit-zero, mark-bit-past-the-end}
+use Rattle.marks_laws.proofs.MarkLaws.{length-without-mark, without-mark-same, without-mark-other, mark-bit-lt-two, mark-of-mark-bit-one}
+use Rattle.marks_laws.proofs.MarkLaws.{no-mark-of-mark-bit-zero, mark-bit-past-the-end}
 use Rattle.names_rules.specs.Names.{notHeld, eachHeld, isNamed, noTwoAtOne}
 use Rattle.heap_rules.specs.declared.State.{State}
 use Rattle.heap_rules.specs.Table.{isLiveBlock}
@@ -33,7 +35,8 @@ unfolding isMarked
 is-marked-without-other marks x y f = ap (λ (b : ℕ). eqb b 1) (without-mark-other marks x y f)
 
 -- with block x's mark taken out, each held name has a mark just where it had one before and none of them points at x
-each-held-without-mark : (marks names : List ℕ) (x : ℕ) → (x ≡ notHeld → ⊥) → eachHeld (isMarked (withoutMark marks x)) names ≡ both (eachHeld (isMarked marks) names) (not (isNamed x names))
+each-held-without-mark : (marks names : List ℕ) (x : ℕ) → (x ≡ notHeld → ⊥) → eachHeld (isMarked (withoutMark marks x)) names
+    ≡ both (eachHeld (isMarked marks) names) (not (isNamed x names))
 unfolding eachHeld isNamed
 each-held-without-mark marks [] x held = refl
 each-held-without-mark marks (y ∷ names) x held = go (each-held-without-mark marks names x held) (ℕ-discrete y x)
@@ -50,10 +53,12 @@ each-held-without-mark marks (y ∷ names) x held = go (each-held-without-mark m
     keep false false = refl
 
     go : eachHeld (isMarked (withoutMark marks x)) names ≡ both found (not named) → Dec (y ≡ x)
-        → both (either (eqb y notHeld) (isMarked (withoutMark marks x) y)) (eachHeld (isMarked (withoutMark marks x)) names) ≡ both (both (either (eqb y notHeld) (isMarked marks y)) found) (not (either (eqb y x) named))
+        → both (either (eqb y notHeld) (isMarked (withoutMark marks x) y)) (eachHeld (isMarked (withoutMark marks x)) names)
+        ≡ both (both (either (eqb y notHeld) (isMarked marks y)) found) (not (either (eqb y x) named))
     go ih (yes q) =
         let n : eqb y notHeld ≡ false = ne-eqb y notHeld (λ (e : y ≡ notHeld). held (sym q ∙ e)) in
-        let m : isMarked (withoutMark marks x) y ≡ false = ap (isMarked (withoutMark marks x)) q ∙ no-mark-of-mark-bit-zero (withoutMark marks x) x (without-mark-same marks x) in
+        let m : isMarked (withoutMark marks x) y ≡ false = ap (isMarked (withoutMark marks x)) q ∙ no-mark-of-mark-bit-zero (withoutMark marks x) x
+        (without-mark-same marks x) in
         rw (n, m, eq-eqb y x q) (sym (both-false-right (both (isMarked marks y) found)))
     go ih (no f) =
         rw (ne-eqb y x f, is-marked-without-other marks x y f, ih) (keep (eqb y notHeld) (isMarked marks y))
@@ -61,7 +66,8 @@ each-held-without-mark marks (y ∷ names) x held = go (each-held-without-mark m
 each-has-a-mark-is-both : (marks names : List ℕ) → eachHasAMark marks names ≡ both (eachHeld (isMarked marks) names) (noTwoAtOne names)
 unfolding eachHasAMark eachHeld noTwoAtOne
 each-has-a-mark-is-both marks [] = refl
-each-has-a-mark-is-both marks (x ∷ names) = go (each-has-a-mark-is-both marks names) (each-has-a-mark-is-both (withoutMark marks x) names) (ℕ-discrete x notHeld)
+each-has-a-mark-is-both marks (x ∷ names) = go (each-has-a-mark-is-both marks names) (each-has-a-mark-is-both (withoutMark marks x) names)
+    (ℕ-discrete x notHeld)
   where
     spread : (m e n t : Bool) → both m (both (both e n) t) ≡ both (both m e) (both n t)
     spread true true n t = refl
@@ -72,7 +78,8 @@ each-has-a-mark-is-both marks (x ∷ names) = go (each-has-a-mark-is-both marks 
         → eachHasAMark (withoutMark marks x) names ≡ both (eachHeld (isMarked (withoutMark marks x)) names) (noTwoAtOne names)
         → Dec (x ≡ notHeld)
         → pick (eqb x notHeld) (eachHasAMark marks names) (both (isMarked marks x) (eachHasAMark (withoutMark marks x) names))
-        ≡ both (both (either (eqb x notHeld) (isMarked marks x)) (eachHeld (isMarked marks) names)) (both (either (eqb x notHeld) (not (isNamed x names))) (noTwoAtOne names))
+        ≡ both (both (either (eqb x notHeld) (isMarked marks x)) (eachHeld (isMarked marks) names))
+        (both (either (eqb x notHeld) (not (isNamed x names))) (noTwoAtOne names))
     go kept taken (yes q) = rw (eq-eqb x notHeld q) kept
     go kept taken (no f) =
         rw (ne-eqb x notHeld f, taken, each-held-without-mark marks names x f)
@@ -87,7 +94,8 @@ each-held-of-none-held test (x ∷ names) z = go (eqb x notHeld) refl (each-held
     go true e ih = ih (omega arith)
     go false e ih = let more : one (not (eqb x notHeld)) ≡ 1 = rw e in absurd (let z : ⊥ = omega arith in z)
 
-pub names-valid-is-each-has-a-mark : (s : State) (marks : List ℕ) (r : Bool) → ((b : ℕ) → isMarked marks b ≡ isLiveBlock s b) → r ≡ eachHasAMark marks (s .names) → r ≡ namesValid s
+pub names-valid-is-each-has-a-mark : (s : State) (marks : List ℕ) (r : Bool) → ((b : ℕ) → isMarked marks b ≡ isLiveBlock s b)
+    → r ≡ eachHasAMark marks (s .names) → r ≡ namesValid s
 unfolding namesValid
 names-valid-is-each-has-a-mark s marks r live e =
     e
@@ -101,7 +109,8 @@ unfolding heldCount eachHasAMark
 each-has-a-mark-of-none-held marks [] z = refl
 each-has-a-mark-of-none-held marks (x ∷ names) z = go (eqb x notHeld) refl (each-has-a-mark-of-none-held marks names)
   where
-    go : (t : Bool) → eqb x notHeld ≡ t → (heldCount names ≡ 0 → eachHasAMark marks names ≡ true) → pick t (eachHasAMark marks names) (both (isMarked marks x) (eachHasAMark (withoutMark marks x) names)) ≡ true
+    go : (t : Bool) → eqb x notHeld ≡ t → (heldCount names ≡ 0 → eachHasAMark marks names ≡ true)
+        → pick t (eachHasAMark marks names) (both (isMarked marks x) (eachHasAMark (withoutMark marks x) names)) ≡ true
     go true e ih = ih (omega arith)
     go false e ih = let more : one (not (eqb x notHeld)) ≡ 1 = rw e in absurd (let z : ⊥ = omega arith in z)
 
@@ -109,7 +118,8 @@ pub names-valid-of-none-held : (s : State) (n : ℕ) → n ≡ heldCount (s .nam
 unfolding namesValid
 names-valid-of-none-held s n e z =
     go (eachHeld (isLiveBlock s) (s .names)) (noTwoAtOne (s .names))
-    (sym (each-has-a-mark-of-none-held [] (s .names) (sym e ∙ z)) ∙ each-has-a-mark-is-both [] (s .names)) (each-held-of-none-held (isLiveBlock s) (s .names) (sym e ∙ z))
+    (sym (each-has-a-mark-of-none-held [] (s .names) (sym e ∙ z)) ∙ each-has-a-mark-is-both [] (s .names))
+    (each-held-of-none-held (isLiveBlock s) (s .names) (sym e ∙ z))
   where
     go : (a b : Bool) → true ≡ both (eachHeld (isMarked []) (s .names)) b → a ≡ true → true ≡ both a b
     go a b h q = rw q (right (eachHeld (isMarked []) (s .names)) b h)
@@ -123,16 +133,19 @@ pub count-start : (names : List ℕ) → 0 + heldCount (drop 0 names) ≡ heldCo
 count-start names = omega arith
 
 -- name i counts where it is held
-held-count-suc : (names : List ℕ) (i : ℕ) → i < length names → heldCount (drop i names) ≡ one (not (eqb (getD names i 0) notHeld)) + heldCount (drop (suc i) names)
+held-count-suc : (names : List ℕ) (i : ℕ) → i < length names → heldCount (drop i names) ≡ one (not (eqb (getD names i 0) notHeld)) + heldCount
+    (drop (suc i) names)
 unfolding heldCount
 held-count-suc names i below = ap heldCount (drop-cons names i 0 below)
 
 module _ (names : List ℕ) (held held' i : ℕ) (long : length names ≡ 1024) (below : i < 1024) (t : held + heldCount (drop i names) ≡ heldCount names) where
   pub count-step-held : (getD names i 0 ≡ notHeld → ⊥) → held' ≡ held + 1 → held' + heldCount (drop (i + 1) names) ≡ heldCount names
-  count-step-held f e = rw (add-one i) (let o : one (not (eqb (getD names i 0) notHeld)) ≡ 1 = rw (ne-eqb (getD names i 0) notHeld f) in omega (arith, held-count-suc names i (omega arith)))
+  count-step-held f e = rw (add-one i) (let o : one (not (eqb (getD names i 0) notHeld)) ≡ 1 = rw (ne-eqb (getD names i 0) notHeld f) in
+      omega (arith, held-count-suc names i (omega arith)))
 
   pub count-step-not-held : getD names i 0 ≡ notHeld → held' ≡ held → held' + heldCount (drop (i + 1) names) ≡ heldCount names
-  count-step-not-held q e = rw (add-one i) (let o : one (not (eqb (getD names i 0) notHeld)) ≡ 0 = rw (eq-eqb (getD names i 0) notHeld q) in omega (arith, held-count-suc names i (omega arith)))
+  count-step-not-held q e = rw (add-one i) (let o : one (not (eqb (getD names i 0) notHeld)) ≡ 0 = rw (eq-eqb (getD names i 0) notHeld q) in
+      omega (arith, held-count-suc names i (omega arith)))
 
 -- no more are held than there are
 held-count-le : (names : List ℕ) → heldCount names ≤ length names
@@ -171,8 +184,10 @@ unfolding withoutMark
 code-takes-mark-out left x = rw (shl-one (x % 64) (omega arith))
 
 -- name i points at block x
-module _ (marks left names : List ℕ) (n i x : ℕ) (at : x ≡ getD names i 0) (long : length names ≡ 1024) (below : i < 1024) (t : Scanned marks names left n i) where
-  scan-suc : eachHasAMark marks names ≡ pick (eqb x notHeld) (eachHasAMark left (drop (suc i) names)) (both (isMarked left x) (eachHasAMark (withoutMark left x) (drop (suc i) names)))
+module _ (marks left names : List ℕ) (n i x : ℕ) (at : x ≡ getD names i 0) (long : length names ≡ 1024) (below : i < 1024)
+    (t : Scanned marks names left n i) where
+  scan-suc : eachHasAMark marks names ≡ pick (eqb x notHeld) (eachHasAMark left (drop (suc i) names))
+      (both (isMarked left x) (eachHasAMark (withoutMark left x) (drop (suc i) names)))
   unfolding eachHasAMark
   scan-suc = t .same ∙ ap (eachHasAMark left) (drop-cons names i 0 (omega arith)) ∙ rw at
 
@@ -195,7 +210,9 @@ module _ (marks left names : List ℕ) (n i x : ℕ) (at : x ≡ getD names i 0)
         same = scan-suc ∙ rw (eq-eqb x notHeld q);
       })
 
-  pub scan-step-held : (left' : List ℕ) (n' : ℕ) → (x ≡ notHeld → ⊥) → (markBit left x ≡ 0 → ⊥) → left' ≡ set left (x / 64) (bitAnd (getD left (x / 64) 0) (2 ^ 64 - 1 - 1 * 2 ^ (x % 64) % 2 ^ 64)) → n' ≡ n - 1 → Scanned marks names left' n' (i + 1)
+  pub scan-step-held : (left' : List ℕ) (n' : ℕ) → (x ≡ notHeld → ⊥) → (markBit left x ≡ 0 → ⊥)
+      → left' ≡ set left (x / 64) (bitAnd (getD left (x / 64) 0) (2 ^ 64 - 1 - 1 * 2 ^ (x % 64) % 2 ^ 64)) → n' ≡ n - 1
+      → Scanned marks names left' n' (i + 1)
   scan-step-held left' n' f z e m =
       rw (e ∙ code-takes-mark-out left x, add-one)
       (record {

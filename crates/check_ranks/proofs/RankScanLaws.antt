@@ -78,10 +78,12 @@ unranked-none b h = rw (le-ltb 0 (b .rank) h)
 module _ (s : State) (met : List ℕ) (ranked highest k : ℕ) (before : RanksMet s met ranked highest k) where
   -- no more are ranked than were looked at
   pub ranked-le : ranked ≤ k
-  ranked-le = let few = sum-le-of-terms-le-one (λ j. one (isRanked (superblockAt s j))) k (λ j l. one-le-one (isRanked (superblockAt s j))) in omega (arith, before .counted)
+  ranked-le = let few = sum-le-of-terms-le-one (λ j. one (isRanked (superblockAt s j))) k (λ j l. one-le-one (isRanked (superblockAt s j))) in
+      omega (arith, before .counted)
 
   -- ---- superblock k has no rank
-  pub step-unranked : (met' : List ℕ) (ranked' highest' : ℕ) → rankOf s k ≤ 0 → met' ≡ met → ranked' ≡ ranked → highest' ≡ highest → RanksMet s met' ranked' highest' (k + 1)
+  pub step-unranked : (met' : List ℕ) (ranked' highest' : ℕ) → rankOf s k ≤ 0 → met' ≡ met → ranked' ≡ ranked → highest' ≡ highest
+      → RanksMet s met' ranked' highest' (k + 1)
   step-unranked met' ranked' highest' h p q r =
       rw (p, q, r)
       (record {
@@ -151,7 +153,8 @@ module _ (s : State) (met : List ℕ) (ranked highest k : ℕ) (before : RanksMe
         not-above j l (no f) (inl h) = let z = before .not-above j (omega arith) in omega arith
         not-above j l (no f) (inr h) = let z = before .not-above j (omega arith) in omega arith
 
-        reached : HigherOf highest' → (highest ≡ 0) ⊎ ((j : ℕ) × (j < k) × (rankOf s j ≡ highest)) → (highest' ≡ 0) ⊎ ((j : ℕ) × (j < k + 1) × (rankOf s j ≡ highest'))
+        reached : HigherOf highest' → (highest ≡ 0) ⊎ ((j : ℕ) × (j < k) × (rankOf s j ≡ highest)) → (highest' ≡ 0)
+            ⊎ ((j : ℕ) × (j < k + 1) × (rankOf s j ≡ highest'))
         reached (inl h) old = inr (k, omega arith, sym (h .1))
         reached (inr h) (inl e) = inl (h .1 ∙ e)
         reached (inr h) (inr at) = inr (at .0, omega arith, at .2 ∙ sym (h .1))
@@ -180,16 +183,19 @@ module _ (s : State) (met : List ℕ) (ranked highest k : ℕ) (before : RanksMe
 
     pub step-higher : (met' : List ℕ) (ranked' highest' : ℕ) → rankOf s k < 256 → (markBit met (rankOf s k) ≡ 1 → ⊥) → isUnowned (superblockAt s k) ≡ false
         → highest < rankOf s k → met' ≡ notedInCode met (rankOf s k) → ranked' ≡ ranked + 1 → highest' ≡ rankOf s k → RanksMet s met' ranked' highest' (k + 1)
-    step-higher met' ranked' highest' fits new u h p q r = step-ranked met' ranked' highest' fits new u (inl (h, r)) (p ∙ noted-in-code-is-with-mark met (rankOf s k)) q
+    step-higher met' ranked' highest' fits new u h p q r = step-ranked met' ranked' highest' fits new u (inl (h, r))
+        (p ∙ noted-in-code-is-with-mark met (rankOf s k)) q
 
     pub step-not-higher : (met' : List ℕ) (ranked' highest' : ℕ) → rankOf s k < 256 → (markBit met (rankOf s k) ≡ 1 → ⊥) → isUnowned (superblockAt s k) ≡ false
         → rankOf s k ≤ highest → met' ≡ notedInCode met (rankOf s k) → ranked' ≡ ranked + 1 → highest' ≡ highest → RanksMet s met' ranked' highest' (k + 1)
-    step-not-higher met' ranked' highest' fits new u h p q r = step-ranked met' ranked' highest' fits new u (inr (h, r)) (p ∙ noted-in-code-is-with-mark met (rankOf s k)) q
+    step-not-higher met' ranked' highest' fits new u h p q r = step-ranked met' ranked' highest' fits new u (inr (h, r))
+        (p ∙ noted-in-code-is-with-mark met (rankOf s k)) q
 
   -- ---- all looked at
   pub ranks-valid-of-highest : 64 ≤ k → k ≤ 64 → leb highest ranked ≡ ranksValid s
   unfolding rankedCount total
-  ranks-valid-of-highest g h = equal-of-iff (leb highest ranked) (ranksValid s) (λ t. ranks-valid-of-sound s (sound (leb→le highest ranked t))) (λ t. le→leb highest ranked (bound (ranks-sound-of-valid s t) (before .reached)))
+  ranks-valid-of-highest g h = equal-of-iff (leb highest ranked) (ranksValid s) (λ t. ranks-valid-of-sound s (sound (leb→le highest ranked t)))
+      (λ t. le→leb highest ranked (bound (ranks-sound-of-valid s t) (before .reached)))
     where
       all : ranked ≡ rankedCount s
       all = before .counted ∙ ap (sumBelow (λ j. one (isRanked (superblockAt s j)))) (let e : k ≡ 64 = omega arith in e)

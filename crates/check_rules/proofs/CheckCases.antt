@@ -3,15 +3,15 @@ use mathlib.Core.Path.{_≡_, refl}
 use mathlib.Core.Bool.{Bool, true, false}
 use mathlib.Core.List.{List, [], _∷_, _++_, map}
 use Prim.Native.Nat.{ℕ, _-_, _^_}
-use lib.ListN.{length, replicate}
+use lib.ListN.{replicate}
 use Rattle.base_laws.proofs.Stages.{_also_}
-use Rattle.base_laws.specs.Lists.{listed, increased}
+use Rattle.base_laws.specs.Lists.{increased}
 use Rattle.names_rules.specs.Names.{noNames, withName}
 use Rattle.heap_rules.specs.declared.Superblock.{Superblock}
 use Rattle.heap_rules.specs.declared.Setup.{Setup}
 use Rattle.heap_rules.specs.declared.Totals.{Totals}
 use Rattle.heap_rules.specs.declared.State.{State}
-use Rattle.heap_rules.specs.Table.{unused, withRank}
+use Rattle.heap_rules.specs.Table.{unused}
 use Rattle.heap_rules.specs.Totals.{noTotals, superblocksKept, liveKept}
 use Rattle.heap_rules.specs.States.{withNames}
 use Rattle.check_rules.specs.Check.{withinLimits, superblockValid, unusedFrom, sparseIfGlobal, namesValid, totalsValid}
@@ -27,8 +27,10 @@ setup-with processors superblocks spare p q = record { processors = processors; 
 -- "The fraction p/q need not be reduced."
 pub within-limits-cases :
     map withinLimits (setup-with 1 1 1 1 2 ∷ setup-with 8 64 16 7 8 ∷ setup-with 3 9 12 2 4 ∷ []) ≡ true ∷ true ∷ true ∷ []
-    × map withinLimits (setup-with 0 9 12 2 5 ∷ setup-with 9 9 12 2 5 ∷ setup-with 3 0 12 2 5 ∷ setup-with 3 65 12 2 5 ∷ setup-with 3 9 0 2 5 ∷ setup-with 3 9 17 2 5 ∷ []) ≡ replicate 6 false
-    × map withinLimits (setup-with 3 9 12 0 5 ∷ setup-with 3 9 12 5 5 ∷ setup-with 3 9 12 6 5 ∷ setup-with 3 9 12 0 1 ∷ setup-with 3 9 12 1 1 ∷ setup-with 3 9 12 2 9 ∷ []) ≡ replicate 6 false
+    × map withinLimits (setup-with 0 9 12 2 5 ∷ setup-with 9 9 12 2 5 ∷ setup-with 3 0 12 2 5 ∷ setup-with 3 65 12 2 5 ∷ setup-with 3 9 0 2 5
+    ∷ setup-with 3 9 17 2 5 ∷ []) ≡ replicate 6 false
+    × map withinLimits (setup-with 3 9 12 0 5 ∷ setup-with 3 9 12 5 5 ∷ setup-with 3 9 12 6 5 ∷ setup-with 3 9 12 0 1 ∷ setup-with 3 9 12 1 1
+    ∷ setup-with 3 9 12 2 9 ∷ []) ≡ replicate 6 false
 unfolding clausesHold checkDefinitions
 within-limits-cases = (refl, refl, refl)
 
@@ -37,12 +39,13 @@ abbrev pub valid-as-superblock-1 : Superblock → Bool
 valid-as-superblock-1 b = superblockValid small-setup (replicate 256 7 ++ 4 ∷ 0 ∷ 2 ∷ replicate 253 9) 1 b
 
 -- owner above P; owner 255 with a class or a mark; no class 27; a mark at n; a filled place that holds a live block, or one of another superblock
-pub superblock-invalid-cases : map valid-as-superblock-1 (of 3 20 10 ∷ of 255 20 10 ∷ of 255 1 0 ∷ of 255 0 1 ∷ of 1 27 0 ∷ of 2 26 7 ∷ of 1 20 9 ∷ of 1 20 2 ∷ []) ≡ replicate 8 false
+pub superblock-invalid-cases : map valid-as-superblock-1 (of 3 20 10 ∷ of 255 20 10 ∷ of 255 1 0 ∷ of 255 0 1 ∷ of 1 27 0 ∷ of 2 26 7 ∷ of 1 20 9
+    ∷ of 1 20 2 ∷ []) ≡ replicate 8 false
 unfolding clausesHold checkDefinitions
 superblock-invalid-cases = refl
 
--- "in an owned superblock the filled order places hold each unmarked block below n just once", in heap 0 and in the last heap as in heap 1: a filled place that holds a
--- live block, or one of another superblock; in heap 0 a mark at n
+-- "in an owned superblock the filled order places hold each unmarked block below n just once", in heap 0 and in the last heap as in heap 1: a filled
+-- place that holds a live block, or one of another superblock; in heap 0 a mark at n
 pub places-of-each-heap-cases : map valid-as-superblock-1 (of 0 20 9 ∷ of 0 20 2 ∷ of 0 26 7 ∷ of 2 20 9 ∷ of 2 20 2 ∷ []) ≡ replicate 5 false
 unfolding clausesHold checkDefinitions
 places-of-each-heap-cases = refl
@@ -64,7 +67,8 @@ unused-from-cases = (refl, refl)
 -- "each superblock of heap 0 has q × live < (q - p) × n": with 3/7, of class 24, 7 × 1 < 4 × 2, and of class 18, 7 × 4 < 4 × 8 and not 7 × 5;
 -- with 4/8, 8 × 1 is 4 × 2. No other heap's superblock need have.
 pub sparse-if-global-cases :
-    map (sparseIfGlobal small-setup) (of 0 24 2 ∷ of 0 24 3 ∷ of 0 18 15 ∷ of 0 18 31 ∷ of 1 24 3 ∷ of 0 24 0 ∷ []) ≡ true ∷ false ∷ true ∷ false ∷ true ∷ true ∷ []
+    map (sparseIfGlobal small-setup) (of 0 24 2 ∷ of 0 24 3 ∷ of 0 18 15 ∷ of 0 18 31 ∷ of 1 24 3 ∷ of 0 24 0 ∷ []) ≡ true ∷ false ∷ true ∷ false ∷ true
+    ∷ true ∷ []
     × map (sparseIfGlobal (setup-with 2 5 1 4 8)) (of 0 24 1 ∷ of 0 24 0 ∷ []) ≡ false ∷ true ∷ []
 unfolding clausesHold checkDefinitions
 sparse-if-global-cases = (refl, refl)
@@ -75,9 +79,12 @@ quickChecksHold =
     within-limits-cases also superblock-invalid-cases also places-of-each-heap-cases also places-of-own-superblock-cases also unused-from-cases
     also sparse-if-global-cases also tt
 
--- ---- "each held name points at a live block, no two at one". Superblock 1, of heap 2 and class 20, has blocks 1 and 3 live, superblock 2, of heap 0 and class 17, block 0, superblock 63 its block 255
+-- ---- "each held name points at a live block, no two at one". Superblock 1, of heap 2 and class 20, has blocks 1 and 3 live, superblock 2, of heap 0
+-- and class 17, block 0, superblock 63 its block 255
 abbrev pub state-with-names : List ℕ → State
-state-with-names names = withNames (unnamedState small-setup (unused ∷ of 2 20 10 ∷ of 0 17 1 ∷ replicate 60 unused ++ record { owner = 1; class = 0; live = 0 ∷ 0 ∷ 0 ∷ 2 ^ 63 ∷ []; rank = 0; run = 0 } ∷ [])) names
+state-with-names names =
+    withNames (unnamedState small-setup (unused ∷ of 2 20 10 ∷ of 0 17 1 ∷ replicate 60 unused
+    ++ record { owner = 1; class = 0; live = 0 ∷ 0 ∷ 0 ∷ 2 ^ 63 ∷ []; rank = 0; run = 0 } ∷ [])) names
 
 -- no names; each live block named, by the first name and the last too; a name at block 2 of superblock 1, at block 3 of superblock 0, at block 1 of
 -- superblock 64, at the last number that is a block's; two names at block 1 of superblock 1, the first and the last, and two neighbours
@@ -90,9 +97,11 @@ pub names-valid-cases :
 unfolding quickChecksHold checkDefinitions
 names-valid-cases = refl
 
--- ---- "equal to the recount": the totals of three superblocks, heap 1's of class 23 with two live blocks and of class 25, full, and heap 0's of class 24 with one
+-- ---- "equal to the recount": the totals of three superblocks, heap 1's of class 23 with two live blocks and of class 25, full, and heap 0's of
+-- class 24 with one
 abbrev pub with-totals : Totals → State
-with-totals t = let s = unnamedState small-setup (of 1 23 5 ∷ of 0 24 2 ∷ of 1 25 3 ∷ replicate 61 unused) in record { setup = s .setup; table = s .table; names = s .names; totals = t }
+with-totals t = let s = unnamedState small-setup (of 1 23 5 ∷ of 0 24 2 ∷ of 1 25 3 ∷ replicate 61 unused) in
+    record { setup = s .setup; table = s .table; names = s .names; totals = t }
 
 -- these, changed: n more superblocks at x, m more live blocks at y
 abbrev pub totals-with : ℕ → ℕ → ℕ → ℕ → Totals
@@ -110,7 +119,8 @@ totals-above-P-cases = let before = names-valid-cases in refl
 -- right; then wrong by one: superblocks, live blocks, of heap 1, of heap 0, of heap 3, which is above P, and of the last heap and class; by the widest numbers
 pub totals-valid-cases :
     map (λ (t : Totals). totalsValid (with-totals t))
-    (totals-with 0 0 0 0 ∷ totals-with 1 50 0 0 ∷ totals-with 0 0 1 50 ∷ totals-with 1 24 0 0 ∷ totals-with 0 0 1 24 ∷ totals-with 1 81 0 0 ∷ totals-with 0 0 1 81 ∷ totals-with 1 242 0 0 ∷ totals-with 0 0 1 242 ∷ totals-with 0 0 65535 0 ∷ noTotals ∷ [])
+    (totals-with 0 0 0 0 ∷ totals-with 1 50 0 0 ∷ totals-with 0 0 1 50 ∷ totals-with 1 24 0 0 ∷ totals-with 0 0 1 24 ∷ totals-with 1 81 0 0
+    ∷ totals-with 0 0 1 81 ∷ totals-with 1 242 0 0 ∷ totals-with 0 0 1 242 ∷ totals-with 0 0 65535 0 ∷ noTotals ∷ [])
     ≡ true ∷ replicate 10 false
 unfolding checkDefinitions superblocksKept liveKept
 totals-valid-cases = let before = totals-above-P-cases in refl
@@ -124,7 +134,8 @@ exchanged-totals a b c d =
     }
 
 pub totals-cancel-cases :
-    map (λ (t : Totals). totalsValid (with-totals t)) (exchanged-totals 1 1 2 2 ∷ exchanged-totals 0 1 2 2 ∷ exchanged-totals 1 1 2 1 ∷ exchanged-totals 2 0 2 2 ∷ exchanged-totals 1 1 1 3 ∷ [])
+    map (λ (t : Totals). totalsValid (with-totals t)) (exchanged-totals 1 1 2 2 ∷ exchanged-totals 0 1 2 2 ∷ exchanged-totals 1 1 2 1
+    ∷ exchanged-totals 2 0 2 2 ∷ exchanged-totals 1 1 1 3 ∷ [])
     ≡ true ∷ replicate 4 false
 unfolding checkDefinitions
 totals-cancel-cases = let before = totals-valid-cases in refl

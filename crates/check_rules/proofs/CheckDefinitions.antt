@@ -11,10 +11,12 @@ use Rattle.heap_rules.specs.Counts.{total, belongs, oneIfBelongs, liveIfBelongs
 use Rattle.heap_rules.specs.Ranks.{isRanked}
 use Rattle.heap_rules.specs.Totals.{isCounted, withCounted, countedBelow, recounted}
 use Rattle.move_rules.specs.Moves.{bothConditions, mustMove}
-use Rattle.check_rules.specs.Check.{withinLimits, isPartOfRun, isUnowned, isOwned, superblockValid, unusedFrom, emptinessInvariant, sparseIfGlobal, namesValid, sameTotals, totalsValid, rankedCount, carrying, ranksValid, runsWhole, runsValid, restValid, passes}
+use Rattle.check_rules.specs.Check.{withinLimits, isPartOfRun, isUnowned, isOwned, superblockValid, unusedFrom, emptinessInvariant, sparseIfGlobal}
+use Rattle.check_rules.specs.Check.{namesValid, sameTotals, totalsValid, rankedCount, carrying, ranksValid, runsWhole, runsValid, restValid, passes}
 
 unfoldable pub checkDefinitions : Unit {0}
-unfolding passes withinLimits restValid superblockValid isOwned isUnowned isPartOfRun runsValid runsWhole unusedFrom emptinessInvariant sparseIfGlobal namesValid totalsValid ranksValid rankedCount carrying isRanked isUnused isOfRun startsRun
+unfolding passes withinLimits restValid superblockValid isOwned isUnowned isPartOfRun runsValid runsWhole unusedFrom emptinessInvariant sparseIfGlobal
+    namesValid totalsValid ranksValid rankedCount carrying isRanked isUnused isOfRun startsRun
     isLiveBlock liveBlocks withMark
     sameTotals recounted countedBelow withCounted isCounted increased sameNumbers
     mustMove bothConditions total oneIfBelongs liveIfBelongs belongs superblocksOf blocksIn liveOf nameDefinitions

@@ -7,7 +7,8 @@ use Rattle.base_laws.specs.Sums.{allBelow}
 use Rattle.base_laws.proofs.TestLaws.{both-left, both-right, both-make}
 use Rattle.heap_rules.specs.declared.State.{State}
 use Rattle.heap_rules.specs.Table.{superblockAt}
-use Rattle.check_rules.specs.Check.{withinLimits, superblockValid, unusedFrom, emptinessInvariant, sparseIfGlobal, namesValid, totalsValid, ranksValid, runsValid, restValid, passes}
+use Rattle.check_rules.specs.Check.{withinLimits, superblockValid, unusedFrom, emptinessInvariant, sparseIfGlobal, namesValid, totalsValid}
+use Rattle.check_rules.specs.Check.{ranksValid, runsValid, restValid, passes}
 
 -- all but the setup numbers, clause by clause
 pub record RestClauses (s : State) (order : List ℕ) : Type 0 where

@@ -16,13 +16,15 @@ use Rattle.heap_rules.proofs.CaseStates.{unnamedState}
 use Rattle.check_rules.proofs.CheckDefinitions.{checkDefinitions}
 use Rattle.check_rules.proofs.RunCheckCases.{runChecksHold}
 
--- ---- "the ranked ones carry 1 (latest) upwards, each once without a gap, the rest 0, unused ones too": superblocks 0, 1 and 63 of heaps 1, 0 and 2, and superblock 2, which is unused
+-- ---- "the ranked ones carry 1 (latest) upwards, each once without a gap, the rest 0, unused ones too": superblocks 0, 1 and 63 of heaps 1, 0 and 2,
+-- and superblock 2, which is unused
 abbrev pub with-ranks : ℕ → ℕ → ℕ → ℕ → State
 with-ranks a b c d = unnamedState small-setup (ranked 1 17 1 a ∷ ranked 0 17 1 b ∷ withRank c unused ∷ replicate 60 unused ++ ranked 2 16 1 d ∷ [])
 
 -- a gap: from 2 on, and in between; a double: of 1, of the last; an unused one ranked, in order too; a rank above the number of superblocks, the widest too
 pub ranks-not-valid-cases :
-    ranksValid (with-ranks 0 2 0 0) ∷ ranksValid (with-ranks 1 0 0 3) ∷ ranksValid (with-ranks 1 1 0 0) ∷ ranksValid (with-ranks 1 1 0 2) ∷ ranksValid (with-ranks 2 2 0 1)
+    ranksValid (with-ranks 0 2 0 0) ∷ ranksValid (with-ranks 1 0 0 3) ∷ ranksValid (with-ranks 1 1 0 0) ∷ ranksValid (with-ranks 1 1 0 2)
+    ∷ ranksValid (with-ranks 2 2 0 1)
     ∷ ranksValid (with-ranks 0 0 1 0) ∷ ranksValid (with-ranks 1 2 3 0) ∷ ranksValid (with-ranks 0 0 0 65) ∷ ranksValid (with-ranks 1 2 0 255) ∷ []
     ≡ replicate 9 false
 unfolding runChecksHold checkDefinitions
@@ -30,7 +32,8 @@ ranks-not-valid-cases = refl
 
 -- the last superblock ranked though it is unused, or of a run, behind one that is in order
 pub last-superblock-ranked-cases :
-    map (λ (b : Superblock). ranksValid (unnamedState small-setup (ranked 1 17 1 1 ∷ replicate 62 unused ++ withRank 2 b ∷ []))) (unused ∷ runPart 1 ∷ []) ≡ false ∷ false ∷ []
+    map (λ (b : Superblock). ranksValid (unnamedState small-setup (ranked 1 17 1 1 ∷ replicate 62 unused ++ withRank 2 b ∷ []))) (unused ∷ runPart 1 ∷ [])
+    ≡ false ∷ false ∷ []
 unfolding runChecksHold checkDefinitions
 last-superblock-ranked-cases = refl
 
@@ -73,7 +76,8 @@ emptiness-invariant-cases = let before = ranks-beside-run-cases in refl
 
 -- ---- ranks again: none ranked; one, two and three, in two orders
 pub ranks-valid-cases :
-    ranksValid (with-ranks 0 0 0 0) ∷ ranksValid (with-ranks 0 1 0 0) ∷ ranksValid (with-ranks 0 0 0 1) ∷ ranksValid (with-ranks 2 0 0 1) ∷ ranksValid (with-ranks 2 3 0 1) ∷ ranksValid (with-ranks 1 2 0 3) ∷ []
+    ranksValid (with-ranks 0 0 0 0) ∷ ranksValid (with-ranks 0 1 0 0) ∷ ranksValid (with-ranks 0 0 0 1) ∷ ranksValid (with-ranks 2 0 0 1)
+    ∷ ranksValid (with-ranks 2 3 0 1) ∷ ranksValid (with-ranks 1 2 0 3) ∷ []
     ≡ replicate 6 true
 unfolding otherCasesHold checkDefinitions
 ranks-valid-cases = let before = emptiness-invariant-cases in refl

@@ -23,10 +23,12 @@ pub scan-start : (table : List Superblock) → Scanned table 0 0
 scan-start table = refl
 
 -- ---- one superblock and those behind it
-runs-whole-in-run : (left : ℕ) (b : Superblock) (rest : List Superblock) → 0 < left → runsWhole left (b ∷ rest) ≡ both (isOfRun b) (both (eqb (b .run) 0) (runsWhole (left - 1) rest))
+runs-whole-in-run : (left : ℕ) (b : Superblock) (rest : List Superblock) → 0 < left → runsWhole left (b ∷ rest) ≡ both (isOfRun b)
+    (both (eqb (b .run) 0) (runsWhole (left - 1) rest))
 unfolding runsWhole
 runs-whole-in-run zero b rest l = absurd (let z : ⊥ = omega arith in z)
-runs-whole-in-run (suc left) b rest l = let e : left ≡ suc left - 1 = omega arith in ap (λ (n : ℕ). both (isOfRun b) (both (eqb (b .run) 0) (runsWhole n rest))) e
+runs-whole-in-run (suc left) b rest l = let e : left ≡ suc left - 1 = omega arith in
+    ap (λ (n : ℕ). both (isOfRun b) (both (eqb (b .run) 0) (runsWhole n rest))) e
 
 runs-whole-outside-run : (left : ℕ) (b : Superblock) (rest : List Superblock) → left ≤ 0
     → runsWhole left (b ∷ rest) ≡ pick (isOfRun b) (both (within 1 16 (b .run)) (runsWhole (b .run - 1) rest)) (both (eqb (b .run) 0) (runsWhole 0 rest))
@@ -77,13 +79,15 @@ module _ (table : List Superblock) (left k : ℕ) (long : length table ≡ 64) (
     false-of-above-16 o h = sym (all ∙ runs-whole-outside-run left this _ none ∙ rw (is-of-run-true this o, lt-leb (this .run) 16 h, both-false-right))
 
     pub step-first-of-run : (left' : ℕ) → this .owner ≡ runOwner → 1 ≤ this .run → this .run ≤ 16 → left' ≡ this .run - 1 → Scanned table left' (k + 1)
-    step-first-of-run left' o l h e = all ∙ runs-whole-outside-run left this _ none ∙ rw (is-of-run-true this o, le-leb 1 (this .run) l, le-leb (this .run) 16 h, e)
+    step-first-of-run left' o l h e = all ∙ runs-whole-outside-run left this _ none
+        ∙ rw (is-of-run-true this o, le-leb 1 (this .run) l, le-leb (this .run) 16 h, e)
 
     pub false-of-length-outside : (this .owner ≡ runOwner → ⊥) → 0 < this .run → false ≡ runsWhole 0 table
     false-of-length-outside o h = sym (all ∙ runs-whole-outside-run left this _ none ∙ rw (is-of-run-false this o, length-is-not-0 this h))
 
     pub step-outside : (left' : ℕ) → (this .owner ≡ runOwner → ⊥) → this .run ≤ 0 → left' ≡ left → Scanned table left' (k + 1)
-    step-outside left' o z e = all ∙ runs-whole-outside-run left this _ none ∙ rw (is-of-run-false this o, length-is-0 this z, e, (let q : left ≡ 0 = omega arith in q))
+    step-outside left' o z e = all ∙ runs-whole-outside-run left this _ none
+        ∙ rw (is-of-run-false this o, length-is-0 this z, e, (let q : left ≡ 0 = omega arith in q))
 
 -- at the table's end no superblock of a run may be still to come
 pub scan-end : (table : List Superblock) (left k : ℕ) → length table ≡ 64 → 64 ≤ k → Scanned table left k → eqb left 0 ≡ runsWhole 0 table

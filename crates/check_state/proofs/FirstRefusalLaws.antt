@@ -26,7 +26,8 @@ module _ (s : State) (order : List ℕ) (r : ℕ) (e : r ≡ setupRefusal 13 (s 
   unfolding setupRefusal firstRefusal
   first-refusal-is-rest-check z = go (withinLimits (s .setup)) (leb (s .setup .superblocks * 256) (length order)) (sym z ∙ e)
     where
-      go : (a b : Bool) → _≡_ {A = ℕ} 0 (pick a (pick b 0 12) 13) → _≡_ {A = ℕ} (pick a (pick b (pick (restValid s order) 0 13) 12) 13) (pick (restValid s order) 0 13)
+      go : (a b : Bool) → _≡_ {A = ℕ} 0 (pick a (pick b 0 12) 13) → _≡_ {A = ℕ} (pick a (pick b (pick (restValid s order) 0 13) 12) 13)
+          (pick (restValid s order) 0 13)
       go true true q = refl
       go true false q = absurd (omega arith)
       go false b q = absurd (omega arith)

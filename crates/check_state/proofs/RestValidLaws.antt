@@ -15,7 +15,8 @@ use Rattle.heap_rules.specs.declared.Totals.{Totals}
 use Rattle.heap_rules.specs.declared.State.{State}
 use Rattle.heap_rules.specs.Table.{superblockAt}
 use Rattle.heap_rules.specs.Totals.{heapCount, recounted}
-use Rattle.check_rules.specs.Check.{withinLimits, superblockValid, unusedFrom, sparseIfGlobal, emptinessInvariant, namesValid, sameTotals, totalsValid, ranksValid, runsWhole, runsValid, restValid}
+use Rattle.check_rules.specs.Check.{withinLimits, superblockValid, unusedFrom, sparseIfGlobal, emptinessInvariant, namesValid, sameTotals, totalsValid}
+use Rattle.check_rules.specs.Check.{ranksValid, runsWhole, runsValid, restValid}
 use Rattle.heap_laws.proofs.StateCheckLaws.{facts-of-within-limits}
 use Rattle.check_superblock.specs.Alone.{aloneValid, eachValid}
 use Rattle.check_invariant.specs.TotalsInvariant.{totalsInvariant}
@@ -23,12 +24,15 @@ use Rattle.check_invariant.proofs.EmptinessInvariantLaws.{totals-invariant-of-r
 use Rattle.check_limits.specs.SetupRefusal.{setupRefusal}
 
 -- the clauses in the code's order
-rest-valid-by-parts : (s : State) (order : List ℕ) → restValid s order ≡ both (eachValid (s .setup) (s .table) order) (both (totalsValid s) (both (emptinessInvariant s) (both (namesValid s) (both (ranksValid s) (runsValid s)))))
+rest-valid-by-parts : (s : State) (order : List ℕ) → restValid s order ≡ both (eachValid (s .setup) (s .table) order)
+    (both (totalsValid s) (both (emptinessInvariant s) (both (namesValid s) (both (ranksValid s) (runsValid s)))))
 unfolding restValid eachValid aloneValid
 rest-valid-by-parts s order =
     sym
-    (ap (λ (t : Bool). both t (both (totalsValid s) (both (emptinessInvariant s) (both (namesValid s) (both (ranksValid s) (runsValid s)))))) (all-both good (λ k. both (past k) (thin k)) 64 ∙ ap (both (allBelow good 64)) (all-both past thin 64))
-    ∙ regroup (allBelow good 64) (allBelow past 64) (emptinessInvariant s) (allBelow thin 64) (namesValid s) (totalsValid s) (both (ranksValid s) (runsValid s)))
+    (ap (λ (t : Bool). both t (both (totalsValid s) (both (emptinessInvariant s) (both (namesValid s) (both (ranksValid s) (runsValid s))))))
+    (all-both good (λ k. both (past k) (thin k)) 64 ∙ ap (both (allBelow good 64)) (all-both past thin 64))
+    ∙ regroup (allBelow good 64) (allBelow past 64) (emptinessInvariant s) (allBelow thin 64) (namesValid s) (totalsValid s)
+    (both (ranksValid s) (runsValid s)))
   where
     good : ℕ → Bool
     good k = superblockValid (s .setup) order k (superblockAt s k)
@@ -56,12 +60,14 @@ processors-have-totals : (s : State) (order : List ℕ) (first : ℕ) → first 
 unfolding setupRefusal
 processors-have-totals s order first e z = go (withinLimits (s .setup)) refl (sym z ∙ e)
   where
-    go : (a : Bool) → withinLimits (s .setup) ≡ a → _≡_ {A = ℕ} 0 (pick a (pick (leb (s .setup .superblocks * 256) (length order)) 0 12) 13) → s .setup .processors < heapCount
+    go : (a : Bool) → withinLimits (s .setup) ≡ a → _≡_ {A = ℕ} 0 (pick a (pick (leb (s .setup .superblocks * 256) (length order)) 0 12) 13)
+        → s .setup .processors < heapCount
     go true w q = let h = facts-of-within-limits (s .setup) (T-of-true _ w) .processors-high in omega arith
     go false w q = absurd (omega arith)
 
 -- ---- each part, by its answer
-module _ (s : State) (order : List ℕ) (first : ℕ) (lawful : first ≡ setupRefusal 13 (s .setup) order) (none : first ≡ 0) (t : Bool) (e : t ≡ eachValid (s .setup) (s .table) order) where
+module _ (s : State) (order : List ℕ) (first : ℕ) (lawful : first ≡ setupRefusal 13 (s .setup) order) (none : first ≡ 0) (t : Bool)
+    (e : t ≡ eachValid (s .setup) (s .table) order) where
   pub rest-valid-false-of-each : not t ≡ true → false ≡ restValid s order
   rest-valid-false-of-each f = sym (rw (rest-valid-by-parts s order, ← e, not-true t f))
 
@@ -75,15 +81,26 @@ module _ (s : State) (order : List ℕ) (first : ℕ) (lawful : first ≡ setupR
 
     module _ (g : not v ≡ false) (u : Bool) (i : u ≡ totalsInvariant (s .setup) counted) where
       invariant-is-emptiness-invariant : u ≡ emptinessInvariant s
-      invariant-is-emptiness-invariant = i ∙ ap (totalsInvariant (s .setup)) recount ∙ totals-invariant-of-recount s (processors-have-totals s order first lawful none)
+      invariant-is-emptiness-invariant = i ∙ ap (totalsInvariant (s .setup)) recount
+          ∙ totals-invariant-of-recount s (processors-have-totals s order first lawful none)
 
       pub rest-valid-false-of-emptiness-invariant : not u ≡ true → false ≡ restValid s order
-      rest-valid-false-of-emptiness-invariant j = sym (rw (rest-valid-by-parts s order, ← e, not-false t f, ← same-is-totals-valid, not-false v g, ← invariant-is-emptiness-invariant, not-true u j))
+      rest-valid-false-of-emptiness-invariant j =
+          sym (rw (
+            rest-valid-by-parts s order,
+            ← e,
+            not-false t f,
+            ← same-is-totals-valid,
+            not-false v g,
+            ← invariant-is-emptiness-invariant,
+            not-true u j,
+          ))
 
       module _ (j : not u ≡ false) (w : Bool) (n : w ≡ namesValid s) where
         rest-valid-is-names-ranks-and-runs : restValid s order ≡ both w (both (ranksValid s) (runsValid s))
         rest-valid-is-names-ranks-and-runs =
-            rw (rest-valid-by-parts s order, ← e, not-false t f, ← same-is-totals-valid, not-false v g, ← invariant-is-emptiness-invariant, not-false u j) (ap (λ (x : Bool). both x (both (ranksValid s) (runsValid s))) (sym n))
+            rw (rest-valid-by-parts s order, ← e, not-false t f, ← same-is-totals-valid, not-false v g, ← invariant-is-emptiness-invariant, not-false u j)
+            (ap (λ (x : Bool). both x (both (ranksValid s) (runsValid s))) (sym n))
 
         pub rest-valid-false-of-names : not w ≡ true → false ≡ restValid s order
         rest-valid-false-of-names k = sym (rest-valid-is-names-ranks-and-runs ∙ ap (λ (x : Bool). both x (both (ranksValid s) (runsValid s))) (not-true w k))
@@ -107,4 +124,12 @@ module _ (s : State) (order : List ℕ) (first : ℕ) (lawful : first ≡ setupR
             rest-valid-of-parts m = sym (rest-valid-is-runs-whole ∙ not-false y m)
 
 -- how a proof finds which of them it asks
-pub ruleset rest-valid-rules = (rest-valid-false-of-each, rest-valid-false-of-totals, rest-valid-false-of-emptiness-invariant, rest-valid-false-of-names, rest-valid-false-of-ranks, rest-valid-false-of-runs, rest-valid-of-parts)
+pub ruleset rest-valid-rules = (
+  rest-valid-false-of-each,
+  rest-valid-false-of-totals,
+  rest-valid-false-of-emptiness-invariant,
+  rest-valid-false-of-names,
+  rest-valid-false-of-ranks,
+  rest-valid-false-of-runs,
+  rest-valid-of-parts,
+)

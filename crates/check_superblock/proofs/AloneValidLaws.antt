@@ -54,7 +54,13 @@ module _ (u : Setup) (order : List ℕ) (k : ℕ) (b : Superblock) (r : Bool) (u
       unfolding aloneValid superblockValid isUnowned unusedFrom isPartOfRun isOfRun
       alone-valid-of-part-of-run below e =
           let is : isPartOfRun b ≡ true = sym part ∙ e in
-          sym (simp (is-unused-false, is, lt-ltb k (u .superblocks) below, sparse-of-bare u b runOwner (both (eqb (b .class) 0) (eqb (liveIn b) 0)) (omega arith) is))
+          sym (simp (
+            is-unused-false,
+            is,
+            lt-ltb k (u .superblocks) below,
+            sparse-of-bare u b runOwner (both (eqb (b .class) 0) (eqb (liveIn b) 0))
+                (omega arith) is,
+          ))
 
       module _ (none : p ≡ false) where
         is-unowned-false : isUnowned b ≡ false
@@ -73,10 +79,19 @@ module _ (u : Setup) (order : List ℕ) (k : ℕ) (b : Superblock) (r : Bool) (u
         unfolding aloneValid
         alone-valid-false-of-not-sparse t e f = sym (simp (sym e ∙ not-true t f, both-false-right))
 
-        pub alone-valid-is-places-valid : (t g : Bool) → k < u .superblocks → b .owner ≤ u .processors → b .class < classCount → t ≡ sparseIfGlobal u b → not t ≡ false → g ≡ placesValid order (b .live) k (blocksOf (b .class))
+        pub alone-valid-is-places-valid : (t g : Bool) → k < u .superblocks → b .owner ≤ u .processors → b .class < classCount → t ≡ sparseIfGlobal u b
+            → not t ≡ false → g ≡ placesValid order (b .live) k (blocksOf (b .class))
             → g ≡ aloneValid u order k b
         unfolding aloneValid superblockValid isOwned unusedFrom
-        alone-valid-is-places-valid t g below owner class e f h = h ∙ sym (simp (is-unowned-false, lt-ltb k (u .superblocks) below, le-leb (b .owner) (u .processors) owner, lt-ltb (b .class) classCount class, sym e ∙ not-false t f, both-true-right))
+        alone-valid-is-places-valid t g below owner class e f h =
+            h ∙ sym (simp (
+              is-unowned-false,
+              lt-ltb k (u .superblocks) below,
+              le-leb (b .owner) (u .processors) owner,
+              lt-ltb (b .class) classCount class,
+              sym e ∙ not-false t f,
+              both-true-right,
+            ))
 
 -- a superblock of another owner is part of no run
 pub no-part-of-run-of-owner : (b : Superblock) → (b .owner ≡ runOwner → ⊥) → false ≡ isPartOfRun b
@@ -89,7 +104,8 @@ module _ (u : Setup) (b : Superblock) where
   unfolding sparseIfGlobal
   sparse-if-global-of-other-heap f = sym (simp (ne-eqb (b .owner) 0 f))
 
-  pub sparse-if-global-of-heap-0 : (n live : ℕ) (r : Bool) → b .owner ≡ 0 → n ≡ blocksOf (b .class) → live ≡ liveIn b → r ≡ ltb (u .q * live) ((u .q - u .p) * n) → r ≡ sparseIfGlobal u b
+  pub sparse-if-global-of-heap-0 : (n live : ℕ) (r : Bool) → b .owner ≡ 0 → n ≡ blocksOf (b .class) → live ≡ liveIn b
+      → r ≡ ltb (u .q * live) ((u .q - u .p) * n) → r ≡ sparseIfGlobal u b
   unfolding sparseIfGlobal
   sparse-if-global-of-heap-0 n live r z e l t = t ∙ sym (simp (eq-eqb (b .owner) 0 z, ← e, ← l))
 

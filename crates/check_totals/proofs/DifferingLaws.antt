@@ -1,4 +1,5 @@
--- How many numbers of two lists differ: the count of a loop, and that none differ exactly where the lists are the same. For numbers of any width. Assumes nothing.
+-- How many numbers of two lists differ: the count of a loop, and that none differ exactly where the lists are the same. For numbers of any width.
+-- Assumes nothing.
 use mathlib.Core.Path.{_≡_, refl, sym, ap, _∙_, subst}
 use mathlib.Core.Bool.{Bool, true, false, not}
 use mathlib.Core.List.{List}
@@ -27,7 +28,8 @@ none-differ-yet a b = sym (sum-below-zero (λ k. one (not (eqb (getD a k 0) (get
 module _ (a b : List ℕ) (n m i : ℕ) (e : n ≡ differing a b i) where
   one-more-differs-by : (t : Bool) → eqb (getD a i 0) (getD b i 0) ≡ t → m ≡ n + one (not t) → m ≡ differing a b (i + 1)
   unfolding differing
-  one-more-differs-by t p q = let s = sum-below-suc (λ k. one (not (eqb (getD a k 0) (getD b k 0)))) i in let o : one (not (eqb (getD a i 0) (getD b i 0))) ≡ one (not t) = ap (λ (x : Bool). one (not x)) p in omega arith
+  one-more-differs-by t p q = let s = sum-below-suc (λ k. one (not (eqb (getD a k 0) (getD b k 0)))) i in
+      let o : one (not (eqb (getD a i 0) (getD b i 0))) ≡ one (not t) = ap (λ (x : Bool). one (not x)) p in omega arith
 
   pub one-more-differs : (getD a i 0 ≡ getD b i 0 → ⊥) → m ≡ n + 1 → m ≡ differing a b (i + 1)
   one-more-differs f q = one-more-differs-by false (ne-eqb (getD a i 0) (getD b i 0) f) q
@@ -39,7 +41,8 @@ module _ (a b : List ℕ) (n m i : ℕ) (e : n ≡ differing a b i) where
 module _ (a b : List ℕ) (n : ℕ) (long-a : length a ≡ n) (long-b : length b ≡ n) where
   same-numbers-of-none-differing : differing a b n ≡ 0 → T (sameNumbers a b)
   unfolding differing
-  same-numbers-of-none-differing z = subst (λ (l : List ℕ). T (sameNumbers a l)) (ext-getD 0 a b (long-a ∙ sym long-b) (λ k l. at k (omega arith))) (same-numbers-refl a)
+  same-numbers-of-none-differing z = subst (λ (l : List ℕ). T (sameNumbers a l)) (ext-getD 0 a b (long-a ∙ sym long-b) (λ k l. at k (omega arith)))
+      (same-numbers-refl a)
     where
       differs : ℕ → ℕ
       differs k = one (not (eqb (getD a k 0) (getD b k 0)))
@@ -55,10 +58,12 @@ module _ (a b : List ℕ) (n : ℕ) (long-a : length a ≡ n) (long-b : length b
   unfolding differing
   none-differing-of-same-numbers t =
       let e = equal-of-same-numbers a b t in
-      sum-of-zeros (λ k. one (not (eqb (getD a k 0) (getD b k 0)))) n (λ k l. ap (λ (x : Bool). one (not x)) (eq-eqb (getD a k 0) (getD b k 0) (ap (λ (l : List ℕ). getD l k 0) e)))
+      sum-of-zeros (λ k. one (not (eqb (getD a k 0) (getD b k 0)))) n
+      (λ k l. ap (λ (x : Bool). one (not x)) (eq-eqb (getD a k 0) (getD b k 0) (ap (λ (l : List ℕ). getD l k 0) e)))
 
 -- for as many numbers as there are totals
-pub same-numbers-is-none-differing : (a b : List ℕ) (m i : ℕ) → length a ≡ totalCount → length b ≡ totalCount → m ≡ differing a b i → i ≤ totalCount → totalCount ≤ i → eqb m 0 ≡ sameNumbers a b
+pub same-numbers-is-none-differing : (a b : List ℕ) (m i : ℕ) → length a ≡ totalCount → length b ≡ totalCount → m ≡ differing a b i → i ≤ totalCount
+    → totalCount ≤ i → eqb m 0 ≡ sameNumbers a b
 same-numbers-is-none-differing a b m i long-a long-b e h g =
     let c : m ≡ differing a b totalCount = e ∙ ap (differing a b) (le-antisymm h g) in
     equal-of-iff (eqb m 0) (sameNumbers a b)

@@ -19,7 +19,8 @@ both-assoc : (a b c : Bool) → both (both a b) c ≡ both a (both b c)
 both-assoc true b c = refl
 both-assoc false b c = refl
 
-pub meets-by-parts : (w : Criterion) (b : Superblock) → meetsCriterion w b ≡ both (eqb (b .owner) (ownerSought w)) (both (classFits w (b .class)) (liveFits w (liveIn b)))
+pub meets-by-parts : (w : Criterion) (b : Superblock) → meetsCriterion w b ≡ both (eqb (b .owner) (ownerSought w))
+    (both (classFits w (b .class)) (liveFits w (liveIn b)))
 unfolding meetsCriterion hasFree belongs emptyInGlobal isUnused ownerSought classFits liveFits
 meets-by-parts (HasFree h c) b = both-assoc (eqb (b .owner) h) (eqb (b .class) c) (ltb (liveIn b) (blocksOf c))
 meets-by-parts (Belongs h c) b = sym (both-true-right (both (eqb (b .owner) h) (eqb (b .class) c))) ∙ both-assoc (eqb (b .owner) h) (eqb (b .class) c) true

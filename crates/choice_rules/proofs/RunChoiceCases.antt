@@ -29,8 +29,8 @@ pub lowest-below-cases : map (lowestBelow (λ k. ltb 2 k)) (0 ∷ 3 ∷ 4 ∷ 9 
 unfolding choicesHold lowestBelow
 lowest-below-cases = refl
 
--- N, and the superblocks: two available ones, from 1 on, the second empty in heap 0; three from 4 on, of which the middle one is empty in heap 0; and those from 8 on,
--- unused. Between them heap 1 has an empty one and heap 0 one with a block live
+-- N, and the superblocks: two available ones, from 1 on, the second empty in heap 0; three from 4 on, of which the middle one is empty in heap 0; and
+-- those from 8 on, unused. Between them heap 1 has an empty one and heap 0 one with a block live
 abbrev pub gaps-state : ℕ → State
 gaps-state n =
     unnamedState (record { processors = 2; superblocks = n; spare = 1; p = 3; q = 7 })
@@ -38,8 +38,10 @@ gaps-state n =
 
 -- N = 14: the gaps from 1, 4 and 8 on, and one more than each holds; a part of a gap; the last superblock, and the one behind it; past N from within the gap
 pub is-free-run-cases :
-    isFreeRun 2 (gaps-state 14) 1 ∷ isFreeRun 3 (gaps-state 14) 4 ∷ isFreeRun 6 (gaps-state 14) 8 ∷ isFreeRun 1 (gaps-state 14) 5 ∷ isFreeRun 1 (gaps-state 14) 13 ∷ [] ≡ replicate 5 true
-    × isFreeRun 3 (gaps-state 14) 1 ∷ isFreeRun 4 (gaps-state 14) 4 ∷ isFreeRun 7 (gaps-state 14) 8 ∷ isFreeRun 3 (gaps-state 14) 0 ∷ isFreeRun 1 (gaps-state 14) 14 ∷ isFreeRun 2 (gaps-state 14) 13 ∷ [] ≡ replicate 6 false
+    isFreeRun 2 (gaps-state 14) 1 ∷ isFreeRun 3 (gaps-state 14) 4 ∷ isFreeRun 6 (gaps-state 14) 8 ∷ isFreeRun 1 (gaps-state 14) 5
+    ∷ isFreeRun 1 (gaps-state 14) 13 ∷ [] ≡ replicate 5 true
+    × isFreeRun 3 (gaps-state 14) 1 ∷ isFreeRun 4 (gaps-state 14) 4 ∷ isFreeRun 7 (gaps-state 14) 8 ∷ isFreeRun 3 (gaps-state 14) 0
+    ∷ isFreeRun 1 (gaps-state 14) 14 ∷ isFreeRun 2 (gaps-state 14) 13 ∷ [] ≡ replicate 6 false
 unfolding choicesHold isFreeRun allBelow isAvailable isUnused emptyInGlobal liveCount sumBelow markBit bit
 is-free-run-cases = (refl, refl)
 
@@ -54,7 +56,8 @@ quickRunsHold = is-available-cases also lowest-below-cases also is-free-run-case
 
 -- the last superblock alone, and 16 up to the last; of a full table none
 pub lowest-run-at-end-cases :
-    lowestRun 1 (unnamedState (gaps-state 64 .setup) (replicate 63 (runPart 1) ++ unused ∷ [])) ∷ lowestRun 16 (unnamedState (gaps-state 64 .setup) (replicate 48 (runPart 1) ++ replicate 16 unused))
+    lowestRun 1 (unnamedState (gaps-state 64 .setup) (replicate 63 (runPart 1) ++ unused ∷ []))
+    ∷ lowestRun 16 (unnamedState (gaps-state 64 .setup) (replicate 48 (runPart 1) ++ replicate 16 unused))
     ∷ lowestRun 1 (unnamedState (gaps-state 64 .setup) (replicate 64 (runPart 1))) ∷ []
     ≡ At 63 ∷ At 48 ∷ Nothing ∷ []
 unfolding quickRunsHold lowestRun lowestBelow isFreeRun allBelow isAvailable isUnused emptyInGlobal liveCount sumBelow markBit bit

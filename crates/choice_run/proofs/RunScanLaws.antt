@@ -57,7 +57,8 @@ no-row-at-start s n h =
 
 module _ (s : State) (n k row : ℕ) (before : RowBefore s n k row) where
   -- a row of n that is no longer than allowed holds one that is not available, so it is no run
-  no-run-after : (now : ℕ) → now < n → ((j : ℕ) → j + now < k + 1 → ((i : ℕ) → j ≤ i → i < k + 1 → T (isAvailable (superblockAt s i))) → ⊥) → (j : ℕ) → j + n ≤ k + 1 → FreeRun n s j → ⊥
+  no-run-after : (now : ℕ) → now < n → ((j : ℕ) → j + now < k + 1 → ((i : ℕ) → j ≤ i → i < k + 1 → T (isAvailable (superblockAt s i))) → ⊥) → (j : ℕ)
+      → j + n ≤ k + 1 → FreeRun n s j → ⊥
   no-run-after now l longer j h t = go (decLe (j + n) k)
     where
       go : Dec (j + n ≤ k) → ⊥

@@ -54,7 +54,8 @@ module _ (meets : Superblock → Bool) (preferred : Superblock → Superblock �
   unfolding chosenBelow
   chosen-below-zero = refl
 
-  chosen-below-suc : (n : ℕ) → chosenBelow meets preferred table (n + 1) ≡ pick (meets (getD table n blank)) (prefer preferred table (chosenBelow meets preferred table n) n) (chosenBelow meets preferred table n)
+  chosen-below-suc : (n : ℕ) → chosenBelow meets preferred table (n + 1) ≡ pick (meets (getD table n blank))
+      (prefer preferred table (chosenBelow meets preferred table n) n) (chosenBelow meets preferred table n)
   unfolding chosenBelow
   chosen-below-suc n = rw add-one
 
@@ -74,7 +75,8 @@ best-below-start w table = record {
   keeps = λ m e. absurd (let z : _≡_ {A = ℕ} 0 1 = cc in omega arith);
 }
 
-pub best-below-end : (w : Criterion) (table : List Superblock) (k n : ℕ) (best : Best) → BestBelow w table k best → k ≤ n → n ≤ k → best .found ≡ chosenBelow (meetsCriterion w) (preferredBy w) table n
+pub best-below-end : (w : Criterion) (table : List Superblock) (k n : ℕ) (best : Best) → BestBelow w table k best → k ≤ n → n ≤ k
+    → best .found ≡ chosenBelow (meetsCriterion w) (preferredBy w) table n
 best-below-end w table k n best h l g = h .chosen ∙ ap (chosenBelow (meetsCriterion w) (preferredBy w) table) (le-antisymm l g)
 
 -- what is kept of superblock k
@@ -84,7 +86,8 @@ kept k b = record { found = At k; live = liveIn b; rank = b .rank }
 -- it is the superblock looked at, or the best before
 best-after-new-or-old : (w : Criterion) (best : Best) (k : ℕ) (b : Superblock) → (bestAfter w best k b ≡ kept k b) ⊎ (bestAfter w best k b ≡ best)
 unfolding bestAfter
-best-after-new-or-old w best k b = go (both (classFits w (b .class)) (both (liveFits w (liveIn b)) (replacesBest w (best .found) (liveIn b) (b .rank) (best .live) (best .rank))))
+best-after-new-or-old w best k b =
+    go (both (classFits w (b .class)) (both (liveFits w (liveIn b)) (replacesBest w (best .found) (liveIn b) (b .rank) (best .live) (best .rank))))
   where
     go : (t : Bool) → (pick t (kept k b) best ≡ kept k b) ⊎ (pick t (kept k b) best ≡ best)
     go true = inl refl
@@ -93,19 +96,23 @@ best-after-new-or-old w best k b = go (both (classFits w (b .class)) (both (live
 -- the owner sought, and any other
 module _ (w : Criterion) (b : Superblock) where
   meets-of-owner : b .owner ≡ ownerSought w → meetsCriterion w b ≡ both (classFits w (b .class)) (liveFits w (liveIn b))
-  meets-of-owner o = meets-by-parts w b ∙ ap (λ (t : Bool). both t (both (classFits w (b .class)) (liveFits w (liveIn b)))) (eq-eqb (b .owner) (ownerSought w) o)
+  meets-of-owner o = meets-by-parts w b ∙ ap (λ (t : Bool). both t (both (classFits w (b .class)) (liveFits w (liveIn b))))
+      (eq-eqb (b .owner) (ownerSought w) o)
 
   not-meeting-of-other-owner : (b .owner ≡ ownerSought w → ⊥) → meetsCriterion w b ≡ false
-  not-meeting-of-other-owner n = meets-by-parts w b ∙ ap (λ (t : Bool). both t (both (classFits w (b .class)) (liveFits w (liveIn b)))) (ne-eqb (b .owner) (ownerSought w) n)
+  not-meeting-of-other-owner n = meets-by-parts w b ∙ ap (λ (t : Bool). both t (both (classFits w (b .class)) (liveFits w (liveIn b))))
+      (ne-eqb (b .owner) (ownerSought w) n)
 
 module _ (w : Criterion) (table : List Superblock) (k : ℕ) (best : Best) (h : BestBelow w table k best) where
   abbrev looked : Superblock
   looked = getD table k blank
 
-  found-of-best-after : looked .owner ≡ ownerSought w → (f : Found) → best .found ≡ f → bestAfter w best k looked .found ≡ pick (meetsCriterion w looked) (prefer (preferredBy w) table f k) f
+  found-of-best-after : looked .owner ≡ ownerSought w → (f : Found) → best .found ≡ f → bestAfter w best k looked .found ≡ pick (meetsCriterion w looked)
+      (prefer (preferredBy w) table f k) f
   unfolding bestAfter replacesBest prefer
   found-of-best-after o Nothing q =
-      ap (λ (f : Found). pick (both (classFits w (looked .class)) (both (liveFits w (liveIn looked)) (replacesBest w f (liveIn looked) (looked .rank) (best .live) (best .rank)))) (kept k looked) best .found) q
+      ap (λ (f : Found). pick (both (classFits w (looked .class))
+      (both (liveFits w (liveIn looked)) (replacesBest w f (liveIn looked) (looked .rank) (best .live) (best .rank)))) (kept k looked) best .found) q
       ∙ go (classFits w (looked .class)) (liveFits w (liveIn looked))
       ∙ ap (λ (t : Bool). pick t (At k) Nothing) (sym (meets-of-owner w looked o))
     where
@@ -114,7 +121,8 @@ module _ (w : Criterion) (table : List Superblock) (k : ℕ) (best : Best) (h : 
       go true false = q
       go false u = q
   found-of-best-after o (At m) q =
-      ap (λ (f : Found). pick (both (classFits w (looked .class)) (both (liveFits w (liveIn looked)) (replacesBest w f (liveIn looked) (looked .rank) (best .live) (best .rank)))) (kept k looked) best .found) q
+      ap (λ (f : Found). pick (both (classFits w (looked .class))
+      (both (liveFits w (liveIn looked)) (replacesBest w f (liveIn looked) (looked .rank) (best .live) (best .rank)))) (kept k looked) best .found) q
       ∙ ap (λ (t : Bool). pick (both (classFits w (looked .class)) (both (liveFits w (liveIn looked)) t)) (kept k looked) best .found) preference
       ∙ go (classFits w (looked .class)) (liveFits w (liveIn looked)) (preferredBy w looked (getD table m blank))
       ∙ ap (λ (t : Bool). pick t (pick (preferredBy w looked (getD table m blank)) (At k) (At m)) (At m)) (sym (meets-of-owner w looked o))
@@ -130,8 +138,10 @@ module _ (w : Criterion) (table : List Superblock) (k : ℕ) (best : Best) (h : 
 
   keeps-after : (r : Best) → r ≡ bestAfter w best k looked → KeptOfBest table r
   keeps-after r e m f = ⊎-elim
-      (λ (q : bestAfter w best k looked ≡ kept k looked). let z : k ≡ m = cc in let x : r .live ≡ liveIn looked = cc in let y : r .rank ≡ looked .rank = cc in subst (λ (j : ℕ). (r .live ≡ liveIn (getD table j blank)) × (r .rank ≡ getD table j blank .rank)) z (x, y))
-      (λ (q : bestAfter w best k looked ≡ best). let z : r ≡ best = e ∙ q in subst (λ (x : Best). x .found ≡ At m → (x .live ≡ liveIn (getD table m blank)) × (x .rank ≡ getD table m blank .rank)) (sym z) (h .keeps m) f)
+      (λ (q : bestAfter w best k looked ≡ kept k looked). let z : k ≡ m = cc in let x : r .live ≡ liveIn looked = cc in let y : r .rank ≡ looked .rank =
+      cc in subst (λ (j : ℕ). (r .live ≡ liveIn (getD table j blank)) × (r .rank ≡ getD table j blank .rank)) z (x, y))
+      (λ (q : bestAfter w best k looked ≡ best). let z : r ≡ best = e ∙ q in
+      subst (λ (x : Best). x .found ≡ At m → (x .live ≡ liveIn (getD table m blank)) × (x .rank ≡ getD table m blank .rank)) (sym z) (h .keeps m) f)
       (best-after-new-or-old w best k looked)
 
   -- one turn of the loop: x is the owner sought, r the best after it
@@ -169,5 +179,7 @@ module _ (table : List Superblock) (long : length table ≡ 64) where
       ∙ pick-false (isUnused (getD table (d + 64) blank)) _ _ (ap isUnused e ∙ blank-not-unused)
       ∙ chosen-below-past-table d
 
-  pub chosen-unused-past-table : (n : ℕ) (f : Found) → 64 < n → f ≡ chosenBelow isUnused neverPreferred table 64 → f ≡ chosenBelow isUnused neverPreferred table n
-  chosen-unused-past-table n f h e = e ∙ sym (chosen-below-past-table (n - 64)) ∙ ap (chosenBelow isUnused neverPreferred table) (let z : n - 64 + 64 ≡ n = omega arith in z)
+  pub chosen-unused-past-table : (n : ℕ) (f : Found) → 64 < n → f ≡ chosenBelow isUnused neverPreferred table 64
+      → f ≡ chosenBelow isUnused neverPreferred table n
+  chosen-unused-past-table n f h e = e ∙ sym (chosen-below-past-table (n - 64)) ∙ ap (chosenBelow isUnused neverPreferred table)
+      (let z : n - 64 + 64 ≡ n = omega arith in z)

@@ -45,7 +45,8 @@ sum-of-heap-bounds d n q w p m v h =
     let b = sum-add (λ i. q * v i) (λ i. w) p in
     let e = sum-scale q v p in
     let f : sumBelow (λ i. w) p ≤ p * w = sum-le-mul (λ i. w) w p (λ i l. le-refl w) in
-    chain (d * n * sumBelow m p) (sumBelow (λ i. d * n * m i) p) (sumBelow (λ i. q * v i + w) p) (sumBelow (λ i. q * v i) p) (sumBelow (λ i. w) p) (q * sumBelow v p) (p * w) a each b e f
+    chain (d * n * sumBelow m p) (sumBelow (λ i. d * n * m i) p) (sumBelow (λ i. q * v i + w) p) (sumBelow (λ i. q * v i) p) (sumBelow (λ i. w) p)
+    (q * sumBelow v p) (p * w) a each b e f
   where
     chain : (x y z g k l r : ℕ) → y ≡ x → y ≤ z → z ≡ g + k → g ≡ l → k ≤ r → x ≤ l + r
     chain x y z g k l r a b e f h = omega arith
@@ -59,11 +60,14 @@ bound-in-claim-form d n q k p a m u l e h b =
 
 module _ (s : State) (order : List ℕ) (sound : Sound s order) (c : ℕ) (known : c < classCount) where
   heap-bound : (i : ℕ) → i < s .setup .processors
-      → (s .setup .q - s .setup .p) * blocksOf c * superblocksOf (suc i) c s ≤ s .setup .q * liveOf (suc i) c s + (s .setup .q - s .setup .p) * (s .setup .spare * blocksOf c)
+      → (s .setup .q - s .setup .p) * blocksOf c * superblocksOf (suc i) c s ≤ s .setup .q * liveOf
+      (suc i) c s + (s .setup .q - s .setup .p) * (s .setup .spare * blocksOf c)
   unfolding mustMove blocksIn
   heap-bound i l =
-      regroup (s .setup .q - s .setup .p) (superblocksOf (suc i) c s) (blocksOf c) (s .setup .q * liveOf (suc i) c s + (s .setup .q - s .setup .p) * (s .setup .spare * blocksOf c))
-      (blocks-bound-of-not-both-conditions (s .setup .spare) (s .setup .p) (s .setup .q) (blocksOf c) (blocksIn (suc i) c s) (liveOf (suc i) c s) (sound .invariant (suc i) c (omega arith) l known))
+      regroup (s .setup .q - s .setup .p) (superblocksOf (suc i) c s) (blocksOf c)
+      (s .setup .q * liveOf (suc i) c s + (s .setup .q - s .setup .p) * (s .setup .spare * blocksOf c))
+      (blocks-bound-of-not-both-conditions (s .setup .spare) (s .setup .p) (s .setup .q) (blocksOf c) (blocksIn (suc i) c s) (liveOf (suc i) c s)
+      (sound .invariant (suc i) c (omega arith) l known))
     where
       regroup : (d m n r : ℕ) → d * (m * n) ≤ r → d * n * m ≤ r
       regroup d m n r h = omega arith
@@ -73,13 +77,17 @@ module _ (s : State) (order : List ℕ) (sound : Sound s order) (c : ℕ) (known
 
   -- where heap 0 has none of the class, the class's superblocks are few for its live blocks
   pub bound-of-none-in-global : superblocksOf 0 c s ≡ 0
-      → (s .setup .q - s .setup .p) * blocksOf c * superblocksOfClass c s ≤ s .setup .q * liveOfClass c s + (s .setup .q - s .setup .p) * s .setup .processors * s .setup .spare * blocksOf c
+      → (s .setup .q - s .setup .p) * blocksOf c * superblocksOfClass c s ≤ s .setup .q * liveOfClass c
+      s + (s .setup .q - s .setup .p) * s .setup .processors * s .setup .spare * blocksOf c
   bound-of-none-in-global none =
       bound-in-claim-form (s .setup .q - s .setup .p) (blocksOf c) (s .setup .q) (s .setup .spare) (s .setup .processors)
-      (superblocksOfClass c s) (sumBelow (λ i. superblocksOf (suc i) c s) (s .setup .processors)) (sumBelow (λ i. liveOf (suc i) c s) (s .setup .processors)) (liveOfClass c s)
-      (owned-is-sum-over-heaps (s .setup .processors) c s few-processors (λ k l f. owned-of-owner s order sound k l f .owner) ∙ no-zero (superblocksOf 0 c s) (sumBelow (λ i. superblocksOf (suc i) c s) (s .setup .processors)) none)
+      (superblocksOfClass c s) (sumBelow (λ i. superblocksOf (suc i) c s) (s .setup .processors))
+      (sumBelow (λ i. liveOf (suc i) c s) (s .setup .processors)) (liveOfClass c s)
+      (owned-is-sum-over-heaps (s .setup .processors) c s few-processors (λ k l f. owned-of-owner s order sound k l f .owner)
+      ∙ no-zero (superblocksOf 0 c s) (sumBelow (λ i. superblocksOf (suc i) c s) (s .setup .processors)) none)
       (live-of-heaps-le-live-of-class (s .setup .processors) c s few-processors)
-      (sum-of-heap-bounds (s .setup .q - s .setup .p) (blocksOf c) (s .setup .q) ((s .setup .q - s .setup .p) * (s .setup .spare * blocksOf c)) (s .setup .processors)
+      (sum-of-heap-bounds (s .setup .q - s .setup .p) (blocksOf c) (s .setup .q) ((s .setup .q - s .setup .p) * (s .setup .spare * blocksOf c))
+      (s .setup .processors)
       (λ i. superblocksOf (suc i) c s) (λ i. liveOf (suc i) c s) heap-bound)
     where
       no-zero : (z m : ℕ) → z ≡ 0 → z + m ≡ m

@@ -44,7 +44,14 @@ rowsOf classes s ledger (step ∷ steps) =
     let outcome = step .after .answer .outcome in
     let t = step .after .answer .state in
     let new = ledgerAfter ledger (step .call) outcome in
-    record { outcome = outcome; changed = ownersChanged s t; passed = passedByFree outcome s t; live = map (λ c. entriesOf c new) classes; owned = map (λ c. superblocksOfClass c t) classes }
+    record {
+      outcome = outcome;
+      changed = ownersChanged s t;
+      passed = passedByFree outcome s t;
+      live = map (λ c. entriesOf c new) classes;
+      owned =
+          map (λ c. superblocksOfClass c t) classes;
+    }
     ∷ rowsOf classes t new steps
 
 -- the rows of a list of calls after a setup
@@ -55,7 +62,8 @@ rows u order classes calls = rowsOf classes (setupOf u order .answer .state) [] 
 rowsAnswered : Setup → List ℕ → List ℕ → List Call → List CallRow
 rowsAnswered u order classes calls = rowsOf classes (setupOf u order .answer .state) [] (stepsBy callUnchecked (setupOf u order) calls)
 
-rows-are-computed : (u : Setup) (order : List ℕ) → setupOf u order .answer .outcome ≡ Ready → (classes : List ℕ) (calls : List Call) → rows u order classes calls ≡ rowsAnswered u order classes calls
+rows-are-computed : (u : Setup) (order : List ℕ) → setupOf u order .answer .outcome ≡ Ready → (classes : List ℕ) (calls : List Call)
+    → rows u order classes calls ≡ rowsAnswered u order classes calls
 unfolding rows rowsAnswered
 rows-are-computed u order ready classes calls = ap (rowsOf classes (setupOf u order .answer .state) []) (steps-are-unchecked u order ready calls)
 
@@ -99,14 +107,16 @@ whole-list = list-case (setup-with 1 2 1 1 4) (26, 0)
 abbrev pub refused-list : ListCase
 refused-list = list-case (setup-with 1 1 1 1 4) (26, 0)
     (Take 1 2048 ∷ Take 2 16 ∷ Take 1 65536 ∷ Take 1 2049 ∷ Take 1 0 ∷ Free 0 0 ∷ Free 1 4096 ∷ Free 1 16 ∷ Free 1 2048 ∷ Free 1 0 ∷ []) 0
-    (row (Address 0) 1 (1, 0) (1, 0) ∷ map (λ (r : ℕ). row (Refused r) 0 (1, 0) (1, 0)) (2 ∷ 3 ∷ 17 ∷ 4 ∷ 2 ∷ 5 ∷ 6 ∷ 7 ∷ []) ++ row (Moves 0) 0 (0, 0) (1, 0) ∷ [])
+    (row (Address 0) 1 (1, 0) (1, 0) ∷ map (λ (r : ℕ). row (Refused r) 0 (1, 0) (1, 0)) (2 ∷ 3 ∷ 17 ∷ 4 ∷ 2 ∷ 5 ∷ 6 ∷ 7 ∷ [])
+    ++ row (Moves 0) 0 (0, 0) (1, 0) ∷ [])
 
 -- ---- a free that moves two superblocks: twelve blocks of class 26 fill six superblocks; with 1, 1, 1, 1, 2, 2 live the heap meets
 -- both conditions of the move rule, and still does after one move
 abbrev pub two-moves-list : ListCase
 two-moves-list = list-case (setup-with 1 6 1 1 4) (26, 0)
     (replicate 12 (Take 1 2048) ++ Free 1 0 ∷ Free 1 4096 ∷ Free 1 8192 ∷ Free 1 12288 ∷ []) 11
-    (row (Address 22528) 0 (12, 0) (6, 0) ∷ row (Moves 0) 0 (11, 0) (6, 0) ∷ row (Moves 0) 0 (10, 0) (6, 0) ∷ row (Moves 0) 0 (9, 0) (6, 0) ∷ row (Moves 2) 2 (8, 0) (6, 0) ∷ [])
+    (row (Address 22528) 0 (12, 0) (6, 0) ∷ row (Moves 0) 0 (11, 0) (6, 0) ∷ row (Moves 0) 0 (10, 0) (6, 0) ∷ row (Moves 0) 0 (9, 0) (6, 0)
+    ∷ row (Moves 2) 2 (8, 0) (6, 0) ∷ [])
 
 -- ---- the spare superblocks that K lets a heap keep: heap 1 frees its three blocks and keeps two superblocks, heap 2 then draws
 -- two more. (q - p) × n × A = 7 × 2 × 4 = 56 is above 8 × 3 + 7 × 2 × 1 × 2 = 52, the bound with 1 for K, and within 80, the bound.
@@ -127,30 +137,38 @@ size-0-list = list-case (setup-with 1 1 1 1 4) (0, 1)
 -- that it is not held (15) and may be bound again, and freed by name; 1024 is no name; a take refused with 17 binds none
 abbrev pub named-list : ListCase
 named-list = list-case (setup-with 1 2 1 1 4) (26, 0)
-    (NamedTake 1 5 2048 ∷ NamedTake 1 5 2048 ∷ Take 1 2048 ∷ NamedTake 1 1024 16 ∷ Free 1 0 ∷ NamedFree 1 5 ∷ NamedTake 1 5 2000 ∷ NamedTake 1 7 4097 ∷ NamedFree 1 7 ∷ NamedTake 1 1023 2048 ∷ NamedFree 1 5 ∷ NamedFree 1 1023 ∷ []) 0
-    (row (Address 0) 1 (1, 0) (1, 0) ∷ row (Refused 14) 0 (1, 0) (1, 0) ∷ row (Address 2048) 0 (2, 0) (1, 0) ∷ row (Refused 14) 0 (2, 0) (1, 0) ∷ row (Moves 0) 0 (1, 0) (1, 0)
-    ∷ row (Refused 15) 0 (1, 0) (1, 0) ∷ row (Address 0) 0 (2, 0) (1, 0) ∷ row (Refused 17) 0 (2, 0) (1, 0) ∷ row (Refused 15) 0 (2, 0) (1, 0) ∷ row (Address 4096) 1 (3, 0) (2, 0)
+    (NamedTake 1 5 2048 ∷ NamedTake 1 5 2048 ∷ Take 1 2048 ∷ NamedTake 1 1024 16 ∷ Free 1 0 ∷ NamedFree 1 5 ∷ NamedTake 1 5 2000 ∷ NamedTake 1 7 4097
+    ∷ NamedFree 1 7 ∷ NamedTake 1 1023 2048 ∷ NamedFree 1 5 ∷ NamedFree 1 1023 ∷ []) 0
+    (row (Address 0) 1 (1, 0) (1, 0) ∷ row (Refused 14) 0 (1, 0) (1, 0) ∷ row (Address 2048) 0 (2, 0) (1, 0) ∷ row (Refused 14) 0 (2, 0) (1, 0)
+    ∷ row (Moves 0) 0 (1, 0) (1, 0)
+    ∷ row (Refused 15) 0 (1, 0) (1, 0) ∷ row (Address 0) 0 (2, 0) (1, 0) ∷ row (Refused 17) 0 (2, 0) (1, 0) ∷ row (Refused 15) 0 (2, 0) (1, 0)
+    ∷ row (Address 4096) 1 (3, 0) (2, 0)
     ∷ row (Moves 0) 0 (2, 0) (2, 0) ∷ row (Moves 1) 1 (1, 0) (2, 0) ∷ [])
 
--- ---- document 02, item 5: seven blocks of class 26 fill superblocks 0 to 2 and half of 3. A drop of one block of 0 and the one of 3 empties 3, which passes on, and
--- no other; the frees one by one would have passed on 0 and then 3. A double, no address and a bad one last are refused; the next drop frees a block of heap 0's and
--- passes on superblock 0.
+-- ---- document 02, item 5: seven blocks of class 26 fill superblocks 0 to 2 and half of 3. A drop of one block of 0 and the one of 3 empties 3,
+-- which passes on, and no other; the frees one by one would have passed on 0 and then 3. A double, no address and a bad one last are refused; the
+-- next drop frees a block of heap 0's and passes on superblock 0.
 abbrev pub drop-list : ListCase
 drop-list = list-case (setup-with 1 4 1 1 4) (26, 0)
-    (replicate 7 (Take 1 2048) ++ Free 1 8192 ∷ Drop 1 (0 ∷ 12288 ∷ []) ∷ Drop 1 (2048 ∷ 2048 ∷ []) ∷ Drop 1 [] ∷ Drop 1 (2048 ∷ 4096 ∷ 4097 ∷ []) ∷ Drop 1 (2048 ∷ 6144 ∷ []) ∷ []) 6
-    (row (Address 12288) 1 (7, 0) (4, 0) ∷ row (Moves 0) 0 (6, 0) (4, 0) ∷ row (Moves 1) 1 (4, 0) (4, 0) ∷ row (Refused 7) 0 (4, 0) (4, 0) ∷ row (Refused 16) 0 (4, 0) (4, 0) ∷ row (Refused 6) 0 (4, 0) (4, 0)
+    (replicate 7 (Take 1 2048) ++ Free 1 8192 ∷ Drop 1 (0 ∷ 12288 ∷ []) ∷ Drop 1 (2048 ∷ 2048 ∷ []) ∷ Drop 1 [] ∷ Drop 1 (2048 ∷ 4096 ∷ 4097 ∷ [])
+    ∷ Drop 1 (2048 ∷ 6144 ∷ []) ∷ []) 6
+    (row (Address 12288) 1 (7, 0) (4, 0) ∷ row (Moves 0) 0 (6, 0) (4, 0) ∷ row (Moves 1) 1 (4, 0) (4, 0) ∷ row (Refused 7) 0 (4, 0) (4, 0)
+    ∷ row (Refused 16) 0 (4, 0) (4, 0) ∷ row (Refused 6) 0 (4, 0) (4, 0)
     ∷ row (Moves 1) 1 (2, 0) (4, 0) ∷ [])
 
--- ---- document 02, item 7: five blocks of class 26 fill superblocks 0 and 1 and half of 2, which two frees empty and pass to heap 0. A long block of three superblocks takes it
--- and the unused 3 and 4, so that class 26 has one less; one of two finds only 5 (17), one of one takes it by a name. Other addresses in a run are refused 6. The named
--- free makes 5 unused. The drop frees the run and all but one of the blocks of class 26 and passes superblock 1 on, which the last long block takes with the unused 2. No run counts in
--- class 0, and a run's owners change and pass between no heaps.
+-- ---- document 02, item 7: five blocks of class 26 fill superblocks 0 and 1 and half of 2, which two frees empty and pass to heap 0. A long block of
+-- three superblocks takes it and the unused 3 and 4, so that class 26 has one less; one of two finds only 5 (17), one of one takes it by a name.
+-- Other addresses in a run are refused 6. The named free makes 5 unused. The drop frees the run and all but one of the blocks of class 26 and passes
+-- superblock 1 on, which the last long block takes with the unused 2. No run counts in class 0, and a run's owners change and pass between no heaps.
 abbrev pub long-list : ListCase
 long-list = list-case (setup-with 1 6 1 1 4) (26, 0)
-    (replicate 5 (Take 1 2048) ++ Free 1 8192 ∷ Free 1 6144 ∷ Take 1 8193 ∷ Take 1 4097 ∷ NamedTake 1 9 2049 ∷ Free 1 12288 ∷ Free 1 8208 ∷ NamedFree 1 9 ∷ Take 1 2048
+    (replicate 5 (Take 1 2048) ++ Free 1 8192 ∷ Free 1 6144 ∷ Take 1 8193 ∷ Take 1 4097 ∷ NamedTake 1 9 2049 ∷ Free 1 12288 ∷ Free 1 8208 ∷ NamedFree 1 9
+    ∷ Take 1 2048
     ∷ Drop 1 (8192 ∷ 0 ∷ 4096 ∷ 6144 ∷ []) ∷ Take 1 4097 ∷ Free 1 8192 ∷ Free 1 4096 ∷ []) 5
-    (row (Moves 0) 0 (4, 0) (3, 0) ∷ row (Moves 1) 1 (3, 0) (3, 0) ∷ row (Address 8192) 3 (3, 0) (2, 0) ∷ row (Refused 17) 0 (3, 0) (2, 0) ∷ row (Address 20480) 1 (3, 0) (2, 0)
-    ∷ row (Refused 6) 0 (3, 0) (2, 0) ∷ row (Refused 6) 0 (3, 0) (2, 0) ∷ row (Moves 0) 1 (3, 0) (2, 0) ∷ row (Address 6144) 0 (4, 0) (2, 0) ∷ row (Moves 1) 4 (1, 0) (2, 0)
+    (row (Moves 0) 0 (4, 0) (3, 0) ∷ row (Moves 1) 1 (3, 0) (3, 0) ∷ row (Address 8192) 3 (3, 0) (2, 0) ∷ row (Refused 17) 0 (3, 0) (2, 0)
+    ∷ row (Address 20480) 1 (3, 0) (2, 0)
+    ∷ row (Refused 6) 0 (3, 0) (2, 0) ∷ row (Refused 6) 0 (3, 0) (2, 0) ∷ row (Moves 0) 1 (3, 0) (2, 0) ∷ row (Address 6144) 0 (4, 0) (2, 0)
+    ∷ row (Moves 1) 4 (1, 0) (2, 0)
     ∷ row (Address 4096) 2 (1, 0) (1, 0) ∷ row (Refused 6) 0 (1, 0) (1, 0) ∷ row (Moves 0) 2 (1, 0) (1, 0) ∷ [])
 
 -- ---- all of them, computed
@@ -173,7 +191,8 @@ each-ready = refl
 
 -- the rows, by the calls behind the check
 each-answered : map rows-answered-of list-cases ≡ map (λ (k : ListCase). k .expected) list-cases
-unfolding rowsAnswered rowsOf ledgerDefinitions stepsBy callDefinitions superblocksOfClass isOwnedOfClass isOfHeap ownersChanged passedBetweenHeaps passedByFree reported
+unfolding rowsAnswered rowsOf ledgerDefinitions stepsBy callDefinitions superblocksOfClass isOwnedOfClass isOfHeap ownersChanged passedBetweenHeaps
+    passedByFree reported
 each-answered = refl
 
 -- in a list whose setup is accepted the check passes before each call

@@ -29,9 +29,11 @@ steps-linked before (call ∷ calls) = (refl, steps-linked (callOf (before .answ
 -- demand 3 of the calls alone
 pub demand-3-calls : (u : Setup) (order : List ℕ) → setupOf u order .answer .outcome ≡ Ready → (calls : List Call)
     → Claims u (setupOf u order) [] (λ c. 0) (stepsBy callOf (setupOf u order) calls)
-demand-3-calls u order ready calls = demand-3 u order (setupOf u order) refl ready (stepsBy callOf (setupOf u order) calls) (steps-linked (setupOf u order) calls)
+demand-3-calls u order ready calls = demand-3 u order (setupOf u order) refl ready (stepsBy callOf (setupOf u order) calls)
+    (steps-linked (setupOf u order) calls)
 
-steps-are-unchecked-from : (u : Setup) (before : After) (ledger : List Entry) (peak : ℕ → ℕ) (calls : List Call) → ListInvariant u (before .answer .state) (before .order) ledger peak
+steps-are-unchecked-from : (u : Setup) (before : After) (ledger : List Entry) (peak : ℕ → ℕ) (calls : List Call) → ListInvariant u (before .answer .state)
+    (before .order) ledger peak
     → stepsBy callOf before calls ≡ stepsBy callUnchecked before calls
 unfolding stepsBy
 steps-are-unchecked-from u before ledger peak [] g = refl
@@ -39,10 +41,12 @@ steps-are-unchecked-from u before ledger peak (call ∷ calls) g =
     let after = callOf (before .answer .state) (before .order) call in
     let n = after-call u (before .answer .state) (before .order) ledger peak g call in
     let e = call-of-is-unchecked (before .answer .state) (before .order) call (g .passed) in
-    ap (λ (l : List Step). record { call = call; after = after } ∷ l) (steps-are-unchecked-from u after (ledgerAfter ledger call (after .answer .outcome)) (peakWith peak (ledgerAfter ledger call (after .answer .outcome))) calls (n .invariant))
+    ap (λ (l : List Step). record { call = call; after = after } ∷ l) (steps-are-unchecked-from u after (ledgerAfter ledger call (after .answer .outcome))
+    (peakWith peak (ledgerAfter ledger call (after .answer .outcome))) calls (n .invariant))
     ∙ ap (λ (x : After). let step : Step = record { call = call; after = x } in step ∷ stepsBy callUnchecked x calls) e
 
 -- after an accepted setup the check is never in the way
 pub steps-are-unchecked : (u : Setup) (order : List ℕ) → setupOf u order .answer .outcome ≡ Ready → (calls : List Call)
     → stepsBy callOf (setupOf u order) calls ≡ stepsBy callUnchecked (setupOf u order) calls
-steps-are-unchecked u order ready calls = steps-are-unchecked-from u (setupOf u order) [] (λ c. 0) calls (list-invariant-after-setup u order (setupOf u order) refl ready)
+steps-are-unchecked u order ready calls = steps-are-unchecked-from u (setupOf u order) [] (λ c. 0) calls
+    (list-invariant-after-setup u order (setupOf u order) refl ready)

@@ -45,7 +45,8 @@ ledger-of-new-state u =
 bound-of-new-state : (u : Setup) → Bounded u (newState u) (λ c. 0)
 unfolding Bounded
 bound-of-new-state u c l =
-    let none : (u .q - u .p) * blocksOf c * superblocksOfClass c (newState u) ≡ 0 = ap (λ (x : ℕ). (u .q - u .p) * blocksOf c * x) (owned-of-new-state u c) ∙ mul-zero ((u .q - u .p) * blocksOf c) in
+    let none : (u .q - u .p) * blocksOf c * superblocksOfClass c (newState u) ≡ 0 =
+    ap (λ (x : ℕ). (u .q - u .p) * blocksOf c * x) (owned-of-new-state u c) ∙ mul-zero ((u .q - u .p) * blocksOf c) in
     omega arith
 
 -- an accepted setup has its places lent
@@ -57,16 +58,27 @@ storage-of-ready-setup u order numbers ready = go (decLe (u .superblocks * 256) 
 
     go : Dec (u .superblocks * 256 ≤ length order) → u .superblocks * 256 ≤ length order
     go (yes h) = h
-    go (no f) = absurd (never 12 (sym (ap (λ (x : After). x .answer .outcome) (setup-refused-12-of-storage u order (true-of-T (withinLimits u) numbers) (lt-of-not-le f))) ∙ ready))
+    go (no f) = absurd (never 12
+        (sym (ap (λ (x : After). x .answer .outcome) (setup-refused-12-of-storage u order (true-of-T (withinLimits u) numbers) (lt-of-not-le f))) ∙ ready))
 
-pub list-invariant-after-setup : (u : Setup) (order : List ℕ) (start : After) → start ≡ setupOf u order → start .answer .outcome ≡ Ready → ListInvariant u (start .answer .state) (start .order) [] (λ c. 0)
+pub list-invariant-after-setup : (u : Setup) (order : List ℕ) (start : After) → start ≡ setupOf u order → start .answer .outcome ≡ Ready
+    → ListInvariant u (start .answer .state) (start .order) [] (λ c. 0)
 list-invariant-after-setup u order start e started =
     let ready : setupOf u order .answer .outcome ≡ Ready = ap (λ (x : After). x .answer .outcome) (sym e) ∙ started in
     let h = accepted-setup-of-ready u order ready in
-    let room : u .superblocks * 256 ≤ length (cleared order (u .superblocks * 256)) = subst (λ (n : ℕ). u .superblocks * 256 ≤ n) (sym (length-cleared order (u .superblocks * 256))) (storage-of-ready-setup u order (h .0) ready) in
+    let room : u .superblocks * 256 ≤ length (cleared order (u .superblocks * 256)) =
+    subst (λ (n : ℕ). u .superblocks * 256 ≤ n) (sym (length-cleared order (u .superblocks * 256))) (storage-of-ready-setup u order (h .0) ready) in
     subst (λ (x : After). ListInvariant u (x .answer .state) (x .order) [] (λ c. 0)) (sym (e ∙ h .1))
     (record {
-      passed = record { sound = h .2; names = new-state-names-valid u; totals = new-state-totals-kept u; ranks = new-state-ranks-sound u; runs = runs-valid-of-sound (newState u) (h .3 .length-is) (new-state-runs-sound u); room = room };
+      passed = record {
+        sound = h .2;
+        names = new-state-names-valid u;
+        totals = new-state-totals-kept u;
+        ranks = new-state-ranks-sound u;
+        runs =
+            runs-valid-of-sound (newState u) (h .3 .length-is) (new-state-runs-sound u);
+        room = room;
+      };
       shape = h .3;
       setup = refl;
       listed = ledger-of-new-state u;
@@ -79,7 +91,12 @@ claims-of-list-invariant : (u : Setup) (before : After) (ledger : List Entry) (p
     → ListInvariant u (before .answer .state) (before .order) ledger peak → Linked before steps → Claims u before ledger peak steps
 unfolding Linked Claims
 claims-of-list-invariant u before ledger peak [] g linked = g .bounded
-claims-of-list-invariant u before ledger peak (step ∷ steps) g linked = (g .bounded, n .owner-changes, claims-of-list-invariant u (step .after) (ledgerAfter ledger (step .call) (step .after .answer .outcome)) (peakWith peak (ledgerAfter ledger (step .call) (step .after .answer .outcome))) steps (n .invariant) (linked .1))
+claims-of-list-invariant u before ledger peak (step ∷ steps) g linked = (
+  g .bounded,
+  n .owner-changes,
+  claims-of-list-invariant u (step .after) (ledgerAfter ledger (step .call) (step .after .answer .outcome))
+      (peakWith peak (ledgerAfter ledger (step .call) (step .after .answer .outcome))) steps (n .invariant) (linked .1),
+)
   where
     n : AfterCall u (before .answer .state) ledger peak (step .call) (step .after)
     n = after-step u (before .answer .state) (before .order) ledger peak g step (linked .0)

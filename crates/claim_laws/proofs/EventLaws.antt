@@ -20,10 +20,13 @@ use Rattle.heap_rules.specs.Ranks.{rankAfterFree, rankAfterRenewal}
 use Rattle.choice_rules.specs.Choice.{fullest}
 use Rattle.heap_laws.proofs.StateFacts.{RanksSound}
 use Rattle.heap_laws.proofs.ChoiceLaws.{MoreRecent, best-of-fullest, fullest-is-most-recent-among-equals, fullest-is-lowest-among-unranked}
-use Rattle.heap_laws.proofs.RankLaws.{rank-in-new-state, rank-after-free-of-superblock, rank-after-renewal-of-superblock, ranked-of-ranked-after-free, ranked-after-free-of-ranked}
-use Rattle.heap_laws.proofs.RankLaws.{ranked-of-ranked-after-renewal, ranked-after-renewal-of-ranked, order-kept-by-free, order-kept-by-renewal, latest-after-free}
+use Rattle.heap_laws.proofs.RankLaws.{rank-in-new-state, rank-after-free-of-superblock, rank-after-renewal-of-superblock, ranked-of-ranked-after-free}
+use Rattle.heap_laws.proofs.RankLaws.{ranked-after-free-of-ranked}
+use Rattle.heap_laws.proofs.RankLaws.{ranked-of-ranked-after-renewal, ranked-after-renewal-of-ranked, order-kept-by-free, order-kept-by-renewal}
+use Rattle.heap_laws.proofs.RankLaws.{latest-after-free}
 use Rattle.call_laws.proofs.CallEffects.{RunUnranked}
-use Rattle.claim_rules.specs.History.{Event, freedInto, renewed, joinedRun, neither, LastFree, eventsAgo, notSinceRenewal, oneEventMore, lastFreeAfter, lastFree, RankedByLastFree, EquallyFull, FreedLater, OffersLastFreed}
+use Rattle.claim_rules.specs.History.{Event, freedInto, renewed, joinedRun, neither, LastFree, eventsAgo, notSinceRenewal, oneEventMore, lastFreeAfter}
+use Rattle.claim_rules.specs.History.{lastFree, RankedByLastFree, EquallyFull, FreedLater, OffersLastFreed}
 use Rattle.claim_laws.proofs.OneMoreLongLaws.{in-run-or-not}
 use Rattle.heap_rules.specs.Runs.{InRun}
 
@@ -52,7 +55,8 @@ zero-of-positive x (suc y) f e = absurd (let h = f (omega arith) in let z : ⊥ 
 -- ---- the superblocks that a call does not free into or renew
 module _ (s : State) (event : Event) (events : List Event) (ranked : RankedByLastFree s events) where
   -- one that stays ranked or unranked is ranked exactly if it was freed into since it was last renewed
-  unranked-iff-of-other : (m r : ℕ) → m < 64 → lastFree m (event ∷ events) ≡ oneEventMore (lastFree m events) → (0 < r → 0 < superblockAt s m .rank) → (0 < superblockAt s m .rank → 0 < r)
+  unranked-iff-of-other : (m r : ℕ) → m < 64 → lastFree m (event ∷ events) ≡ oneEventMore (lastFree m events) → (0 < r → 0 < superblockAt s m .rank)
+      → (0 < superblockAt s m .rank → 0 < r)
       → (r ≡ 0) ↔ (lastFree m (event ∷ events) ≡ notSinceRenewal)
   unranked-iff-of-other m r l other f g = (
     λ e. other ∙ one-event-more-none-iff _ .0 (ranked .unranked-iff m l .0 (zero-of-positive r (superblockAt s m .rank) g e)),
@@ -60,13 +64,15 @@ module _ (s : State) (event : Event) (events : List Event) (ranked : RankedByLas
   )
 
   -- one that was freed into since then was ranked
-  ranked-before : (m x : ℕ) → m < 64 → lastFree m (event ∷ events) ≡ oneEventMore (lastFree m events) → lastFree m (event ∷ events) ≡ eventsAgo x → 0 < superblockAt s m .rank
+  ranked-before : (m x : ℕ) → m < 64 → lastFree m (event ∷ events) ≡ oneEventMore (lastFree m events) → lastFree m (event ∷ events) ≡ eventsAgo x
+      → 0 < superblockAt s m .rank
   ranked-before m x l other e =
       let b = before-events-ago (lastFree m events) x (sym other ∙ e) in
       pos-of-ne-zero (λ z. not-both-of-last-free _ (b .0) (b .1) (ranked .unranked-iff m l .0 z))
 
   -- the order of two of them was that of their last frees
-  order-before : (i j x y : ℕ) → i < 64 → j < 64 → lastFree i (event ∷ events) ≡ oneEventMore (lastFree i events) → lastFree j (event ∷ events) ≡ oneEventMore (lastFree j events)
+  order-before : (i j x y : ℕ) → i < 64 → j < 64 → lastFree i (event ∷ events) ≡ oneEventMore (lastFree i events) → lastFree j (event ∷ events)
+      ≡ oneEventMore (lastFree j events)
       → lastFree i (event ∷ events) ≡ eventsAgo x → lastFree j (event ∷ events) ≡ eventsAgo y → x < y → superblockAt s i .rank < superblockAt s j .rank
   order-before i j x y li lj other-i other-j e f h =
       let a = before-events-ago (lastFree i events) x (sym other-i ∙ e) in
@@ -94,7 +100,8 @@ module _ (k : ℕ) (events : List Event) where
 
 module _ (s t : State) (k : ℕ) (events : List Event) (below : k < 64) (sound : RanksSound s) where
   -- after a free into k
-  pub ranked-by-last-free-after-free : ((m : ℕ) → m < 64 → superblockAt t m .rank ≡ rankAfterFree k (s .table) m) → RankedByLastFree s events → RankedByLastFree t (freedInto k ∷ events)
+  pub ranked-by-last-free-after-free : ((m : ℕ) → m < 64 → superblockAt t m .rank ≡ rankAfterFree k (s .table) m) → RankedByLastFree s events
+      → RankedByLastFree t (freedInto k ∷ events)
   ranked-by-last-free-after-free ranks ranked =
       record {
         unranked-iff = λ m l. rw (ranks m l) (iff m l (ℕ-discrete m k));
@@ -107,7 +114,8 @@ module _ (s t : State) (k : ℕ) (events : List Event) (below : k < 64) (sound :
       iff : (m : ℕ) → m < 64 → Dec (m ≡ k) → (rankAfterFree k (s .table) m ≡ 0) ↔ (lastFree m (freedInto k ∷ events) ≡ notSinceRenewal)
       iff m l (yes q) = (λ e. absurd (let z : ⊥ = omega (arith, first m q) in z), λ e. absurd (not-both-of-last-free _ 0 (last-free-of-freed k events m q) e))
       iff m l (no a) =
-          unranked-iff-of-other s (freedInto k) events ranked m (rankAfterFree k (s .table) m) l (last-free-of-not-freed k events m a) (ranked-of-ranked-after-free k (s .table) m a)
+          unranked-iff-of-other s (freedInto k) events ranked m (rankAfterFree k (s .table) m) l (last-free-of-not-freed k events m a)
+          (ranked-of-ranked-after-free k (s .table) m a)
           (ranked-after-free-of-ranked k (s .table) m a)
 
       -- nothing was freed into later than the superblock freed into now
@@ -117,7 +125,8 @@ module _ (s t : State) (k : ℕ) (events : List Event) (below : k < 64) (sound :
           let now : y ≡ 0 = cc in
           omega arith
 
-      order : (i j x y : ℕ) → i < 64 → j < 64 → lastFree i (freedInto k ∷ events) ≡ eventsAgo x → lastFree j (freedInto k ∷ events) ≡ eventsAgo y → x < y → Dec (i ≡ k) → Dec (j ≡ k)
+      order : (i j x y : ℕ) → i < 64 → j < 64 → lastFree i (freedInto k ∷ events) ≡ eventsAgo x → lastFree j (freedInto k ∷ events) ≡ eventsAgo y → x < y
+          → Dec (i ≡ k) → Dec (j ≡ k)
           → rankAfterFree k (s .table) i < rankAfterFree k (s .table) j
       order i j x y li lj e f h d (yes q) = absurd (not-later j x y q f h)
       order i j x y li lj e f h (yes p) (no b) =
@@ -128,7 +137,8 @@ module _ (s t : State) (k : ℕ) (events : List Event) (below : k < 64) (sound :
           (order-before s (freedInto k) events ranked i j x y li lj (last-free-of-not-freed k events i a) (last-free-of-not-freed k events j b) e f h)
 
   -- after a renewal of k
-  pub ranked-by-last-free-after-renewal : ((m : ℕ) → m < 64 → superblockAt t m .rank ≡ rankAfterRenewal k (s .table) m) → RankedByLastFree s events → RankedByLastFree t (renewed k ∷ events)
+  pub ranked-by-last-free-after-renewal : ((m : ℕ) → m < 64 → superblockAt t m .rank ≡ rankAfterRenewal k (s .table) m) → RankedByLastFree s events
+      → RankedByLastFree t (renewed k ∷ events)
   ranked-by-last-free-after-renewal ranks ranked =
       record {
         unranked-iff = λ m l. rw (ranks m l) (iff m l (ℕ-discrete m k));
@@ -138,10 +148,12 @@ module _ (s t : State) (k : ℕ) (events : List Event) (below : k < 64) (sound :
       iff : (m : ℕ) → m < 64 → Dec (m ≡ k) → (rankAfterRenewal k (s .table) m ≡ 0) ↔ (lastFree m (renewed k ∷ events) ≡ notSinceRenewal)
       iff m l (yes q) = (λ e. last-free-of-renewed k events m q, λ e. ap (rankAfterRenewal k (s .table)) q ∙ rank-after-renewal-of-superblock k (s .table))
       iff m l (no a) =
-          unranked-iff-of-other s (renewed k) events ranked m (rankAfterRenewal k (s .table) m) l (last-free-of-not-renewed k events m a) (ranked-of-ranked-after-renewal k (s .table) m a)
+          unranked-iff-of-other s (renewed k) events ranked m (rankAfterRenewal k (s .table) m) l (last-free-of-not-renewed k events m a)
+          (ranked-of-ranked-after-renewal k (s .table) m a)
           (ranked-after-renewal-of-ranked k (s .table) m a)
 
-      order : (i j x y : ℕ) → i < 64 → j < 64 → lastFree i (renewed k ∷ events) ≡ eventsAgo x → lastFree j (renewed k ∷ events) ≡ eventsAgo y → x < y → Dec (i ≡ k) → Dec (j ≡ k)
+      order : (i j x y : ℕ) → i < 64 → j < 64 → lastFree i (renewed k ∷ events) ≡ eventsAgo x → lastFree j (renewed k ∷ events) ≡ eventsAgo y → x < y
+          → Dec (i ≡ k) → Dec (j ≡ k)
           → rankAfterRenewal k (s .table) i < rankAfterRenewal k (s .table) j
       order i j x y li lj e f h (yes p) d = absurd (not-both-of-last-free _ x e (last-free-of-renewed k events i p))
       order i j x y li lj e f h (no a) (yes q) = absurd (not-both-of-last-free _ y f (last-free-of-renewed k events j q))
@@ -158,7 +170,11 @@ module _ (s t : State) (k n : ℕ) (events : List Event) (unranked : RunUnranked
   last-free-outside-run : (m : ℕ) → (InRun k n m → ⊥) → lastFree m (joinedRun k n ∷ events) ≡ oneEventMore (lastFree m events)
   unfolding lastFree lastFreeAfter
   last-free-outside-run m out = pick-false (both (leb k m) (ltb m (k + n))) notSinceRenewal _
-      (false-of-not-T (both (leb k m) (ltb m (k + n))) (λ h. out (leb-true k m (true-of-T _ (both-left (leb k m) (ltb m (k + n)) h)), ltb-true m (k + n) (true-of-T _ (both-right (leb k m) (ltb m (k + n)) h)))))
+      (false-of-not-T (both (leb k m) (ltb m (k + n)))
+      (λ h. out (
+        leb-true k m (true-of-T _ (both-left (leb k m) (ltb m (k + n)) h)),
+        ltb-true m (k + n) (true-of-T _ (both-right (leb k m) (ltb m (k + n)) h)),
+      )))
 
   pub ranked-by-last-free-after-run : RankedByLastFree s events → RankedByLastFree t (joinedRun k n ∷ events)
   ranked-by-last-free-after-run ranked =
@@ -172,9 +188,11 @@ module _ (s t : State) (k n : ℕ) (events : List Event) (unranked : RunUnranked
       iff m l (no out) =
           let same = unranked .ranked-iff m l out in
           unranked-iff-of-other s (joinedRun k n) events ranked m (superblockAt t m .rank) l (last-free-outside-run m out)
-          (λ h. pos-of-ne-zero (λ z. let e = same .1 z in let w : ⊥ = omega arith in w)) (λ h. pos-of-ne-zero (λ z. let e = same .0 z in let w : ⊥ = omega arith in w))
+          (λ h. pos-of-ne-zero (λ z. let e = same .1 z in let w : ⊥ = omega arith in w))
+          (λ h. pos-of-ne-zero (λ z. let e = same .0 z in let w : ⊥ = omega arith in w))
 
-      order : (i j x y : ℕ) → i < 64 → j < 64 → lastFree i (joinedRun k n ∷ events) ≡ eventsAgo x → lastFree j (joinedRun k n ∷ events) ≡ eventsAgo y → x < y → Dec (InRun k n i) → Dec (InRun k n j)
+      order : (i j x y : ℕ) → i < 64 → j < 64 → lastFree i (joinedRun k n ∷ events) ≡ eventsAgo x → lastFree j (joinedRun k n ∷ events) ≡ eventsAgo y
+          → x < y → Dec (InRun k n i) → Dec (InRun k n j)
           → superblockAt t i .rank < superblockAt t j .rank
       order i j x y li lj e f h (yes p) d = absurd (not-both-of-last-free _ x e (last-free-in-run i p))
       order i j x y li lj e f h (no a) (yes q) = absurd (not-both-of-last-free _ y f (last-free-in-run j q))
@@ -183,12 +201,14 @@ module _ (s t : State) (k n : ℕ) (events : List Event) (unranked : RunUnranked
           (order-before s (joinedRun k n) events ranked i j x y li lj (last-free-outside-run i a) (last-free-outside-run j b) e f h)
 
 -- after a call that is none of these
-pub ranked-by-last-free-after-neither : (s t : State) (events : List Event) → ((m : ℕ) → m < 64 → superblockAt t m .rank ≡ superblockAt s m .rank) → RankedByLastFree s events
+pub ranked-by-last-free-after-neither : (s t : State) (events : List Event) → ((m : ℕ) → m < 64 → superblockAt t m .rank ≡ superblockAt s m .rank)
+    → RankedByLastFree s events
     → RankedByLastFree t (neither ∷ events)
 unfolding lastFree lastFreeAfter
 ranked-by-last-free-after-neither s t events same ranked =
     record {
-      unranked-iff = λ m l. unranked-iff-of-other s neither events ranked m (superblockAt t m .rank) l refl (λ h. omega (arith, same m l)) (λ h. omega (arith, same m l));
+      unranked-iff = λ m l. unranked-iff-of-other s neither events ranked m (superblockAt t m .rank) l refl (λ h. omega (arith, same m l))
+          (λ h. omega (arith, same m l));
       later-first = λ i j x y li lj e f h. omega (arith, same i li, same j lj, order-before s neither events ranked i j x y li lj refl refl e f h);
     }
 

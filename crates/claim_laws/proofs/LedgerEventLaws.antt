@@ -69,7 +69,8 @@ module _ (a : ℕ) where
       go (no f) ih = rw (ne-eqb (e .address) a f) ih
 
   -- where the ledger counts no block of a class at the address, each there is long
-  long-of-no-class : (ledger : List Entry) → ((d : ℕ) → d < classCount → entriesAt ledger a d ≡ 0) → EachEntry (λ e. e .address ≡ a → isLong (e .size) ≡ true) ledger
+  long-of-no-class : (ledger : List Entry) → ((d : ℕ) → d < classCount → entriesAt ledger a d ≡ 0)
+      → EachEntry (λ e. e .address ≡ a → isLong (e .size) ≡ true) ledger
   unfolding EachEntry entriesAt
   long-of-no-class [] none = tt
   long-of-no-class (e ∷ ledger) none = (λ q. long q (decLt 2048 (e .size)), long-of-no-class ledger (λ d l. omega (arith, none d l)))

@@ -18,7 +18,8 @@ pub entries-at-empty : (a c : ℕ) → entriesAt [] a c ≡ 0
 unfolding entriesAt
 entries-at-empty a c = refl
 
-pub entries-at-added : (e : Entry) (ledger : List Entry) (b d : ℕ) → entriesAt (e ∷ ledger) b d ≡ entriesAt ledger b d + one (both (isAt b e) (eqb (classOfEntry e) d))
+pub entries-at-added : (e : Entry) (ledger : List Entry) (b d : ℕ) → entriesAt (e ∷ ledger) b d ≡ entriesAt ledger b d + one
+    (both (isAt b e) (eqb (classOfEntry e) d))
 unfolding entriesAt
 entries-at-added e ledger b d = omega arith
 
@@ -35,7 +36,8 @@ module _ (ledger : List Entry) (i a : ℕ) where
   -- adds one live block, of class 0,
   pub size-0-take-counted : (c : ℕ) → entriesOf c (ledgerAfter ledger (Take i 0) (Address a)) ≡ entriesOf c ledger + one (eqb 0 c)
   unfolding ledgerAfter afterTake
-  size-0-take-counted c = entries-of-added (record { address = a; size = 0; name = unnamed }) ledger c ∙ ap (λ (d : ℕ). entriesOf c ledger + one (eqb d c)) class-of-size-0
+  size-0-take-counted c = entries-of-added (record { address = a; size = 0; name = unnamed }) ledger c
+      ∙ ap (λ (d : ℕ). entriesOf c ledger + one (eqb d c)) class-of-size-0
 
   -- which counts in class 0's M
   pub size-0-take-in-peak : (peak : ℕ → ℕ) → peakWith peak (ledgerAfter ledger (Take i 0) (Address a)) 0 ≡ max (peak 0) (entriesOf 0 ledger + 1)
@@ -59,7 +61,8 @@ module _ (a : ℕ) where
   entries-at-others-removed [] b c other = refl
   entries-at-others-removed (e ∷ ledger) b c other = go (entries-at-others-removed ledger b c other) (ℕ-discrete (e .address) a)
     where
-      go : entriesAt (removed (isAt a) ledger) b c ≡ entriesAt ledger b c → Dec (e .address ≡ a) → entriesAt (removed (isAt a) (e ∷ ledger)) b c ≡ entriesAt (e ∷ ledger) b c
+      go : entriesAt (removed (isAt a) ledger) b c ≡ entriesAt ledger b c → Dec (e .address ≡ a) → entriesAt (removed (isAt a) (e ∷ ledger)) b c
+          ≡ entriesAt (e ∷ ledger) b c
       go ih (yes q) = rw (eq-eqb (e .address) a q, ne-eqb (e .address) b (λ p. other (sym q ∙ p))) (omega arith)
       go ih (no f) = rw (ne-eqb (e .address) a f) (omega arith)
 

@@ -20,7 +20,8 @@ use Rattle.class_rules.proofs.OffsetLaws.{offset-injective}
 use Rattle.marks_rules.specs.Marks.{markBit}
 use Rattle.marks_laws.proofs.MarkLaws.{marks-clear-of-live-count-zero}
 use Rattle.names_rules.specs.Names.{notHeld, blockNumber, blockNamed, isHeld, withName, withoutBlock}
-use Rattle.names_laws.proofs.NameLaws.{held-facts, held-of-facts, held-cong, block-named-with-name, block-named-with-other-name, not-held-without-block, block-named-without-other-block}
+use Rattle.names_laws.proofs.NameLaws.{held-facts, held-of-facts, held-cong, block-named-with-name, block-named-with-other-name, not-held-without-block}
+use Rattle.names_laws.proofs.NameLaws.{block-named-without-other-block}
 use Rattle.heap_rules.specs.declared.Superblock.{Superblock}
 use Rattle.heap_rules.specs.declared.State.{State}
 use Rattle.heap_rules.specs.Table.{runOwner, blank, superblockAt, liveIn, isOfRun}
@@ -43,7 +44,8 @@ use Rattle.heap_rules.specs.Runs.{InRun}
 use Rattle.claim_rules.specs.NamesClaim.{holdsAddress}
 
 -- ---- what is so of each entry
-pub each-entry-map : (P Q R : Entry → Type 0) (ledger : List Entry) → ((e : Entry) → P e → Q e → R e) → EachEntry P ledger → EachEntry Q ledger → EachEntry R ledger
+pub each-entry-map : (P Q R : Entry → Type 0) (ledger : List Entry) → ((e : Entry) → P e → Q e → R e) → EachEntry P ledger → EachEntry Q ledger
+    → EachEntry R ledger
 unfolding EachEntry
 each-entry-map P Q R [] f h g = tt
 each-entry-map P Q R (e ∷ ledger) f h g = (f e (h .0) (g .0), each-entry-map P Q R ledger f (h .1) (g .1))
@@ -56,7 +58,8 @@ pub each-entry-empty : (P : Entry → Type 0) → EachEntry P []
 unfolding EachEntry
 each-entry-empty P = tt
 
-each-entry-removed : (P Q : Entry → Type 0) (test : Entry → Bool) (ledger : List Entry) → ((e : Entry) → test e ≡ false → P e → Q e) → EachEntry P ledger → EachEntry Q (removed test ledger)
+each-entry-removed : (P Q : Entry → Type 0) (test : Entry → Bool) (ledger : List Entry) → ((e : Entry) → test e ≡ false → P e → Q e) → EachEntry P ledger
+    → EachEntry Q (removed test ledger)
 unfolding EachEntry removed
 each-entry-removed P Q test [] f h = tt
 each-entry-removed P Q test (e ∷ ledger) f h = go (test e) refl (each-entry-removed P Q test ledger f (h .1))
@@ -89,16 +92,19 @@ not-holds-of-other-address : (s : State) (m a : ℕ) → (a ≡ heldAddress s m 
 unfolding holdsAddress
 not-holds-of-other-address s m a f = rw (ne-eqb a (heldAddress s m) f) (both-false-right (isHeld (s .names) m))
 
-holds-address-cong : (s t : State) (m a : ℕ) → isHeld (t .names) m ≡ isHeld (s .names) m → (isHeld (s .names) m ≡ true → heldAddress t m ≡ heldAddress s m) → holdsAddress t m a ≡ holdsAddress s m a
+holds-address-cong : (s t : State) (m a : ℕ) → isHeld (t .names) m ≡ isHeld (s .names) m
+    → (isHeld (s .names) m ≡ true → heldAddress t m ≡ heldAddress s m) → holdsAddress t m a ≡ holdsAddress s m a
 unfolding holdsAddress
 holds-address-cong s t m a e f = go (isHeld (s .names) m) e f
   where
-    go : (h : Bool) → isHeld (t .names) m ≡ h → (h ≡ true → heldAddress t m ≡ heldAddress s m) → both (isHeld (t .names) m) (eqb a (heldAddress t m)) ≡ both h (eqb a (heldAddress s m))
+    go : (h : Bool) → isHeld (t .names) m ≡ h → (h ≡ true → heldAddress t m ≡ heldAddress s m) → both (isHeld (t .names) m) (eqb a (heldAddress t m))
+        ≡ both h (eqb a (heldAddress s m))
     go true q g = rw (q, g refl)
     go false q g = rw q
 
 -- the held address goes by the name's number and the class of its superblock
-held-address-cong : (s t : State) (m : ℕ) → blockNamed (t .names) m ≡ blockNamed (s .names) m → superblockAt t (blockNamed (s .names) m / 256) .class ≡ superblockAt s (blockNamed (s .names) m / 256) .class
+held-address-cong : (s t : State) (m : ℕ) → blockNamed (t .names) m ≡ blockNamed (s .names) m → superblockAt t (blockNamed (s .names) m / 256) .class
+    ≡ superblockAt s (blockNamed (s .names) m / 256) .class
     → heldAddress t m ≡ heldAddress s m
 unfolding heldAddress
 held-address-cong s t m e f = rw (e, f)
@@ -108,7 +114,8 @@ pub record BlockTaken (a k j : ℕ) (s t : State) : Type 0 where
   pub block : j < 256
   pub address : addressOf k (superblockAt t k .class) j ≡ a
   -- a name that is held keeps its superblock's class, and so its address, and is not at the address
-  pub held-class : (m : ℕ) → T (isHeld (s .names) m) → superblockAt t (blockNamed (s .names) m / 256) .class ≡ superblockAt s (blockNamed (s .names) m / 256) .class
+  pub held-class : (m : ℕ) → T (isHeld (s .names) m) → superblockAt t (blockNamed (s .names) m / 256) .class
+      ≡ superblockAt s (blockNamed (s .names) m / 256) .class
   pub held-elsewhere : (m : ℕ) → T (isHeld (s .names) m) → a ≡ heldAddress s m → ⊥
   -- and the long blocks stay
   pub long-kept : (e : Entry) → LongAgrees s e → LongAgrees t e
@@ -116,7 +123,8 @@ pub record BlockTaken (a k j : ℕ) (s t : State) : Type 0 where
 -- of a block of a class
 module _ (i c k j : ℕ) (s t : State) (order : List ℕ) (shape : Shape s) (passed : Passed s order) (effect : TakeEffect i c k j s t) where
   -- a name that is held in superblock k is of a block that is live there, and so of class c; not of block j, which is not live
-  held-in-superblock : (m : ℕ) → T (isHeld (s .names) m) → blockNamed (s .names) m / 256 ≡ k → (superblockAt s k .class ≡ c) × (blockNamed (s .names) m % 256 ≡ j → ⊥)
+  held-in-superblock : (m : ℕ) → T (isHeld (s .names) m) → blockNamed (s .names) m / 256 ≡ k → (superblockAt s k .class ≡ c)
+      × (blockNamed (s .names) m % 256 ≡ j → ⊥)
   held-in-superblock m held q = (class (effect .before), λ r. omega (arith, effect .not-marked, ap (markBit (superblockAt s k .live)) r, marked))
     where
       marked : markBit (superblockAt s k .live) (blockNamed (s .names) m % 256) ≡ 1
@@ -130,17 +138,20 @@ module _ (i c k j : ℕ) (s t : State) (order : List ℕ) (shape : Shape s) (pas
           absurd (let z : ⊥ = omega (arith, marked) in z)
       class (inr h) = h .0
 
-  take-keeps-held-class : (m : ℕ) → T (isHeld (s .names) m) → superblockAt t (blockNamed (s .names) m / 256) .class ≡ superblockAt s (blockNamed (s .names) m / 256) .class
+  take-keeps-held-class : (m : ℕ) → T (isHeld (s .names) m) → superblockAt t (blockNamed (s .names) m / 256) .class
+      ≡ superblockAt s (blockNamed (s .names) m / 256) .class
   take-keeps-held-class m held = go (ℕ-discrete (blockNamed (s .names) m / 256) k)
     where
-      go : Dec (blockNamed (s .names) m / 256 ≡ k) → superblockAt t (blockNamed (s .names) m / 256) .class ≡ superblockAt s (blockNamed (s .names) m / 256) .class
+      go : Dec (blockNamed (s .names) m / 256 ≡ k) → superblockAt t (blockNamed (s .names) m / 256) .class
+          ≡ superblockAt s (blockNamed (s .names) m / 256) .class
       go (yes q) = rw q (effect .class ∙ sym (held-in-superblock m held q .0))
       go (no f) = ap (λ (b : Superblock). b .class) (effect .others (blockNamed (s .names) m / 256) f)
 
   held-not-at-taken : (m : ℕ) → T (isHeld (s .names) m) → addressOf k c j ≡ heldAddress s m → ⊥
   unfolding heldAddress
   held-not-at-taken m held q =
-      let home : blockNamed (s .names) m / 256 ≡ k = sym (held-address-block s order m shape passed held .0) ∙ ap (λ (a : ℕ). a / 4096) (sym q) ∙ address-superblock c k j (effect .class-lt-27) (effect .block) in
+      let home : blockNamed (s .names) m / 256 ≡ k = sym (held-address-block s order m shape passed held .0) ∙ ap (λ (a : ℕ). a / 4096) (sym q)
+      ∙ address-superblock c k j (effect .class-lt-27) (effect .block) in
       let there = held-in-superblock m held home in
       let live = held-block-is-live s order shape passed m held (ap (λ (n : ℕ). isOfRun (superblockAt s n)) home ∙ effect .outside-run) in
       let class : superblockAt s (blockNamed (s .names) m / 256) .class ≡ c = ap (λ (n : ℕ). superblockAt s n .class) home ∙ there .0 in
@@ -179,7 +190,8 @@ module _ (k n : ℕ) (s t : State) (order : List ℕ) (shape : Shape s) (passed 
         address = omega arith;
         held-class = λ m held. ap (λ (b : Superblock). b .class) (effect .others (blockNamed (s .names) m / 256) (held-outside-run m held));
         held-elsewhere = λ m held q.
-            let home : blockNamed (s .names) m / 256 ≡ k = sym (held-address-block s order m shape passed held .0) ∙ ap (λ (a : ℕ). a / 4096) (sym q) ∙ (let z : k * 4096 / 4096 ≡ k = omega arith in z) in
+            let home : blockNamed (s .names) m / 256 ≡ k = sym (held-address-block s order m shape passed held .0) ∙ ap (λ (a : ℕ). a / 4096) (sym q)
+            ∙ (let z : k * 4096 / 4096 ≡ k = omega arith in z) in
             held-outside-run m held (omega arith, omega (arith, effect .some));
         long-kept = λ e h. long-agrees-after-long-take s t e h k n effect;
       }
@@ -206,15 +218,19 @@ module _ (a k j : ℕ) (s t : State) (taken : BlockTaken a k j s t) where
     plain-take-keeps-agreement e h =
         record {
           long = λ l. taken .long-kept e (h .long l);
-          name-agrees = λ m. h .name-agrees m ∙ sym (holds-address-cong s t m (e .address) (held-cong (t .names) (s .names) m (same-block m)) (λ q. take-keeps-held-address m (T-of-true _ q) (same-block m)));
+          name-agrees = λ m. h .name-agrees m
+              ∙ sym (holds-address-cong s t m (e .address) (held-cong (t .names) (s .names) m (same-block m))
+              (λ q. take-keeps-held-address m (T-of-true _ q) (same-block m)));
         }
 
-    pub plain-take-entry-agrees : (size : ℕ) → (2048 < size → LongAgrees t (record { address = a; size = size; name = unnamed })) → EntryAgrees t (record { address = a; size = size; name = unnamed })
+    pub plain-take-entry-agrees : (size : ℕ) → (2048 < size → LongAgrees t (record { address = a; size = size; name = unnamed }))
+        → EntryAgrees t (record { address = a; size = size; name = unnamed })
     unfolding isCalled
     plain-take-entry-agrees size long = record { long = long; name-agrees = λ m. sym (not-held-at-taken m (same-block m)) }
 
   -- ---- a take that binds name n
-  module _ (n : ℕ) (is-name : n < 1024) (free : isHeld (s .names) n ≡ false) (names-length : length (s .names) ≡ 1024) (names : t .names ≡ withName (s .names) n (blockNumber k j)) where
+  module _ (n : ℕ) (is-name : n < 1024) (free : isHeld (s .names) n ≡ false) (names-length : length (s .names) ≡ 1024)
+      (names : t .names ≡ withName (s .names) n (blockNumber k j)) where
     bound-block : blockNamed (t .names) n ≡ blockNumber k j
     bound-block = ap (λ (l : List ℕ). blockNamed l n) names ∙ block-named-with-name (s .names) n (blockNumber k j) (omega arith)
 
@@ -240,9 +256,12 @@ module _ (a k j : ℕ) (s t : State) (taken : BlockTaken a k j s t) where
             rw q
             (h .name-agrees n ∙ holds-address-of-not-held s n (e .address) free
             ∙ sym (not-holds-of-other-address t n (e .address) (λ r. apart (r ∙ bound-address))))
-        at m (no f) = h .name-agrees m ∙ sym (holds-address-cong s t m (e .address) (held-cong (t .names) (s .names) m (other-block m f)) (λ q. take-keeps-held-address m (T-of-true _ q) (other-block m f)))
+        at m (no f) = h .name-agrees m
+            ∙ sym (holds-address-cong s t m (e .address) (held-cong (t .names) (s .names) m (other-block m f))
+            (λ q. take-keeps-held-address m (T-of-true _ q) (other-block m f)))
 
-    pub named-take-entry-agrees : k < 64 → (size : ℕ) → (2048 < size → LongAgrees t (record { address = a; size = size; name = named n })) → EntryAgrees t (record { address = a; size = size; name = named n })
+    pub named-take-entry-agrees : k < 64 → (size : ℕ) → (2048 < size → LongAgrees t (record { address = a; size = size; name = named n }))
+        → EntryAgrees t (record { address = a; size = size; name = named n })
     unfolding isCalled
     named-take-entry-agrees below size long = record { long = long; name-agrees = λ m. at m (ℕ-discrete m n) }
       where
@@ -258,7 +277,8 @@ no-entry-at a (e ∷ ledger) none = (apart, no-entry-at a ledger (λ d l. omega 
   where
     apart : e .address ≡ a → ⊥
     apart q =
-        let one : one (both (isAt a e) (eqb (classOfEntry e) (classOfEntry e))) ≡ 1 = rw (eq-eqb (e .address) a q, eq-eqb (classOfEntry e) (classOfEntry e) refl) in
+        let one : one (both (isAt a e) (eqb (classOfEntry e) (classOfEntry e))) ≡ 1 =
+        rw (eq-eqb (e .address) a q, eq-eqb (classOfEntry e) (classOfEntry e) refl) in
         omega (arith, none (classOfEntry e) (class-of-le-27 (e .size)))
 
 -- ---- a free of block j of superblock k, at address a
@@ -280,7 +300,8 @@ block-let-go-of-free c k j moves s t effect =
     }
 
 -- of a long block: class 0 is the class field of a run's superblocks and of unused ones
-pub block-let-go-of-long-free : {Invariant : ℕ → ℕ → State → Type 0} (k n : ℕ) (s t : State) (order : List ℕ) → SoundWith Invariant s order → LongFreeEffect k n s t → BlockLetGo (k * 4096) k 0 s t
+pub block-let-go-of-long-free : {Invariant : ℕ → ℕ → State → Type 0} (k n : ℕ) (s t : State) (order : List ℕ) → SoundWith Invariant s order
+    → LongFreeEffect k n s t → BlockLetGo (k * 4096) k 0 s t
 unfolding addressOf
 block-let-go-of-long-free k n s t order sound effect =
     record {
@@ -293,10 +314,12 @@ block-let-go-of-long-free k n s t order sound effect =
     same : (m : ℕ) → m < 64 → Dec (InRun k n m) → superblockAt t m .class ≡ superblockAt s m .class
     same m l (yes inside) =
         ap (λ (b : Superblock). b .class) (effect .run m inside)
-        ∙ sym (unowned-of-owner s order sound m l (omega (arith, owner-of-run (superblockAt s m) (effect .run-before .of-run m (inside .0) (inside .1)))) .class)
+        ∙ sym (unowned-of-owner s order sound m l
+        (omega (arith, owner-of-run (superblockAt s m) (effect .run-before .of-run m (inside .0) (inside .1)))) .class)
     same m l (no out) = ap (λ (b : Superblock). b .class) (effect .others m out)
 
-module _ (a k j : ℕ) (s t : State) (long : length (s .table) ≡ 64) (valid : T (namesValid s)) (freed : BlockLetGo a k j s t) (names : t .names ≡ withoutBlock (s .names) (blockNumber k j)) where
+module _ (a k j : ℕ) (s t : State) (long : length (s .table) ≡ 64) (valid : T (namesValid s)) (freed : BlockLetGo a k j s t)
+    (names : t .names ≡ withoutBlock (s .names) (blockNumber k j)) where
   -- a name that points at the block held its address
   let-go-address : (m : ℕ) → blockNamed (s .names) m ≡ blockNumber k j → heldAddress s m ≡ a
   unfolding heldAddress
@@ -308,7 +331,8 @@ module _ (a k j : ℕ) (s t : State) (long : length (s .table) ≡ 64) (valid : 
   free-keeps-held-address : (m : ℕ) → T (isHeld (s .names) m) → blockNamed (t .names) m ≡ blockNamed (s .names) m → heldAddress t m ≡ heldAddress s m
   free-keeps-held-address m held e =
       held-address-cong s t m e
-      (freed .classes (blockNamed (s .names) m / 256) (live-block-in-table s (blockNamed (s .names) m) long (names-sound-of-valid s valid .live m (held-facts (s .names) m held .1))))
+      (freed .classes (blockNamed (s .names) m / 256)
+      (live-block-in-table s (blockNamed (s .names) m) long (names-sound-of-valid s valid .live m (held-facts (s .names) m held .1))))
 
   free-keeps-agreement : (e : Entry) → isAt a e ≡ false → EntryAgrees s e → EntryAgrees t e
   free-keeps-agreement e apart h =
@@ -322,17 +346,20 @@ module _ (a k j : ℕ) (s t : State) (long : length (s .table) ≡ 64) (valid : 
           not-holds-of-other-address s m (e .address) (λ r. eqb-false (e .address) a apart (r ∙ let-go-address m q))
           ∙ sym (holds-address-of-not-held t m (e .address) (ap (λ (l : List ℕ). isHeld l m) names ∙ not-held-without-block (s .names) (blockNumber k j) m q))
       at m (no f) =
-          let same : blockNamed (t .names) m ≡ blockNamed (s .names) m = ap (λ (l : List ℕ). blockNamed l m) names ∙ block-named-without-other-block (s .names) (blockNumber k j) m f in
+          let same : blockNamed (t .names) m ≡ blockNamed (s .names) m = ap (λ (l : List ℕ). blockNamed l m) names
+          ∙ block-named-without-other-block (s .names) (blockNumber k j) m f in
           sym (holds-address-cong s t m (e .address) (held-cong (t .names) (s .names) m same) (λ q. free-keeps-held-address m (T-of-true _ q) same))
 
   pub agreement-after-free : (ledger : List Entry) → EachEntry (EntryAgrees s) ledger → EachEntry (EntryAgrees t) (removed (isAt a) ledger)
   agreement-after-free ledger h = each-entry-removed (EntryAgrees s) (EntryAgrees t) (isAt a) ledger free-keeps-agreement h
 
 -- ---- moves: names, classes and runs stay
-pub agreement-of-same-names-and-classes : (s t : State) → length (s .table) ≡ 64 → length (t .table) ≡ 64 → t .names ≡ s .names → RunsKept s t → ((k : ℕ) → k < 64 → superblockAt t k .class ≡ superblockAt s k .class)
+pub agreement-of-same-names-and-classes : (s t : State) → length (s .table) ≡ 64 → length (t .table) ≡ 64 → t .names ≡ s .names → RunsKept s t
+    → ((k : ℕ) → k < 64 → superblockAt t k .class ≡ superblockAt s k .class)
     → (ledger : List Entry) → EachEntry (EntryAgrees s) ledger → EachEntry (EntryAgrees t) ledger
 agreement-of-same-names-and-classes s t long long-after names runs classes ledger h =
-    each-entry-map (EntryAgrees s) (EntryAgrees s) (EntryAgrees t) ledger (λ e g _. record { long = λ l. long-agrees-of-kept s t e (g .long l) runs; name-agrees = λ m. g .name-agrees m ∙ sym (same m (e .address)) }) h h
+    each-entry-map (EntryAgrees s) (EntryAgrees s) (EntryAgrees t) ledger
+    (λ e g _. record { long = λ l. long-agrees-of-kept s t e (g .long l) runs; name-agrees = λ m. g .name-agrees m ∙ sym (same m (e .address)) }) h h
   where
     class-same : (k : ℕ) → Dec (k < 64) → superblockAt t k .class ≡ superblockAt s k .class
     class-same k (yes l) = classes k l
@@ -343,14 +370,16 @@ agreement-of-same-names-and-classes s t long long-after names runs classes ledge
     same : (m a : ℕ) → holdsAddress t m a ≡ holdsAddress s m a
     same m a =
         holds-address-cong s t m a (ap (λ (l : List ℕ). isHeld l m) names)
-        (λ q. held-address-cong s t m (ap (λ (l : List ℕ). blockNamed l m) names) (class-same (blockNamed (s .names) m / 256) (decLt (blockNamed (s .names) m / 256) 64)))
+        (λ q. held-address-cong s t m (ap (λ (l : List ℕ). blockNamed l m) names)
+        (class-same (blockNamed (s .names) m / 256) (decLt (blockNamed (s .names) m / 256) 64)))
 
 -- ---- a held name is just that of the entries at its address
 pub name-is-at-address : (s : State) (m : ℕ) (e : Entry) → EntryAgrees s e → T (isHeld (s .names) m) → hasName m e ≡ isAt (heldAddress s m) e
 name-is-at-address s m e h held = h .name-agrees m ∙ holds-address-of-held s m (e .address) (true-of-T _ held)
 
 -- so that an accepted named free removes by name what a free of the held address removes by address
-pub removed-by-name-is-removed-by-address : (s : State) (ledger : List Entry) (m : ℕ) → EachEntry (EntryAgrees s) ledger → T (isHeld (s .names) m) → removed (hasName m) ledger ≡ removed (isAt (heldAddress s m)) ledger
+pub removed-by-name-is-removed-by-address : (s : State) (ledger : List Entry) (m : ℕ) → EachEntry (EntryAgrees s) ledger → T (isHeld (s .names) m)
+    → removed (hasName m) ledger ≡ removed (isAt (heldAddress s m)) ledger
 removed-by-name-is-removed-by-address s ledger m h held =
     removed-cong (hasName m) (isAt (heldAddress s m)) ledger
     (each-entry-map (EntryAgrees s) (EntryAgrees s) (λ e. hasName m e ≡ isAt (heldAddress s m) e) ledger (λ e g _. name-is-at-address s m e g held) h h)

@@ -15,7 +15,8 @@ use Rattle.heap_laws.proofs.StateFacts.{RunsKept}
 use Rattle.heap_laws.proofs.RunsKeptLaws.{starts-run-same}
 use Rattle.call_laws.proofs.CallEffects.{LongTakeEffect, LongFreeEffect}
 use Rattle.claim_rules.specs.Ledger.{Name, Entry}
-use Rattle.claim_laws.proofs.OneMoreLongLaws.{OneMoreLong, in-run-or-not, starts-no-run-of-available, starts-no-run-of-0, starts-run-with-rank, one-more-long-of-take}
+use Rattle.claim_laws.proofs.OneMoreLongLaws.{OneMoreLong, in-run-or-not, starts-no-run-of-available, starts-no-run-of-0, starts-run-with-rank}
+use Rattle.claim_laws.proofs.OneMoreLongLaws.{one-more-long-of-take}
 use Rattle.heap_rules.specs.Runs.{InRun}
 
 -- "The block's address is the start of the run", which has "as many [superblocks] as size / 4096 rounded up"
@@ -27,7 +28,8 @@ pub record LongAgrees (s : State) (e : Entry) : Type 0 where
 
 -- it goes by the run's first superblock alone
 module _ (s t : State) (e : Entry) (h : LongAgrees s e) where
-  long-agrees-of-same : startsRun (superblockAt t (e .address / 4096)) ≡ startsRun (superblockAt s (e .address / 4096)) → superblockAt t (e .address / 4096) .run ≡ superblockAt s (e .address / 4096) .run
+  long-agrees-of-same : startsRun (superblockAt t (e .address / 4096)) ≡ startsRun (superblockAt s (e .address / 4096))
+      → superblockAt t (e .address / 4096) .run ≡ superblockAt s (e .address / 4096) .run
       → LongAgrees t e
   long-agrees-of-same starts length = record { below = h .below; aligned = h .aligned; starts = starts ∙ h .starts; length-is = length ∙ h .length-is }
 
@@ -45,7 +47,8 @@ module _ (s t : State) (e : Entry) (h : LongAgrees s e) where
       go (yes inside) =
           let b : Superblock = superblockAt s (e .address / 4096) in
           absurd (true-not-false (startsRun b) (h .starts) (starts-no-run-of-available b (effect .available (e .address / 4096) inside)))
-      go (no out) = let same = effect .others (e .address / 4096) out in long-agrees-of-same (ap startsRun same ∙ starts-run-with-rank _ (superblockAt s (e .address / 4096))) (ap (λ (b : Superblock). b .run) same)
+      go (no out) = let same = effect .others (e .address / 4096) out in
+          long-agrees-of-same (ap startsRun same ∙ starts-run-with-rank _ (superblockAt s (e .address / 4096))) (ap (λ (b : Superblock). b .run) same)
 
   -- and a free of another run: that begins elsewhere, and all but its first superblock carry 0
   pub long-agrees-after-long-free : (k n : ℕ) → LongFreeEffect k n s t → (e .address ≡ k * 4096 → ⊥) → LongAgrees t e
@@ -57,11 +60,13 @@ module _ (s t : State) (e : Entry) (h : LongAgrees s e) where
       go : Dec (InRun k n (e .address / 4096)) → LongAgrees t e
       go (yes inside) =
           let b : Superblock = superblockAt s (e .address / 4096) in
-          absurd (true-not-false (startsRun b) (h .starts) (starts-no-run-of-0 b (effect .run-before .others-carry-0 (e .address / 4096) (omega (arith, inside .0, not-first)) (inside .1))))
+          absurd (true-not-false (startsRun b) (h .starts)
+          (starts-no-run-of-0 b (effect .run-before .others-carry-0 (e .address / 4096) (omega (arith, inside .0, not-first)) (inside .1))))
       go (no out) = let same = effect .others (e .address / 4096) out in long-agrees-of-same (ap startsRun same) (ap (λ (b : Superblock). b .run) same)
 
 -- the block that a long take adds
-pub long-take-entry-is-run : (k size : ℕ) (name : Name) (s t : State) → k + runLength size ≤ 64 → LongTakeEffect k (runLength size) s t → LongAgrees t (record { address = k * 4096; size = size; name = name })
+pub long-take-entry-is-run : (k size : ℕ) (name : Name) (s t : State) → k + runLength size ≤ 64 → LongTakeEffect k (runLength size) s t
+    → LongAgrees t (record { address = k * 4096; size = size; name = name })
 long-take-entry-is-run k size name s t in-table effect =
     let at : k * 4096 / 4096 ≡ k = omega arith in
     let more : OneMoreLong k s t = one-more-long-of-take k (runLength size) s t in-table effect in

@@ -80,12 +80,14 @@ address-same : (a c d k j : ℕ) → a % 4096 % sizeOf d ≡ 0 → d ≡ c → a
 address-same a c d k j e p q r = rw (← p, ← q, ← r) (address-of-block-at a d e)
 
 -- the live blocks of a class go only by those of each superblock
-pub live-at-same : (s t : State) (a d : ℕ) → d < classCount → ((m b : ℕ) → m < 64 → b < 256 → liveFor d (superblockAt t m) b ≡ liveFor d (superblockAt s m) b) → liveAt t a d ≡ liveAt s a d
+pub live-at-same : (s t : State) (a d : ℕ) → d < classCount
+    → ((m b : ℕ) → m < 64 → b < 256 → liveFor d (superblockAt t m) b ≡ liveFor d (superblockAt s m) b) → liveAt t a d ≡ liveAt s a d
 unfolding liveAt
 live-at-same s t a d l same = go (ltb (a / 4096) 64) (eqb (a % 4096 % sizeOf d) 0) refl
   where
     go : (x y : Bool) → ltb (a / 4096) 64 ≡ x
-        → pick x (pick y (liveFor d (superblockAt t (a / 4096)) (a % 4096 / sizeOf d)) 0) 0 ≡ pick x (pick y (liveFor d (superblockAt s (a / 4096)) (a % 4096 / sizeOf d)) 0) 0
+        → pick x (pick y (liveFor d (superblockAt t (a / 4096)) (a % 4096 / sizeOf d)) 0) 0
+        ≡ pick x (pick y (liveFor d (superblockAt s (a / 4096)) (a % 4096 / sizeOf d)) 0) 0
     go true true p = same (a / 4096) (a % 4096 / sizeOf d) (ltb-true (a / 4096) 64 p) (block-below d a l)
     go true false p = refl
     go false y p = refl
@@ -127,14 +129,17 @@ module _ (c k j : ℕ) (s t : State) (more : OneMoreLive c k j s t) where
     where
       go : Dec (d ≡ c) → liveAt s (addressOf k c j) d ≡ 0
       go (yes e) = ap (liveAt s (addressOf k c j)) e ∙ live-at-of-address s c k j (more .class-lt-27) (more .below) (more .block) ∙ more .not-live-before
-      go (no f) = live-at-none s (addressOf k c j) d l (λ b h. ap (λ (x : ℕ). liveFor d (superblockAt s x) b) (address-superblock c k j (more .class-lt-27) (more .block)) ∙ more .no-other-class d b h f)
+      go (no f) = live-at-none s (addressOf k c j) d l
+          (λ b h. ap (λ (x : ℕ). liveFor d (superblockAt s x) b) (address-superblock c k j (more .class-lt-27) (more .block))
+          ∙ more .no-other-class d b h f)
 
   -- nor a long block
   pub long-at-before-is-zero : longAt s (addressOf k c j) ≡ 0
   unfolding startsRun
   long-at-before-is-zero =
       long-at-none s (addressOf k c j)
-      (ap (λ (x : ℕ). startsRun (superblockAt s x)) (address-superblock c k j (more .class-lt-27) (more .block)) ∙ ap (λ (x : Bool). both x (ltb 0 (superblockAt s k .run))) (more .outside-run))
+      (ap (λ (x : ℕ). startsRun (superblockAt s x)) (address-superblock c k j (more .class-lt-27) (more .block))
+      ∙ ap (λ (x : Bool). both x (ltb 0 (superblockAt s k .run))) (more .outside-run))
 
   -- another address or class is as it was
   live-at-of-others : (a d : ℕ) → d < classCount → ((d ≡ c) × (addressOf k c j ≡ a) → ⊥) → liveAt t a d ≡ liveAt s a d
@@ -142,7 +147,8 @@ module _ (c k j : ℕ) (s t : State) (more : OneMoreLive c k j s t) where
   live-at-of-others a d l f = go (ltb (a / 4096) 64) (eqb (a % 4096 % sizeOf d) 0) refl refl
     where
       go : (x y : Bool) → ltb (a / 4096) 64 ≡ x → eqb (a % 4096 % sizeOf d) 0 ≡ y
-          → pick x (pick y (liveFor d (superblockAt t (a / 4096)) (a % 4096 / sizeOf d)) 0) 0 ≡ pick x (pick y (liveFor d (superblockAt s (a / 4096)) (a % 4096 / sizeOf d)) 0) 0
+          → pick x (pick y (liveFor d (superblockAt t (a / 4096)) (a % 4096 / sizeOf d)) 0) 0
+          ≡ pick x (pick y (liveFor d (superblockAt s (a / 4096)) (a % 4096 / sizeOf d)) 0) 0
       go true true p q =
           more .others-same d (a / 4096) (a % 4096 / sizeOf d) (ltb-true (a / 4096) 64 p) (block-below d a l)
           (λ h. f (h .0, address-same a c d k j (eqb-true (a % 4096 % sizeOf d) 0 q) (h .0) (h .1) (h .2)))
@@ -160,8 +166,10 @@ module _ (c k j : ℕ) (s t : State) (more : OneMoreLive c k j s t) where
       go : Dec (d ≡ c) → Dec (addressOf k c j ≡ a) → liveAt t a d ≡ liveAt s a d + one (both (eqb (addressOf k c j) a) (eqb c d))
       go (yes e) (yes q) =
           let x : liveAt t a d ≡ 1 = ap₂ (liveAt t) (sym q) e ∙ live-at-of-address t c k j (more .class-lt-27) (more .below) (more .block) ∙ more .live-after in
-          let y : liveAt s a d ≡ 0 = ap₂ (liveAt s) (sym q) e ∙ live-at-of-address s c k j (more .class-lt-27) (more .below) (more .block) ∙ more .not-live-before in
-          let z : one (both (eqb (addressOf k c j) a) (eqb c d)) ≡ 1 = ap₂ (λ (x y : Bool). one (both x y)) (eq-eqb (addressOf k c j) a q) (eq-eqb c d (sym e)) in
+          let y : liveAt s a d ≡ 0 = ap₂ (liveAt s) (sym q) e ∙ live-at-of-address s c k j (more .class-lt-27) (more .below) (more .block)
+          ∙ more .not-live-before in
+          let z : one (both (eqb (addressOf k c j) a) (eqb c d)) ≡ 1 = ap₂ (λ (x y : Bool). one (both x y)) (eq-eqb (addressOf k c j) a q)
+          (eq-eqb c d (sym e)) in
           omega arith
       go (yes e) (no f) =
           let x = live-at-of-others a d l (λ h. f (h .1)) in
@@ -169,7 +177,8 @@ module _ (c k j : ℕ) (s t : State) (more : OneMoreLive c k j s t) where
           omega arith
       go (no f) _ =
           let x = live-at-of-others a d l (λ h. f (h .0)) in
-          let z : one (both (eqb (addressOf k c j) a) (eqb c d)) ≡ 0 = ap (λ (x : Bool). one (both (eqb (addressOf k c j) a) x)) (ne-eqb c d (λ q. f (sym q))) ∙ none (eqb (addressOf k c j) a) in
+          let z : one (both (eqb (addressOf k c j) a) (eqb c d)) ≡ 0 = ap (λ (x : Bool). one (both (eqb (addressOf k c j) a) x))
+          (ne-eqb c d (λ q. f (sym q))) ∙ none (eqb (addressOf k c j) a) in
           omega arith
 
 -- ---- a take makes one more, a free one less
@@ -193,7 +202,8 @@ module _ (i c k j : ℕ) (s t : State) (below : k < 64) (owner : i < runOwner) (
   live-for-before-take : (b : ℕ) → b < 256 → liveFor c (superblockAt s k) b ≡ markBit (superblockAt s k .live) b
   live-for-before-take b l = go (e .before)
     where
-      go : (liveIn (superblockAt s k) ≡ 0) ⊎ ((superblockAt s k .class ≡ c) × (superblockAt s k .owner < runOwner)) → liveFor c (superblockAt s k) b ≡ markBit (superblockAt s k .live) b
+      go : (liveIn (superblockAt s k) ≡ 0) ⊎ ((superblockAt s k .class ≡ c) × (superblockAt s k .owner < runOwner)) → liveFor c (superblockAt s k) b
+          ≡ markBit (superblockAt s k .live) b
       go (inl z) = let m = marks-clear-of-live-count-zero (superblockAt s k .live) z b l in live-for-clear c (superblockAt s k) b m ∙ sym m
       go (inr h) = live-for-owned c (superblockAt s k) b (h .1) (h .0)
 
@@ -240,7 +250,8 @@ module _ (c k j moves : ℕ) (s t : State) (below : k < 64) (e : FreeEffect c k 
       go : (superblockAt t m .owner ≡ superblockAt s m .owner) ⊎ ((superblockAt s m .owner ≡ superblockAt s k .owner) × (superblockAt t m .owner ≡ 0))
           → ltb (superblockAt t m .owner) runOwner ≡ ltb (superblockAt s m .owner) runOwner
       go (inl q) = ap (λ (x : ℕ). ltb x runOwner) q
-      go (inr h) = ap (λ (x : ℕ). ltb x runOwner) (h .1) ∙ sym (lt-ltb (superblockAt s m .owner) runOwner (subst (λ (x : ℕ). x < runOwner) (sym (h .0)) (e .owned-before)))
+      go (inr h) = ap (λ (x : ℕ). ltb x runOwner) (h .1)
+          ∙ sym (lt-ltb (superblockAt s m .owner) runOwner (subst (λ (x : ℕ). x < runOwner) (sym (h .0)) (e .owned-before)))
 
   live-for-others-of-free : (d m b : ℕ) → m < 64 → b < 256 → ((d ≡ c) × (m ≡ k) × (b ≡ j) → ⊥) → liveFor d (superblockAt s m) b ≡ liveFor d (superblockAt t m) b
   unfolding liveFor
@@ -283,6 +294,7 @@ unfolding liveAt
 live-at-of-new-state u a c = go (ltb (a / 4096) 64) (eqb (a % 4096 % sizeOf c) 0) refl
   where
     go : (x y : Bool) → ltb (a / 4096) 64 ≡ x → pick x (pick y (liveFor c (superblockAt (newState u) (a / 4096)) (a % 4096 / sizeOf c)) 0) 0 ≡ 0
-    go true true e = ap (λ (b : Superblock). liveFor c b (a % 4096 / sizeOf c)) (getD-replicate 64 (a / 4096) unused blank (ltb-true (a / 4096) 64 e)) ∙ live-for-unused c (a % 4096 / sizeOf c)
+    go true true e = ap (λ (b : Superblock). liveFor c b (a % 4096 / sizeOf c)) (getD-replicate 64 (a / 4096) unused blank (ltb-true (a / 4096) 64 e))
+        ∙ live-for-unused c (a % 4096 / sizeOf c)
     go true false e = refl
     go false y e = refl

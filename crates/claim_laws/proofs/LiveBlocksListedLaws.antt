@@ -19,7 +19,8 @@ use Rattle.heap_rules.specs.Counts.{isOwnedOfClass, liveOfClass}
 use Rattle.heap_laws.proofs.StateFacts.{Shape, RunsKept}
 use Rattle.heap_laws.proofs.RunsKeptLaws.{outside-run-of-owner}
 use Rattle.call_rules.specs.Take.{addressOf}
-use Rattle.call_rules.specs.Free.{superblockIndex, superblockHolding, blockOf, isInRun, addressRefusal, orderPushed, smallBlockFreed, longBlockFreed, blockFreed}
+use Rattle.call_rules.specs.Free.{superblockIndex, superblockHolding, blockOf, isInRun, addressRefusal, orderPushed, smallBlockFreed, longBlockFreed}
+use Rattle.call_rules.specs.Free.{blockFreed}
 use Rattle.call_rules.specs.Drop.{allFreed, firstAddressRefusal}
 use Rattle.call_laws.proofs.CallEffects.{PassedAfterFrees}
 use Rattle.call_laws.proofs.BlockFreedLaws.{freed-address, freed-superblock-lt-64, small-block-freed-effect, small-block-freed-names}
@@ -30,7 +31,8 @@ use Rattle.call_laws.proofs.DropTransfersLaws.{Transfers}
 use Rattle.claim_rules.specs.Ledger.{Entry, classOfEntry, isAt, isAtOneOf, removed, entriesOf, EachEntry, entriesAt}
 use Rattle.claim_laws.proofs.LedgerLaws.{entries-at-added, entries-of-added, entries-at-removed, entries-at-others-removed, entries-of-removed}
 use Rattle.claim_laws.proofs.LongAtLaws.{longAt, long-at-of-kept}
-use Rattle.claim_laws.proofs.LiveAtLaws.{liveFor, liveAt, live-at-same, live-at-none, OneMoreLive, live-at-before-is-zero, long-at-before-is-zero, live-at-one-more, one-more-live-of-free}
+use Rattle.claim_laws.proofs.LiveAtLaws.{liveFor, liveAt, live-at-same, live-at-none, OneMoreLive, live-at-before-is-zero, long-at-before-is-zero}
+use Rattle.claim_laws.proofs.LiveAtLaws.{live-at-one-more, one-more-live-of-free}
 use Rattle.claim_laws.proofs.OneMoreLongLaws.{OneMoreLong, long-at-before-run-is-zero, long-at-one-more, one-more-long-of-free}
 use Rattle.claim_laws.proofs.LedgerNames.{EntryAgrees, block-let-go-of-free, block-let-go-of-long-free, agreement-after-free}
 
@@ -58,7 +60,8 @@ module _ (c k j : ℕ) (s t : State) (one-more-live : OneMoreLive c k j s t) (le
             ∙ sym (one-more-live .live d);
         runs = λ a.
             let x = entries-at-added e ledger a classCount in
-            let y : one (both (isAt a e) (eqb (classOfEntry e) classCount)) ≡ 0 = not-counted a e (ne-eqb (classOfEntry e) classCount (λ (q : classOfEntry e ≡ classCount). omega (arith, one-more-live .class-lt-27))) in
+            let y : one (both (isAt a e) (eqb (classOfEntry e) classCount)) ≡ 0 =
+            not-counted a e (ne-eqb (classOfEntry e) classCount (λ (q : classOfEntry e ≡ classCount). omega (arith, one-more-live .class-lt-27))) in
             omega (arith, h .runs a, one-more-live .long-same a);
       }
     where
@@ -69,7 +72,12 @@ module _ (c k j : ℕ) (s t : State) (one-more-live : OneMoreLive c k j s t) (le
   without-address = removed (isAt (addressOf k c j)) ledger
 
   pub listed-removed : Listed t ledger → Listed s without-address
-  listed-removed h = record { blocks = λ a d l. without a d l (ℕ-discrete (addressOf k c j) a); counted = one-live-less; runs = λ a. long-blocks a (ℕ-discrete (addressOf k c j) a) }
+  listed-removed h = record {
+    blocks = λ a d l. without a d l (ℕ-discrete (addressOf k c j) a);
+    counted = one-live-less;
+    runs =
+        λ a. long-blocks a (ℕ-discrete (addressOf k c j) a);
+  }
     where
       long-blocks : (a : ℕ) → Dec (addressOf k c j ≡ a) → entriesAt without-address a classCount ≡ longAt s a
       long-blocks a (yes e) =
@@ -98,7 +106,8 @@ module _ (c k j : ℕ) (s t : State) (one-more-live : OneMoreLive c k j s t) (le
           let y = h .blocks (addressOf k c j) d l in
           let z = live-at-one-more c k j s t one-more-live (addressOf k c j) d l in
           let w = live-at-before-is-zero c k j s t one-more-live d l in
-          let o : one (both (eqb (addressOf k c j) (addressOf k c j)) (eqb c d)) ≡ one (eqb c d) = ap (λ (x : Bool). one (both x (eqb c d))) (eq-eqb (addressOf k c j) (addressOf k c j) refl) in
+          let o : one (both (eqb (addressOf k c j) (addressOf k c j)) (eqb c d)) ≡ one (eqb c d) =
+          ap (λ (x : Bool). one (both x (eqb c d))) (eq-eqb (addressOf k c j) (addressOf k c j) refl) in
           let n = h .counted d l in
           let v = one-more-live .live d in
           omega arith
@@ -117,7 +126,8 @@ module _ (k : ℕ) (s t : State) (one-more-long : OneMoreLong k s t) (ledger : L
       record {
         blocks = λ a d l.
             let x = entries-at-added e ledger a d in
-            let y : one (both (isAt a e) (eqb (classOfEntry e) d)) ≡ 0 = ap (λ (y : Bool). one (both (isAt a e) y)) (of-no-class d l) ∙ ap one (both-false-right (isAt a e)) in
+            let y : one (both (isAt a e) (eqb (classOfEntry e) d)) ≡ 0 = ap (λ (y : Bool). one (both (isAt a e) y)) (of-no-class d l)
+            ∙ ap one (both-false-right (isAt a e)) in
             omega (arith, h .blocks a d l, live-at-kept a d l);
         counted = λ d l.
             let x = entries-of-added e ledger d in
@@ -141,16 +151,32 @@ module _ (k : ℕ) (s t : State) (one-more-long : OneMoreLong k s t) (ledger : L
   listed-long-removed h = record { blocks = λ a d l. same a d l (ℕ-discrete (k * 4096) a); counted = counted; runs = λ a. less a (ℕ-discrete (k * 4096) a) }
     where
       same : (a d : ℕ) → d < classCount → Dec (k * 4096 ≡ a) → entriesAt without-run a d ≡ liveAt s a d
-      same a d l (yes e) = ap (λ (x : ℕ). entriesAt without-run x d) (sym e) ∙ entries-at-removed (k * 4096) ledger d ∙ sym (live-at-run-is-zero d l) ∙ ap (λ (x : ℕ). liveAt s x d) e
+      same a d l (yes e) = ap (λ (x : ℕ). entriesAt without-run x d) (sym e) ∙ entries-at-removed (k * 4096) ledger d ∙ sym (live-at-run-is-zero d l)
+          ∙ ap (λ (x : ℕ). liveAt s x d) e
       same a d l (no f) = entries-at-others-removed (k * 4096) ledger a d f ∙ h .blocks a d l ∙ live-at-kept a d l
 
       counted : (d : ℕ) → d < classCount → entriesOf d without-run ≡ liveOfClass d s
       counted d l =
-          omega (arith, entries-of-removed (k * 4096) ledger d, h .blocks (k * 4096) d l, live-at-kept (k * 4096) d l, live-at-run-is-zero d l, h .counted d l, one-more-long .live d)
+          omega (
+            arith,
+            entries-of-removed (k * 4096) ledger d,
+            h .blocks (k * 4096) d l,
+            live-at-kept (k * 4096) d l,
+            live-at-run-is-zero d l,
+            h .counted d l,
+            one-more-long .live d,
+          )
 
       less : (a : ℕ) → Dec (k * 4096 ≡ a) → entriesAt without-run a classCount ≡ longAt s a
-      less a (yes e) = ap (λ (x : ℕ). entriesAt without-run x classCount) (sym e) ∙ entries-at-removed (k * 4096) ledger classCount ∙ sym (long-at-before-run-is-zero k s t one-more-long) ∙ ap (longAt s) e
-      less a (no f) = omega (arith, entries-at-others-removed (k * 4096) ledger a classCount f, h .runs a, long-at-one-more k s t one-more-long a, one-of-different (k * 4096) a f)
+      less a (yes e) = ap (λ (x : ℕ). entriesAt without-run x classCount) (sym e) ∙ entries-at-removed (k * 4096) ledger classCount
+          ∙ sym (long-at-before-run-is-zero k s t one-more-long) ∙ ap (longAt s) e
+      less a (no f) = omega (
+        arith,
+        entries-at-others-removed (k * 4096) ledger a classCount f,
+        h .runs a,
+        long-at-one-more k s t one-more-long a,
+        one-of-different (k * 4096) a f,
+      )
 
 -- ---- several blocks freed, as a drop does
 -- the ledger without each of the addresses, one after another, is the one without all of them
@@ -163,13 +189,15 @@ unfolding removed isAtOneOf
 removed-none [] = refl
 removed-none (e ∷ ledger) = ap (λ (l : List Entry). e ∷ l) (removed-none ledger)
 
-removed-first : (a : ℕ) (addresses : List ℕ) (ledger : List Entry) → removed (isAtOneOf addresses) (removed (isAt a) ledger) ≡ removed (isAtOneOf (a ∷ addresses)) ledger
+removed-first : (a : ℕ) (addresses : List ℕ) (ledger : List Entry) → removed (isAtOneOf addresses) (removed (isAt a) ledger)
+    ≡ removed (isAtOneOf (a ∷ addresses)) ledger
 unfolding removed isAtOneOf
 removed-first a addresses [] = refl
 removed-first a addresses (e ∷ ledger) = go (isAt a e) (isAtOneOf addresses e) refl (removed-first a addresses ledger)
   where
     go : (x y : Bool) → isAtOneOf addresses e ≡ y → removed (isAtOneOf addresses) (removed (isAt a) ledger) ≡ removed (isAtOneOf (a ∷ addresses)) ledger
-        → removed (isAtOneOf addresses) (pick x (removed (isAt a) ledger) (e ∷ removed (isAt a) ledger)) ≡ pick (either x (isAtOneOf addresses e)) (removed (isAtOneOf (a ∷ addresses)) ledger) (e ∷ removed (isAtOneOf (a ∷ addresses)) ledger)
+        → removed (isAtOneOf addresses) (pick x (removed (isAt a) ledger) (e ∷ removed (isAt a) ledger)) ≡ pick (either x (isAtOneOf addresses e))
+        (removed (isAtOneOf (a ∷ addresses)) ledger) (e ∷ removed (isAtOneOf (a ∷ addresses)) ledger)
     go true y q ih = ih
     go false y q ih = ap (λ (l : List Entry). pick (isAtOneOf addresses e) l (e ∷ l)) ih
 
@@ -202,7 +230,9 @@ block-freed-agreement freed s order a ledger shape passed ok g =
         subst (λ (b : ℕ). Agreement (smallBlockFreed s a) (removed (isAt b) ledger)) (sym (freed-address freed s order a shape passed ok outside))
         (record {
           listed = listed-removed c k j (smallBlockFreed s a) s less ledger (g .listed);
-          names = agreement-after-free (addressOf k c j) k j s (smallBlockFreed s a) (shape .length-is) (passed .names) (block-let-go-of-free c k j 0 s (smallBlockFreed s a) effect) (small-block-freed-names freed s order a shape passed ok outside) ledger (g .names);
+          names = agreement-after-free (addressOf k c j) k j s (smallBlockFreed s a) (shape .length-is) (passed .names)
+              (block-let-go-of-free c k j 0 s (smallBlockFreed s a) effect) (small-block-freed-names freed s order a shape passed ok outside) ledger
+              (g .names);
         })
 
     long : isInRun s a ≡ true → Agreement (longBlockFreed s a) (removed (isAt a) ledger)
@@ -213,11 +243,13 @@ block-freed-agreement freed s order a ledger shape passed ok g =
         (record {
           listed = listed-long-removed k (longBlockFreed s a) s (one-more-long-of-free k n s (longBlockFreed s a) effect) ledger (g .listed);
           names =
-              agreement-after-free (k * 4096) k 0 s (longBlockFreed s a) (shape .length-is) (passed .names) (block-let-go-of-long-free k n s (longBlockFreed s a) order (passed .sound) effect)
+              agreement-after-free (k * 4096) k 0 s (longBlockFreed s a) (shape .length-is) (passed .names)
+              (block-let-go-of-long-free k n s (longBlockFreed s a) order (passed .sound) effect)
               (long-block-freed-names freed s order a shape passed ok inside) ledger (g .names);
         })
 
-all-freed-each-removed : (freed : ℕ → ℕ → ℕ) (s : State) (order addresses : List ℕ) (ledger : List Entry) → Shape s → PassedAfterFrees freed s order → firstAddressRefusal s addresses ≡ 0 → Agreement s ledger
+all-freed-each-removed : (freed : ℕ → ℕ → ℕ) (s : State) (order addresses : List ℕ) (ledger : List Entry) → Shape s → PassedAfterFrees freed s order
+    → firstAddressRefusal s addresses ≡ 0 → Agreement s ledger
     → Agreement (allFreed s addresses) (removedEach addresses ledger)
 unfolding allFreed removedEach
 all-freed-each-removed freed s order [] ledger shape passed ok g = g
@@ -228,16 +260,20 @@ all-freed-each-removed freed s order (a ∷ addresses) ledger shape passed ok g 
     (block-freed-agreement freed s order a ledger shape passed (first .0) g)
 
 -- all of a drop's
-pub all-freed-agreement : (freed : ℕ → ℕ → ℕ) (s : State) (order addresses : List ℕ) (ledger : List Entry) → Shape s → PassedAfterFrees freed s order → firstAddressRefusal s addresses ≡ 0 → Agreement s ledger
+pub all-freed-agreement : (freed : ℕ → ℕ → ℕ) (s : State) (order addresses : List ℕ) (ledger : List Entry) → Shape s → PassedAfterFrees freed s order
+    → firstAddressRefusal s addresses ≡ 0 → Agreement s ledger
     → Agreement (allFreed s addresses) (removed (isAtOneOf addresses) ledger)
-all-freed-agreement freed s order addresses ledger shape passed ok g = subst (Agreement (allFreed s addresses)) (removed-each-is-removed addresses ledger) (all-freed-each-removed freed s order addresses ledger shape passed ok g)
+all-freed-agreement freed s order addresses ledger shape passed ok g = subst (Agreement (allFreed s addresses)) (removed-each-is-removed addresses ledger)
+    (all-freed-each-removed freed s order addresses ledger shape passed ok g)
 
 -- ---- moves: a superblock that passes on keeps its class and its marks, and a heap owns it still
 module _ (touched : ℕ → ℕ → Bool) (s t : State) (n : ℕ) (moved : Transfers touched s t n) where
   pub transfers-class : (k : ℕ) → k < 64 → superblockAt t k .class ≡ superblockAt s k .class
   transfers-class k l = go (moved .each k l)
     where
-      go : (superblockAt t k ≡ superblockAt s k) ⊎ ((0 < superblockAt s k .owner) × (superblockAt s k .owner < runOwner) × T (touched (superblockAt s k .owner) (superblockAt s k .class)) × (superblockAt t k ≡ withOwner 0 (superblockAt s k)))
+      go : (superblockAt t k ≡ superblockAt s k)
+          ⊎ ((0 < superblockAt s k .owner) × (superblockAt s k .owner < runOwner) × T (touched (superblockAt s k .owner) (superblockAt s k .class))
+          × (superblockAt t k ≡ withOwner 0 (superblockAt s k)))
           → superblockAt t k .class ≡ superblockAt s k .class
       go (inl e) = ap (λ (b : Superblock). b .class) e
       go (inr w) = ap (λ (b : Superblock). b .class) (w .3)
@@ -246,19 +282,24 @@ module _ (touched : ℕ → ℕ → Bool) (s t : State) (n : ℕ) (moved : Trans
   unfolding liveFor isOwnedOfClass isOfHeap
   live-for-kept c k j l = go (moved .each k l)
     where
-      go : (superblockAt t k ≡ superblockAt s k) ⊎ ((0 < superblockAt s k .owner) × (superblockAt s k .owner < runOwner) × T (touched (superblockAt s k .owner) (superblockAt s k .class)) × (superblockAt t k ≡ withOwner 0 (superblockAt s k)))
+      go : (superblockAt t k ≡ superblockAt s k)
+          ⊎ ((0 < superblockAt s k .owner) × (superblockAt s k .owner < runOwner) × T (touched (superblockAt s k .owner) (superblockAt s k .class))
+          × (superblockAt t k ≡ withOwner 0 (superblockAt s k)))
           → liveFor c (superblockAt t k) j ≡ liveFor c (superblockAt s k) j
       go (inl e) = ap (λ (b : Superblock). liveFor c b j) e
       go (inr w) =
           ap (λ (b : Superblock). liveFor c b j) (w .3)
-          ∙ ap (λ (x : Bool). pick (both x (eqb (superblockAt s k .class) c)) (markBit (superblockAt s k .live) j) 0) (sym (lt-ltb (superblockAt s k .owner) runOwner (w .1)))
+          ∙ ap (λ (x : Bool). pick (both x (eqb (superblockAt s k .class) c)) (markBit (superblockAt s k .live) j) 0)
+          (sym (lt-ltb (superblockAt s k .owner) runOwner (w .1)))
 
   -- none is of a run, and each carries what it did
   pub transfers-runs : RunsKept s t
   unfolding isOfRun
   transfers-runs k l = go (moved .each k l)
     where
-      go : (superblockAt t k ≡ superblockAt s k) ⊎ ((0 < superblockAt s k .owner) × (superblockAt s k .owner < runOwner) × T (touched (superblockAt s k .owner) (superblockAt s k .class)) × (superblockAt t k ≡ withOwner 0 (superblockAt s k)))
+      go : (superblockAt t k ≡ superblockAt s k)
+          ⊎ ((0 < superblockAt s k .owner) × (superblockAt s k .owner < runOwner) × T (touched (superblockAt s k .owner) (superblockAt s k .class))
+          × (superblockAt t k ≡ withOwner 0 (superblockAt s k)))
           → (isOfRun (superblockAt t k) ≡ isOfRun (superblockAt s k)) × (superblockAt t k .run ≡ superblockAt s k .run)
       go (inl e) = (ap isOfRun e, ap (λ (b : Superblock). b .run) e)
       go (inr w) = (

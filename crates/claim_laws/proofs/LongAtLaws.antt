@@ -20,16 +20,19 @@ unfoldable pub longAt : State → ℕ → ℕ
 longAt s a = pick (ltb (a / 4096) 64) (one (both (startsRun (superblockAt s (a / 4096))) (eqb (a % 4096) 0))) 0
 
 -- it goes only by which superblocks are the first of a run
-pub long-at-same : (s t : State) (a : ℕ) → (a / 4096 < 64 → startsRun (superblockAt t (a / 4096)) ≡ startsRun (superblockAt s (a / 4096))) → longAt t a ≡ longAt s a
+pub long-at-same : (s t : State) (a : ℕ) → (a / 4096 < 64 → startsRun (superblockAt t (a / 4096)) ≡ startsRun (superblockAt s (a / 4096)))
+    → longAt t a ≡ longAt s a
 unfolding longAt
 long-at-same s t a same = go (ltb (a / 4096) 64) refl
   where
-    go : (x : Bool) → ltb (a / 4096) 64 ≡ x → pick x (one (both (startsRun (superblockAt t (a / 4096))) (eqb (a % 4096) 0))) 0 ≡ pick x (one (both (startsRun (superblockAt s (a / 4096))) (eqb (a % 4096) 0))) 0
+    go : (x : Bool) → ltb (a / 4096) 64 ≡ x → pick x (one (both (startsRun (superblockAt t (a / 4096))) (eqb (a % 4096) 0))) 0
+        ≡ pick x (one (both (startsRun (superblockAt s (a / 4096))) (eqb (a % 4096) 0))) 0
     go true e = rw (same (ltb-true (a / 4096) 64 e))
     go false e = refl
 
 pub long-at-of-kept : (s t : State) → RunsKept s t → (a : ℕ) → longAt t a ≡ longAt s a
-long-at-of-kept s t kept a = long-at-same s t a (λ l. starts-run-same (superblockAt t (a / 4096)) (superblockAt s (a / 4096)) (kept (a / 4096) l .0) (kept (a / 4096) l .1))
+long-at-of-kept s t kept a =
+    long-at-same s t a (λ l. starts-run-same (superblockAt t (a / 4096)) (superblockAt s (a / 4096)) (kept (a / 4096) l .0) (kept (a / 4096) l .1))
 
 -- 1 at the start of a run, and 0 where the superblock is the first of none
 pub long-at-start : (s : State) (k : ℕ) → k < 64 → startsRun (superblockAt s k) ≡ true → longAt s (k * 4096) ≡ 1

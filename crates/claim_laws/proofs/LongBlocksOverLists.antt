@@ -38,12 +38,14 @@ module _ (u : Setup) (s : State) (order : List ℕ) (ledger : List Entry) (peak 
   long-blocks-agree-of-list-invariant : LongBlocksAgree s ledger
   long-blocks-agree-of-list-invariant =
       record {
-        entries = each-entry-map (EntryAgrees s) (EntryAgrees s) (λ e. 2048 < e .size → IsRun s e) ledger (λ e h _ large. run-of-agreement e (h .long large)) (g .names) (g .names);
+        entries = each-entry-map (EntryAgrees s) (EntryAgrees s) (λ e. 2048 < e .size → IsRun s e) ledger
+            (λ e h _ large. run-of-agreement e (h .long large)) (g .names) (g .names);
         runs = λ k n run. g .listed .runs (k * 4096) ∙ long-at-of-run s k n run;
         parts = λ m l e. let (k, run, low, high) = run-of-superblock s sound m l e in (k, run, (low, high));
       }
 
 -- For every accepted setup, whatever stood in the storage before, and every list of takes and frees after it, plain and named, and of drops.
-pub long-blocks-agree-with-ledger : (u : Setup) (order : List ℕ) (start : After) → start ≡ setupOf u order → start .answer .outcome ≡ Ready → (steps : List Step) → Linked start steps
+pub long-blocks-agree-with-ledger : (u : Setup) (order : List ℕ) (start : After) → start ≡ setupOf u order → start .answer .outcome ≡ Ready
+    → (steps : List Step) → Linked start steps
     → LongBlocksAgreeOver start [] steps
 long-blocks-agree-with-ledger u = along-of-list-invariant u LongBlocksAgree (long-blocks-agree-of-list-invariant u)

@@ -36,19 +36,23 @@ use Rattle.claim_laws.proofs.AlongLaws.{along-of-list-invariant}
 
 -- ---- a held name's block is in the ledger
 module _ (s : State) (m : ℕ) (held : T (isHeld (s .names) m)) (c : ℕ) where
-  entry-of-count : (ledger : List Entry) → EachEntry (EntryAgrees s) ledger → 0 < entriesAt ledger (heldAddress s m) c → T (someEntry (λ e. both (hasName m e) (isAt (heldAddress s m) e)) ledger)
+  entry-of-count : (ledger : List Entry) → EachEntry (EntryAgrees s) ledger → 0 < entriesAt ledger (heldAddress s m) c
+      → T (someEntry (λ e. both (hasName m e) (isAt (heldAddress s m) e)) ledger)
   unfolding EachEntry entriesAt someEntry holdsAddress
   entry-of-count [] h l = omega arith
   entry-of-count (e ∷ ledger) h l = go (ℕ-discrete (e .address) (heldAddress s m)) (entry-of-count ledger (h .1))
     where
-      go : Dec (e .address ≡ heldAddress s m) → (0 < entriesAt ledger (heldAddress s m) c → T (someEntry (λ e. both (hasName m e) (isAt (heldAddress s m) e)) ledger))
+      go : Dec (e .address ≡ heldAddress s m)
+          → (0 < entriesAt ledger (heldAddress s m) c → T (someEntry (λ e. both (hasName m e) (isAt (heldAddress s m) e)) ledger))
           → T (either (both (hasName m e) (isAt (heldAddress s m) e)) (someEntry (λ e. both (hasName m e) (isAt (heldAddress s m) e)) ledger))
       go (yes q) ih =
           let at : T (isAt (heldAddress s m) e) = T-of-true (isAt (heldAddress s m) e) (eq-eqb (e .address) (heldAddress s m) q) in
-          let named : T (hasName m e) = T-of-true (hasName m e) (h .0 .name-agrees m ∙ ap₂ both (true-of-T (isHeld (s .names) m) held) (true-of-T (isAt (heldAddress s m) e) at)) in
+          let named : T (hasName m e) =
+          T-of-true (hasName m e) (h .0 .name-agrees m ∙ ap₂ both (true-of-T (isHeld (s .names) m) held) (true-of-T (isAt (heldAddress s m) e) at)) in
           either-left (both (hasName m e) (isAt (heldAddress s m) e)) _ (both-make (hasName m e) (isAt (heldAddress s m) e) named at)
       go (no f) ih =
-          let none : one (both (isAt (heldAddress s m) e) (eqb (classOfEntry e) c)) ≡ 0 = ap (λ (t : Bool). one (both t (eqb (classOfEntry e) c))) (ne-eqb (e .address) (heldAddress s m) f) in
+          let none : one (both (isAt (heldAddress s m) e) (eqb (classOfEntry e) c)) ≡ 0 = ap (λ (t : Bool). one (both t (eqb (classOfEntry e) c)))
+          (ne-eqb (e .address) (heldAddress s m) f) in
           either-right (both (hasName m e) (isAt (heldAddress s m) e)) _ (ih (omega arith))
 
 -- The ledger has the address of a held name once: in the class of its superblock, or in none where it is the start of a run.

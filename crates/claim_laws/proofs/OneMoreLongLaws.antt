@@ -138,7 +138,8 @@ module _ (k n : ℕ) (s t : State) (e : LongFreeEffect k n s t) where
     where
       go : Dec (InRun k n m) → startsRun (superblockAt s m) ≡ startsRun (superblockAt t m)
       go (no out) = ap startsRun (sym (e .others m out))
-      go (yes inside) = starts-no-run-of-0 (superblockAt s m) (e .run-before .others-carry-0 m (omega (arith, inside .0, apart)) (inside .1)) ∙ sym (ap startsRun (e .run m inside))
+      go (yes inside) = starts-no-run-of-0 (superblockAt s m) (e .run-before .others-carry-0 m (omega (arith, inside .0, apart)) (inside .1))
+          ∙ sym (ap startsRun (e .run m inside))
 
   pub one-more-long-of-free : OneMoreLong k t s
   unfolding startsRun isOfRun
@@ -149,7 +150,8 @@ module _ (k n : ℕ) (s t : State) (e : LongFreeEffect k n s t) where
         blocks-same = λ d m b lm lb. same d m b (in-run-or-not k n m);
         live = λ d. sym (e .live d);
         not-before = ap startsRun (e .run k freed-in-run);
-        starts-after = starts-run-of-length (superblockAt s k) (e .run-before .of-run k (freed-in-run .0) (freed-in-run .1)) (omega (arith, e .run-before .some, e .run-before .length-is));
+        starts-after = starts-run-of-length (superblockAt s k) (e .run-before .of-run k (freed-in-run .0) (freed-in-run .1))
+            (omega (arith, e .run-before .some, e .run-before .length-is));
         others-same = λ m l apart. long-free-other-start m apart;
       }
     where

@@ -27,13 +27,17 @@ use Rattle.call_rules.specs.Free.{superblockIndex, superblockHolding, isInRun, 
 use Rattle.call_rules.specs.Named.{namedTakeOf, heldAddress, namedFreeOf}
 use Rattle.call_rules.specs.Drop.{allFreed, firstAddressRefusal, isTouched, dropMoves, dropOf}
 use Rattle.call_rules.specs.Calls.{Call, Take, Free, NamedTake, NamedFree, Drop, callOf}
-use Rattle.call_laws.proofs.CallEffects.{Passed, PassedAfterFrees, TakeAccepted, LongTakeAccepted, FreeAccepted, LongFreeAccepted, NamedTakeAccepted, NamedLongTakeAccepted, NamedFreeAccepted, NamedLongFreeAccepted, RanksKept, RankedLatest, RunUnranked, Renews, RenewsNot, TakeRanks}
+use Rattle.call_laws.proofs.CallEffects.{Passed, PassedAfterFrees, TakeAccepted, LongTakeAccepted, FreeAccepted, LongFreeAccepted, NamedTakeAccepted}
+use Rattle.call_laws.proofs.CallEffects.{NamedLongTakeAccepted, NamedFreeAccepted, NamedLongFreeAccepted, RanksKept, RankedLatest, RunUnranked, Renews}
+use Rattle.call_laws.proofs.CallEffects.{RenewsNot, TakeRanks}
 use Rattle.call_laws.proofs.AddressLaws.{address-superblock}
 use Rattle.call_laws.proofs.SetupLaws.{accepted-setup-of-ready}
 use Rattle.call_laws.proofs.TakeLaws.{take-refused-or-accepted, taken-block, take-address, take-effect, take-ranks}
 use Rattle.call_laws.proofs.RunTakenLaws.{long-take-address, long-take-ranks}
-use Rattle.call_laws.proofs.FreeLaws.{free-refused-or-accepted, no-refusal-of-accepted-address, moves, free-outcome, free-effect, free-ranks, long-free-outcome, long-free-ranks}
-use Rattle.call_laws.proofs.NamedCallLaws.{named-take-refused-or-accepted, named-taken-block, named-take-address, named-take-effect, named-free-refused-or-accepted}
+use Rattle.call_laws.proofs.FreeLaws.{free-refused-or-accepted, no-refusal-of-accepted-address, moves, free-outcome, free-effect, free-ranks}
+use Rattle.call_laws.proofs.FreeLaws.{long-free-outcome, long-free-ranks}
+use Rattle.call_laws.proofs.NamedCallLaws.{named-take-refused-or-accepted, named-taken-block, named-take-address, named-take-effect}
+use Rattle.call_laws.proofs.NamedCallLaws.{named-free-refused-or-accepted}
 use Rattle.call_laws.proofs.NamedLongTakeLaws.{named-long-take-address, named-long-take-ranks}
 use Rattle.call_laws.proofs.TransferredLaws.{passed-after-no-frees}
 use Rattle.call_laws.proofs.BlockFreedLaws.{freed-superblock-lt-64, small-block-freed-ranks}
@@ -45,26 +49,32 @@ use Rattle.call_laws.proofs.DropLaws.{DropAccepted, drop-refused-or-accepted, d
 use Rattle.call_laws.proofs.CallRankLaws.{named-take-ranks, named-free-ranks, named-long-free-ranks}
 use Rattle.claim_rules.specs.Claim.{Step, Linked, peakWith}
 use Rattle.claim_rules.specs.Ledger.{Entry, isAt, hasName, removed, ledgerAfter}
-use Rattle.claim_rules.specs.History.{Event, freedInto, renewed, joinedRun, neither, eventOfBlock, eventOfFree, eventOfTaken, eventOfTake, eventsAfterDrop, eventsAfter, RankedByLastFree, OffersLastFreed, AlongHistory, RankedByLastFreeOver, OffersLastFreedOver}
-use Rattle.claim_laws.proofs.EventLaws.{ranked-by-last-free-after-free, ranked-by-last-free-after-renewal, ranked-by-last-free-after-run, ranked-by-last-free-after-neither, ranked-by-last-free-of-new-state, offers-last-freed-of-ranked}
+use Rattle.claim_rules.specs.History.{Event, freedInto, renewed, joinedRun, neither, eventOfBlock, eventOfFree, eventOfTaken, eventOfTake, eventsAfterDrop}
+use Rattle.claim_rules.specs.History.{eventsAfter, RankedByLastFree, OffersLastFreed, AlongHistory, RankedByLastFreeOver, OffersLastFreedOver}
+use Rattle.claim_laws.proofs.EventLaws.{ranked-by-last-free-after-free, ranked-by-last-free-after-renewal, ranked-by-last-free-after-run}
+use Rattle.claim_laws.proofs.EventLaws.{ranked-by-last-free-after-neither, ranked-by-last-free-of-new-state, offers-last-freed-of-ranked}
 use Rattle.claim_laws.proofs.LiveBlocksListedLaws.{Agreement, block-freed-agreement}
-use Rattle.claim_laws.proofs.LedgerEventLaws.{SameEvents, same-events-removed, small-block-in-ledger, event-of-small-block, long-block-in-ledger, event-of-long-block, event-of-named-block}
+use Rattle.claim_laws.proofs.LedgerEventLaws.{SameEvents, same-events-removed, small-block-in-ledger, event-of-small-block, long-block-in-ledger}
+use Rattle.claim_laws.proofs.LedgerEventLaws.{event-of-long-block, event-of-named-block}
 use Rattle.claim_laws.proofs.CallInvariantLaws.{ListInvariant, after-step}
 use Rattle.claim_laws.proofs.Demand3.{list-invariant-after-setup}
 
 -- ---- the event of a call, by its outcome
 -- a take of a block of a class that answered block j of superblock k, of class c
 module _ (s : State) (i size k c j : ℕ) (small : size ≤ 2048) (known : c < classCount) (block : j < blocksOf c) where
-  event-of-take-at : eventOfTake s i size (Address (addressOf k c j)) ≡ pick (both (eqb (liveIn (superblockAt s k)) 0) (not (eqb (superblockAt s k .owner) i))) (renewed k) neither
+  event-of-take-at : eventOfTake s i size (Address (addressOf k c j))
+      ≡ pick (both (eqb (liveIn (superblockAt s k)) 0) (not (eqb (superblockAt s k .owner) i))) (renewed k) neither
   unfolding eventOfTake eventOfTaken
   event-of-take-at =
       pick-false (isLong size) _ _ (false-of-decides (decides-long size) small)
-      ∙ ap (λ (x : ℕ). pick (both (eqb (liveIn (superblockAt s x)) 0) (not (eqb (superblockAt s x .owner) i))) (renewed x) neither) (address-superblock c k j known block)
+      ∙ ap (λ (x : ℕ). pick (both (eqb (liveIn (superblockAt s x)) 0) (not (eqb (superblockAt s x .owner) i))) (renewed x) neither)
+      (address-superblock c k j known block)
 
   event-of-renewal : Renews s i k → eventOfTake s i size (Address (addressOf k c j)) ≡ renewed k
   event-of-renewal h =
       event-of-take-at
-      ∙ ap₂ (λ (x y : Bool). pick (both x (not y)) (renewed k) neither) (eq-eqb (liveIn (superblockAt s k)) 0 (h .empty)) (ne-eqb (superblockAt s k .owner) i (h .not-own))
+      ∙ ap₂ (λ (x y : Bool). pick (both x (not y)) (renewed k) neither) (eq-eqb (liveIn (superblockAt s k)) 0 (h .empty))
+      (ne-eqb (superblockAt s k .owner) i (h .not-own))
 
   event-of-no-renewal : RenewsNot s i k → eventOfTake s i size (Address (addressOf k c j)) ≡ neither
   event-of-no-renewal (inl own) =
@@ -72,7 +82,8 @@ module _ (s : State) (i size k c j : ℕ) (small : size ≤ 2048) (known : c < c
       ∙ ap (λ (x : Bool). pick (both (eqb (liveIn (superblockAt s k)) 0) (not x)) (renewed k) neither) (eq-eqb (superblockAt s k .owner) i own)
       ∙ ap (λ (x : Bool). pick x (renewed k) neither) (both-false-right (eqb (liveIn (superblockAt s k)) 0))
   event-of-no-renewal (inr live) =
-      event-of-take-at ∙ ap (λ (x : Bool). pick (both x (not (eqb (superblockAt s k .owner) i))) (renewed k) neither) (ne-eqb (liveIn (superblockAt s k)) 0 live)
+      event-of-take-at ∙ ap (λ (x : Bool). pick (both x (not (eqb (superblockAt s k .owner) i))) (renewed k) neither)
+      (ne-eqb (liveIn (superblockAt s k)) 0 live)
 
 -- a take of a long block, whose run begins at superblock k
 event-of-long-take : (s : State) (i size k : ℕ) → 2048 < size → eventOfTake s i size (Address (k * 4096)) ≡ joinedRun k (runLength size)
@@ -169,7 +180,8 @@ module _ (s : State) (order : List ℕ) (ledger : List Entry) (events : List Eve
           ranked-after-event (eventOfTake s i size) after _ _ e (event-of-no-renewal s i size k c j small known block (h .0))
           (ranked-by-last-free-after-neither s (after .answer .state) events (h .1) before)
 
-  after-long-take : (i size k : ℕ) (after : After) → 2048 < size → after .answer .outcome ≡ Address (k * 4096) → RunUnranked k (runLength size) s (after .answer .state)
+  after-long-take : (i size k : ℕ) (after : After) → 2048 < size → after .answer .outcome ≡ Address (k * 4096)
+      → RunUnranked k (runLength size) s (after .answer .state)
       → RankedAfterEvent (eventOfTake s i size) after
   after-long-take i size k after large e ranks =
       ranked-after-event (eventOfTake s i size) after _ _ e (event-of-long-take s i size k large)

@@ -47,9 +47,11 @@ entries-of-cases = refl
 -- an accepted take of size 1100 adds the address that it answered, with its size, and one of size 0 too; a named one adds its name beside; a refused
 -- one adds nothing
 pub ledger-after-take-cases :
-    ledgerAfter three-entries (Take 2 1100) (Address 16) ∷ ledgerAfter three-entries (Take 2 0) (Address 48) ∷ ledgerAfter three-entries (Take 2 1100) (Refused 4)
+    ledgerAfter three-entries (Take 2 1100) (Address 16) ∷ ledgerAfter three-entries (Take 2 0) (Address 48) ∷ ledgerAfter three-entries (Take 2 1100)
+    (Refused 4)
     ∷ ledgerAfter three-entries (NamedTake 2 5 1100) (Address 16) ∷ ledgerAfter three-entries (NamedTake 2 5 1100) (Refused 14) ∷ []
-    ≡ (entry 16 1100 unnamed ∷ three-entries) ∷ (entry 48 0 unnamed ∷ three-entries) ∷ three-entries ∷ (entry 16 1100 (named 5) ∷ three-entries) ∷ three-entries ∷ []
+    ≡ (entry 16 1100 unnamed ∷ three-entries) ∷ (entry 48 0 unnamed ∷ three-entries) ∷ three-entries ∷ (entry 16 1100 (named 5) ∷ three-entries)
+    ∷ three-entries ∷ []
 unfolding ledgerDefinitions
 ledger-after-take-cases = refl
 
@@ -60,21 +62,25 @@ entries-of-size-0-case = refl
 
 -- an accepted free removes the address that it freed, whatever it moved; a refused one removes nothing
 pub ledger-after-free-cases :
-    ledgerAfter three-entries (Free 2 768) (Moves 0) ∷ ledgerAfter three-entries (Free 2 768) (Moves 4096) ∷ ledgerAfter three-entries (Free 1 4096) (Refused 7) ∷ ledgerAfter three-entries (Free 1 5) (Moves 1) ∷ []
-    ≡ (entry 4096 1100 unnamed ∷ entry 9472 1280 (named 9) ∷ []) ∷ (entry 4096 1100 unnamed ∷ entry 9472 1280 (named 9) ∷ []) ∷ three-entries ∷ three-entries ∷ []
+    ledgerAfter three-entries (Free 2 768) (Moves 0) ∷ ledgerAfter three-entries (Free 2 768) (Moves 4096) ∷ ledgerAfter three-entries (Free 1 4096)
+    (Refused 7) ∷ ledgerAfter three-entries (Free 1 5) (Moves 1) ∷ []
+    ≡ (entry 4096 1100 unnamed ∷ entry 9472 1280 (named 9) ∷ []) ∷ (entry 4096 1100 unnamed ∷ entry 9472 1280 (named 9) ∷ []) ∷ three-entries
+    ∷ three-entries ∷ []
 unfolding ledgerDefinitions
 ledger-after-free-cases = refl
 
 -- an accepted named free removes the block that was taken by its name, not one at that address or of that size; a refused one removes nothing
 pub ledger-after-named-free-cases :
-    ledgerAfter three-entries (NamedFree 2 9) (Moves 0) ∷ ledgerAfter three-entries (NamedFree 2 768) (Moves 0) ∷ ledgerAfter three-entries (NamedFree 2 1280) (Moves 0) ∷ ledgerAfter three-entries (NamedFree 2 9) (Refused 15) ∷ []
+    ledgerAfter three-entries (NamedFree 2 9) (Moves 0) ∷ ledgerAfter three-entries (NamedFree 2 768) (Moves 0)
+    ∷ ledgerAfter three-entries (NamedFree 2 1280) (Moves 0) ∷ ledgerAfter three-entries (NamedFree 2 9) (Refused 15) ∷ []
     ≡ (entry 4096 1100 unnamed ∷ entry 768 384 (named 7) ∷ []) ∷ three-entries ∷ three-entries ∷ three-entries ∷ []
 unfolding ledgerDefinitions
 ledger-after-named-free-cases = refl
 
 -- an accepted drop removes the blocks at each of its addresses, in any order, and no other; a refused one removes nothing
 pub ledger-after-drop-cases :
-    ledgerAfter three-entries (Drop 2 (9472 ∷ 768 ∷ [])) (Moves 1) ∷ ledgerAfter three-entries (Drop 2 (4096 ∷ 5 ∷ [])) (Moves 768) ∷ ledgerAfter three-entries (Drop 2 (9472 ∷ 768 ∷ [])) (Refused 7) ∷ ledgerAfter three-entries (Drop 768 []) (Moves 0) ∷ []
+    ledgerAfter three-entries (Drop 2 (9472 ∷ 768 ∷ [])) (Moves 1) ∷ ledgerAfter three-entries (Drop 2 (4096 ∷ 5 ∷ [])) (Moves 768)
+    ∷ ledgerAfter three-entries (Drop 2 (9472 ∷ 768 ∷ [])) (Refused 7) ∷ ledgerAfter three-entries (Drop 768 []) (Moves 0) ∷ []
     ≡ (entry 4096 1100 unnamed ∷ []) ∷ (entry 768 384 (named 7) ∷ entry 9472 1280 (named 9) ∷ []) ∷ three-entries ∷ three-entries ∷ []
 unfolding ledgerDefinitions
 ledger-after-drop-cases = refl
@@ -88,7 +94,8 @@ unfolding ledgerDefinitions
 long-entry-cases = (refl, refl, refl)
 
 -- M goes up with the live blocks of its class, and does not come down
-pub peak-with-cases : peakWith (λ c. 1) three-entries 23 ∷ peakWith (λ c. 5) three-entries 23 ∷ peakWith (λ c. c) three-entries 16 ∷ peakWith (λ c. 0) three-entries 17 ∷ [] ≡ 2 ∷ 5 ∷ 16 ∷ 0 ∷ []
+pub peak-with-cases : peakWith (λ c. 1) three-entries 23 ∷ peakWith (λ c. 5) three-entries 23 ∷ peakWith (λ c. c) three-entries 16
+    ∷ peakWith (λ c. 0) three-entries 17 ∷ [] ≡ 2 ∷ 5 ∷ 16 ∷ 0 ∷ []
 unfolding ledgerDefinitions
 peak-with-cases = refl
 
@@ -98,7 +105,8 @@ u = record { processors = 2; superblocks = 20; spare = 5; p = 3; q = 7 }
 
 -- eight of class c in heap 0, empty, and three in heap 1 with a block live; so many in heap 2 with two; two of class 25
 abbrev pub state-of-class : ℕ → ℕ → State
-state-of-class c k = unnamedState u (replicate 8 (of 0 c 0) ++ replicate 3 (of 1 c 1) ++ replicate k (of 2 c 3) ++ replicate 2 (of 1 25 1) ++ replicate (51 - k) unused)
+state-of-class c k = unnamedState u (replicate 8 (of 0 c 0) ++ replicate 3 (of 1 c 1) ++ replicate k (of 2 c 3) ++ replicate 2 (of 1 25 1)
+    ++ replicate (51 - k) unused)
 
 -- as many of class c as stated, and no other
 abbrev pub only-of-class : ℕ → ℕ → State
@@ -156,7 +164,8 @@ reported-move-not-made-fails k = let z = k .1 6 refl in omega arith
 
 -- where no run is freed, all whose owners change pass between heaps: by address, by name and in a drop
 pub owner-change-beside-moves-fails :
-    (OwnerChanges 7 3 2 false (Free 2 9) (Moves 2) → ⊥) × (OwnerChanges 7 3 2 false (NamedFree 2 5) (Moves 2) → ⊥) × (OwnerChanges 7 3 2 false (Drop 2 (9 ∷ 25 ∷ [])) (Moves 2) → ⊥)
+    (OwnerChanges 7 3 2 false (Free 2 9) (Moves 2) → ⊥) × (OwnerChanges 7 3 2 false (NamedFree 2 5) (Moves 2) → ⊥)
+    × (OwnerChanges 7 3 2 false (Drop 2 (9 ∷ 25 ∷ [])) (Moves 2) → ⊥)
 unfolding OwnerChanges
 owner-change-beside-moves-fails = (λ k. let z = k .3 refl in omega arith, λ k. let z = k .3 refl in omega arith, λ k. let z = k .3 refl in omega arith)
 
@@ -165,8 +174,10 @@ abbrev pub entries-with-runs : List Entry
 entries-with-runs = entry 4096 2049 (named 3) ∷ entry 768 2048 (named 7) ∷ entry 20480 65535 unnamed ∷ []
 
 pub frees-run-cases :
-    map (freesRun entries-with-runs) (Free 2 4096 ∷ Free 2 768 ∷ Free 2 20480 ∷ Free 4096 9 ∷ NamedFree 2 3 ∷ NamedFree 2 7 ∷ NamedFree 3 768 ∷ []) ≡ true ∷ false ∷ true ∷ false ∷ true ∷ false ∷ false ∷ []
-    × map (freesRun entries-with-runs) (Drop 1 (768 ∷ 4096 ∷ []) ∷ Drop 1 (4096 ∷ 768 ∷ []) ∷ Drop 1 (768 ∷ 9 ∷ []) ∷ Drop 4096 [] ∷ []) ≡ true ∷ true ∷ false ∷ false ∷ []
+    map (freesRun entries-with-runs) (Free 2 4096 ∷ Free 2 768 ∷ Free 2 20480 ∷ Free 4096 9 ∷ NamedFree 2 3 ∷ NamedFree 2 7 ∷ NamedFree 3 768 ∷ []) ≡ true
+    ∷ false ∷ true ∷ false ∷ true ∷ false ∷ false ∷ []
+    × map (freesRun entries-with-runs) (Drop 1 (768 ∷ 4096 ∷ []) ∷ Drop 1 (4096 ∷ 768 ∷ []) ∷ Drop 1 (768 ∷ 9 ∷ []) ∷ Drop 4096 [] ∷ []) ≡ true ∷ true
+    ∷ false ∷ false ∷ []
     × map (freesRun entries-with-runs) (Take 2 4096 ∷ NamedTake 2 3 4096 ∷ []) ≡ false ∷ false ∷ []
 unfolding freesRun ledgerDefinitions
 frees-run-cases = (refl, refl, refl)
@@ -176,7 +187,8 @@ pub refused-free-owner-change-fails : OwnerChanges 7 1 1 false (Free 2 9) (Refus
 unfolding OwnerChanges
 refused-free-owner-change-fails k = let z = k .2 5 refl in omega arith
 
-pub refused-named-call-owner-change-fails : (OwnerChanges 7 1 1 false (NamedTake 2 3 9) (Refused 14) → ⊥) × (OwnerChanges 7 1 1 false (NamedFree 2 3) (Refused 15) → ⊥)
+pub refused-named-call-owner-change-fails : (OwnerChanges 7 1 1 false (NamedTake 2 3 9) (Refused 14) → ⊥)
+    × (OwnerChanges 7 1 1 false (NamedFree 2 3) (Refused 15) → ⊥)
 unfolding OwnerChanges
 refused-named-call-owner-change-fails = (λ k. let z = k 14 refl in omega arith, λ k. let z = k .2 15 refl in omega arith)
 
@@ -191,21 +203,42 @@ refused-take-owner-change-fails k = let z = k 4 refl in omega arith
 
 -- a drop of two addresses may change 14 owners, and not 15; it is held to what it reports, and a refused one to none
 pub drop-owner-changes-fail :
-    (OwnerChanges 7 15 15 false (Drop 2 (9 ∷ 25 ∷ [])) (Moves 15) → ⊥) × (OwnerChanges 7 5 5 false (Drop 2 (9 ∷ 25 ∷ [])) (Moves 4) → ⊥) × (OwnerChanges 7 5 5 false (Drop 2 (9 ∷ 25 ∷ [])) (Moves 6) → ⊥) × (OwnerChanges 7 1 1 false (Drop 2 (9 ∷ 25 ∷ [])) (Refused 7) → ⊥)
+    (OwnerChanges 7 15 15 false (Drop 2 (9 ∷ 25 ∷ [])) (Moves 15) → ⊥) × (OwnerChanges 7 5 5 false (Drop 2 (9 ∷ 25 ∷ [])) (Moves 4) → ⊥)
+    × (OwnerChanges 7 5 5 false (Drop 2 (9 ∷ 25 ∷ [])) (Moves 6) → ⊥) × (OwnerChanges 7 1 1 false (Drop 2 (9 ∷ 25 ∷ [])) (Refused 7) → ⊥)
 unfolding OwnerChanges
-drop-owner-changes-fail = (λ k. not-le-by-test (k .0) refl, λ k. let z = k .1 4 refl in omega arith, λ k. let z = k .1 6 refl in omega arith, λ k. let z = k .2 7 refl in omega arith)
+drop-owner-changes-fail = (
+  λ k. not-le-by-test (k .0) refl,
+  λ k. let z = k .1 4 refl in omega arith,
+  λ k. let z = k .1 6 refl in omega arith,
+  λ k. let z =
+      k .2 7 refl in omega arith,
+)
 
 -- those that pass between heaps count, and not all whose owners change: a free of a run of three changes three owners, and may report none of them, nor one; a
 -- refused one may change no owner, though none passes between heaps (document 02, item 7)
 pub run-counted-in-moves-fails :
-    (OwnerChanges 7 3 0 true (Free 2 4096) (Moves 3) → ⊥) × (OwnerChanges 7 3 0 true (Free 2 4096) (Moves 1) → ⊥) × (OwnerChanges 7 3 0 true (NamedFree 2 5) (Moves 3) → ⊥) × (OwnerChanges 7 4 1 true (Drop 2 (9 ∷ 4096 ∷ [])) (Moves 4) → ⊥)
+    (OwnerChanges 7 3 0 true (Free 2 4096) (Moves 3) → ⊥) × (OwnerChanges 7 3 0 true (Free 2 4096) (Moves 1) → ⊥)
+    × (OwnerChanges 7 3 0 true (NamedFree 2 5) (Moves 3) → ⊥) × (OwnerChanges 7 4 1 true (Drop 2 (9 ∷ 4096 ∷ [])) (Moves 4) → ⊥)
 unfolding OwnerChanges
-run-counted-in-moves-fails = (λ k. let z = k .1 3 refl in omega arith, λ k. let z = k .1 1 refl in omega arith, λ k. let z = k .1 3 refl in omega arith, λ k. let z = k .1 4 refl in omega arith)
+run-counted-in-moves-fails = (
+  λ k. let z = k .1 3 refl in omega arith,
+  λ k. let z = k .1 1 refl in omega arith,
+  λ k. let z = k .1 3 refl in
+      omega arith,
+  λ k. let z = k .1 4 refl in omega arith,
+)
 
 pub refused-call-with-run-changed-fails :
-    (OwnerChanges 7 3 0 true (Free 2 4096) (Refused 6) → ⊥) × (OwnerChanges 7 3 0 true (Take 2 9000) (Refused 17) → ⊥) × (OwnerChanges 7 3 0 true (NamedTake 2 5 9000) (Refused 17) → ⊥) × (OwnerChanges 7 3 0 true (Drop 2 (9 ∷ 4096 ∷ [])) (Refused 6) → ⊥)
+    (OwnerChanges 7 3 0 true (Free 2 4096) (Refused 6) → ⊥) × (OwnerChanges 7 3 0 true (Take 2 9000) (Refused 17) → ⊥)
+    × (OwnerChanges 7 3 0 true (NamedTake 2 5 9000) (Refused 17) → ⊥) × (OwnerChanges 7 3 0 true (Drop 2 (9 ∷ 4096 ∷ [])) (Refused 6) → ⊥)
 unfolding OwnerChanges
-refused-call-with-run-changed-fails = (λ k. let z = k .2 6 refl in omega arith, λ k. let z = k 17 refl in omega arith, λ k. let z = k 17 refl in omega arith, λ k. let z = k .2 6 refl in omega arith)
+refused-call-with-run-changed-fails = (
+  λ k. let z = k .2 6 refl in omega arith,
+  λ k. let z = k 17 refl in omega arith,
+  λ k. let z = k 17 refl in
+      omega arith,
+  λ k. let z = k .2 6 refl in omega arith,
+)
 
 -- ---- lists of calls
 -- eleven blocks of class 23 are live, and never were more; sixteen superblocks are within 7 × 11 + 120 = 197, seventeen are not.
@@ -217,15 +250,18 @@ abbrev pub take-and-free : List Step
 take-and-free = step-with (Take 2 1100) (Address 16) (state-of-class 23 6) ∷ step-with (Free 1 16) (Moves 0) (state-of-class 23 6) ∷ []
 
 -- seventeen where the take was refused, or was of another class; eighteen after the last call
-pub claim-fails-of-refused-take : Claims u (after-with Ready (state-of-class 23 5)) eleven-entries (λ c. 11) (step-with (Take 2 1100) (Refused 4) (state-of-class 23 6) ∷ []) → ⊥
+pub claim-fails-of-refused-take : Claims u (after-with Ready (state-of-class 23 5)) eleven-entries (λ c. 11)
+    (step-with (Take 2 1100) (Refused 4) (state-of-class 23 6) ∷ []) → ⊥
 unfolding Claims Bounded superblocksOfClass total isOwnedOfClass isOfHeap sumBelow blocksOf counts ledgerDefinitions
 claim-fails-of-refused-take k = not-le-by-test (k .2 23 (omega arith)) refl
 
-pub claim-fails-of-other-class-take : Claims u (after-with Ready (state-of-class 23 5)) eleven-entries (λ c. 11) (step-with (Take 2 1000) (Address 16) (state-of-class 23 6) ∷ []) → ⊥
+pub claim-fails-of-other-class-take : Claims u (after-with Ready (state-of-class 23 5)) eleven-entries (λ c. 11)
+    (step-with (Take 2 1000) (Address 16) (state-of-class 23 6) ∷ []) → ⊥
 unfolding Claims Bounded superblocksOfClass total isOwnedOfClass isOfHeap sumBelow blocksOf counts ledgerDefinitions
 claim-fails-of-other-class-take k = not-le-by-test (k .2 23 (omega arith)) refl
 
-pub claim-fails-after-last-call : Claims u (after-with Ready (state-of-class 23 5)) eleven-entries (λ c. 11) (step-with (Take 2 1100) (Address 16) (state-of-class 23 6) ∷ step-with (Free 1 16) (Moves 1) (state-of-class 23 7) ∷ []) → ⊥
+pub claim-fails-after-last-call : Claims u (after-with Ready (state-of-class 23 5)) eleven-entries (λ c. 11)
+    (step-with (Take 2 1100) (Address 16) (state-of-class 23 6) ∷ step-with (Free 1 16) (Moves 1) (state-of-class 23 7) ∷ []) → ⊥
 unfolding Claims Bounded superblocksOfClass total isOwnedOfClass isOfHeap sumBelow blocksOf counts ledgerDefinitions
 claim-fails-after-last-call k = not-le-by-test (k .2 .2 23 (omega arith)) refl
 
@@ -254,7 +290,8 @@ run-freed-state = unnamedState u (of 2 24 1 ∷ replicate 63 unused)
 abbrev pub run-entry : List Entry
 run-entry = entry 4096 12000 unnamed ∷ []
 
-pub claim-fails-of-run-reported : (m : ℕ) → 0 < m → Claims u (after-with Ready run-in-state) run-entry (λ c. 0) (step-with (Free 1 4096) (Moves m) run-freed-state ∷ []) → ⊥
+pub claim-fails-of-run-reported : (m : ℕ) → 0 < m → Claims u (after-with Ready run-in-state) run-entry (λ c. 0)
+    (step-with (Free 1 4096) (Moves m) run-freed-state ∷ []) → ⊥
 unfolding Claims OwnerChanges ownersChanged passedBetweenHeaps isOfHeap sumBelow
 claim-fails-of-run-reported m l k = let z = k .1 .1 m refl in omega arith
 
@@ -273,11 +310,13 @@ state-out-of-limits = unnamedState (record { processors = 2; superblocks = 20; s
 abbrev pub after-refused-13 : List ℕ → After
 after-refused-13 order = record { answer = record { outcome = Refused 13; state = state-out-of-limits }; order = order }
 
-pub linked-fails-of-other-storage : Linked (after-refused-13 (4 ∷ [])) (record { call = Take 1 16; after = after-refused-13 (4 ∷ []) } ∷ record { call = Take 2 9; after = after-refused-13 (5 ∷ []) } ∷ []) → ⊥
+pub linked-fails-of-other-storage : Linked (after-refused-13 (4 ∷ [])) (record { call = Take 1 16; after = after-refused-13 (4 ∷ []) }
+    ∷ record { call = Take 2 9; after = after-refused-13 (5 ∷ []) } ∷ []) → ⊥
 unfolding Linked callOf takeOf checked withinLimits numberOf
 linked-fails-of-other-storage k = let z : _≡_ {A = ℕ} 5 4 = ap (λ (x : After). getD (x .order) 0 0) (k .1 .0) in omega arith
 
-pub linked-fails-of-other-outcome : Linked (after-refused-13 (4 ∷ [])) (record { call = Take 1 16; after = record { answer = record { outcome = Refused 2; state = state-out-of-limits }; order = 4 ∷ [] } } ∷ []) → ⊥
+pub linked-fails-of-other-outcome : Linked (after-refused-13 (4 ∷ []))
+    (record { call = Take 1 16; after = record { answer = record { outcome = Refused 2; state = state-out-of-limits }; order = 4 ∷ [] } } ∷ []) → ⊥
 unfolding Linked callOf takeOf checked withinLimits numberOf
 linked-fails-of-other-outcome k = let z : _≡_ {A = ℕ} 2 13 = ap (λ (x : After). numberOf (x .answer .outcome)) (k .0) in omega arith
 
@@ -310,7 +349,8 @@ unfolding OwnerChanges
 fourteen-owner-changes-of-drop-hold = (omega arith, λ m e. Moves-injective e, λ r e. absurd (Moves-not-Refused e), λ e. refl)
 
 -- frees of runs, by address, by name and in a drop: more than q owners change, none or two superblocks pass between heaps, and so many are reported
-pub free-of-run-holds : OwnerChanges 7 16 0 true (Free 2 4096) (Moves 0) × OwnerChanges 7 16 0 true (NamedFree 2 5) (Moves 0) × OwnerChanges 7 18 2 true (Drop 2 (9 ∷ 4096 ∷ [])) (Moves 2)
+pub free-of-run-holds : OwnerChanges 7 16 0 true (Free 2 4096) (Moves 0) × OwnerChanges 7 16 0 true (NamedFree 2 5) (Moves 0)
+    × OwnerChanges 7 18 2 true (Drop 2 (9 ∷ 4096 ∷ [])) (Moves 2)
 unfolding OwnerChanges
 free-of-run-holds = (
   (omega arith, λ m e. Moves-injective e, λ r e. absurd (Moves-not-Refused e), λ e. absurd (true-not-false true refl e)),
@@ -324,7 +364,8 @@ unfolding OwnerChanges
 refused-without-owner-change-holds = ((omega arith, λ m e. absurd (Refused-not-Moves e), λ r e. refl, λ e. refl), λ r e. refl)
 
 -- two calls, each refused with 13
-pub linked-holds-of-refused-calls : Linked (after-refused-13 (4 ∷ [])) (record { call = Take 1 16; after = after-refused-13 (4 ∷ []) } ∷ record { call = Take 2 9; after = after-refused-13 (4 ∷ []) } ∷ [])
+pub linked-holds-of-refused-calls : Linked (after-refused-13 (4 ∷ [])) (record { call = Take 1 16; after = after-refused-13 (4 ∷ []) }
+    ∷ record { call = Take 2 9; after = after-refused-13 (4 ∷ []) } ∷ [])
 unfolding Linked callOf takeOf checked withinLimits numberOf
 linked-holds-of-refused-calls = (refl, (refl, tt))
 
@@ -337,9 +378,11 @@ quickClaimsHold =
     also bound-of-other-class-exceeded also bound-of-class-0-exceeded also bound-of-class-26-exceeded also eight-owner-changes-fail
     also unreported-owner-change-fails also reported-move-not-made-fails also refused-free-owner-change-fails
     also refused-named-call-owner-change-fails also named-free-owner-changes-fail also refused-take-owner-change-fails also drop-owner-changes-fail
-    also owner-change-beside-moves-fails also frees-run-cases also claim-fails-of-run-not-in-ledger also run-counted-in-moves-fails also refused-call-with-run-changed-fails also claim-fails-of-refused-take also claim-fails-of-other-class-take
+    also owner-change-beside-moves-fails also frees-run-cases also claim-fails-of-run-not-in-ledger also run-counted-in-moves-fails also
+    refused-call-with-run-changed-fails also claim-fails-of-refused-take also claim-fails-of-other-class-take
     also claim-fails-after-last-call also claim-fails-of-eight-moves also claim-fails-of-refused-free-move also claim-fails-of-run-reported
-    also linked-fails-of-other-storage also linked-fails-of-other-outcome also linked-fails-of-other-state also seven-owner-changes-hold also fourteen-owner-changes-of-drop-hold
+    also linked-fails-of-other-storage also linked-fails-of-other-outcome also linked-fails-of-other-state also seven-owner-changes-hold also
+    fourteen-owner-changes-of-drop-hold
     also free-of-run-holds also refused-without-owner-change-holds also linked-holds-of-refused-calls also tt
 
 -- class 23 with 17 superblocks: (q - p) × n × A and the bound are both 204
@@ -349,21 +392,40 @@ bound-holds-at-limit = each-class-le-by-test _ _ refl
 
 -- a free that passes seven superblocks to heap 0
 pub claim-holds-of-seven-moves : Claims u (after-with Ready (all-in-heap-2 7)) [] (λ c. 0) (step-with (Free 1 16) (Moves 7) (all-in-heap-0 7) ∷ [])
-unfolding Claims OwnerChanges Bounded ownersChanged passedBetweenHeaps superblocksOfClass total isOwnedOfClass isOfHeap sumBelow allBelow blocksOf counts ledgerDefinitions
-claim-holds-of-seven-moves = let before = bound-holds-at-limit in (each-class-le-by-test _ _ refl, (omega arith, λ m e. Moves-injective e, λ r e. absurd (Moves-not-Refused e), λ e. refl), each-class-le-by-test _ _ refl)
+unfolding Claims OwnerChanges Bounded ownersChanged passedBetweenHeaps superblocksOfClass total isOwnedOfClass isOfHeap sumBelow allBelow blocksOf counts
+    ledgerDefinitions
+claim-holds-of-seven-moves = let before = bound-holds-at-limit in (
+  each-class-le-by-test _ _ refl,
+  (omega arith, λ m e. Moves-injective e, λ r e. absurd (Moves-not-Refused e), λ e. refl),
+  each-class-le-by-test _ _ refl,
+)
 
 -- a take that makes a twelfth block live, and so comes to seventeen superblocks; when that block is freed M is 12 still
 pub claim-holds-of-take-and-free : Claims u (after-with Ready (state-of-class 23 5)) eleven-entries (λ c. 11) take-and-free
-unfolding Claims OwnerChanges Bounded ownersChanged passedBetweenHeaps superblocksOfClass total isOwnedOfClass isOfHeap sumBelow allBelow blocksOf counts ledgerDefinitions
-claim-holds-of-take-and-free = let before = claim-holds-of-seven-moves in (each-class-le-by-test _ _ refl, λ r e. absurd (address-refused e), (each-class-le-by-test _ _ refl, (omega arith, λ m e. Moves-injective e, λ r e. absurd (Moves-not-Refused e), λ e. refl), each-class-le-by-test _ _ refl))
+unfolding Claims OwnerChanges Bounded ownersChanged passedBetweenHeaps superblocksOfClass total isOwnedOfClass isOfHeap sumBelow allBelow blocksOf counts
+    ledgerDefinitions
+claim-holds-of-take-and-free = let before = claim-holds-of-seven-moves in (
+  each-class-le-by-test _ _ refl,
+  λ r e. absurd (address-refused e),
+  (
+    each-class-le-by-test _ _ refl,
+    (omega arith, λ m e. Moves-injective e, λ r e. absurd (Moves-not-Refused e), λ e. refl),
+    each-class-le-by-test _ _ refl,
+  ),
+)
   where
     address-refused : {a r : ℕ} → Address a ≡ Refused r → ⊥
     address-refused {a} {r} e = let z : _≡_ {A = ℕ} 0 1 = cc in omega arith
 
 -- the free of the run that reports none
 pub claim-holds-of-run-freed : Claims u (after-with Ready run-in-state) run-entry (λ c. 0) (step-with (Free 1 4096) (Moves 0) run-freed-state ∷ [])
-unfolding Claims OwnerChanges Bounded ownersChanged passedBetweenHeaps superblocksOfClass total isOwnedOfClass isOfHeap sumBelow allBelow blocksOf counts freesRun ledgerDefinitions
-claim-holds-of-run-freed = let before = claim-holds-of-take-and-free in (each-class-le-by-test _ _ refl, (omega arith, λ m e. Moves-injective e, λ r e. absurd (Moves-not-Refused e), λ e. absurd (true-not-false true refl e)), each-class-le-by-test _ _ refl)
+unfolding Claims OwnerChanges Bounded ownersChanged passedBetweenHeaps superblocksOfClass total isOwnedOfClass isOfHeap sumBelow allBelow blocksOf counts
+    freesRun ledgerDefinitions
+claim-holds-of-run-freed = let before = claim-holds-of-take-and-free in (
+  each-class-le-by-test _ _ refl,
+  (omega arith, λ m e. Moves-injective e, λ r e. absurd (Moves-not-Refused e), λ e. absurd (true-not-false true refl e)),
+  each-class-le-by-test _ _ refl,
+)
 
 -- with nothing live, P × K = 10 superblocks, of class 0 and of class 26
 pub bound-holds-of-spare : Bounded u (only-of-class 0 10) (λ c. 0) × Bounded u (only-of-class 26 10) (λ c. 0)

@@ -11,13 +11,11 @@ use Rattle.heap_rules.specs.Table.{unused, runPart, superblockAt}
 use Rattle.heap_rules.proofs.CaseStates.{unnamedState}
 use Rattle.heap_rules.proofs.TableCases.{of, ranked, small-setup}
 use Rattle.call_rules.specs.Calls.{Call, Take, Free, NamedTake, NamedFree, Drop}
-use Rattle.call_rules.specs.Answers.{After}
-use Rattle.call_rules.specs.declared.Outcome.{Outcome}
 use Rattle.call_rules.specs.declared.Outcome.the-variants.{Ready, Address, Moves, Refused}
 use Rattle.call_rules.proofs.CallDefinitions.{uncheckedCallDefinitions}
 use Rattle.claim_rules.specs.Ledger.{Entry, named, unnamed, isAt, hasName}
-use Rattle.claim_rules.specs.Claim.{Step}
-use Rattle.claim_rules.specs.History.{Event, freedInto, renewed, joinedRun, neither, eventOfBlock, eventOfFree, eventOfTaken, eventOfTake, eventsAfter, eventsAfterDrop}
+use Rattle.claim_rules.specs.History.{Event, freedInto, renewed, joinedRun, neither, eventOfBlock, eventOfFree, eventOfTaken, eventOfTake}
+use Rattle.claim_rules.specs.History.{eventsAfter, eventsAfterDrop}
 use Rattle.claim_rules.specs.History.{eventsAgo, notSinceRenewal, oneEventMore, lastFreeAfter, lastFree, RankedByLastFree, FreedLater, OffersLastFreed}
 use Rattle.claim_rules.specs.History.{AlongHistory, RankedByLastFreeOver, OffersLastFreedOver}
 use Rattle.claim_rules.proofs.CaseSteps.{after-with, step-with}
@@ -32,14 +30,16 @@ historyDefinitions = tt
 abbrev pub history-state : State
 history-state = unnamedState small-setup (of 1 20 0 ∷ of 0 23 0 ∷ of 0 20 4 ∷ unused ∷ of 2 20 0 ∷ replicate 59 unused)
 
--- A ledger, which need not be what calls on that state made: blocks in superblocks 1, 2 and 3, the last of the longest size that a class holds, and a long block from 4 on.
+-- A ledger, which need not be what calls on that state made: blocks in superblocks 1, 2 and 3, the last of the longest size that a class holds, and a
+-- long block from 4 on.
 abbrev pub history-entries : List Entry
 history-entries = entry 8191 700 unnamed ∷ entry 8192 700 (named 7) ∷ entry 12288 2048 unnamed ∷ entry 16384 2049 (named 3) ∷ entry 12 700 unnamed ∷ []
 
--- an accepted free, with moves and without, frees into the superblock that covers the address of its block; another outcome is none. The ledger tells a run: the state has
--- none; and an address or a name that it does not have tells nothing
+-- an accepted free, with moves and without, frees into the superblock that covers the address of its block; another outcome is none. The ledger tells
+-- a run: the state has none; and an address or a name that it does not have tells nothing
 pub event-of-free-cases :
-    map (λ (a : ℕ). eventOfFree (isAt a) history-entries (Moves 0)) (8191 ∷ 8192 ∷ 12288 ∷ 16384 ∷ 4096 ∷ []) ≡ freedInto 1 ∷ freedInto 2 ∷ freedInto 3 ∷ neither ∷ neither ∷ []
+    map (λ (a : ℕ). eventOfFree (isAt a) history-entries (Moves 0)) (8191 ∷ 8192 ∷ 12288 ∷ 16384 ∷ 4096 ∷ []) ≡ freedInto 1 ∷ freedInto 2 ∷ freedInto 3
+    ∷ neither ∷ neither ∷ []
     × map (λ (m : ℕ). eventOfFree (hasName m) history-entries (Moves 3)) (7 ∷ 3 ∷ 5 ∷ 8192 ∷ []) ≡ freedInto 2 ∷ neither ∷ neither ∷ neither ∷ []
     × map (eventOfFree (isAt 8192) history-entries) (Refused 7 ∷ Ready ∷ Address 4096 ∷ Moves 1 ∷ []) ≡ neither ∷ neither ∷ neither ∷ freedInto 2 ∷ []
 unfolding eventOfFree eventOfBlock ledgerDefinitions
@@ -52,33 +52,40 @@ pub event-of-take-cases :
 unfolding eventOfTake eventOfTaken uncheckedCallDefinitions
 event-of-take-cases = refl
 
--- ---- long blocks (document 02, item 7): a take of a long size joins as many superblocks as it has to a run, from that of its address on, though that one was heap 1's; one of 2048
--- bytes renews; a refused one does neither
+-- ---- long blocks (document 02, item 7): a take of a long size joins as many superblocks as it has to a run, from that of its address on, though
+-- that one was heap 1's; one of 2048 bytes renews; a refused one does neither
 pub event-of-long-take-cases :
-    map (λ (size : ℕ). eventOfTake history-state 2 size (Address 12288)) (2048 ∷ 2049 ∷ 4096 ∷ 4097 ∷ 65535 ∷ []) ++ (eventOfTake history-state 1 4097 (Address 0) ∷ eventOfTake history-state 1 4097 (Refused 17) ∷ [])
+    map (λ (size : ℕ). eventOfTake history-state 2 size (Address 12288)) (2048 ∷ 2049 ∷ 4096 ∷ 4097 ∷ 65535 ∷ [])
+    ++ (eventOfTake history-state 1 4097 (Address 0) ∷ eventOfTake history-state 1 4097 (Refused 17) ∷ [])
     ≡ renewed 3 ∷ joinedRun 3 1 ∷ joinedRun 3 1 ∷ joinedRun 3 2 ∷ joinedRun 3 16 ∷ joinedRun 0 2 ∷ neither ∷ []
 unfolding eventOfTake eventOfTaken uncheckedCallDefinitions
 event-of-long-take-cases = refl
 
 -- the free of the long block, by address, by name and in a drop, is none into its superblocks
 pub events-of-run-cases :
-    map (λ (call : Call). eventsAfter (freedInto 9 ∷ []) history-entries history-state call (Moves 0)) (Free 1 16384 ∷ NamedFree 1 3 ∷ Drop 1 (16384 ∷ 8191 ∷ []) ∷ [])
+    map (λ (call : Call). eventsAfter (freedInto 9 ∷ []) history-entries history-state call (Moves 0))
+    (Free 1 16384 ∷ NamedFree 1 3 ∷ Drop 1 (16384 ∷ 8191 ∷ []) ∷ [])
     ++ map (λ (call : Call). eventsAfter (freedInto 9 ∷ []) history-entries history-state call (Address 12288)) (Take 1 8192 ∷ NamedTake 1 5 8193 ∷ [])
-    ≡ (neither ∷ freedInto 9 ∷ []) ∷ (neither ∷ freedInto 9 ∷ []) ∷ (freedInto 1 ∷ neither ∷ freedInto 9 ∷ []) ∷ (joinedRun 3 2 ∷ freedInto 9 ∷ []) ∷ (joinedRun 3 3 ∷ freedInto 9 ∷ []) ∷ []
+    ≡ (neither ∷ freedInto 9 ∷ []) ∷ (neither ∷ freedInto 9 ∷ []) ∷ (freedInto 1 ∷ neither ∷ freedInto 9 ∷ []) ∷ (joinedRun 3 2 ∷ freedInto 9 ∷ [])
+    ∷ (joinedRun 3 3 ∷ freedInto 9 ∷ []) ∷ []
 unfolding eventsAfter eventsAfterDrop eventOfTake eventOfTaken eventOfFree eventOfBlock uncheckedCallDefinitions ledgerDefinitions
 events-of-run-cases = refl
 
 -- each kind of call, before which superblock 9 was freed into; a named free is of the block that was taken by its name
 pub events-after-cases :
-    map (λ (call : Call). eventsAfter (freedInto 9 ∷ []) history-entries history-state call (Address 4096)) (Take 1 2000 ∷ NamedTake 2 9 700 ∷ []) ++ (eventsAfter (freedInto 9 ∷ []) [] history-state (Take 2 700) (Address 16384) ∷ [])
-    ++ map (λ (call : Call). eventsAfter (freedInto 9 ∷ []) history-entries history-state call (Moves 0)) (Free 1 12288 ∷ NamedFree 1 7 ∷ []) ++ (eventsAfter (freedInto 9 ∷ []) history-entries history-state (NamedFree 1 7) (Refused 15) ∷ [])
-    ≡ (renewed 1 ∷ freedInto 9 ∷ []) ∷ (renewed 1 ∷ freedInto 9 ∷ []) ∷ (neither ∷ freedInto 9 ∷ []) ∷ (freedInto 3 ∷ freedInto 9 ∷ []) ∷ (freedInto 2 ∷ freedInto 9 ∷ []) ∷ (neither ∷ freedInto 9 ∷ []) ∷ []
+    map (λ (call : Call). eventsAfter (freedInto 9 ∷ []) history-entries history-state call (Address 4096)) (Take 1 2000 ∷ NamedTake 2 9 700 ∷ [])
+    ++ (eventsAfter (freedInto 9 ∷ []) [] history-state (Take 2 700) (Address 16384) ∷ [])
+    ++ map (λ (call : Call). eventsAfter (freedInto 9 ∷ []) history-entries history-state call (Moves 0)) (Free 1 12288 ∷ NamedFree 1 7 ∷ [])
+    ++ (eventsAfter (freedInto 9 ∷ []) history-entries history-state (NamedFree 1 7) (Refused 15) ∷ [])
+    ≡ (renewed 1 ∷ freedInto 9 ∷ []) ∷ (renewed 1 ∷ freedInto 9 ∷ []) ∷ (neither ∷ freedInto 9 ∷ []) ∷ (freedInto 3 ∷ freedInto 9 ∷ [])
+    ∷ (freedInto 2 ∷ freedInto 9 ∷ []) ∷ (neither ∷ freedInto 9 ∷ []) ∷ []
 unfolding eventsAfter eventOfTake eventOfTaken eventOfFree eventOfBlock uncheckedCallDefinitions ledgerDefinitions
 events-after-cases = refl
 
 -- an accepted drop frees into the superblock of each address, the last address's latest; a refused one into none
 pub events-after-drop-cases :
-    eventsAfter (freedInto 9 ∷ []) history-entries history-state (Drop 1 (8191 ∷ 8192 ∷ 12288 ∷ 12 ∷ [])) (Moves 2) ∷ eventsAfter (freedInto 9 ∷ []) history-entries history-state (Drop 1 (8191 ∷ 12288 ∷ [])) (Refused 7) ∷ []
+    eventsAfter (freedInto 9 ∷ []) history-entries history-state (Drop 1 (8191 ∷ 8192 ∷ 12288 ∷ 12 ∷ [])) (Moves 2)
+    ∷ eventsAfter (freedInto 9 ∷ []) history-entries history-state (Drop 1 (8191 ∷ 12288 ∷ [])) (Refused 7) ∷ []
     ≡ (freedInto 0 ∷ freedInto 3 ∷ freedInto 2 ∷ freedInto 1 ∷ freedInto 9 ∷ []) ∷ (neither ∷ neither ∷ freedInto 9 ∷ []) ∷ []
 unfolding eventsAfter eventsAfterDrop eventOfFree eventOfBlock ledgerDefinitions
 events-after-drop-cases = refl
@@ -97,7 +104,8 @@ unfolding lastFree lastFreeAfter oneEventMore
 freed-after-renewal-case = refl
 
 -- superblocks 4 and 5 joined a run, and so were not freed into since; 3 and 6 beside it were, and it is one event more
-pub joined-run-cases : map (λ (k : ℕ). lastFree k (joinedRun 4 2 ∷ map freedInto (3 ∷ 4 ∷ 5 ∷ 6 ∷ []))) (3 ∷ 4 ∷ 5 ∷ 6 ∷ []) ≡ eventsAgo 1 ∷ notSinceRenewal ∷ notSinceRenewal ∷ eventsAgo 4 ∷ []
+pub joined-run-cases : map (λ (k : ℕ). lastFree k (joinedRun 4 2 ∷ map freedInto (3 ∷ 4 ∷ 5 ∷ 6 ∷ []))) (3 ∷ 4 ∷ 5 ∷ 6 ∷ []) ≡ eventsAgo 1
+    ∷ notSinceRenewal ∷ notSinceRenewal ∷ eventsAgo 4 ∷ []
 unfolding lastFree lastFreeAfter oneEventMore
 joined-run-cases = refl
 
@@ -214,7 +222,8 @@ earlier-free-first-refused = (
 
 -- where the rank outlasts a renewal, or a long block that takes the superblock,
 pub rank-kept-refused :
-    (RankedByLastFreeOver (after-with Ready (empty-0-with-ranks 1 0)) [] (freedInto 0 ∷ []) (step-with (Take 2 700) (Address 0) (empty-0-with-ranks 1 0) ∷ []) → ⊥)
+    (RankedByLastFreeOver (after-with Ready (empty-0-with-ranks 1 0)) [] (freedInto 0 ∷ []) (step-with (Take 2 700) (Address 0) (empty-0-with-ranks 1 0)
+    ∷ []) → ⊥)
     × (RankedByLastFreeOver (after-with Ready (empty-0-with-ranks 1 0)) [] (freedInto 0 ∷ [])
     (step-with (NamedTake 1 7 2049) (Address 0) (empty-0-with-ranks 1 0) ∷ []) → ⊥)
 unfolding historyDefinitions uncheckedCallDefinitions
@@ -224,7 +233,8 @@ rank-kept-refused = (λ h. ranked-without-free 0 0 _ _ (omega arith) refl refl (
 pub freed-run-ranked-refused :
     (RankedByLastFreeOver (after-with Ready (empty-0-with-ranks 0 0)) run-from-1 [] (step-with (Free 1 4096) (Moves 0) (empty-0-with-ranks 0 1) ∷ []) → ⊥)
     × (RankedByLastFreeOver (after-with Ready (empty-0-with-ranks 0 0)) run-from-1 [] (step-with (NamedFree 1 3) (Moves 0) (empty-0-with-ranks 0 1) ∷ []) → ⊥)
-    × (RankedByLastFreeOver (after-with Ready (empty-0-with-ranks 0 0)) run-from-1 [] (step-with (Drop 1 (4096 ∷ [])) (Moves 0) (empty-0-with-ranks 0 1) ∷ []) → ⊥)
+    × (RankedByLastFreeOver (after-with Ready (empty-0-with-ranks 0 0)) run-from-1 [] (step-with (Drop 1 (4096 ∷ [])) (Moves 0) (empty-0-with-ranks 0 1)
+    ∷ []) → ⊥)
     × (RankedByLastFreeOver (after-with Ready (empty-0-with-ranks 0 0)) [] []
     (step-with (Take 1 2049) (Address 4096) (empty-0-with-ranks 0 0) ∷ step-with (Free 1 4096) (Moves 0) (empty-0-with-ranks 0 1) ∷ []) → ⊥)
 unfolding historyDefinitions uncheckedCallDefinitions ledgerDefinitions

@@ -4,7 +4,8 @@ use Rattle.base_laws.specs.Sums.{sumBelow, allBelow}
 use Rattle.class_rules.specs.Classes.{sizes, counts, blocksOf, firstAtLeast, classOf, isLong}
 use Rattle.heap_rules.specs.Table.{isOfHeap}
 use Rattle.heap_rules.specs.Counts.{total, isOwnedOfClass, superblocksOfClass, ownersChanged, passedBetweenHeaps}
-use Rattle.claim_rules.specs.Ledger.{Name, Entry, isAtOneOf, isCalled, removed, afterTake, afterFree, ledgerAfter, entriesOf, entriesAt, someEntry, EachEntry}
+use Rattle.claim_rules.specs.Ledger.{Name, Entry, isAtOneOf, isCalled, removed, afterTake, afterFree, ledgerAfter, entriesOf, entriesAt, someEntry}
+use Rattle.claim_rules.specs.Ledger.{EachEntry}
 use Rattle.claim_rules.specs.Claim.{Bounded, freesRun, OwnerChanges, Claims}
 
 abbrev pub entry : ℕ → ℕ → Name → Entry

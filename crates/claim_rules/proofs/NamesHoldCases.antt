@@ -105,7 +105,8 @@ named-free-refusals-fail = (
 
 -- by the ledger before each call, to the last: a name that is taken twice, and one refused 14 after a free of its block by address
 pub name-refusals-over-fails :
-    (NameRefusalsOver setup-of-2 [] (step-with (NamedTake 1 7 700) (Address 1536) name-7-held ∷ step-with (NamedTake 1 7 700) (Address 2304) name-7-held ∷ []) → ⊥)
+    (NameRefusalsOver setup-of-2 [] (step-with (NamedTake 1 7 700) (Address 1536) name-7-held ∷ step-with (NamedTake 1 7 700) (Address 2304) name-7-held
+    ∷ []) → ⊥)
     × (NameRefusalsOver setup-of-2 (name-7 ∷ []) (step-with (Free 1 1536) (Moves 0) not-named ∷ step-with (NamedTake 1 7 700) (Refused 14) not-named ∷ []) → ⊥)
 unfolding NameRefusalsOver NameRefusals entriesNamed ledgerDefinitions
 name-refusals-over-fails = (

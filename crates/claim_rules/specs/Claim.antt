@@ -42,7 +42,8 @@ lastAfter before (step ∷ steps) = lastAfter (step .after) steps
 -- what is so of the state and of the ledger before a list and after each of its calls
 unfoldable pub Along : (State → List Entry → Type 0) → After → List Entry → List Step → Type 0
 Along P before ledger [] = P (before .answer .state) ledger
-Along P before ledger (step ∷ steps) = P (before .answer .state) ledger × Along P (step .after) (ledgerAfter ledger (step .call) (step .after .answer .outcome)) steps
+Along P before ledger (step ∷ steps) = P (before .answer .state) ledger
+    × Along P (step .after) (ledgerAfter ledger (step .call) (step .after .answer .outcome)) steps
 
 -- "(q - p) × n × A is at most q × M + (q - p) × P × K × n", for each of the 27 classes
 unfoldable pub Bounded : Setup → State → (ℕ → ℕ) → Type 0
@@ -92,4 +93,5 @@ Claims u before ledger peak [] = Bounded u (before .answer .state) peak
 Claims u before ledger peak (step ∷ steps) =
     Bounded u (before .answer .state) peak
     × CallOwnerChanges (u .q) ledger (before .answer .state) (step .after .answer .state) (step .call) (step .after .answer .outcome)
-    × Claims u (step .after) (ledgerAfter ledger (step .call) (step .after .answer .outcome)) (peakWith peak (ledgerAfter ledger (step .call) (step .after .answer .outcome))) steps
+    × Claims u (step .after) (ledgerAfter ledger (step .call) (step .after .answer .outcome))
+    (peakWith peak (ledgerAfter ledger (step .call) (step .after .answer .outcome))) steps

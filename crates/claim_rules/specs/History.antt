@@ -115,7 +115,9 @@ unfoldable pub AlongHistory : (State → List Event → Type 0) → After → Li
 AlongHistory P before ledger events [] = P (before .answer .state) events
 AlongHistory P before ledger events (step ∷ steps) =
     P (before .answer .state) events
-    × AlongHistory P (step .after) (ledgerAfter ledger (step .call) (step .after .answer .outcome)) (eventsAfter events ledger (before .answer .state) (step .call) (step .after .answer .outcome)) steps
+    × AlongHistory P (step .after)
+    (ledgerAfter ledger (step .call) (step .after .answer .outcome))
+    (eventsAfter events ledger (before .answer .state) (step .call) (step .after .answer .outcome)) steps
 
 abbrev pub RankedByLastFreeOver : After → List Entry → List Event → List Step → Type 0
 RankedByLastFreeOver before ledger events steps = AlongHistory RankedByLastFree before ledger events steps

@@ -37,7 +37,8 @@ block-size-is-multiple-of-8 c = go (decLt c classCount)
 
 -- so a block size below a size rounded up is below the size itself
 block-size-below-rounded-up : (s c : ℕ) → sizeOf c < roundedUp s → sizeOf c < s
-block-size-below-rounded-up s c h = lt-of-not-le (λ (g : s ≤ sizeOf c). let l = rounded-up-is-least-multiple-of-8 s .least (sizeOf c) (block-size-is-multiple-of-8 c) g in omega arith)
+block-size-below-rounded-up s c h =
+    lt-of-not-le (λ (g : s ≤ sizeOf c). let l = rounded-up-is-least-multiple-of-8 s .least (sizeOf c) (block-size-is-multiple-of-8 c) g in omega arith)
 
 -- a size and its size rounded up have the same class; above 2048 no class holds either
 pub class-of-rounded-up : (s : ℕ) → classOf (roundedUp s) ≡ classOf s

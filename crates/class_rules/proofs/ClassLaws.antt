@@ -36,7 +36,9 @@ size-le-size-of-class-of s h = class-of-holds-below-27 s (class-of-lt-27 s h)
 
 -- no class holds a size above 2048
 pub class-of-too-large : (s : ℕ) → 2048 < s → classOf s ≡ classCount
-class-of-too-large s h = le-antisymm (class-of-le-27 s) (le-of-not-below (λ (l : classOf s < classCount). let b = class-of-holds-below-27 s l in let m = size-of-le-2048 (classOf s) in omega arith))
+class-of-too-large s h =
+    le-antisymm (class-of-le-27 s)
+    (le-of-not-below (λ (l : classOf s < classCount). let b = class-of-holds-below-27 s l in let m = size-of-le-2048 (classOf s) in omega arith))
 
 -- a class that holds s, and below which none does, is the class of s
 pub class-of-unique : (s c : ℕ) → s ≤ sizeOf c → ((k : ℕ) → k < c → sizeOf k < s) → c ≡ classOf s

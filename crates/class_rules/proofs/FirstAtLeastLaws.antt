@@ -15,7 +15,8 @@ unfolding firstAtLeast
 le-first-at-least s [] h = absurd (not-suc-le-zero h)
 le-first-at-least s (x ∷ xs) h = go (le-first-at-least s xs) (leb s x) refl h
   where
-    go : (firstAtLeast s xs < length xs → s ≤ getD xs (firstAtLeast s xs) 0) → (b : Bool) → leb s x ≡ b → pick b zero (suc (firstAtLeast s xs)) < suc (length xs) → s ≤ getD (x ∷ xs) (pick b zero (suc (firstAtLeast s xs))) 0
+    go : (firstAtLeast s xs < length xs → s ≤ getD xs (firstAtLeast s xs) 0) → (b : Bool) → leb s x ≡ b → pick b zero (suc (firstAtLeast s xs)) < suc
+        (length xs) → s ≤ getD (x ∷ xs) (pick b zero (suc (firstAtLeast s xs))) 0
     go ih true e k = leb-true s x e
     go ih false e k = ih (le-of-suc-le-suc k)
 
@@ -24,7 +25,8 @@ unfolding firstAtLeast
 before-first-at-least-lt s [] k h = absurd (not-suc-le-zero h)
 before-first-at-least-lt s (x ∷ xs) k h = go k (λ i. before-first-at-least-lt s xs i) (leb s x) refl h
   where
-    go : (k : ℕ) → ((i : ℕ) → i < firstAtLeast s xs → getD xs i 0 < s) → (b : Bool) → leb s x ≡ b → k < pick b zero (suc (firstAtLeast s xs)) → getD (x ∷ xs) k 0 < s
+    go : (k : ℕ) → ((i : ℕ) → i < firstAtLeast s xs → getD xs i 0 < s) → (b : Bool) → leb s x ≡ b → k < pick b zero (suc (firstAtLeast s xs))
+        → getD (x ∷ xs) k 0 < s
     go k ih true e h = absurd (not-suc-le-zero h)
     go zero ih false e h = leb-false s x e
     go (suc k) ih false e h = ih k (le-of-suc-le-suc h)

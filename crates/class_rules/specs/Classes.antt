@@ -32,7 +32,8 @@ longestRun = 16
 
 -- the printed block sizes, by class
 unfoldable pub sizes : List ℕ
-sizes = 16 ∷ 24 ∷ 32 ∷ 40 ∷ 48 ∷ 56 ∷ 64 ∷ 80 ∷ 96 ∷ 112 ∷ 128 ∷ 160 ∷ 192 ∷ 224 ∷ 256 ∷ 320 ∷ 384 ∷ 448 ∷ 512 ∷ 640 ∷ 768 ∷ 896 ∷ 1024 ∷ 1280 ∷ 1536 ∷ 1792 ∷ 2048 ∷ []
+sizes = 16 ∷ 24 ∷ 32 ∷ 40 ∷ 48 ∷ 56 ∷ 64 ∷ 80 ∷ 96 ∷ 112 ∷ 128 ∷ 160 ∷ 192 ∷ 224 ∷ 256 ∷ 320 ∷ 384 ∷ 448 ∷ 512 ∷ 640 ∷ 768 ∷ 896 ∷ 1024 ∷ 1280 ∷ 1536
+    ∷ 1792 ∷ 2048 ∷ []
 
 -- the printed blocks in a superblock, by class; that each is 4096 divided by the size is the law blocks-of-is-quotient
 unfoldable pub counts : List ℕ

@@ -50,35 +50,44 @@ call-clauses s order call shape {r = r} {out = out} e = (
 )
 
 pub setup-clauses : (u : Setup) (order : List ℕ) {r : Answer} {out : List ℕ} → answerAndOrder r out ≡ setupOf u order
-    → (answerAndOrder r out ≡ setupOf u order) × (HasNumberAndValuesOf (r .outcome) (setupOf u order .answer .outcome) × PassesIfAccepted (r .outcome) (r .state) out)
-setup-clauses u order {r = r} {out = out} e = (e, (number-and-values-by-rules r out (setupOf u order) e, passes-if-accepted-by-rules r out (setupOf u order) e (setup-passes-if-accepted u order)))
+    → (answerAndOrder r out ≡ setupOf u order)
+    × (HasNumberAndValuesOf (r .outcome) (setupOf u order .answer .outcome) × PassesIfAccepted (r .outcome) (r .state) out)
+setup-clauses u order {r = r} {out = out} e =
+    (e, (number-and-values-by-rules r out (setupOf u order) e, passes-if-accepted-by-rules r out (setupOf u order) e (setup-passes-if-accepted u order)))
 
 -- ---- a setup
 module _ (u : Setup) (order : List ℕ) (first : ℕ) (st : State) (e : first ≡ setupRefusal 1 u order) where
-  pub setup-refused : (r : Answer) → (first ≡ 0 → ⊥) → st ≡ noState → r ≡ record { outcome = Refused first; state = st } → answerAndOrder r order ≡ setupOf u order
+  pub setup-refused : (r : Answer) → (first ≡ 0 → ⊥) → st ≡ noState → r ≡ record { outcome = Refused first; state = st } → answerAndOrder r order
+      ≡ setupOf u order
   unfolding setupRefusal setupOf
-  setup-refused r n g h = refused-of-answer st order first r h ∙ ap (λ (x : State). refused first x order) g ∙ go (withinLimits u) (leb (u .superblocks * 256) (length order)) e
+  setup-refused r n g h = refused-of-answer st order first r h ∙ ap (λ (x : State). refused first x order) g
+      ∙ go (withinLimits u) (leb (u .superblocks * 256) (length order)) e
     where
-      go : (a b : Bool) → first ≡ pick a (pick b 0 12) 1 → refused first noState order ≡ pick a (pick b (acceptedSetup u order) (refused 12 noState order)) (refused 1 noState order)
+      go : (a b : Bool) → first ≡ pick a (pick b 0 12) 1 → refused first noState order
+          ≡ pick a (pick b (acceptedSetup u order) (refused 12 noState order)) (refused 1 noState order)
       go true true q = absurd (n q)
       go true false q = ap (λ (x : ℕ). refused x noState order) q
       go false b q = ap (λ (x : ℕ). refused x noState order) q
 
-  pub setup-ready : (new : List ℕ) → first ≡ 0 → new ≡ cleared order (u .superblocks * 256) → st ≡ newState u → answerAndOrder (record { outcome = Ready; state = st }) new ≡ setupOf u order
+  pub setup-ready : (new : List ℕ) → first ≡ 0 → new ≡ cleared order (u .superblocks * 256) → st ≡ newState u
+      → answerAndOrder (record { outcome = Ready; state = st }) new ≡ setupOf u order
   unfolding setupRefusal setupOf
   setup-ready new z g h = rw (g, h) (go (withinLimits u) (leb (u .superblocks * 256) (length order)) (sym z ∙ e))
     where
-      go : (a b : Bool) → _≡_ {A = ℕ} 0 (pick a (pick b 0 12) 1) → acceptedSetup u order ≡ pick a (pick b (acceptedSetup u order) (refused 12 noState order)) (refused 1 noState order)
+      go : (a b : Bool) → _≡_ {A = ℕ} 0 (pick a (pick b 0 12) 1) → acceptedSetup u order
+          ≡ pick a (pick b (acceptedSetup u order) (refused 12 noState order)) (refused 1 noState order)
       go true true q = refl
       go true false q = absurd (omega arith)
       go false b q = absurd (omega arith)
 
 -- ---- the check by the number of its refusal: a call that it refuses
-checked-is-first-refusal : (s : State) (order : List ℕ) (r : ℕ) (next : After) → r ≡ firstRefusal s order → (r ≡ 0 → ⊥) → checked s order next ≡ refused r s order
+checked-is-first-refusal : (s : State) (order : List ℕ) (r : ℕ) (next : After) → r ≡ firstRefusal s order → (r ≡ 0 → ⊥) → checked s order next
+    ≡ refused r s order
 unfolding firstRefusal checked
 checked-is-first-refusal s order r next e n = go (withinLimits (s .setup)) (leb (s .setup .superblocks * 256) (length order)) (restValid s order) e
   where
-    go : (a b c : Bool) → r ≡ pick a (pick b (pick c 0 13) 12) 13 → pick a (pick b (pick c next (refused 13 s order)) (refused 12 s order)) (refused 13 s order) ≡ refused r s order
+    go : (a b c : Bool) → r ≡ pick a (pick b (pick c 0 13) 12) 13 → pick a (pick b (pick c next (refused 13 s order)) (refused 12 s order))
+        (refused 13 s order) ≡ refused r s order
     go true true true q = absurd (n q)
     go true true false q = rw (← q)
     go true false c q = rw (← q)
@@ -89,7 +98,8 @@ checked-of-no-refusal : (s : State) (order : List ℕ) (r : ℕ) (next : After) 
 unfolding firstRefusal checked
 checked-of-no-refusal s order r next e z = go (withinLimits (s .setup)) (leb (s .setup .superblocks * 256) (length order)) (restValid s order) (sym z ∙ e)
   where
-    go : (a b c : Bool) → _≡_ {A = ℕ} 0 (pick a (pick b (pick c 0 13) 12) 13) → pick a (pick b (pick c next (refused 13 s order)) (refused 12 s order)) (refused 13 s order) ≡ next
+    go : (a b c : Bool) → _≡_ {A = ℕ} 0 (pick a (pick b (pick c 0 13) 12) 13) → pick a (pick b (pick c next (refused 13 s order)) (refused 12 s order))
+        (refused 13 s order) ≡ next
     go true true true q = refl
     go true true false q = absurd (omega arith)
     go true false c q = absurd (omega arith)
@@ -124,7 +134,8 @@ module _ (s : State) (order : List ℕ) (c : CallHeader) (addresses : List ℕ) 
   unfolding callUnchecked callWith
   unchecked-free a e h = rw e h
 
-  pub unchecked-named-take : (m size : ℕ) → c ≡ header.NamedTake i m size → after ≡ namedTakeUnchecked s order i m size → after ≡ callUnchecked s order (callWith c addresses)
+  pub unchecked-named-take : (m size : ℕ) → c ≡ header.NamedTake i m size → after ≡ namedTakeUnchecked s order i m size
+      → after ≡ callUnchecked s order (callWith c addresses)
   unfolding callUnchecked callWith
   unchecked-named-take m size e h = rw e h
 
@@ -139,4 +150,12 @@ module _ (s : State) (order : List ℕ) (c : CallHeader) (addresses : List ℕ) 
 -- ---- how a proof finds which way out it is at
 pub ruleset setup-outcomes = (setup-refused, setup-ready)
 
-pub ruleset call-outcomes = (call-refused-by-check, call-is-call-unchecked, unchecked-take, unchecked-free, unchecked-named-take, unchecked-named-free, unchecked-drop)
+pub ruleset call-outcomes = (
+  call-refused-by-check,
+  call-is-call-unchecked,
+  unchecked-take,
+  unchecked-free,
+  unchecked-named-take,
+  unchecked-named-free,
+  unchecked-drop,
+)

@@ -33,7 +33,8 @@ pub fn setup(u: Setup, order: &mut [u16]) -> Answer
 // A take or free, plain or of a block called by name, or a drop, whose addresses are lent beside it: the check, then what the call answers behind it.
 pub fn call_state(s: State, order: &mut [u16], c: CallHeader, addresses: &[u32]) -> Answer
     ensures { λ r. ⌜ record { answer = r; order = now (order .exit) } ≡ callOf s (now (order .entry)) (callWith c (now (addresses .entry))) ⌝ }
-    ensures number_and_values { λ r. ⌜ HasNumberAndValuesOf (r .outcome) (callOf s (now (order .entry)) (callWith c (now (addresses .entry))) .answer .outcome) ⌝ }
+    ensures number_and_values { λ r.
+        ⌜ HasNumberAndValuesOf (r .outcome) (callOf s (now (order .entry)) (callWith c (now (addresses .entry))) .answer .outcome) ⌝ }
     ensures passes { λ r. ⌜ PassesIfAccepted (r .outcome) (r .state) (now (order .exit)) ⌝ }
     ensures moves { λ r. ⌜ MovesAtMost (mostMoves (s .setup .q) (callWith c (now (addresses .entry)))) (r .outcome) ⌝ }
 {

@@ -1,6 +1,6 @@
 -- The check of one superblock's marks and filled places, in cases that tell it from near misses, by computation. Assumes nothing.
 use mathlib.Core.Path.{_≡_, refl}
-use mathlib.Core.Bool.{Bool, true, false, not}
+use mathlib.Core.Bool.{Bool, true, false}
 use mathlib.Core.List.{List, [], _∷_, _++_, map}
 use Prim.Native.Nat.{ℕ, _-_, _^_}
 use lib.ListN.{replicate}
@@ -32,13 +32,15 @@ places-and-validity =
 abbrev pub two-live-of-five : List ℕ
 two-live-of-five = 10 ∷ 0 ∷ 0 ∷ 0 ∷ []
 
-pub places-valid-cases : map (λ (e : List ℕ × Bool). placesValid (replicate 256 7 ++ e .0) two-live-of-five 1 5) places-and-validity ≡ map (λ (e : List ℕ × Bool). e .1) places-and-validity
+pub places-valid-cases : map (λ (e : List ℕ × Bool). placesValid (replicate 256 7 ++ e .0) two-live-of-five 1 5) places-and-validity
+    ≡ map (λ (e : List ℕ × Bool). e .1) places-and-validity
 unfolding placesValid placesInStorage eachOnce occurrences place noMarkFrom liveCount isMarked markBit bit sumBelow allBelow
 places-valid-cases = refl
 
 -- "no mark at n or above": blocks 1, 3 and 4 live, of five and of four; block 255 live; all five live, and the next one
 pub marks-past-n-cases :
-    map (λ (e : List ℕ × ℕ). placesValid (replicate 256 7 ++ 0 ∷ 2 ∷ 9 ∷ []) (e .0) 1 (e .1)) ((26 ∷ 0 ∷ 0 ∷ 0 ∷ [], 5) ∷ (26 ∷ 0 ∷ 0 ∷ 0 ∷ [], 4) ∷ (10 ∷ 0 ∷ 0 ∷ 2 ^ 63 ∷ [], 5) ∷ (63 ∷ 0 ∷ 0 ∷ 0 ∷ [], 5) ∷ [])
+    map (λ (e : List ℕ × ℕ). placesValid (replicate 256 7 ++ 0 ∷ 2 ∷ 9 ∷ []) (e .0) 1 (e .1)) ((26 ∷ 0 ∷ 0 ∷ 0 ∷ [], 5) ∷ (26 ∷ 0 ∷ 0 ∷ 0 ∷ [], 4)
+    ∷ (10 ∷ 0 ∷ 0 ∷ 2 ^ 63 ∷ [], 5) ∷ (63 ∷ 0 ∷ 0 ∷ 0 ∷ [], 5) ∷ [])
     ≡ true ∷ false ∷ false ∷ false ∷ []
 unfolding placesValid placesInStorage eachOnce occurrences place noMarkFrom liveCount isMarked markBit bit sumBelow allBelow
 marks-past-n-cases = refl
@@ -48,14 +50,15 @@ pub all-live-case : placesValid [] (31 ∷ 0 ∷ 0 ∷ 0 ∷ []) 0 5 ≡ true
 unfolding placesValid placesInStorage eachOnce occurrences place noMarkFrom liveCount isMarked markBit bit sumBelow allBelow
 all-live-case = refl
 
--- marks beyond the first number: of 256 blocks all are live but 3, 70, 130 and 255, and superblock 0's first four places hold these; then a live block of each number instead of a free one, a free
--- one twice, and all but one of them
+-- marks beyond the first number: of 256 blocks all are live but 3, 70, 130 and 255, and superblock 0's first four places hold these; then a live
+-- block of each number instead of a free one, a free one twice, and all but one of them
 abbrev pub four-free-of-256 : List ℕ
 four-free-of-256 = (2 ^ 64 - 9) ∷ (2 ^ 64 - 65) ∷ (2 ^ 64 - 5) ∷ (2 ^ 63 - 1) ∷ []
 
 pub places-past-64-cases :
     map (λ (places : List ℕ). placesValid places four-free-of-256 0 256)
-    ((255 ∷ 70 ∷ 3 ∷ 130 ∷ []) ∷ (255 ∷ 70 ∷ 4 ∷ 130 ∷ []) ∷ (255 ∷ 71 ∷ 3 ∷ 130 ∷ []) ∷ (255 ∷ 70 ∷ 3 ∷ 131 ∷ []) ∷ (254 ∷ 70 ∷ 3 ∷ 130 ∷ []) ∷ (255 ∷ 70 ∷ 70 ∷ 130 ∷ []) ∷ (255 ∷ 255 ∷ 3 ∷ 130 ∷ []) ∷ (255 ∷ 70 ∷ 3 ∷ []) ∷ [])
+    ((255 ∷ 70 ∷ 3 ∷ 130 ∷ []) ∷ (255 ∷ 70 ∷ 4 ∷ 130 ∷ []) ∷ (255 ∷ 71 ∷ 3 ∷ 130 ∷ []) ∷ (255 ∷ 70 ∷ 3 ∷ 131 ∷ []) ∷ (254 ∷ 70 ∷ 3 ∷ 130 ∷ [])
+    ∷ (255 ∷ 70 ∷ 70 ∷ 130 ∷ []) ∷ (255 ∷ 255 ∷ 3 ∷ 130 ∷ []) ∷ (255 ∷ 70 ∷ 3 ∷ []) ∷ [])
     ≡ true ∷ replicate 7 false
 unfolding placesValid placesInStorage eachOnce occurrences place noMarkFrom liveCount isMarked markBit bit sumBelow allBelow
 places-past-64-cases = refl

@@ -18,7 +18,8 @@ occurrences-suc v m j = sum-below-suc (λ p. one (eqb (v p) j)) m
 
 pub occurrences-mono : (v : ℕ → ℕ) (a b j : ℕ) → a ≤ b → occurrences v a j ≤ occurrences v b j
 unfolding occurrences
-occurrences-mono v a b j l = subst (λ (x : ℕ). sumBelow (λ p. one (eqb (v p) j)) a ≤ sumBelow (λ p. one (eqb (v p) j)) x) (omega arith) (sum-mono (λ p. one (eqb (v p) j)) a (b - a))
+occurrences-mono v a b j l = subst (λ (x : ℕ). sumBelow (λ p. one (eqb (v p) j)) a ≤ sumBelow (λ p. one (eqb (v p) j)) x) (omega arith)
+    (sum-mono (λ p. one (eqb (v p) j)) a (b - a))
 
 -- places that hold the same have the same occurrences
 pub occurrences-cong : (v w : ℕ → ℕ) (m j : ℕ) → ((p : ℕ) → p < m → v p ≡ w p) → occurrences v m j ≡ occurrences w m j

@@ -37,4 +37,6 @@ module _ (order live : List ℕ) (s n k : ℕ) (r : Bool) (count : n ≡ k) (tes
 
       pub places-valid-is-each-once : (y : Bool) → s * 256 + (n - x) ≤ length order → y ≡ eachOnce order live s n → y ≡ placesValid order live s k
       unfolding placesValid placesInStorage
-      places-valid-is-each-once y h e = rw (no-mark-from-is-result, not-false r t, filled-places-is-difference, le-leb (s * 256 + (n - x)) (length order) h) (e ∙ ap (eachOnce order live s) count)
+      places-valid-is-each-once y h e =
+          rw (no-mark-from-is-result, not-false r t, filled-places-is-difference, le-leb (s * 256 + (n - x)) (length order) h)
+          (e ∙ ap (eachOnce order live s) count)

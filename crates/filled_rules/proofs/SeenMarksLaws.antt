@@ -30,11 +30,13 @@ pub record SeenMarks (order live : List ℕ) (s n : ℕ) (seen : List ℕ) (p : 
 module _ (order live : List ℕ) (s n : ℕ) where
   pub block-once-of-each-once : T (eachOnce order live s n) → (j : ℕ) → j < n → occurrences (place order s) (filledPlaces live n) j + markBit live j ≡ 1
   unfolding eachOnce
-  block-once-of-each-once t j h = eqb→eq (occurrences (place order s) (filledPlaces live n) j + markBit live j) 1 (all-at (λ k. eqb (occurrences (place order s) (filledPlaces live n) k + markBit live k) 1) n t j h)
+  block-once-of-each-once t j h = eqb→eq (occurrences (place order s) (filledPlaces live n) j + markBit live j) 1
+      (all-at (λ k. eqb (occurrences (place order s) (filledPlaces live n) k + markBit live k) 1) n t j h)
 
   pub each-once-of-blocks-once : ((j : ℕ) → j < n → occurrences (place order s) (filledPlaces live n) j + markBit live j ≡ 1) → T (eachOnce order live s n)
   unfolding eachOnce
-  each-once-of-blocks-once z = all-of-each (λ k. eqb (occurrences (place order s) (filledPlaces live n) k + markBit live k) 1) n (λ k h. T-of-true _ (eq-eqb _ _ (z k h)))
+  each-once-of-blocks-once z = all-of-each (λ k. eqb (occurrences (place order s) (filledPlaces live n) k + markBit live k) 1) n
+      (λ k h. T-of-true _ (eq-eqb _ _ (z k h)))
 
   module _ (small : n ≤ 256) (none : T (noMarkFrom live n)) where
     filled-and-marked-total : filledPlaces live n + sumBelow (markBit live) n ≡ n
@@ -67,10 +69,12 @@ module _ (order live : List ℕ) (s n : ℕ) where
 
     -- a filled place that holds no block of the superblock
     pub each-once-false-of-high-block : (p m : ℕ) → m ≡ filledPlaces live n → p < m → n ≤ place order s p → false ≡ eachOnce order live s n
-    each-once-false-of-high-block p m em l h = sym (false-of-not-T (eachOnce order live s n) (λ t. not-le-of-lt (filled-below-n-of-each-once t p (omega arith)) h))
+    each-once-false-of-high-block p m em l h =
+        sym (false-of-not-T (eachOnce order live s n) (λ t. not-le-of-lt (filled-below-n-of-each-once t p (omega arith)) h))
 
     -- a filled place that holds a block seen before
-    pub each-once-false-of-repeated-block : (seen : List ℕ) (p m : ℕ) → m ≡ filledPlaces live n → SeenMarks order live s n seen p → p < m → place order s p < n → markBit seen (place order s p) ≡ 1
+    pub each-once-false-of-repeated-block : (seen : List ℕ) (p m : ℕ) → m ≡ filledPlaces live n → SeenMarks order live s n seen p → p < m
+        → place order s p < n → markBit seen (place order s p) ≡ 1
         → false ≡ eachOnce order live s n
     each-once-false-of-repeated-block seen p m em h l b e =
         sym (false-of-not-T (eachOnce order live s n) (λ t.
@@ -82,7 +86,8 @@ module _ (order live : List ℕ) (s n : ℕ) where
         omega arith))
 
     -- all filled places passed: n marks of at most 1 add up to n
-    pub each-once-true-of-all-seen : (seen : List ℕ) (p m : ℕ) → m ≡ filledPlaces live n → SeenMarks order live s n seen p → p ≡ m → true ≡ eachOnce order live s n
+    pub each-once-true-of-all-seen : (seen : List ℕ) (p m : ℕ) → m ≡ filledPlaces live n → SeenMarks order live s n seen p → p ≡ m
+        → true ≡ eachOnce order live s n
     each-once-true-of-all-seen seen p m em h ep = sym (true-of-T (eachOnce order live s n) (each-once-of-blocks-once (λ j l. each j l)))
       where
         full : sumBelow (markBit seen) n ≡ n
@@ -97,7 +102,8 @@ module _ (order live : List ℕ) (s n : ℕ) where
         each j l =
             let a = terms-one-of-full-sum (markBit seen) n (λ k lk. omega (arith, mark-bit-lt-two seen k)) full j l in
             let b = h .marks j in
-            let c : occurrences (place order s) p j ≡ occurrences (place order s) (filledPlaces live n) j = ap (λ (x : ℕ). occurrences (place order s) x j) (ep ∙ em) in
+            let c : occurrences (place order s) p j ≡ occurrences (place order s) (filledPlaces live n) j =
+            ap (λ (x : ℕ). occurrences (place order s) x j) (ep ∙ em) in
             omega arith
 
   pub seen-marks-start : length live ≡ 4 → SeenMarks order live s n live 0

@@ -34,7 +34,8 @@ take-of-either f m n = go (decLe m n)
     go (no g) = take-all m (listed f n) (omega (arith, length-listed f n)) ∙ sym (take-of-more f n m (omega arith))
 
 -- the addresses are read once 512 are
-pub addresses-in-of-all : (b addresses : List ℕ) (i : ℕ) → length addresses ≡ 512 → take i addresses ≡ listed (λ k. fourAt b (9 + 4 * k)) i → i ≤ 512 → 512 ≤ i → take (twoAt b 7) addresses ≡ take 512 (dropAddresses b)
+pub addresses-in-of-all : (b addresses : List ℕ) (i : ℕ) → length addresses ≡ 512 → take i addresses ≡ listed (λ k. fourAt b (9 + 4 * k)) i → i ≤ 512
+    → 512 ≤ i → take (twoAt b 7) addresses ≡ take 512 (dropAddresses b)
 unfolding dropAddresses foursAt
 addresses-in-of-all b addresses i long e h g =
     let all : addresses ≡ listed (λ k. fourAt b (9 + 4 * k)) 512 = listed-end (λ k. fourAt b (9 + 4 * k)) addresses i 512 long e h g in

@@ -15,10 +15,12 @@ names-in-past-end : (b : List ℕ) (j : ℕ) → length b ≤ j → listed (λ m
 unfolding namesIn
 names-in-past-end b j past = listed-of-equal-elements (λ m. 0) (λ m. twoAt b (j + 2 * m)) 1024 (λ m. two-at-past-end b (j + 2 * m) (omega arith))
 
-pub names-in-position-after : (b : List ℕ) (at i position : ℕ) (names : List ℕ) → position ≡ positionAfter b at i → names ≡ namesIn b position → names ≡ namesIn b (at + i)
+pub names-in-position-after : (b : List ℕ) (at i position : ℕ) (names : List ℕ) → position ≡ positionAfter b at i → names ≡ namesIn b position
+    → names ≡ namesIn b (at + i)
 names-in-position-after b at i position names p e = e ∙ ap (namesIn b) p ∙ read-at-position-after (namesIn b) _ b at i (names-in-past-end b)
 
 -- the names are read once all 1024 are
-pub names-in-of-all-names : (b : List ℕ) (at : ℕ) (names : List ℕ) (m : ℕ) → length names ≡ 1024 → take m names ≡ listed (λ i. twoAt b (at + 2 * i)) m → m ≤ 1024 → 1024 ≤ m → names ≡ namesIn b at
+pub names-in-of-all-names : (b : List ℕ) (at : ℕ) (names : List ℕ) (m : ℕ) → length names ≡ 1024 → take m names ≡ listed (λ i. twoAt b (at + 2 * i)) m
+    → m ≤ 1024 → 1024 ≤ m → names ≡ namesIn b at
 unfolding namesIn
 names-in-of-all-names b at names m long e h g = listed-end (λ i. twoAt b (at + 2 * i)) names m 1024 long e h g

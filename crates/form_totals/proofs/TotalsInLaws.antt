@@ -23,11 +23,14 @@ totals-in-past-end b j past =
     (listed-of-equal-elements (λ x. 0) (λ x. byteAt b (j + x)) totalCount (λ x. byte-at-past-end b (j + x) (omega arith)))
     (listed-of-equal-elements (λ x. 0) (λ x. twoAt b (j + (totalCount + 2 * x))) totalCount (λ x. two-at-past-end b (j + (totalCount + 2 * x)) (omega arith)))
 
-pub totals-in-position-after : (b : List ℕ) (at i position : ℕ) (totals : Totals) → position ≡ positionAfter b at i → totals ≡ totalsIn b position → totals ≡ totalsIn b (at + i)
+pub totals-in-position-after : (b : List ℕ) (at i position : ℕ) (totals : Totals) → position ≡ positionAfter b at i → totals ≡ totalsIn b position
+    → totals ≡ totalsIn b (at + i)
 totals-in-position-after b at i position totals p e = e ∙ ap (totalsIn b) p ∙ read-at-position-after (totalsIn b) _ b at i (totals-in-past-end b)
 
 -- the totals are read once all of each kind are
-pub totals-in-of-all-totals : (b : List ℕ) (at : ℕ) (superblocks live : List ℕ) (x : ℕ) → length superblocks ≡ totalCount → length live ≡ totalCount → take x superblocks ≡ listed (λ i. byteAt b (at + i)) x → take x live ≡ listed (λ i. twoAt b (at + (totalCount + 2 * i))) x → x ≤ totalCount → totalCount ≤ x → record { superblocks = superblocks; live = live } ≡ totalsIn b at
+pub totals-in-of-all-totals : (b : List ℕ) (at : ℕ) (superblocks live : List ℕ) (x : ℕ) → length superblocks ≡ totalCount → length live ≡ totalCount
+    → take x superblocks ≡ listed (λ i. byteAt b (at + i)) x → take x live ≡ listed (λ i. twoAt b (at + (totalCount + 2 * i))) x → x ≤ totalCount
+    → totalCount ≤ x → record { superblocks = superblocks; live = live } ≡ totalsIn b at
 unfolding totalsIn
 totals-in-of-all-totals b at superblocks live x long longer s l h g =
     ap₂ (λ (superblocks live : List ℕ). record { superblocks = superblocks; live = live })

@@ -21,7 +21,8 @@ use Rattle.heap_rules.specs.declared.Found.the-variants.{At, Nothing}
 use Rattle.heap_rules.specs.Table.{blank, superblockAt, liveIn, isUnused}
 use Rattle.heap_rules.specs.Counts.{belongs}
 use Rattle.heap_rules.specs.Ranks.{isRanked, isMoreRecent}
-use Rattle.choice_rules.specs.Choice.{prefer, chosenBelow, moreLive, fullerOrMoreRecent, fewerLive, neverPreferred, hasFree, emptyInGlobal, fullest, lowestEmpty, lowestUnused, emptiest}
+use Rattle.choice_rules.specs.Choice.{prefer, chosenBelow, moreLive, fullerOrMoreRecent, fewerLive, neverPreferred, hasFree, emptyInGlobal, fullest}
+use Rattle.choice_rules.specs.Choice.{lowestEmpty, lowestUnused, emptiest}
 use Rattle.heap_laws.proofs.StateFacts.{StrictWeakOrder, IsBest}
 use Rattle.heap_laws.proofs.CountLaws.{owner-and-class-of-belongs, belongs-of-owner-and-class}
 
@@ -65,12 +66,17 @@ facts-of-fuller-or-more-recent b d t = go (ltb (liveIn d) (liveIn b)) refl t
   where
     go : (x : Bool) → ltb (liveIn d) (liveIn b) ≡ x → T (either x (both (eqb (liveIn b) (liveIn d)) (isMoreRecent b d))) → FullerOrMoreRecent b d
     go true e u = inl (ltb→lt (liveIn d) (liveIn b) (T-of-true _ e))
-    go false e u = inr (eqb→eq (liveIn b) (liveIn d) (both-left (eqb (liveIn b) (liveIn d)) _ u), facts-of-more-recent b d (both-right (eqb (liveIn b) (liveIn d)) _ u))
+    go false e u = inr (
+      eqb→eq (liveIn b) (liveIn d) (both-left (eqb (liveIn b) (liveIn d)) _ u),
+      facts-of-more-recent b d (both-right (eqb (liveIn b) (liveIn d)) _ u),
+    )
 
 pub fuller-or-more-recent-of-facts : (b d : Superblock) → FullerOrMoreRecent b d → T (fullerOrMoreRecent b d)
 unfolding fullerOrMoreRecent moreLive
 fuller-or-more-recent-of-facts b d (inl l) = either-left (ltb (liveIn d) (liveIn b)) _ (lt→ltb (liveIn d) (liveIn b) l)
-fuller-or-more-recent-of-facts b d (inr (e, h)) = either-right (ltb (liveIn d) (liveIn b)) _ (both-make (eqb (liveIn b) (liveIn d)) _ (T-of-true _ (eq-eqb (liveIn b) (liveIn d) e)) (more-recent-of-facts b d h))
+fuller-or-more-recent-of-facts b d (inr (e, h)) =
+    either-right (ltb (liveIn d) (liveIn b)) _ (both-make (eqb (liveIn b) (liveIn d)) _ (T-of-true _ (eq-eqb (liveIn b) (liveIn d) e))
+    (more-recent-of-facts b d h))
 
 more-recent-transitive : (a b d : Superblock) → MoreRecent a b → MoreRecent b d → MoreRecent a d
 more-recent-transitive a b d (ranked, first) (also, second) = (ranked, go first second)
@@ -116,9 +122,11 @@ fuller-or-more-recent-negatively-transitive a b d h f = go (decLt (liveIn b) (li
 pub fuller-or-more-recent-is-strict-weak-order : StrictWeakOrder fullerOrMoreRecent
 fuller-or-more-recent-is-strict-weak-order = record {
   is-irreflexive = λ b t. irreflexive b (facts-of-fuller-or-more-recent b b t);
-  is-transitive = λ a b d t u. fuller-or-more-recent-of-facts a d (fuller-or-more-recent-transitive a b d (facts-of-fuller-or-more-recent a b t) (facts-of-fuller-or-more-recent b d u));
+  is-transitive = λ a b d t u. fuller-or-more-recent-of-facts a d
+      (fuller-or-more-recent-transitive a b d (facts-of-fuller-or-more-recent a b t) (facts-of-fuller-or-more-recent b d u));
   is-negatively-transitive = λ a b d t f.
-      fuller-or-more-recent-of-facts a b (fuller-or-more-recent-negatively-transitive a b d (facts-of-fuller-or-more-recent a d t) (λ h. f (fuller-or-more-recent-of-facts b d h)));
+      fuller-or-more-recent-of-facts a b (fuller-or-more-recent-negatively-transitive a b d (facts-of-fuller-or-more-recent a d t)
+      (λ h. f (fuller-or-more-recent-of-facts b d h)));
 }
   where
     irreflexive : (b : Superblock) → FullerOrMoreRecent b b → ⊥
@@ -149,29 +157,44 @@ module _ (meets : Superblock → Bool) (preferred : Superblock → Superblock �
   -- superblock n beside the best of those below it
   module _ (r : StrictWeakOrder preferred) (n : ℕ) where
     -- it does not meet the criterion, or is not preferred
-    best-kept : (k : ℕ) → (T (meets (getD table n blank)) → T (preferred (getD table n blank) (getD table k blank)) → ⊥) → IsBest meets preferred table n k → IsBest meets preferred table (suc n) k
-    best-kept k h b = record { below = omega (arith, b .below); meets-criterion = b .meets-criterion; none-preferred = λ m l t. none m (eq-or-lt-of-le (le-of-suc-le-suc l)) t; preferred-to-earlier = b .preferred-to-earlier }
+    best-kept : (k : ℕ) → (T (meets (getD table n blank)) → T (preferred (getD table n blank) (getD table k blank)) → ⊥)
+        → IsBest meets preferred table n k → IsBest meets preferred table (suc n) k
+    best-kept k h b = record {
+      below = omega (arith, b .below);
+      meets-criterion = b .meets-criterion;
+      none-preferred =
+          λ m l t. none m (eq-or-lt-of-le (le-of-suc-le-suc l)) t;
+      preferred-to-earlier = b .preferred-to-earlier;
+    }
       where
         none : (m : ℕ) → (m ≡ n) ⊎ (m < n) → T (meets (getD table m blank)) → T (preferred (getD table m blank) (getD table k blank)) → ⊥
-        none m (inl q) t u = h (subst (λ (i : ℕ). T (meets (getD table i blank))) q t) (subst (λ (i : ℕ). T (preferred (getD table i blank) (getD table k blank))) q u)
+        none m (inl q) t u = h (subst (λ (i : ℕ). T (meets (getD table i blank))) q t)
+            (subst (λ (i : ℕ). T (preferred (getD table i blank) (getD table k blank))) q u)
         none m (inr q) t u = b .none-preferred m q t u
 
     -- it meets the criterion, and is preferred to each below it that meets the criterion
     best-new : T (meets (getD table n blank)) → ((m : ℕ) → m < n → T (meets (getD table m blank)) → T (preferred (getD table m blank) (getD table n blank)) → ⊥)
         → ((m : ℕ) → m < n → T (meets (getD table m blank)) → T (preferred (getD table n blank) (getD table m blank))) → IsBest meets preferred table (suc n) n
-    best-new w h first = record { below = lt-suc-self n; meets-criterion = w; none-preferred = λ m l t. none m (eq-or-lt-of-le (le-of-suc-le-suc l)) t; preferred-to-earlier = first }
+    best-new w h first = record {
+      below = lt-suc-self n;
+      meets-criterion = w;
+      none-preferred = λ m l t. none m (eq-or-lt-of-le (le-of-suc-le-suc l)) t;
+      preferred-to-earlier = first;
+    }
       where
         none : (m : ℕ) → (m ≡ n) ⊎ (m < n) → T (meets (getD table m blank)) → T (preferred (getD table m blank) (getD table n blank)) → ⊥
         none m (inl q) t u = r .is-irreflexive (getD table n blank) (subst (λ (i : ℕ). T (preferred (getD table i blank) (getD table n blank))) q u)
         none m (inr q) t u = h m q t u
 
-    best-replaced : (k : ℕ) → T (meets (getD table n blank)) → T (preferred (getD table n blank) (getD table k blank)) → IsBest meets preferred table n k → IsBest meets preferred table (suc n) n
+    best-replaced : (k : ℕ) → T (meets (getD table n blank)) → T (preferred (getD table n blank) (getD table k blank)) → IsBest meets preferred table n k
+        → IsBest meets preferred table (suc n) n
     best-replaced k w more b =
         best-new w (λ m l t u. b .none-preferred m l t (r .is-transitive (getD table m blank) (getD table n blank) (getD table k blank) u more))
         (λ m l t. r .is-negatively-transitive (getD table n blank) (getD table m blank) (getD table k blank) more (b .none-preferred m l t))
 
     best-step : (k : ℕ) (w : Bool) → meets (getD table n blank) ≡ w → (f : Found) → ((m : ℕ) → f ≡ At m → IsBest meets preferred table n m)
-        → (f ≡ Nothing → (m : ℕ) → m < n → T (meets (getD table m blank)) → ⊥) → pick w (prefer preferred table f n) f ≡ At k → IsBest meets preferred table (suc n) k
+        → (f ≡ Nothing → (m : ℕ) → m < n → T (meets (getD table m blank)) → ⊥) → pick w (prefer preferred table f n) f ≡ At k
+        → IsBest meets preferred table (suc n) k
     unfolding prefer
     best-step k false w f some none e = best-kept k (λ t u. not-T-of-false (meets (getD table n blank)) w t) (some k e)
     best-step k true w Nothing some none e =
@@ -183,7 +206,8 @@ module _ (meets : Superblock → Bool) (preferred : Superblock → Superblock �
         go true q found =
             subst (IsBest meets preferred table (suc n)) (At-injective n k found)
             (best-replaced m (T-of-true (meets (getD table n blank)) w) (T-of-true (preferred (getD table n blank) (getD table m blank)) q) (some m refl))
-        go false q found = subst (IsBest meets preferred table (suc n)) (At-injective m k found) (best-kept m (λ t u. not-T-of-false (preferred (getD table n blank) (getD table m blank)) q u) (some m refl))
+        go false q found = subst (IsBest meets preferred table (suc n)) (At-injective m k found)
+            (best-kept m (λ t u. not-T-of-false (preferred (getD table n blank) (getD table m blank)) q u) (some m refl))
 
   prefer-not-nothing : (f : Found) (k : ℕ) → prefer preferred table f k ≡ Nothing → ⊥
   unfolding prefer
@@ -198,7 +222,8 @@ module _ (meets : Superblock → Bool) (preferred : Superblock → Superblock �
   pub none-meets-of-chosen-nothing : (n : ℕ) → chosenBelow meets preferred table n ≡ Nothing → (m : ℕ) → m < n → T (meets (getD table m blank)) → ⊥
   unfolding chosenBelow
   none-meets-of-chosen-nothing zero e m l t = omega arith
-  none-meets-of-chosen-nothing (suc n) e m l t = go (λ q. none-meets-of-chosen-nothing n q m) (meets (getD table n blank)) refl e (eq-or-lt-of-le (le-of-suc-le-suc l))
+  none-meets-of-chosen-nothing (suc n) e m l t = go (λ q. none-meets-of-chosen-nothing n q m) (meets (getD table n blank)) refl e
+      (eq-or-lt-of-le (le-of-suc-le-suc l))
     where
       go : (chosenBelow meets preferred table n ≡ Nothing → m < n → T (meets (getD table m blank)) → ⊥) → (w : Bool) → meets (getD table n blank) ≡ w
           → pick w (prefer preferred table (chosenBelow meets preferred table n) n) (chosenBelow meets preferred table n) ≡ Nothing → (m ≡ n) ⊎ (m < n) → ⊥
@@ -210,13 +235,15 @@ module _ (meets : Superblock → Bool) (preferred : Superblock → Superblock �
   unfolding chosenBelow
   chosen-nothing-of-none-meets zero h = refl
   chosen-nothing-of-none-meets (suc n) h =
-      pick-false (meets (getD table n blank)) (prefer preferred table (chosenBelow meets preferred table n) n) (chosenBelow meets preferred table n) (false-of-not-T (meets (getD table n blank)) (h n (lt-suc-self n)))
+      pick-false (meets (getD table n blank)) (prefer preferred table (chosenBelow meets preferred table n) n) (chosenBelow meets preferred table n)
+      (false-of-not-T (meets (getD table n blank)) (h n (lt-suc-self n)))
       ∙ chosen-nothing-of-none-meets n (λ m l. h m (omega arith))
 
   pub best-of-chosen : StrictWeakOrder preferred → (n k : ℕ) → chosenBelow meets preferred table n ≡ At k → IsBest meets preferred table n k
   unfolding chosenBelow
   best-of-chosen r zero k e = absurd (At-not-Nothing k (sym e))
-  best-of-chosen r (suc n) k e = best-step r n k (meets (getD table n blank)) refl (chosenBelow meets preferred table n) (best-of-chosen r n) (none-meets-of-chosen-nothing n) e
+  best-of-chosen r (suc n) k e = best-step r n k (meets (getD table n blank)) refl (chosenBelow meets preferred table n) (best-of-chosen r n)
+      (none-meets-of-chosen-nothing n) e
 
   -- where one meets the criterion, one is found
   pub chosen-of-meets : (n m : ℕ) → m < n → T (meets (getD table m blank)) → (k : ℕ) × (chosenBelow meets preferred table n ≡ At k)
@@ -270,19 +297,25 @@ unfolding fullest
 best-of-fullest h c s k e = best-of-chosen (hasFree h c) fullerOrMoreRecent (s .table) fuller-or-more-recent-is-strict-weak-order 64 k e
 
 -- an offered superblock such that none offered has more live ..
-pub fullest-has-most-live : (h c : ℕ) (s : State) (k m : ℕ) → fullest h c s ≡ At k → m < 64 → T (hasFree h c (superblockAt s m)) → liveIn (superblockAt s m) ≤ liveIn (superblockAt s k)
-fullest-has-most-live h c s k m e l t = le-of-not-below (λ more. best-of-fullest h c s k e .none-preferred m l t (fuller-or-more-recent-of-facts (superblockAt s m) (superblockAt s k) (inl more)))
+pub fullest-has-most-live : (h c : ℕ) (s : State) (k m : ℕ) → fullest h c s ≡ At k → m < 64 → T (hasFree h c (superblockAt s m))
+    → liveIn (superblockAt s m) ≤ liveIn (superblockAt s k)
+fullest-has-most-live h c s k m e l t =
+    le-of-not-below (λ more. best-of-fullest h c s k e .none-preferred m l t
+    (fuller-or-more-recent-of-facts (superblockAt s m) (superblockAt s k) (inl more)))
 
 -- .. nor as many and was freed into more recently: "the one freed into most recently since it was last renewed comes first" ..
-pub fullest-is-most-recent-among-equals : (h c : ℕ) (s : State) (k m : ℕ) → fullest h c s ≡ At k → m < 64 → T (hasFree h c (superblockAt s m)) → liveIn (superblockAt s m) ≡ liveIn (superblockAt s k)
+pub fullest-is-most-recent-among-equals : (h c : ℕ) (s : State) (k m : ℕ) → fullest h c s ≡ At k → m < 64 → T (hasFree h c (superblockAt s m))
+    → liveIn (superblockAt s m) ≡ liveIn (superblockAt s k)
     → MoreRecent (superblockAt s m) (superblockAt s k) → ⊥
 fullest-is-most-recent-among-equals h c s k m e l t same recent =
     best-of-fullest h c s k e .none-preferred m l t (fuller-or-more-recent-of-facts (superblockAt s m) (superblockAt s k) (inr (same, recent)))
 
 -- .. nor as many, with no rank either and a lower number: "Those not freed into since then follow, lower number first"
-pub fullest-is-lowest-among-unranked : (h c : ℕ) (s : State) (k m : ℕ) → fullest h c s ≡ At k → m < k → T (hasFree h c (superblockAt s m)) → liveIn (superblockAt s m) ≡ liveIn (superblockAt s k)
+pub fullest-is-lowest-among-unranked : (h c : ℕ) (s : State) (k m : ℕ) → fullest h c s ≡ At k → m < k → T (hasFree h c (superblockAt s m))
+    → liveIn (superblockAt s m) ≡ liveIn (superblockAt s k)
     → superblockAt s m .rank ≡ 0 → superblockAt s k .rank ≡ 0 → ⊥
-fullest-is-lowest-among-unranked h c s k m e l t same none also = go (facts-of-fuller-or-more-recent (superblockAt s k) (superblockAt s m) (best-of-fullest h c s k e .preferred-to-earlier m l t))
+fullest-is-lowest-among-unranked h c s k m e l t same none also =
+    go (facts-of-fuller-or-more-recent (superblockAt s k) (superblockAt s m) (best-of-fullest h c s k e .preferred-to-earlier m l t))
   where
     go : FullerOrMoreRecent (superblockAt s k) (superblockAt s m) → ⊥
     go (inl more) = omega arith
@@ -325,13 +358,17 @@ pub best-of-emptiest : (h c : ℕ) (s : State) (k : ℕ) → emptiest h c s ≡ 
 unfolding emptiest
 best-of-emptiest h c s k e = best-of-chosen (belongs h c) fewerLive (s .table) fewer-live-is-strict-weak-order 64 k e
 
-pub emptiest-has-fewest-live : (h c : ℕ) (s : State) (k m : ℕ) → emptiest h c s ≡ At k → m < 64 → T (belongs h c (superblockAt s m)) → liveIn (superblockAt s k) ≤ liveIn (superblockAt s m)
+pub emptiest-has-fewest-live : (h c : ℕ) (s : State) (k m : ℕ) → emptiest h c s ≡ At k → m < 64 → T (belongs h c (superblockAt s m))
+    → liveIn (superblockAt s k) ≤ liveIn (superblockAt s m)
 unfolding fewerLive
-emptiest-has-fewest-live h c s k m e l t = le-of-not-ltb (liveIn (superblockAt s m)) (liveIn (superblockAt s k)) (best-of-emptiest h c s k e .none-preferred m l t)
+emptiest-has-fewest-live h c s k m e l t = le-of-not-ltb (liveIn (superblockAt s m)) (liveIn (superblockAt s k))
+    (best-of-emptiest h c s k e .none-preferred m l t)
 
-pub emptiest-lowest-among-equals : (h c : ℕ) (s : State) (k m : ℕ) → emptiest h c s ≡ At k → m < k → T (belongs h c (superblockAt s m)) → liveIn (superblockAt s k) < liveIn (superblockAt s m)
+pub emptiest-lowest-among-equals : (h c : ℕ) (s : State) (k m : ℕ) → emptiest h c s ≡ At k → m < k → T (belongs h c (superblockAt s m))
+    → liveIn (superblockAt s k) < liveIn (superblockAt s m)
 unfolding fewerLive
-emptiest-lowest-among-equals h c s k m e l t = ltb→lt (liveIn (superblockAt s k)) (liveIn (superblockAt s m)) (best-of-emptiest h c s k e .preferred-to-earlier m l t)
+emptiest-lowest-among-equals h c s k m e l t = ltb→lt (liveIn (superblockAt s k)) (liveIn (superblockAt s m))
+    (best-of-emptiest h c s k e .preferred-to-earlier m l t)
 
 pub none-belongs-of-emptiest-nothing : (h c : ℕ) (s : State) → emptiest h c s ≡ Nothing → (m : ℕ) → m < 64 → T (belongs h c (superblockAt s m)) → ⊥
 unfolding emptiest

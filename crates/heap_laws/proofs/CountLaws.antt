@@ -11,10 +11,9 @@ use lib.Seq.{getD-set-same, getD-set-other}
 use lib.Dec.{T, eqb, leb, ltb, eqb→eq, leb→le, ltb→lt, lt→ltb}
 use Rattle.base_laws.specs.Sums.{pick, both, one, sumBelow}
 use Rattle.base_laws.proofs.TestLaws.{T-of-true, true-of-T, false-of-not-T, equal-of-iff, both-left, both-right, both-make, one-le-one}
-use Rattle.base_laws.proofs.SumLaws.{sum-cong, sum-of-zeros, sum-le-of-terms-le, sum-le-mul, sum-scale, pos-term-of-pos-sum}
+use Rattle.base_laws.proofs.SumLaws.{sum-cong, sum-of-zeros, sum-le-of-terms-le, sum-scale, pos-term-of-pos-sum}
 use Rattle.base_laws.proofs.Counting.{sum-swap, sum-le-of-terms-le-one, indicator-sum-inside, indicator-sum-outside}
 use Rattle.base_laws.proofs.ReplacedElement.{sum-set}
-use Rattle.marks_laws.proofs.MarkLaws.{live-count-le-256}
 use Rattle.heap_rules.specs.declared.Superblock.{Superblock}
 use Rattle.heap_rules.specs.declared.State.{State}
 use Rattle.heap_rules.specs.declared.Setup.{Setup}
@@ -43,11 +42,13 @@ total-cong f s t h = sum-cong (λ k. f (superblockAt s k)) (λ k. f (superblockA
 -- ---- what a superblock that belongs, or not, adds to the counts
 pub owner-and-class-of-belongs : (h c : ℕ) (b : Superblock) → T (belongs h c b) → (b .owner ≡ h) × (b .class ≡ c)
 unfolding belongs
-owner-and-class-of-belongs h c b t = (eqb→eq (b .owner) h (both-left (eqb (b .owner) h) (eqb (b .class) c) t), eqb→eq (b .class) c (both-right (eqb (b .owner) h) (eqb (b .class) c) t))
+owner-and-class-of-belongs h c b t =
+    (eqb→eq (b .owner) h (both-left (eqb (b .owner) h) (eqb (b .class) c) t), eqb→eq (b .class) c (both-right (eqb (b .owner) h) (eqb (b .class) c) t))
 
 pub belongs-of-owner-and-class : (h c : ℕ) (b : Superblock) → b .owner ≡ h → b .class ≡ c → T (belongs h c b)
 unfolding belongs
-belongs-of-owner-and-class h c b p q = both-make (eqb (b .owner) h) (eqb (b .class) c) (T-of-true _ (eq-eqb (b .owner) h p)) (T-of-true _ (eq-eqb (b .class) c q))
+belongs-of-owner-and-class h c b p q = both-make (eqb (b .owner) h) (eqb (b .class) c) (T-of-true _ (eq-eqb (b .owner) h p))
+    (T-of-true _ (eq-eqb (b .class) c q))
 
 pub belongs-true : (h c : ℕ) (b : Superblock) → b .owner ≡ h → b .class ≡ c → belongs h c b ≡ true
 belongs-true h c b p q = true-of-T (belongs h c b) (belongs-of-owner-and-class h c b p q)
@@ -112,14 +113,16 @@ belongs-of-superblocks-pos h c s p =
 
 pub superblocks-zero-of-none-belongs : (h c : ℕ) (s : State) → ((k : ℕ) → k < 64 → T (belongs h c (superblockAt s k)) → ⊥) → superblocksOf h c s ≡ 0
 unfolding superblocksOf total oneIfBelongs
-superblocks-zero-of-none-belongs h c s f = sum-of-zeros (λ k. one (belongs h c (superblockAt s k))) 64 (λ k l. ap one (false-of-not-T (belongs h c (superblockAt s k)) (f k l)))
+superblocks-zero-of-none-belongs h c s f = sum-of-zeros (λ k. one (belongs h c (superblockAt s k))) 64
+    (λ k l. ap one (false-of-not-T (belongs h c (superblockAt s k)) (f k l)))
 
 pub superblocks-of-le-64 : (h c : ℕ) (s : State) → superblocksOf h c s ≤ 64
 unfolding superblocksOf total oneIfBelongs
 superblocks-of-le-64 h c s = sum-le-of-terms-le-one (λ k. one (belongs h c (superblockAt s k))) 64 (λ k l. one-le-one (belongs h c (superblockAt s k)))
 
 -- where each superblock of the heap and class has at least l live, there are at least l for each
-pub live-of-at-least-each : (h c l : ℕ) (s : State) → ((k : ℕ) → k < 64 → T (belongs h c (superblockAt s k)) → l ≤ liveIn (superblockAt s k)) → superblocksOf h c s * l ≤ liveOf h c s
+pub live-of-at-least-each : (h c l : ℕ) (s : State) → ((k : ℕ) → k < 64 → T (belongs h c (superblockAt s k)) → l ≤ liveIn (superblockAt s k))
+    → superblocksOf h c s * l ≤ liveOf h c s
 unfolding superblocksOf liveOf total oneIfBelongs liveIfBelongs
 live-of-at-least-each h c l s f =
     let e = sum-scale l (λ k. one (belongs h c (superblockAt s k))) 64 in
@@ -162,7 +165,9 @@ sum-over-heaps-of-one p c b = go (ℕ-discrete (b .class) c) (decLe (b .owner) p
     hits e = sum-cong (λ i. oneIfBelongs i c b) (λ i. one (eqb (b .owner) i)) (suc p) (λ i l. one-by-owner i c b e)
 
     go : Dec (b .class ≡ c) → Dec (b .owner ≤ p) → sumBelow (λ i. oneIfBelongs i c b) (suc p) ≡ one (both (leb (b .owner) p) (eqb (b .class) c))
-    go (no f) d = sum-of-zeros (λ i. oneIfBelongs i c b) (suc p) (λ i l. one-if-belongs-other-class i c b f) ∙ sym (ap one (false-of-not-T (both (leb (b .owner) p) (eqb (b .class) c)) (λ t. f (eqb→eq (b .class) c (both-right (leb (b .owner) p) (eqb (b .class) c) t)))))
+    go (no f) d = sum-of-zeros (λ i. oneIfBelongs i c b) (suc p) (λ i l. one-if-belongs-other-class i c b f)
+        ∙ sym (ap one (false-of-not-T (both (leb (b .owner) p) (eqb (b .class) c))
+        (λ t. f (eqb→eq (b .class) c (both-right (leb (b .owner) p) (eqb (b .class) c) t)))))
     go (yes e) (yes l) = hits e ∙ indicator-sum-inside (b .owner) (suc p) (omega arith) ∙ simp (le-leb (b .owner) p l, eq-eqb (b .class) c e)
     go (yes e) (no f) = hits e ∙ indicator-sum-outside (b .owner) (suc p) (lt-of-not-le f) ∙ simp (lt-leb (b .owner) p (lt-of-not-le f))
 
@@ -181,10 +186,12 @@ heaps-of-owned-of-class p c b h t =
 -- over any n heaps a superblock's live blocks are counted as often as the superblock itself
 live-over-heaps : (h : ℕ → ℕ) (n c : ℕ) (b : Superblock) → sumBelow (λ i. liveIfBelongs (h i) c b) n ≡ liveIn b * sumBelow (λ i. oneIfBelongs (h i) c b) n
 live-over-heaps h n c b =
-    sum-cong (λ i. liveIfBelongs (h i) c b) (λ i. liveIn b * oneIfBelongs (h i) c b) n (λ i l. live-if-belongs-as-product (h i) c b) ∙ sum-scale (liveIn b) (λ i. oneIfBelongs (h i) c b) n
+    sum-cong (λ i. liveIfBelongs (h i) c b) (λ i. liveIn b * oneIfBelongs (h i) c b) n (λ i l. live-if-belongs-as-product (h i) c b)
+    ∙ sum-scale (liveIn b) (λ i. oneIfBelongs (h i) c b) n
 
 -- where a number of each superblock is the sum of a number for each heap, so are the totals
-total-over-heaps : (p : ℕ) (s : State) (f : Superblock → ℕ) (g : ℕ → Superblock → ℕ) → ((k : ℕ) → k < 64 → f (superblockAt s k) ≡ sumBelow (λ i. g i (superblockAt s k)) (suc p))
+total-over-heaps : (p : ℕ) (s : State) (f : Superblock → ℕ) (g : ℕ → Superblock → ℕ)
+    → ((k : ℕ) → k < 64 → f (superblockAt s k) ≡ sumBelow (λ i. g i (superblockAt s k)) (suc p))
     → total f (s .table) ≡ total (g 0) (s .table) + sumBelow (λ i. total (g (suc i)) (s .table)) p
 unfolding total
 total-over-heaps p s f g each =
@@ -196,7 +203,8 @@ total-over-heaps p s f g each =
 module _ (p c : ℕ) (s : State) (q : p < runOwner) (h : (k : ℕ) → k < 64 → superblockAt s k .owner < runOwner → superblockAt s k .owner ≤ p) where
   one-over-heaps : (k : ℕ) → k < 64 → one (isOwnedOfClass c (superblockAt s k)) ≡ sumBelow (λ i. oneIfBelongs i c (superblockAt s k)) (suc p)
   one-over-heaps k l =
-      ap one (equal-of-iff (isOwnedOfClass c (superblockAt s k)) (ownedByHeapsTo p c (superblockAt s k)) (heaps-of-owned-of-class p c (superblockAt s k) (h k l)) (owned-of-class-of-heaps p c (superblockAt s k) q))
+      ap one (equal-of-iff (isOwnedOfClass c (superblockAt s k)) (ownedByHeapsTo p c (superblockAt s k))
+      (heaps-of-owned-of-class p c (superblockAt s k) (h k l)) (owned-of-class-of-heaps p c (superblockAt s k) q))
       ∙ sym (sum-over-heaps-of-one p c (superblockAt s k))
 
   pub owned-is-sum-over-heaps : superblocksOfClass c s ≡ superblocksOf 0 c s + sumBelow (λ i. superblocksOf (suc i) c s) p
@@ -223,13 +231,20 @@ unfolding liveOf liveOfClass total
 live-of-heaps-le-live-of-class p c s q =
     subst (λ (x : ℕ). x ≤ sumBelow (λ k. pick (isOwnedOfClass c (superblockAt s k)) (liveIn (superblockAt s k)) 0) 64)
     (sym (sum-swap (λ i k. liveIfBelongs (suc i) c (superblockAt s k)) p 64))
-    (sum-le-of-terms-le (λ k. sumBelow (λ i. liveIfBelongs (suc i) c (superblockAt s k)) p) (λ k. pick (isOwnedOfClass c (superblockAt s k)) (liveIn (superblockAt s k)) 0) 64 (λ k l. each (superblockAt s k)))
+    (sum-le-of-terms-le (λ k. sumBelow (λ i. liveIfBelongs (suc i) c (superblockAt s k)) p)
+    (λ k. pick (isOwnedOfClass c (superblockAt s k)) (liveIn (superblockAt s k)) 0) 64 (λ k l. each (superblockAt s k)))
   where
     each : (b : Superblock) → sumBelow (λ i. liveIfBelongs (suc i) c b) p ≤ pick (isOwnedOfClass c b) (liveIn b) 0
     each b =
         let scaled = live-over-heaps suc p c b in
         let few : sumBelow (λ i. oneIfBelongs (suc i) c b) p ≤ one (isOwnedOfClass c b) =
-        omega (arith, sum-from-heap-0 (λ i. oneIfBelongs i c b) p, sum-over-heaps-of-one p c b, one-mono (ownedByHeapsTo p c b) (isOwnedOfClass c b) (owned-of-class-of-heaps p c b q)) in
+        omega (
+          arith,
+          sum-from-heap-0 (λ i. oneIfBelongs i c b) p,
+          sum-over-heaps-of-one p c b,
+          one-mono (ownedByHeapsTo p c b) (isOwnedOfClass c b)
+              (owned-of-class-of-heaps p c b q),
+        ) in
         omega (arith, pick-as-product (isOwnedOfClass c b) (liveIn b), mul-le-mul-left (liveIn b) few)
 
 -- ---- a new state has none

@@ -23,38 +23,48 @@ use Rattle.heap_rules.specs.declared.Found.{Found}
 use Rattle.heap_rules.specs.declared.Found.the-variants.{At, Nothing}
 use Rattle.heap_rules.specs.declared.Moved.{Moved}
 use Rattle.heap_rules.specs.Table.{runOwner, blank, superblockAt, liveIn, isOfHeap, withOwner}
-use Rattle.heap_rules.specs.Counts.{total, belongs, isOwnedOfClass, oneIfBelongs, liveIfBelongs, superblocksOf, blocksIn, liveOf, superblocksOfClass, liveOfClass, ownersChanged}
+use Rattle.heap_rules.specs.Counts.{total, belongs, isOwnedOfClass, oneIfBelongs, liveIfBelongs, superblocksOf, blocksIn, liveOf, superblocksOfClass}
+use Rattle.heap_rules.specs.Counts.{liveOfClass, ownersChanged}
 use Rattle.choice_rules.specs.Choice.{emptiest}
 use Rattle.move_rules.specs.Moves.{bothConditions, mustMove, transferred, foundTransferred, transfersUpTo, excessTransferred}
 use Rattle.heap_laws.proofs.ChoiceLaws.{best-of-emptiest, emptiest-has-fewest-live, none-belongs-of-emptiest-nothing}
-use Rattle.heap_laws.proofs.CountLaws.{total-with-superblock, owner-and-class-of-belongs, belongs-of-owner-and-class, one-if-belongs-is-1, one-if-belongs-other-owner, one-if-belongs-other-class, live-if-belongs-is-live-in, live-if-belongs-other-owner, live-if-belongs-other-class, belongs-of-superblocks-pos, superblocks-of-le-64, live-of-at-least-each}
+use Rattle.heap_laws.proofs.CountLaws.{total-with-superblock, owner-and-class-of-belongs, belongs-of-owner-and-class, one-if-belongs-is-1}
+use Rattle.heap_laws.proofs.CountLaws.{one-if-belongs-other-owner, one-if-belongs-other-class, live-if-belongs-is-live-in}
+use Rattle.heap_laws.proofs.CountLaws.{live-if-belongs-other-owner, live-if-belongs-other-class, belongs-of-superblocks-pos, superblocks-of-le-64}
+use Rattle.heap_laws.proofs.CountLaws.{live-of-at-least-each}
 use Rattle.heap_laws.proofs.StateFacts.{WithinLimits, Sparse, TransferredFrom, InvariantBeforeFrees}
 use Rattle.heap_rules.specs.Totals.{TotalsKept}
 use Rattle.heap_laws.proofs.TotalsLaws.{totals-kept-with-superblock}
 
 -- the conditions as orders
-pub conditions-of-must-move : (h c : ℕ) (s : State) → T (mustMove h c s) → (liveOf h c s + s .setup .spare * blocksOf c < blocksIn h c s) × (s .setup .q * liveOf h c s < (s .setup .q - s .setup .p) * blocksIn h c s)
+pub conditions-of-must-move : (h c : ℕ) (s : State) → T (mustMove h c s) → (liveOf h c s + s .setup .spare * blocksOf c < blocksIn h c s)
+    × (s .setup .q * liveOf h c s < (s .setup .q - s .setup .p) * blocksIn h c s)
 unfolding mustMove bothConditions
-conditions-of-must-move h c s = go (liveOf h c s + s .setup .spare * blocksOf c) (blocksIn h c s) (s .setup .q * liveOf h c s) ((s .setup .q - s .setup .p) * blocksIn h c s)
+conditions-of-must-move h c s = go (liveOf h c s + s .setup .spare * blocksOf c) (blocksIn h c s) (s .setup .q * liveOf h c s)
+    ((s .setup .q - s .setup .p) * blocksIn h c s)
   where
     go : (w x y z : ℕ) → T (both (ltb w x) (ltb y z)) → (w < x) × (y < z)
     go w x y z t = (ltb→lt w x (both-left (ltb w x) (ltb y z) t), ltb→lt y z (both-right (ltb w x) (ltb y z) t))
 
-pub must-move-of-conditions : (h c : ℕ) (s : State) → liveOf h c s + s .setup .spare * blocksOf c < blocksIn h c s → s .setup .q * liveOf h c s < (s .setup .q - s .setup .p) * blocksIn h c s → T (mustMove h c s)
+pub must-move-of-conditions : (h c : ℕ) (s : State) → liveOf h c s + s .setup .spare * blocksOf c < blocksIn h c s
+    → s .setup .q * liveOf h c s < (s .setup .q - s .setup .p) * blocksIn h c s → T (mustMove h c s)
 unfolding mustMove bothConditions
-must-move-of-conditions h c s = go (liveOf h c s + s .setup .spare * blocksOf c) (blocksIn h c s) (s .setup .q * liveOf h c s) ((s .setup .q - s .setup .p) * blocksIn h c s)
+must-move-of-conditions h c s = go (liveOf h c s + s .setup .spare * blocksOf c) (blocksIn h c s) (s .setup .q * liveOf h c s)
+    ((s .setup .q - s .setup .p) * blocksIn h c s)
   where
     go : (w x y z : ℕ) → w < x → y < z → T (both (ltb w x) (ltb y z))
     go w x y z a b = both-make (ltb w x) (ltb y z) (lt→ltb w x a) (lt→ltb y z b)
 
 -- where the move rule does not ask for a move, one of its conditions is not met, and the other way round
 pub condition-fails-of-not-must-move : (h c : ℕ) (s : State) → (T (mustMove h c s) → ⊥) → InvariantBeforeFrees 0 h c s
-condition-fails-of-not-must-move h c s f = go (decLt (liveOf h c s + s .setup .spare * blocksOf c) (blocksIn h c s)) (decLt (s .setup .q * liveOf h c s) ((s .setup .q - s .setup .p) * blocksIn h c s))
+condition-fails-of-not-must-move h c s f = go (decLt (liveOf h c s + s .setup .spare * blocksOf c) (blocksIn h c s))
+    (decLt (s .setup .q * liveOf h c s) ((s .setup .q - s .setup .p) * blocksIn h c s))
   where
     same : liveOf h c s + 0 ≡ liveOf h c s
     same = omega arith
 
-    go : Dec (liveOf h c s + s .setup .spare * blocksOf c < blocksIn h c s) → Dec (s .setup .q * liveOf h c s < (s .setup .q - s .setup .p) * blocksIn h c s) → InvariantBeforeFrees 0 h c s
+    go : Dec (liveOf h c s + s .setup .spare * blocksOf c < blocksIn h c s)
+        → Dec (s .setup .q * liveOf h c s < (s .setup .q - s .setup .p) * blocksIn h c s) → InvariantBeforeFrees 0 h c s
     go (yes a) (yes b) = absurd (f (must-move-of-conditions h c s a b))
     go (yes a) (no b) = inr (subst (λ (u : ℕ). (s .setup .q - s .setup .p) * blocksIn h c s ≤ s .setup .q * u) (sym same) (le-of-not-below b))
     go (no a) q = inl (omega (arith, le-of-not-below a))
@@ -65,7 +75,8 @@ not-must-move-of-condition-fails h c s fails must = go fails (conditions-of-must
     same : liveOf h c s + 0 ≡ liveOf h c s
     same = omega arith
 
-    go : InvariantBeforeFrees 0 h c s → (liveOf h c s + s .setup .spare * blocksOf c < blocksIn h c s) × (s .setup .q * liveOf h c s < (s .setup .q - s .setup .p) * blocksIn h c s) → ⊥
+    go : InvariantBeforeFrees 0 h c s → (liveOf h c s + s .setup .spare * blocksOf c < blocksIn h c s)
+        × (s .setup .q * liveOf h c s < (s .setup .q - s .setup .p) * blocksIn h c s) → ⊥
     go (inl l) met = omega (arith, met .0)
     go (inr l) met = omega (arith, met .1, subst (λ (u : ℕ). (s .setup .q - s .setup .p) * blocksIn h c s ≤ s .setup .q * u) same l)
 
@@ -74,7 +85,8 @@ pub superblocks-pos-of-must-move : (h c : ℕ) (s : State) → T (mustMove h c s
 unfolding blocksIn
 superblocks-pos-of-must-move h c s t = go (conditions-of-must-move h c s t .0) (eq-zero-or-pos (superblocksOf h c s))
   where
-    go : liveOf h c s + s .setup .spare * blocksOf c < superblocksOf h c s * blocksOf c → (superblocksOf h c s ≡ 0) ⊎ (0 < superblocksOf h c s) → 0 < superblocksOf h c s
+    go : liveOf h c s + s .setup .spare * blocksOf c < superblocksOf h c s * blocksOf c → (superblocksOf h c s ≡ 0) ⊎ (0 < superblocksOf h c s)
+        → 0 < superblocksOf h c s
     go l (inl z) = let e : superblocksOf h c s * blocksOf c ≡ 0 = rw z (zero-mul (blocksOf c)) in omega arith
     go l (inr p) = p
 
@@ -85,9 +97,11 @@ emptiest-found-of-must-move h c s t = go (emptiest h c s) refl (belongs-of-super
     go (At k) e w = (k, e)
     go Nothing e w = absurd (none-belongs-of-emptiest-nothing h c s e (w .0) (w .1) (w .2))
 
-pub emptiest-sparse-of-must-move : (h c : ℕ) (s : State) (k : ℕ) → T (mustMove h c s) → emptiest h c s ≡ At k → s .setup .q * liveIn (superblockAt s k) < (s .setup .q - s .setup .p) * blocksOf c
+pub emptiest-sparse-of-must-move : (h c : ℕ) (s : State) (k : ℕ) → T (mustMove h c s) → emptiest h c s ≡ At k
+    → s .setup .q * liveIn (superblockAt s k) < (s .setup .q - s .setup .p) * blocksOf c
 unfolding blocksIn
-emptiest-sparse-of-must-move h c s k t e = go (s .setup .q) (s .setup .q - s .setup .p) (superblocksOf h c s) (blocksOf c) (liveOf h c s) (liveIn (superblockAt s k)) (conditions-of-must-move h c s t .1)
+emptiest-sparse-of-must-move h c s k t e = go (s .setup .q) (s .setup .q - s .setup .p) (superblocksOf h c s) (blocksOf c) (liveOf h c s)
+    (liveIn (superblockAt s k)) (conditions-of-must-move h c s t .1)
     (live-of-at-least-each h c (liveIn (superblockAt s k)) s (λ m l w. emptiest-has-fewest-live h c s k m e l w))
   where
     go : (q d w n u l : ℕ) → q * u < d * (w * n) → w * l ≤ u → q * l < d * n
@@ -124,11 +138,23 @@ module _ (h c : ℕ) (s : State) (k : ℕ) (long : length (s .table) ≡ 64) (po
 
   transfer-superblocks : superblocksOf h c (transferred k s) + 1 ≡ superblocksOf h c s
   unfolding superblocksOf
-  transfer-superblocks = omega (arith, transfer-total (oneIfBelongs h c), one-if-belongs-is-1 h c (superblockAt s k) (transfer-owner-and-class .0) (transfer-owner-and-class .1), one-if-belongs-other-owner h c (withOwner 0 (superblockAt s k)) (zero-not-processor-heap h pos))
+  transfer-superblocks = omega (
+    arith,
+    transfer-total (oneIfBelongs h c),
+    one-if-belongs-is-1 h c (superblockAt s k) (transfer-owner-and-class .0)
+        (transfer-owner-and-class .1),
+    one-if-belongs-other-owner h c (withOwner 0 (superblockAt s k)) (zero-not-processor-heap h pos),
+  )
 
   transfer-live : liveOf h c (transferred k s) + liveIn (superblockAt s k) ≡ liveOf h c s
   unfolding liveOf
-  transfer-live = omega (arith, transfer-total (liveIfBelongs h c), live-if-belongs-is-live-in h c (superblockAt s k) (transfer-owner-and-class .0) (transfer-owner-and-class .1), live-if-belongs-other-owner h c (withOwner 0 (superblockAt s k)) (zero-not-processor-heap h pos))
+  transfer-live = omega (
+    arith,
+    transfer-total (liveIfBelongs h c),
+    live-if-belongs-is-live-in h c (superblockAt s k) (transfer-owner-and-class .0)
+        (transfer-owner-and-class .1),
+    live-if-belongs-other-owner h c (withOwner 0 (superblockAt s k)) (zero-not-processor-heap h pos),
+  )
 
   -- another processor heap or class has not lost it
   module _ (i d : ℕ) (p : 0 < i) (f : (i ≡ h) × (d ≡ c) → ⊥) where
@@ -144,17 +170,32 @@ module _ (h c : ℕ) (s : State) (k : ℕ) (long : length (s .table) ≡ 64) (po
 
     transfer-superblocks-of-other-pair : superblocksOf i d (transferred k s) ≡ superblocksOf i d s
     unfolding superblocksOf
-    transfer-superblocks-of-other-pair = omega (arith, transfer-total (oneIfBelongs i d), other-pair-counts-zero .0, one-if-belongs-other-owner i d (withOwner 0 (superblockAt s k)) (zero-not-processor-heap i p))
+    transfer-superblocks-of-other-pair =
+        omega (
+          arith,
+          transfer-total (oneIfBelongs i d),
+          other-pair-counts-zero .0,
+          one-if-belongs-other-owner i d (withOwner 0 (superblockAt s k))
+              (zero-not-processor-heap i p),
+        )
 
     transfer-live-of-other-pair : liveOf i d (transferred k s) ≡ liveOf i d s
     unfolding liveOf
-    transfer-live-of-other-pair = omega (arith, transfer-total (liveIfBelongs i d), other-pair-counts-zero .1, live-if-belongs-other-owner i d (withOwner 0 (superblockAt s k)) (zero-not-processor-heap i p))
+    transfer-live-of-other-pair =
+        omega (
+          arith,
+          transfer-total (liveIfBelongs i d),
+          other-pair-counts-zero .1,
+          live-if-belongs-other-owner i d (withOwner 0 (superblockAt s k))
+              (zero-not-processor-heap i p),
+        )
 
   -- it stays one of its class
   transfer-owned-of-class : h < runOwner → (d : ℕ) → isOwnedOfClass d (superblockAt s k) ≡ isOwnedOfClass d (withOwner 0 (superblockAt s k))
   unfolding isOwnedOfClass isOfHeap
   transfer-owned-of-class l d =
-      ap (λ (x : Bool). both x (eqb (superblockAt s k .class) d)) (lt-ltb (superblockAt s k .owner) runOwner (subst (λ (x : ℕ). x < runOwner) (sym (transfer-owner-and-class .0)) l))
+      ap (λ (x : Bool). both x (eqb (superblockAt s k .class) d))
+      (lt-ltb (superblockAt s k .owner) runOwner (subst (λ (x : ℕ). x < runOwner) (sym (transfer-owner-and-class .0)) l))
 
   transfer-owned : h < runOwner → (d : ℕ) → superblocksOfClass d (transferred k s) ≡ superblocksOfClass d s
   unfolding superblocksOfClass
@@ -162,10 +203,17 @@ module _ (h c : ℕ) (s : State) (k : ℕ) (long : length (s .table) ≡ 64) (po
 
   transfer-live-of-class : h < runOwner → (d : ℕ) → liveOfClass d (transferred k s) ≡ liveOfClass d s
   unfolding liveOfClass
-  transfer-live-of-class l d = omega (arith, transfer-total (λ b. pick (isOwnedOfClass d b) (liveIn b) 0), ap (λ (x : Bool). pick x (liveIn (superblockAt s k)) 0) (transfer-owned-of-class l d))
+  transfer-live-of-class l d =
+      omega (
+        arith,
+        transfer-total (λ b. pick (isOwnedOfClass d b) (liveIn b) 0),
+        ap (λ (x : Bool). pick x (liveIn (superblockAt s k)) 0)
+            (transfer-owned-of-class l d),
+      )
 
 -- a move takes one superblock from the heap and class: for the loop's end
-pub superblocks-after-transfer : (h c : ℕ) (s : State) → length (s .table) ≡ 64 → 0 < h → T (mustMove h c s) → superblocksOf h c (foundTransferred (emptiest h c s) s) + 1 ≡ superblocksOf h c s
+pub superblocks-after-transfer : (h c : ℕ) (s : State) → length (s .table) ≡ 64 → 0 < h → T (mustMove h c s)
+    → superblocksOf h c (foundTransferred (emptiest h c s) s) + 1 ≡ superblocksOf h c s
 unfolding foundTransferred
 superblocks-after-transfer h c s long p t = go (emptiest-found-of-must-move h c s t)
   where
@@ -178,7 +226,8 @@ unfolding transfersUpTo
 transfers-up-to-stop zero h c m s e = refl
 transfers-up-to-stop (suc k) h c m s e = rw e
 
-pub transfers-up-to-step : (k h c m : ℕ) (s : State) → mustMove h c s ≡ true → transfersUpTo (suc k) h c m s ≡ transfersUpTo k h c (m + 1) (foundTransferred (emptiest h c s) s)
+pub transfers-up-to-step : (k h c m : ℕ) (s : State) → mustMove h c s ≡ true → transfersUpTo (suc k) h c m s ≡ transfersUpTo k h c (m + 1)
+    (foundTransferred (emptiest h c s) s)
 unfolding transfersUpTo
 transfers-up-to-step k h c m s e = rw e
 
@@ -215,9 +264,11 @@ transferred-from-self h c s long =
 pub owners-changed-self : (s : State) → ownersChanged s s ≡ 0
 unfolding ownersChanged
 owners-changed-self s =
-    sum-of-zeros (λ k. one (not (eqb (superblockAt s k .owner) (superblockAt s k .owner)))) 64 (λ k l. ap (λ (x : Bool). one (not x)) (eq-eqb (superblockAt s k .owner) (superblockAt s k .owner) refl))
+    sum-of-zeros (λ k. one (not (eqb (superblockAt s k .owner) (superblockAt s k .owner)))) 64
+    (λ k l. ap (λ (x : Bool). one (not x)) (eq-eqb (superblockAt s k .owner) (superblockAt s k .owner) refl))
 
-module _ (h c : ℕ) (s t : State) (k : ℕ) (r : TransferredFrom h c s t) (pos : 0 < h) (low : h < runOwner) (must : T (mustMove h c t)) (e : emptiest h c t ≡ At k) where
+module _ (h c : ℕ) (s t : State) (k : ℕ) (r : TransferredFrom h c s t) (pos : 0 < h) (low : h < runOwner) (must : T (mustMove h c t))
+    (e : emptiest h c t ≡ At k) where
   next-owner-and-class : (superblockAt t k .owner ≡ h) × (superblockAt t k .class ≡ c)
   next-owner-and-class = transfer-owner-and-class h c t k (r .length-is) pos e
 
@@ -236,7 +287,8 @@ module _ (h c : ℕ) (s t : State) (k : ℕ) (r : TransferredFrom h c s t) (pos 
   next-class = ap (λ (b : Superblock). b .class) (sym next-not-moved-before) ∙ next-owner-and-class .1
 
   next-live-is-sparse : s .setup .q * liveIn (superblockAt t k) < (s .setup .q - s .setup .p) * blocksOf c
-  next-live-is-sparse = subst (λ (u : Setup). u .q * liveIn (superblockAt t k) < (u .q - u .p) * blocksOf c) (r .setup) (emptiest-sparse-of-must-move h c t k must e)
+  next-live-is-sparse = subst (λ (u : Setup). u .q * liveIn (superblockAt t k) < (u .q - u .p) * blocksOf c) (r .setup)
+      (emptiest-sparse-of-must-move h c t k must e)
 
   next-sparse : Sparse (s .setup) (superblockAt s k)
   next-sparse = rw (next-class, ← next-not-moved-before) next-live-is-sparse
@@ -245,12 +297,21 @@ module _ (h c : ℕ) (s t : State) (k : ℕ) (r : TransferredFrom h c s t) (pos 
   next-each j l = go (ℕ-discrete j k)
     where
       go : Dec (j ≡ k) → KeptOrTransferred h c (s .setup) (superblockAt s j) (superblockAt (transferred k t) j)
-      go (yes q) = rw q (inr (belongs-of-owner-and-class h c (superblockAt s k) next-owner next-class, next-sparse, transfer-at-superblock h c t k (r .length-is) pos e ∙ ap (withOwner 0) next-not-moved-before))
+      go (yes q) = rw q (inr (
+        belongs-of-owner-and-class h c (superblockAt s k) next-owner next-class,
+        next-sparse,
+        transfer-at-superblock h c t k
+            (r .length-is) pos e ∙ ap (withOwner 0) next-not-moved-before,
+      ))
       go (no f) = rw (transfer-at-others h c t k (r .length-is) pos e j f) (r .each j l)
 
-  next-others : (i d : ℕ) → 0 < i → ((i ≡ h) × (d ≡ c) → ⊥) → (superblocksOf i d (transferred k t) ≡ superblocksOf i d s) × (liveOf i d (transferred k t) ≡ liveOf i d s)
-  next-others i d p f =
-      (transfer-superblocks-of-other-pair h c t k (r .length-is) pos e i d p f ∙ r .others i d p f .0, transfer-live-of-other-pair h c t k (r .length-is) pos e i d p f ∙ r .others i d p f .1)
+  next-others : (i d : ℕ) → 0 < i → ((i ≡ h) × (d ≡ c) → ⊥) → (superblocksOf i d (transferred k t) ≡ superblocksOf i d s)
+      × (liveOf i d (transferred k t) ≡ liveOf i d s)
+  next-others i d p f = (
+    transfer-superblocks-of-other-pair h c t k (r .length-is) pos e i d p f ∙ r .others i d p f .0,
+    transfer-live-of-other-pair h c t k
+        (r .length-is) pos e i d p f ∙ r .others i d p f .1,
+  )
 
   next-setup : transferred k t .setup ≡ s .setup
   unfolding transferred
@@ -282,8 +343,10 @@ module _ (h c : ℕ) (s t : State) (k : ℕ) (r : TransferredFrom h c s t) (pos 
   unfolding ownersChanged transferred
   owners-changed-next =
       let f : ℕ → Superblock → ℕ = λ j b. one (not (eqb (superblockAt s j .owner) (b .owner))) in
-      let new : f k (withOwner 0 (superblockAt t k)) ≡ 1 = ap (λ (x : Bool). one (not x)) (ne-eqb (superblockAt s k .owner) 0 (λ z. zero-not-processor-heap h pos (sym z ∙ next-owner))) in
-      let old : f k (superblockAt t k) ≡ 0 = ap (λ (x : Bool). one (not x)) (eq-eqb (superblockAt s k .owner) (superblockAt t k .owner) (next-owner ∙ sym (next-owner-and-class .0))) in
+      let new : f k (withOwner 0 (superblockAt t k)) ≡ 1 =
+      ap (λ (x : Bool). one (not x)) (ne-eqb (superblockAt s k .owner) 0 (λ z. zero-not-processor-heap h pos (sym z ∙ next-owner))) in
+      let old : f k (superblockAt t k) ≡ 0 =
+      ap (λ (x : Bool). one (not x)) (eq-eqb (superblockAt s k .owner) (superblockAt t k .owner) (next-owner ∙ sym (next-owner-and-class .0))) in
       let l = transfer-lt-64 h c t k (r .length-is) pos e in
       let g = r .length-is in
       omega (arith, sum-set-indexed (t .table) blank k (withOwner 0 (superblockAt t k)) f 64 l (omega arith))
@@ -294,12 +357,14 @@ abbrev MovesBounded : (spare p q n freed a u m : ℕ) → Type 0
 MovesBounded spare p q n freed a u m = (a + m ≤ u + freed + spare * n) ⊎ ((q - p) * a + m ≤ q * (u + freed))
 
 -- while the rule is met, one more is allowed
-one-more-move-allowed : (spare p q n freed a u m : ℕ) → 1 ≤ q → u + spare * n < a → q * u < (q - p) * a → MovesBounded spare p q n freed a u m → m + 1 ≤ q * freed
+one-more-move-allowed : (spare p q n freed a u m : ℕ) → 1 ≤ q → u + spare * n < a → q * u < (q - p) * a → MovesBounded spare p q n freed a u m
+    → m + 1 ≤ q * freed
 one-more-move-allowed spare p q n freed a u m pos x y (inl l) = let z : 1 * freed ≤ q * freed = mul-le-mul-right freed pos in omega arith
 one-more-move-allowed spare p q n freed a u m pos x y (inr l) = omega arith
 
 -- a move of a sparse superblock with l live keeps it
-moves-bounded-after-move : (spare p q n freed a u b v l m : ℕ) → q * l < (q - p) * n → b + n ≡ a → v + l ≡ u → MovesBounded spare p q n freed a u m → MovesBounded spare p q n freed b v (m + 1)
+moves-bounded-after-move : (spare p q n freed a u b v l m : ℕ) → q * l < (q - p) * n → b + n ≡ a → v + l ≡ u → MovesBounded spare p q n freed a u m
+    → MovesBounded spare p q n freed b v (m + 1)
 moves-bounded-after-move spare p q n freed a u b v l m sparse e f (inl g) =
     let z : (q - p) * n ≤ q * n = mul-le-mul-right n (let y : q - p ≤ q = omega arith in y) in
     let room : l < n = lt-of-mul-lt-mul-left q (let y : q * l < q * n = omega arith in y) in
@@ -323,12 +388,14 @@ record MovesEnded (h c freed : ℕ) (s : State) (r : Moved) : Type 0 where
   invariant : T (mustMove h c (r .state)) → ⊥
 
 module _ (h c freed : ℕ) (s : State) (numbers : WithinLimits (s .setup)) (pos : 0 < h) (low : h < runOwner) where
-  after-transfer : (m k : ℕ) (t : State) → AfterMoves h c freed s m t → T (mustMove h c t) → emptiest h c t ≡ At k → AfterMoves h c freed s (m + 1) (transferred k t)
+  after-transfer : (m k : ℕ) (t : State) → AfterMoves h c freed s m t → T (mustMove h c t) → emptiest h c t ≡ At k
+      → AfterMoves h c freed s (m + 1) (transferred k t)
   unfolding blocksIn
   after-transfer m k t r must e =
       let a = superblocksOf h c t * blocksOf c in
       let b = superblocksOf h c (transferred k t) * blocksOf c in
-      let met : (liveOf h c t + s .setup .spare * blocksOf c < a) × (s .setup .q * liveOf h c t < (s .setup .q - s .setup .p) * a) = rw (← (r .from .setup)) (conditions-of-must-move h c t must) in
+      let met : (liveOf h c t + s .setup .spare * blocksOf c < a) × (s .setup .q * liveOf h c t < (s .setup .q - s .setup .p) * a) =
+      rw (← (r .from .setup)) (conditions-of-must-move h c t must) in
       let count : b + blocksOf c ≡ a = omega (arith, ap (λ (x : ℕ). x * blocksOf c) (transfer-superblocks h c t k (r .from .length-is) pos e)) in
       let live = transfer-live h c t k (r .from .length-is) pos e in
       let sparse = next-live-is-sparse h c s t k (r .from) pos low must e in
@@ -336,8 +403,10 @@ module _ (h c freed : ℕ) (s : State) (numbers : WithinLimits (s .setup)) (pos 
         from = transferred-from-next h c s t k (r .from) pos low must e;
         changed = owners-changed-next h c s t k (r .from) pos low must e ∙ ap (λ (x : ℕ). x + 1) (r .changed);
         bounded =
-            moves-bounded-after-move (s .setup .spare) (s .setup .p) (s .setup .q) (blocksOf c) freed a (liveOf h c t) b (liveOf h c (transferred k t)) (liveIn (superblockAt t k)) m sparse count live (r .bounded);
-        moves-bound = one-more-move-allowed (s .setup .spare) (s .setup .p) (s .setup .q) (blocksOf c) freed a (liveOf h c t) m (let l = numbers .q-low in omega arith) (met .0) (met .1) (r .bounded);
+            moves-bounded-after-move (s .setup .spare) (s .setup .p) (s .setup .q) (blocksOf c) freed a (liveOf h c t) b (liveOf h c (transferred k t))
+            (liveIn (superblockAt t k)) m sparse count live (r .bounded);
+        moves-bound = one-more-move-allowed (s .setup .spare) (s .setup .p) (s .setup .q) (blocksOf c) freed a (liveOf h c t) m
+            (let l = numbers .q-low in omega arith) (met .0) (met .1) (r .bounded);
       }
 
   after-one-move : (m : ℕ) (t : State) → AfterMoves h c freed s m t → T (mustMove h c t) → AfterMoves h c freed s (m + 1) (foundTransferred (emptiest h c t) t)

@@ -1,4 +1,5 @@
--- The superblocks that are not the global heap's: each move takes one away, so that the moves of several heaps and classes, one after another, are at most 64. Assumes nothing.
+-- The superblocks that are not the global heap's: each move takes one away, so that the moves of several heaps and classes, one after another, are at
+-- most 64. Assumes nothing.
 use mathlib.Core.Path.{_≡_, refl, ap, _∙_}
 use mathlib.Core.Bool.{Bool, not}
 use Prim.Native.Nat.{ℕ, zero, suc, _+_, _≤_, _<_}
@@ -39,7 +40,8 @@ module _ (h c : ℕ) (s : State) (long : length (s .table) ≡ 64) (pos : 0 < h)
   one-less-outside-global k e =
       let best = best-of-emptiest h c s k e in
       let owner : superblockAt s k .owner ≡ h = owner-and-class-of-belongs h c (superblockAt s k) (best .meets-criterion) .0 in
-      let outside : oneIfOutsideGlobal (superblockAt s k) ≡ 1 = ap (λ (x : Bool). one (not x)) (ne-eqb (superblockAt s k .owner) 0 (λ z. let no : ⊥ = omega arith in no)) in
+      let outside : oneIfOutsideGlobal (superblockAt s k) ≡ 1 =
+      ap (λ (x : Bool). one (not x)) (ne-eqb (superblockAt s k .owner) 0 (λ z. let no : ⊥ = omega arith in no)) in
       omega (arith, total-with-superblock oneIfOutsideGlobal s k (withOwner 0 (superblockAt s k)) long (best .below))
 
   one-less-after-found-transferred : T (mustMove h c s) → outsideGlobal (foundTransferred (emptiest h c s) s) + 1 ≡ outsideGlobal s
@@ -55,7 +57,8 @@ transfers-leave-heaps : (k h c m : ℕ) (s : State) → length (s .table) ≡ 64
 unfolding transfersUpTo
 transfers-leave-heaps zero h c m s long pos = refl
 transfers-leave-heaps (suc k) h c m s long pos =
-    pick-elim (λ (w : Moved). movesAndOutsideGlobal w ≡ m + outsideGlobal s) (mustMove h c s) (transfersUpTo k h c (m + 1) (foundTransferred (emptiest h c s) s)) (record { moves = m; state = s })
+    pick-elim (λ (w : Moved). movesAndOutsideGlobal w ≡ m + outsideGlobal s) (mustMove h c s)
+    (transfersUpTo k h c (m + 1) (foundTransferred (emptiest h c s) s)) (record { moves = m; state = s })
     (λ e. let less = one-less-after-found-transferred h c s long pos (T-of-true (mustMove h c s) e) in
     transfers-leave-heaps k h c (m + 1) (foundTransferred (emptiest h c s) s) (length-of-found-transferred (emptiest h c s) s ∙ long) pos ∙ omega arith)
     (λ e. refl)

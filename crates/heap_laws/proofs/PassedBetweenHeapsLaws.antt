@@ -51,31 +51,39 @@ pub passed-between-heaps-is-owners-changed : (s t : State)
     → passedBetweenHeaps s t ≡ ownersChanged s t
 unfolding passedBetweenHeaps ownersChanged
 passed-between-heaps-is-owners-changed s t each =
-    sum-cong (λ k. passes (superblockAt s k) (superblockAt t k)) (λ k. one (not (eqb (superblockAt s k .owner) (superblockAt t k .owner)))) 64 (λ k l. go k (each k l))
+    sum-cong (λ k. passes (superblockAt s k) (superblockAt t k)) (λ k. one (not (eqb (superblockAt s k .owner) (superblockAt t k .owner)))) 64
+    (λ k l. go k (each k l))
   where
     go : (k : ℕ) → (superblockAt t k .owner ≡ superblockAt s k .owner) ⊎ ((superblockAt s k .owner < runOwner) × (superblockAt t k .owner < runOwner))
         → passes (superblockAt s k) (superblockAt t k) ≡ one (not (eqb (superblockAt s k .owner) (superblockAt t k .owner)))
-    go k (inl e) = passes-not-of-same (superblockAt s k) (superblockAt t k) e ∙ sym (ap (λ (x : Bool). one (not x)) (eq-eqb (superblockAt s k .owner) (superblockAt t k .owner) (sym e)))
+    go k (inl e) = passes-not-of-same (superblockAt s k) (superblockAt t k) e
+        ∙ sym (ap (λ (x : Bool). one (not x)) (eq-eqb (superblockAt s k .owner) (superblockAt t k .owner) (sym e)))
     go k (inr (l, m)) = passes-of-heaps (superblockAt s k) (superblockAt t k) l m
 
 -- as many pass from two states whose superblocks have the same heaps, or none in both
-pub passed-between-heaps-from-same : (r s t : State) → ((k : ℕ) → k < 64 → (superblockAt r k .owner ≡ superblockAt s k .owner) ⊎ ((runOwner ≤ superblockAt r k .owner) × (runOwner ≤ superblockAt s k .owner)))
+pub passed-between-heaps-from-same : (r s t : State)
+    → ((k : ℕ) → k < 64 → (superblockAt r k .owner ≡ superblockAt s k .owner)
+    ⊎ ((runOwner ≤ superblockAt r k .owner) × (runOwner ≤ superblockAt s k .owner)))
     → passedBetweenHeaps r t ≡ passedBetweenHeaps s t
 unfolding passedBetweenHeaps isOfHeap
 passed-between-heaps-from-same r s t each =
     sum-cong (λ k. passes (superblockAt r k) (superblockAt t k)) (λ k. passes (superblockAt s k) (superblockAt t k)) 64 (λ k l. go k (each k l))
   where
-    go : (k : ℕ) → (superblockAt r k .owner ≡ superblockAt s k .owner) ⊎ ((runOwner ≤ superblockAt r k .owner) × (runOwner ≤ superblockAt s k .owner)) → passes (superblockAt r k) (superblockAt t k) ≡ passes (superblockAt s k) (superblockAt t k)
+    go : (k : ℕ) → (superblockAt r k .owner ≡ superblockAt s k .owner) ⊎ ((runOwner ≤ superblockAt r k .owner) × (runOwner ≤ superblockAt s k .owner))
+        → passes (superblockAt r k) (superblockAt t k) ≡ passes (superblockAt s k) (superblockAt t k)
     go k (inl e) = rw e
     go k (inr (l, m)) = passes-not-from-none (superblockAt r k) (superblockAt t k) l ∙ sym (passes-not-from-none (superblockAt s k) (superblockAt t k) m)
 
 -- none passes, where each owner stays or is no heap's before or after
-pub none-passed-between-heaps : (s t : State) → ((k : ℕ) → k < 64 → (superblockAt t k .owner ≡ superblockAt s k .owner) ⊎ ((runOwner ≤ superblockAt s k .owner) ⊎ (runOwner ≤ superblockAt t k .owner)))
+pub none-passed-between-heaps : (s t : State)
+    → ((k : ℕ) → k < 64 → (superblockAt t k .owner ≡ superblockAt s k .owner)
+    ⊎ ((runOwner ≤ superblockAt s k .owner) ⊎ (runOwner ≤ superblockAt t k .owner)))
     → passedBetweenHeaps s t ≡ 0
 unfolding passedBetweenHeaps
 none-passed-between-heaps s t each = sum-of-zeros (λ k. passes (superblockAt s k) (superblockAt t k)) 64 (λ k l. go k (each k l))
   where
-    go : (k : ℕ) → (superblockAt t k .owner ≡ superblockAt s k .owner) ⊎ ((runOwner ≤ superblockAt s k .owner) ⊎ (runOwner ≤ superblockAt t k .owner)) → passes (superblockAt s k) (superblockAt t k) ≡ 0
+    go : (k : ℕ) → (superblockAt t k .owner ≡ superblockAt s k .owner) ⊎ ((runOwner ≤ superblockAt s k .owner) ⊎ (runOwner ≤ superblockAt t k .owner))
+        → passes (superblockAt s k) (superblockAt t k) ≡ 0
     go k (inl e) = passes-not-of-same (superblockAt s k) (superblockAt t k) e
     go k (inr (inl l)) = passes-not-from-none (superblockAt s k) (superblockAt t k) l
     go k (inr (inr m)) = passes-not-to-none (superblockAt s k) (superblockAt t k) m

@@ -99,14 +99,16 @@ module _ (f : ℕ → ℕ) (n : ℕ) where
       go : (v : ℕ) → f j ≡ v → j ≡ k
       go zero q = absurd (let z : ⊥ = omega arith in z)
       go (suc r) q =
-          same-of-sum-le-one (λ i. eqb (f i) (suc r)) n j k (omega (arith, once r (omega (arith, le-count-of-each-once once j lj)))) lj lk (T-of-true _ (eq-eqb (f j) (suc r) q))
+          same-of-sum-le-one (λ i. eqb (f i) (suc r)) n j k (omega (arith, once r (omega (arith, le-count-of-each-once once j lj)))) lj lk
+          (T-of-true _ (eq-eqb (f j) (suc r) q))
           (T-of-true _ (eq-eqb (f k) (suc r) (sym e ∙ q)))
 
   -- and the other way
   pub each-once-of-distinct : ((k : ℕ) → k < n → f k ≤ countAbove f n 0) → ((j k : ℕ) → j < n → k < n → 0 < f j → f j ≡ f k → j ≡ k)
       → (r : ℕ) → r < countAbove f n 0 → countAt f n (suc r) ≡ 1
   each-once-of-distinct bounded distinct =
-      terms-one-of-full-sum (λ r. countAt f n (suc r)) (countAbove f n 0) (λ r l. at-most-once r) (omega (arith, count-above-zero-splits (countAbove f n 0), none-above))
+      terms-one-of-full-sum (λ r. countAt f n (suc r)) (countAbove f n 0) (λ r l. at-most-once r)
+      (omega (arith, count-above-zero-splits (countAbove f n 0), none-above))
     where
       none-above : countAbove f n (countAbove f n 0) ≡ 0
       none-above = sum-of-zeros (λ k. one (ltb (countAbove f n 0) (f k))) n (λ k l. ap one (le-ltb (countAbove f n 0) (f k) (bounded k l)))

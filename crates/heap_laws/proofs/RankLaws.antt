@@ -12,7 +12,8 @@ use borrow.Author.Tests.{eq-eqb, ne-eqb, eqb-true}
 use lib.ListN.{getD}
 use lib.Dec.{T, eqb, ltb, eqb→eq, ltb→lt, lt→ltb, T-not, not-T}
 use Rattle.base_laws.specs.Sums.{both, one, allBelow}
-use Rattle.base_laws.proofs.TestLaws.{T-of-true, true-of-T, false-of-not-T, not-T-of-false, equal-of-iff, both-left, both-right, both-make, pick-true, pick-false, one-le-one}
+use Rattle.base_laws.proofs.TestLaws.{T-of-true, true-of-T, false-of-not-T, not-T-of-false, equal-of-iff, both-left, both-right, both-make, pick-true}
+use Rattle.base_laws.proofs.TestLaws.{pick-false, one-le-one}
 use Rattle.base_laws.proofs.Inequalities.{le-of-not-below}
 use Rattle.base_laws.proofs.SumLaws.{sum-cong, term-le-sum, pos-term-of-pos-sum, all-at, all-of-each}
 use Rattle.base_laws.proofs.Counting.{sum-le-of-terms-le-one}
@@ -29,7 +30,8 @@ use Rattle.heap_laws.proofs.StateCheckLaws.{ranks-valid-of-rest, facts-
 use Rattle.check_rules.proofs.ClauseLaws.{rest-of-passes}
 use Rattle.heap_laws.proofs.ChoiceLaws.{MoreRecent, facts-of-more-recent, more-recent-of-facts}
 use Rattle.heap_laws.proofs.RerankedLaws.{superblock-at-reranked}
-use Rattle.heap_laws.proofs.Pigeonhole.{countAbove, le-count-of-each-once, same-of-each-once, each-once-of-distinct, same-of-order-kept, count-kept, count-one-more, count-one-less}
+use Rattle.heap_laws.proofs.Pigeonhole.{countAbove, le-count-of-each-once, same-of-each-once, each-once-of-distinct, same-of-order-kept, count-kept}
+use Rattle.heap_laws.proofs.Pigeonhole.{count-one-more, count-one-less}
 
 -- ---- the check's clause
 -- superblock k's rank
@@ -54,7 +56,8 @@ module _ (s : State) where
   carried-once-of-valid : T (ranksValid s) → (r : ℕ) → r < rankedCount s → carrying (suc r) s ≡ 1
   unfolding ranksValid
   carried-once-of-valid t r l =
-      eqb→eq (carrying (suc r) s) 1 (all-at (λ r. eqb (carrying (suc r) s) 1) (rankedCount s) (both-left (allBelow (λ r. eqb (carrying (suc r) s) 1) (rankedCount s)) _ t) r l)
+      eqb→eq (carrying (suc r) s) 1
+      (all-at (λ r. eqb (carrying (suc r) s) 1) (rankedCount s) (both-left (allBelow (λ r. eqb (carrying (suc r) s) 1) (rankedCount s)) _ t) r l)
 
   unowned-unranked-of-valid : T (ranksValid s) → (k : ℕ) → k < 64 → Unowned (superblockAt s k) → rankAt s k ≡ 0
   unfolding ranksValid
@@ -62,7 +65,8 @@ module _ (s : State) where
       zero-of-not-positive (rankAt s k)
       (λ h.
       T-not (both (isUnowned (superblockAt s k)) (isRanked (superblockAt s k)))
-      (all-at (λ k. not (both (isUnowned (superblockAt s k)) (isRanked (superblockAt s k)))) 64 (both-right (allBelow (λ r. eqb (carrying (suc r) s) 1) (rankedCount s)) _ t) k l)
+      (all-at (λ k. not (both (isUnowned (superblockAt s k)) (isRanked (superblockAt s k)))) 64
+      (both-right (allBelow (λ r. eqb (carrying (suc r) s) 1) (rankedCount s)) _ t) k l)
       (both-make (isUnowned (superblockAt s k)) _ (is-unowned-of-facts _ u) (ranked-of-rank _ h)))
 
   -- the clause as facts of the ranks, and back
@@ -96,7 +100,8 @@ module _ (s : State) where
   -- no rank is above the number of superblocks
   pub ranks-fit-of-sound : RanksSound s → RanksFit s
   unfolding rankedCount total
-  ranks-fit-of-sound h m l = omega (arith, h .bounded m l, sum-le-of-terms-le-one (λ k. one (isRanked (superblockAt s k))) 64 (λ k lk. one-le-one (isRanked (superblockAt s k))))
+  ranks-fit-of-sound h m l =
+      omega (arith, h .bounded m l, sum-le-of-terms-le-one (λ k. one (isRanked (superblockAt s k))) 64 (λ k lk. one-le-one (isRanked (superblockAt s k))))
 
   pub ranks-fit-of-passes : (order : List ℕ) → T (passes s order) → RanksFit s
   ranks-fit-of-passes order t = ranks-fit-of-sound (ranks-sound-of-valid (ranks-valid-of-rest s order (rest-of-passes s order t)))
@@ -120,7 +125,13 @@ ranks-sound-of-ranks : (t : State) (g : ℕ → ℕ) → ((m : ℕ) → m < 64 �
 unfolding rankedCount total isRanked
 ranks-sound-of-ranks t g same bounded distinct unowned-zero =
     record {
-      bounded = λ k l. omega (arith, same k l, bounded k l, sum-cong (λ k. one (ltb 0 (rankAt t k))) (λ k. one (ltb 0 (g k))) 64 (λ k l. ap (λ (x : ℕ). one (ltb 0 x)) (same k l)));
+      bounded = λ k l. omega (
+        arith,
+        same k l,
+        bounded k l,
+        sum-cong (λ k. one (ltb 0 (rankAt t k))) (λ k. one (ltb 0 (g k))) 64
+            (λ k l. ap (λ (x : ℕ). one (ltb 0 x)) (same k l)),
+      );
       distinct = λ k m lk lm h e. distinct k m lk lm (omega (arith, same k lk)) (sym (same k lk) ∙ e ∙ same m lm);
       unowned-unranked = λ k l u. same k l ∙ unowned-zero k l u;
     }
@@ -136,7 +147,8 @@ pub rank-in-new-state : (u : Setup) (k : ℕ) → k < 64 → superblockAt (newSt
 rank-in-new-state u k l = ap (λ (b : Superblock). b .rank) (superblock-at-new-state-unused u k l)
 
 pub new-state-ranks-sound : (u : Setup) → RanksSound (newState u)
-new-state-ranks-sound u = ranks-sound-of-ranks (newState u) (λ m. 0) (rank-in-new-state u) (λ m l. omega arith) (λ k m lk lm h e. absurd (let z : ⊥ = omega arith in z)) (λ m l e. refl)
+new-state-ranks-sound u = ranks-sound-of-ranks (newState u) (λ m. 0) (rank-in-new-state u) (λ m l. omega arith)
+    (λ k m lk lm h e. absurd (let z : ⊥ = omega arith in z)) (λ m l e. refl)
 
 -- ---- which of two superblocks was freed into more recently
 module _ (b d : Superblock) where
@@ -183,24 +195,37 @@ module _ (k : ℕ) (table : List Superblock) where
 
     -- a free into k: each that was ahead of k goes one back, and what was not stays
     pub rank-after-free-ahead : MoreRecent (getD table m blank) (getD table k blank) → rankAfterFree k table m ≡ suc (getD table m blank .rank)
-    rank-after-free-ahead h = omega (arith, rank-after-free-of-other, ap one (true-of-T (isMoreRecent (getD table m blank) (getD table k blank)) (more-recent-of-facts _ _ h)))
+    rank-after-free-ahead h =
+        omega (arith, rank-after-free-of-other, ap one (true-of-T (isMoreRecent (getD table m blank) (getD table k blank)) (more-recent-of-facts _ _ h)))
 
     pub rank-after-free-behind : (MoreRecent (getD table m blank) (getD table k blank) → ⊥) → rankAfterFree k table m ≡ getD table m blank .rank
     rank-after-free-behind n =
-        omega (arith, rank-after-free-of-other, ap one (false-of-not-T (isMoreRecent (getD table m blank) (getD table k blank)) (λ t. n (facts-of-more-recent _ _ t))))
+        omega (
+          arith,
+          rank-after-free-of-other,
+          ap one (false-of-not-T (isMoreRecent (getD table m blank) (getD table k blank)) (λ t. n (facts-of-more-recent _ _ t))),
+        )
 
     -- a renewal of k: each that was behind k goes one ahead, and what was not stays
-    pub rank-after-renewal-behind : 0 < getD table k blank .rank → getD table k blank .rank < getD table m blank .rank → rankAfterRenewal k table m ≡ getD table m blank .rank - 1
+    pub rank-after-renewal-behind : 0 < getD table k blank .rank → getD table k blank .rank < getD table m blank .rank → rankAfterRenewal k table m
+        ≡ getD table m blank .rank - 1
     rank-after-renewal-behind h l =
-        omega (arith, rank-after-renewal-of-other, ap one (true-of-T (isMoreRecent (getD table k blank) (getD table m blank)) (more-recent-of-facts _ _ (h, inr l))))
+        omega (
+          arith,
+          rank-after-renewal-of-other,
+          ap one (true-of-T (isMoreRecent (getD table k blank) (getD table m blank)) (more-recent-of-facts _ _ (h, inr l))),
+        )
 
-    pub rank-after-renewal-ahead : (0 < getD table k blank .rank → getD table k blank .rank < getD table m blank .rank → ⊥) → rankAfterRenewal k table m ≡ getD table m blank .rank
+    pub rank-after-renewal-ahead : (0 < getD table k blank .rank → getD table k blank .rank < getD table m blank .rank → ⊥) → rankAfterRenewal k table m
+        ≡ getD table m blank .rank
     rank-after-renewal-ahead n = go (isMoreRecent (getD table k blank) (getD table m blank)) refl (getD table m blank .rank) refl
       where
-        go : (t : Bool) → isMoreRecent (getD table k blank) (getD table m blank) ≡ t → (r : ℕ) → getD table m blank .rank ≡ r → rankAfterRenewal k table m ≡ getD table m blank .rank
+        go : (t : Bool) → isMoreRecent (getD table k blank) (getD table m blank) ≡ t → (r : ℕ) → getD table m blank .rank ≡ r → rankAfterRenewal k table m
+            ≡ getD table m blank .rank
         go t e zero q = omega (arith, rank-after-renewal-of-other)
         go true e (suc r) q =
-            absurd (n (ranked-of-more-recent _ _ (T-of-true _ e)) (lower-of-more-recent (getD table k blank) (getD table m blank) (T-of-true _ e) (omega arith)))
+            absurd (n (ranked-of-more-recent _ _ (T-of-true _ e))
+            (lower-of-more-recent (getD table k blank) (getD table m blank) (T-of-true _ e) (omega arith)))
         go false e (suc r) q = omega (arith, rank-after-renewal-of-other, ap one e)
 
     -- the others stay ranked or unranked
@@ -235,7 +260,8 @@ module _ (k : ℕ) (s : State) (below : k < 64) (sound : RanksSound s) where
         rw (rank-after-free-of-other k (s .table) i other-i, rank-after-free-of-other k (s .table) j other-j)
         (go (isMoreRecent (superblockAt s i) (superblockAt s k)) (isMoreRecent (superblockAt s j) (superblockAt s k)) refl refl)
       where
-        go : (t u : Bool) → isMoreRecent (superblockAt s i) (superblockAt s k) ≡ t → isMoreRecent (superblockAt s j) (superblockAt s k) ≡ u → rankAt s i + one t < rankAt s j + one u
+        go : (t u : Bool) → isMoreRecent (superblockAt s i) (superblockAt s k) ≡ t → isMoreRecent (superblockAt s j) (superblockAt s k) ≡ u
+            → rankAt s i + one t < rankAt s j + one u
         go false u e f = omega arith
         go true true e f = omega arith
         -- i goes back to just ahead of where k was, and j is behind that
@@ -245,12 +271,14 @@ module _ (k : ℕ) (s : State) (below : k < 64) (sound : RanksSound s) where
             let apart : rankAt s j ≡ rankAt s k → ⊥ = λ q. other-j (sound .distinct j k lj below (omega arith) q) in
             omega arith
 
-    pub order-kept-by-renewal : 0 < superblockAt s i .rank → superblockAt s i .rank < superblockAt s j .rank → rankAfterRenewal k (s .table) i < rankAfterRenewal k (s .table) j
+    pub order-kept-by-renewal : 0 < superblockAt s i .rank → superblockAt s i .rank < superblockAt s j .rank
+        → rankAfterRenewal k (s .table) i < rankAfterRenewal k (s .table) j
     order-kept-by-renewal p h =
         rw (rank-after-renewal-of-other k (s .table) i other-i, rank-after-renewal-of-other k (s .table) j other-j)
         (go (isMoreRecent (superblockAt s k) (superblockAt s i)) (isMoreRecent (superblockAt s k) (superblockAt s j)) refl refl)
       where
-        go : (t u : Bool) → isMoreRecent (superblockAt s k) (superblockAt s i) ≡ t → isMoreRecent (superblockAt s k) (superblockAt s j) ≡ u → rankAt s i - one t < rankAt s j - one u
+        go : (t u : Bool) → isMoreRecent (superblockAt s k) (superblockAt s i) ≡ t → isMoreRecent (superblockAt s k) (superblockAt s j) ≡ u
+            → rankAt s i - one t < rankAt s j - one u
         go t false e f = omega arith
         go true true e f = omega arith
         -- j comes to just behind where k was, and i is ahead of that
@@ -274,10 +302,13 @@ module _ (k : ℕ) (s : State) (below : k < 64) (sound : RanksSound s) where
   -- no two are alike
   distinct-after-free : (i j : ℕ) → i < 64 → j < 64 → 0 < rankAfterFree k (s .table) i → rankAfterFree k (s .table) i ≡ rankAfterFree k (s .table) j → i ≡ j
   distinct-after-free =
-      same-of-order-kept (rankAt s) (rankAfterFree k (s .table)) 64 k (sound .distinct) (ranked-of-ranked-after-free k (s .table)) (λ i j li lj a b p. order-kept-by-free i j li lj a b)
-      (λ i l a p e. let z : ⊥ = omega (arith, e, rank-after-free-of-superblock k (s .table), latest-after-free i l a (ranked-of-ranked-after-free k (s .table) i a p)) in z)
+      same-of-order-kept (rankAt s) (rankAfterFree k (s .table)) 64 k (sound .distinct) (ranked-of-ranked-after-free k (s .table))
+      (λ i j li lj a b p. order-kept-by-free i j li lj a b)
+      (λ i l a p e. let z : ⊥ =
+      omega (arith, e, rank-after-free-of-superblock k (s .table), latest-after-free i l a (ranked-of-ranked-after-free k (s .table) i a p)) in z)
 
-  distinct-after-renewal : (i j : ℕ) → i < 64 → j < 64 → 0 < rankAfterRenewal k (s .table) i → rankAfterRenewal k (s .table) i ≡ rankAfterRenewal k (s .table) j → i ≡ j
+  distinct-after-renewal : (i j : ℕ) → i < 64 → j < 64 → 0 < rankAfterRenewal k (s .table) i → rankAfterRenewal k (s .table) i ≡ rankAfterRenewal k
+      (s .table) j → i ≡ j
   distinct-after-renewal =
       same-of-order-kept (rankAt s) (rankAfterRenewal k (s .table)) 64 k (sound .distinct) (ranked-of-ranked-after-renewal k (s .table)) order-kept-by-renewal
       (λ i l a p e. let z : ⊥ = omega (arith, e, rank-after-renewal-of-superblock k (s .table)) in z)
@@ -319,12 +350,14 @@ module _ (k : ℕ) (s : State) (below : k < 64) (sound : RanksSound s) where
       after = rankAfterRenewal k (s .table)
 
       still : (i : ℕ) → (i ≡ k → ⊥) → ltb 0 (after i) ≡ ltb 0 (rankAt s i)
-      still i a = same-test-of-positive (after i) (rankAt s i) (ranked-of-ranked-after-renewal k (s .table) i a) (ranked-after-renewal-of-ranked k (s .table) i a)
+      still i a = same-test-of-positive (after i) (rankAt s i) (ranked-of-ranked-after-renewal k (s .table) i a)
+          (ranked-after-renewal-of-ranked k (s .table) i a)
 
       none : after k ≡ 0
       none = rank-after-renewal-of-superblock k (s .table)
 
-      others : (m ≡ k → ⊥) → (r : ℕ) → rankAt s k ≡ r → (t : Bool) → isMoreRecent (superblockAt s k) (superblockAt s m) ≡ t → rankAt s m - one t ≤ countAbove after 64 0
+      others : (m ≡ k → ⊥) → (r : ℕ) → rankAt s k ≡ r → (t : Bool) → isMoreRecent (superblockAt s k) (superblockAt s m) ≡ t
+          → rankAt s m - one t ≤ countAbove after 64 0
       others a zero e t f =
           let kept = count-kept (rankAt s) after 64 k still (same-test-of-positive (after k) (rankAt s k) (λ p. omega (arith, none)) (λ p. omega arith)) in
           omega (arith, sound .bounded m l)
@@ -360,7 +393,8 @@ unowned-with-rank r b d e h =
       live = ap (λ (x : Superblock). liveIn x) (sym e) ∙ h .live;
     }
 
-reranked-ranks-sound : (rank : ℕ → ℕ) (s : State) → ((m : ℕ) → m < 64 → rank m ≤ countAbove rank 64 0) → ((k m : ℕ) → k < 64 → m < 64 → 0 < rank k → rank k ≡ rank m → k ≡ m)
+reranked-ranks-sound : (rank : ℕ → ℕ) (s : State) → ((m : ℕ) → m < 64 → rank m ≤ countAbove rank 64 0)
+    → ((k m : ℕ) → k < 64 → m < 64 → 0 < rank k → rank k ≡ rank m → k ≡ m)
     → ((m : ℕ) → m < 64 → Unowned (superblockAt s m) → rank m ≡ 0) → RanksSound (reranked rank s)
 reranked-ranks-sound rank s bounded distinct unowned-zero =
     ranks-sound-of-ranks (reranked rank s) rank (λ m l. ap (λ (b : Superblock). b .rank) (superblock-at-reranked rank s m l)) bounded distinct
@@ -370,17 +404,21 @@ reranked-ranks-sound rank s bounded distinct unowned-zero =
 pub ranked-latest-ranks-sound : (k : ℕ) (s : State) → k < 64 → (Unowned (superblockAt s k) → ⊥) → RanksSound s → RanksSound (rankedLatest k s)
 unfolding rankedLatest
 ranked-latest-ranks-sound k s below in-use sound =
-    reranked-ranks-sound (rankAfterFree k (s .table)) s (bounded-after-free k s below sound) (distinct-after-free k s below sound) (λ m l u. unowned-zero m l u (ℕ-discrete m k))
+    reranked-ranks-sound (rankAfterFree k (s .table)) s (bounded-after-free k s below sound) (distinct-after-free k s below sound)
+    (λ m l u. unowned-zero m l u (ℕ-discrete m k))
   where
     unowned-zero : (m : ℕ) → m < 64 → Unowned (superblockAt s m) → Dec (m ≡ k) → rankAfterFree k (s .table) m ≡ 0
     unowned-zero m l u (yes q) = absurd (in-use (subst (λ (i : ℕ). Unowned (superblockAt s i)) q u))
-    unowned-zero m l u (no a) = zero-of-not-positive _ (λ h. let r = ranked-of-ranked-after-free k (s .table) m a h in omega (arith, sound .unowned-unranked m l u))
+    unowned-zero m l u (no a) = zero-of-not-positive _ (λ h. let r = ranked-of-ranked-after-free k (s .table) m a h in
+        omega (arith, sound .unowned-unranked m l u))
 
 pub unranked-ranks-sound : (k : ℕ) (s : State) → k < 64 → RanksSound s → RanksSound (unranked k s)
 unfolding unranked
 unranked-ranks-sound k s below sound =
-    reranked-ranks-sound (rankAfterRenewal k (s .table)) s (bounded-after-renewal k s below sound) (distinct-after-renewal k s below sound) (λ m l u. unowned-zero m l u (ℕ-discrete m k))
+    reranked-ranks-sound (rankAfterRenewal k (s .table)) s (bounded-after-renewal k s below sound) (distinct-after-renewal k s below sound)
+    (λ m l u. unowned-zero m l u (ℕ-discrete m k))
   where
     unowned-zero : (m : ℕ) → m < 64 → Unowned (superblockAt s m) → Dec (m ≡ k) → rankAfterRenewal k (s .table) m ≡ 0
     unowned-zero m l u (yes q) = ap (rankAfterRenewal k (s .table)) q ∙ rank-after-renewal-of-superblock k (s .table)
-    unowned-zero m l u (no a) = zero-of-not-positive _ (λ h. let r = ranked-of-ranked-after-renewal k (s .table) m a h in omega (arith, sound .unowned-unranked m l u))
+    unowned-zero m l u (no a) = zero-of-not-positive _ (λ h. let r = ranked-of-ranked-after-renewal k (s .table) m a h in
+        omega (arith, sound .unowned-unranked m l u))

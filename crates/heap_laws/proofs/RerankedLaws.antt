@@ -21,7 +21,8 @@ use Rattle.names_laws.proofs.NameLaws.{each-held-of-tests}
 use Rattle.heap_rules.specs.declared.Superblock.{Superblock}
 use Rattle.heap_rules.specs.declared.State.{State}
 use Rattle.heap_rules.specs.Table.{blank, superblockAt, liveIn, isOfRun, startsRun, isOfHeap, liveBlocks, withRank, isLiveBlock}
-use Rattle.heap_rules.specs.Counts.{total, belongs, oneIfBelongs, liveIfBelongs, isOwnedOfClass, superblocksOf, blocksIn, liveOf, superblocksOfClass, liveOfClass, ownersChanged}
+use Rattle.heap_rules.specs.Counts.{total, belongs, oneIfBelongs, liveIfBelongs, isOwnedOfClass, superblocksOf, blocksIn, liveOf, superblocksOfClass}
+use Rattle.heap_rules.specs.Counts.{liveOfClass, ownersChanged}
 use Rattle.heap_rules.specs.Totals.{totalIndex, isCounted, withCounted, countedBelow, recounted, TotalsKept}
 use Rattle.heap_rules.specs.Ranks.{reranked}
 use Rattle.move_rules.specs.Moves.{bothConditions, mustMove}
@@ -33,25 +34,30 @@ module _ (rank : ℕ → ℕ) (s : State) where
   pub superblock-at-reranked : (k : ℕ) → k < 64 → superblockAt (reranked rank s) k ≡ withRank (rank k) (superblockAt s k)
   superblock-at-reranked k l = getD-listed (λ m. withRank (rank m) (superblockAt s m)) 64 k blank l
 
-  reranked-keeps-below : {A : Type 0} (f : Superblock → A) → ((r : ℕ) (b : Superblock) → f (withRank r b) ≡ f b) → (k : ℕ) → k < 64 → f (superblockAt (reranked rank s) k) ≡ f (superblockAt s k)
+  reranked-keeps-below : {A : Type 0} (f : Superblock → A) → ((r : ℕ) (b : Superblock) → f (withRank r b) ≡ f b) → (k : ℕ) → k < 64
+      → f (superblockAt (reranked rank s) k) ≡ f (superblockAt s k)
   reranked-keeps-below f blind k l = ap f (superblock-at-reranked k l) ∙ blind (rank k) (superblockAt s k)
 
   -- ---- the totals
-  counted-without-rank : (f : Superblock → ℕ) → ((r : ℕ) (b : Superblock) → f (withRank r b) ≡ f b) → (l : List ℕ) (r : ℕ) (b : Superblock) → withCounted f (withRank r b) l ≡ withCounted f b l
+  counted-without-rank : (f : Superblock → ℕ) → ((r : ℕ) (b : Superblock) → f (withRank r b) ≡ f b) → (l : List ℕ) (r : ℕ) (b : Superblock)
+      → withCounted f (withRank r b) l ≡ withCounted f b l
   unfolding withCounted isCounted
   counted-without-rank f blind l r b = ap (λ (n : ℕ). pick (isCounted b) (increased (totalIndex (b .owner) (b .class)) n l) l) (blind r b)
 
-  reranked-counted : (f : Superblock → ℕ) → ((r : ℕ) (b : Superblock) → f (withRank r b) ≡ f b) → (n : ℕ) → n ≤ 64 → countedBelow f (reranked rank s .table) n ≡ countedBelow f (s .table) n
+  reranked-counted : (f : Superblock → ℕ) → ((r : ℕ) (b : Superblock) → f (withRank r b) ≡ f b) → (n : ℕ) → n ≤ 64
+      → countedBelow f (reranked rank s .table) n ≡ countedBelow f (s .table) n
   unfolding countedBelow
   reranked-counted f blind zero h = refl
   reranked-counted f blind (suc n) h =
-      reranked-keeps-below (λ b. withCounted f b (countedBelow f (reranked rank s .table) n)) (counted-without-rank f blind (countedBelow f (reranked rank s .table) n)) n h
+      reranked-keeps-below (λ b. withCounted f b (countedBelow f (reranked rank s .table) n))
+      (counted-without-rank f blind (countedBelow f (reranked rank s .table) n)) n h
       ∙ ap (withCounted f (superblockAt s n)) (reranked-counted f blind n (omega arith))
 
   pub reranked-recounted : recounted (reranked rank s .table) ≡ recounted (s .table)
   unfolding recounted
   reranked-recounted =
-      ap₂ (λ (a b : List ℕ). record { superblocks = a; live = b }) (reranked-counted (λ b. 1) (λ r b. refl) 64 (le-refl 64)) (reranked-counted liveIn (λ r b. refl) 64 (le-refl 64))
+      ap₂ (λ (a b : List ℕ). record { superblocks = a; live = b }) (reranked-counted (λ b. 1) (λ r b. refl) 64 (le-refl 64))
+      (reranked-counted liveIn (λ r b. refl) 64 (le-refl 64))
 
   pub reranked-totals-kept : TotalsKept s → TotalsKept (reranked rank s)
   reranked-totals-kept kept = kept ∙ sym reranked-recounted
@@ -64,12 +70,14 @@ module _ (rank : ℕ → ℕ) (s : State) where
         go : Dec (k < 64) → superblockAt (reranked rank s) k ≡ withRank (superblockAt (reranked rank s) k .rank) (superblockAt s k)
         go (yes l) = let e = superblock-at-reranked k l in e ∙ ap (λ (r : ℕ). withRank r (superblockAt s k)) (sym (ap (λ (b : Superblock). b .rank) e))
         go (no f) =
-            let now : superblockAt (reranked rank s) k ≡ blank = List·getD-eq-default (reranked rank s .table) blank (omega (arith, le-of-not-below f, length-listed (λ m. withRank (rank m) (superblockAt s m)) 64)) in
+            let now : superblockAt (reranked rank s) k ≡ blank = List·getD-eq-default (reranked rank s .table) blank
+            (omega (arith, le-of-not-below f, length-listed (λ m. withRank (rank m) (superblockAt s m)) 64)) in
             let was : superblockAt s k ≡ blank = List·getD-eq-default (s .table) blank (omega (arith, le-of-not-below f)) in
             now ∙ sym (ap₂ (λ (r : ℕ) (b : Superblock). withRank r b) (ap (λ (b : Superblock). b .rank) now) was)
 
     -- what does not go by the rank is as it was
-    pub reranked-keeps : {A : Type 0} (f : Superblock → A) → ((r : ℕ) (b : Superblock) → f (withRank r b) ≡ f b) → (k : ℕ) → f (superblockAt (reranked rank s) k) ≡ f (superblockAt s k)
+    pub reranked-keeps : {A : Type 0} (f : Superblock → A) → ((r : ℕ) (b : Superblock) → f (withRank r b) ≡ f b) → (k : ℕ)
+        → f (superblockAt (reranked rank s) k) ≡ f (superblockAt s k)
     reranked-keeps f blind k = ap f (superblock-keeps-all-but-rank k) ∙ blind (superblockAt (reranked rank s) k .rank) (superblockAt s k)
 
     pub reranked-owner : (k : ℕ) → superblockAt (reranked rank s) k .owner ≡ superblockAt s k .owner
@@ -115,12 +123,14 @@ module _ (rank : ℕ → ℕ) (s : State) where
 
     pub reranked-must-move : (h c : ℕ) → mustMove h c (reranked rank s) ≡ mustMove h c s
     unfolding mustMove blocksIn
-    reranked-must-move h c = ap₂ (λ (m u : ℕ). bothConditions (s .setup .spare) (s .setup .p) (s .setup .q) (blocksOf c) (m * blocksOf c) u) (reranked-superblocks-of h c) (reranked-live-of h c)
+    reranked-must-move h c = ap₂ (λ (m u : ℕ). bothConditions (s .setup .spare) (s .setup .p) (s .setup .q) (blocksOf c) (m * blocksOf c) u)
+        (reranked-superblocks-of h c) (reranked-live-of h c)
 
     pub reranked-owners-changed : (t : State) → ownersChanged (reranked rank s) t ≡ ownersChanged s t
     unfolding ownersChanged
     reranked-owners-changed t =
-        sum-cong (λ k. one (not (eqb (superblockAt (reranked rank s) k .owner) (superblockAt t k .owner)))) (λ k. one (not (eqb (superblockAt s k .owner) (superblockAt t k .owner)))) 64
+        sum-cong (λ k. one (not (eqb (superblockAt (reranked rank s) k .owner) (superblockAt t k .owner))))
+        (λ k. one (not (eqb (superblockAt s k .owner) (superblockAt t k .owner)))) 64
         (λ k l. ap (λ (x : ℕ). one (not (eqb x (superblockAt t k .owner)))) (reranked-owner k))
 
     -- ---- the check
@@ -134,16 +144,23 @@ module _ (rank : ℕ → ℕ) (s : State) where
     }
 
     reranked-unused : (k : ℕ) → Unused (superblockAt s k) → Unused (superblockAt (reranked rank s) k)
-    reranked-unused k u = record { owner = reranked-owner k ∙ u .owner; class = reranked-class k ∙ u .class; live = reranked-keeps liveIn (λ r b. refl) k ∙ u .live }
+    reranked-unused k u = record {
+      owner = reranked-owner k ∙ u .owner;
+      class = reranked-class k ∙ u .class;
+      live = reranked-keeps liveIn (λ r b. refl) k
+          ∙ u .live;
+    }
 
     reranked-unowned : (k : ℕ) → Unowned (superblockAt s k) → Unowned (superblockAt (reranked rank s) k)
     reranked-unowned k u = subst Unowned (sym (superblock-keeps-all-but-rank k)) (record { owner = u .owner; class = u .class; live = u .live })
 
     reranked-owned : (order : List ℕ) (k : ℕ) → Owned (s .setup) order k (superblockAt s k) → Owned (s .setup) order k (superblockAt (reranked rank s) k)
-    reranked-owned order k o = subst (Owned (s .setup) order k) (sym (superblock-keeps-all-but-rank k)) (record { owner = o .owner; class = o .class; places = o .places })
+    reranked-owned order k o = subst (Owned (s .setup) order k) (sym (superblock-keeps-all-but-rank k))
+        (record { owner = o .owner; class = o .class; places = o .places })
 
     -- with what is said of heaps and classes, where the ranks are no part of it
-    reranked-sound-with : (Invariant : ℕ → ℕ → State → Type 0) → ((h c : ℕ) → Invariant h c s → Invariant h c (reranked rank s)) → (order : List ℕ) → SoundWith Invariant s order → SoundWith Invariant (reranked rank s) order
+    reranked-sound-with : (Invariant : ℕ → ℕ → State → Type 0) → ((h c : ℕ) → Invariant h c s → Invariant h c (reranked rank s)) → (order : List ℕ)
+        → SoundWith Invariant s order → SoundWith Invariant (reranked rank s) order
     reranked-sound-with Invariant kept order sound = record {
       numbers = sound .numbers;
       each = λ k l. go k (sound .each k l);
@@ -152,7 +169,8 @@ module _ (rank : ℕ → ℕ) (s : State) where
       sparse = λ k l e. subst (Sparse (s .setup)) (sym (superblock-keeps-all-but-rank k)) (sound .sparse k l (sym (reranked-owner k) ∙ e));
     }
       where
-        go : (k : ℕ) → Unowned (superblockAt s k) ⊎ Owned (s .setup) order k (superblockAt s k) → Unowned (superblockAt (reranked rank s) k) ⊎ Owned (s .setup) order k (superblockAt (reranked rank s) k)
+        go : (k : ℕ) → Unowned (superblockAt s k) ⊎ Owned (s .setup) order k (superblockAt s k) → Unowned (superblockAt (reranked rank s) k)
+            ⊎ Owned (s .setup) order k (superblockAt (reranked rank s) k)
         go k (inl u) = inl (reranked-unowned k u)
         go k (inr o) = inr (reranked-owned order k o)
 

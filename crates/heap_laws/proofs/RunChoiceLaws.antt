@@ -9,7 +9,7 @@ use native.Mathlib.Omega.{arith}
 use lib.Dec.{T, leb, leb→le, le→leb}
 use Rattle.base_laws.specs.Sums.{pick}
 use Rattle.base_laws.proofs.Inequalities.{le-of-not-below}
-use Rattle.base_laws.proofs.TestLaws.{T-of-true, not-T-of-false, both-left, both-right, both-make, either-left, either-right, either-right-of-left-false}
+use Rattle.base_laws.proofs.TestLaws.{T-of-true, not-T-of-false, both-left, both-right, both-make, either-right-of-left-false}
 use Rattle.base_laws.proofs.SumLaws.{all-at, all-of-each}
 use Rattle.heap_rules.specs.declared.Superblock.{Superblock}
 use Rattle.heap_rules.specs.declared.State.{State}
@@ -19,8 +19,8 @@ use Rattle.heap_rules.specs.Table.{superblockAt, liveIn, isUnused}
 use Rattle.choice_rules.specs.Choice.{orElse}
 use Rattle.choice_rules.specs.RunChoice.{isAvailable, isFreeRun, lowestBelow, lowestRun}
 use Rattle.heap_laws.proofs.StateFacts.{Unused}
-use Rattle.heap_laws.proofs.StateCheckLaws.{facts-of-is-unused, is-unused-of-facts}
-use Rattle.heap_laws.proofs.ChoiceLaws.{facts-of-empty-in-global, empty-in-global-of-facts}
+use Rattle.heap_laws.proofs.StateCheckLaws.{facts-of-is-unused}
+use Rattle.heap_laws.proofs.ChoiceLaws.{facts-of-empty-in-global}
 
 -- ---- the superblocks that a run may take
 -- "each unused or empty in heap 0"
@@ -72,7 +72,8 @@ module _ (test : ℕ → Bool) where
   none-passes-of-lowest-below-nothing (suc n) e m l t =
       go (λ p lower. none-passes-of-lowest-below-nothing n p m lower t) (lowestBelow test n) refl (test n) refl e (eq-or-lt-of-le (le-of-suc-le-suc l))
     where
-      go : (lowestBelow test n ≡ Nothing → m < n → ⊥) → (f : Found) → lowestBelow test n ≡ f → (x : Bool) → test n ≡ x → orElse f (pick x (At n) Nothing) ≡ Nothing → (m ≡ n) ⊎ (m < n) → ⊥
+      go : (lowestBelow test n ≡ Nothing → m < n → ⊥) → (f : Found) → lowestBelow test n ≡ f → (x : Bool) → test n ≡ x → orElse f (pick x (At n) Nothing)
+          ≡ Nothing → (m ≡ n) ⊎ (m < n) → ⊥
       go fewer (At j) p x q r side = let z : _≡_ {A = ℕ} 0 1 = cc in omega arith
       go fewer Nothing p true q r side = let z : _≡_ {A = ℕ} 0 1 = cc in omega arith
       go fewer Nothing p false q r (inl same) = not-T-of-false (test n) q (subst (λ (x : ℕ). T (test x)) same t)
@@ -84,7 +85,8 @@ module _ (test : ℕ → Bool) where
   lowest-of-lowest-below zero k e = absurd (let z : _≡_ {A = ℕ} 0 1 = cc in let y : ⊥ = omega arith in y)
   lowest-of-lowest-below (suc n) k e = go (lowest-of-lowest-below n k) (lowestBelow test n) refl (test n) refl e
     where
-      go : (lowestBelow test n ≡ At k → IsLowest test n k) → (f : Found) → lowestBelow test n ≡ f → (x : Bool) → test n ≡ x → orElse f (pick x (At n) Nothing) ≡ At k → IsLowest test (suc n) k
+      go : (lowestBelow test n ≡ At k → IsLowest test n k) → (f : Found) → lowestBelow test n ≡ f → (x : Bool) → test n ≡ x
+          → orElse f (pick x (At n) Nothing) ≡ At k → IsLowest test (suc n) k
       go fewer (At j) p x q r =
           let h = fewer (p ∙ r) in
           record { below = omega (arith, h .below); passes = h .passes; none-lower = h .none-lower }
@@ -132,7 +134,8 @@ module _ (n : ℕ) (s : State) where
   -- nothing is found exactly if there is none: "no such run"
   pub no-run-of-lowest-run-nothing : 1 ≤ n → s .setup .superblocks ≤ 64 → lowestRun n s ≡ Nothing → (m : ℕ) → FreeRun n s m → ⊥
   unfolding lowestRun
-  no-run-of-lowest-run-nothing some limit e m h = none-passes-of-lowest-below-nothing (isFreeRun n s) 64 e m (omega (arith, h .below)) (is-free-run-of-facts n s m h)
+  no-run-of-lowest-run-nothing some limit e m h = none-passes-of-lowest-below-nothing (isFreeRun n s) 64 e m (omega (arith, h .below))
+      (is-free-run-of-facts n s m h)
 
   pub lowest-run-nothing-of-no-run : ((m : ℕ) → FreeRun n s m → ⊥) → lowestRun n s ≡ Nothing
   unfolding lowestRun

@@ -76,19 +76,37 @@ module _ (b : Superblock) (table : List Superblock) where
           let bounds = both-left (within 1 16 (b .run)) _ u in
           let low = leb→le 1 (b .run) (both-left (leb 1 (b .run)) _ bounds) in
           let high = leb→le (b .run) 16 (both-right (leb 1 (b .run)) _ bounds) in (
-            record { still-of-run = λ l. absurd (let z : ⊥ = omega arith in z); begins = λ _ _. low; at-most-16 = high; outside-carries-0 = λ f. absurd (true-not-false (isOfRun b) e f) },
+            record {
+              still-of-run = λ l. absurd (let z : ⊥ = omega arith in z);
+              begins = λ _ _. low;
+              at-most-16 = high;
+              outside-carries-0 =
+                  λ f. absurd (true-not-false (isOfRun b) e f);
+            },
             whole-of-same-left table (b .run - 1) (0 + b .run - 1) (omega arith) (both-right (within 1 16 (b .run)) _ u),
           )
       go false e u =
           let none = eqb→eq (b .run) 0 (both-left (eqb (b .run) 0) _ u) in (
-            record { still-of-run = λ l. absurd (let z : ⊥ = omega arith in z); begins = λ f _. absurd (true-not-false (isOfRun b) f e); at-most-16 = omega arith; outside-carries-0 = λ _. none },
+            record {
+              still-of-run = λ l. absurd (let z : ⊥ = omega arith in z);
+              begins = λ f _. absurd (true-not-false (isOfRun b) f e);
+              at-most-16 =
+                  omega arith;
+              outside-carries-0 = λ _. none;
+            },
             whole-of-same-left table 0 (0 + b .run - 1) (omega arith) (both-right (eqb (b .run) 0) _ u),
           )
   fits-of-whole (suc left) t =
       let of-run = true-of-T (isOfRun b) (both-left (isOfRun b) _ t) in
       let u = both-right (isOfRun b) _ t in
       let none = eqb→eq (b .run) 0 (both-left (eqb (b .run) 0) _ u) in (
-        record { still-of-run = λ _. (of-run, none); begins = λ _ z. absurd (let y : ⊥ = omega arith in y); at-most-16 = omega arith; outside-carries-0 = λ _. none },
+        record {
+          still-of-run = λ _. (of-run, none);
+          begins = λ _ z. absurd (let y : ⊥ = omega arith in y);
+          at-most-16 = omega arith;
+          outside-carries-0 =
+              λ _. none;
+        },
         whole-of-same-left table left (suc left + b .run - 1) (omega arith) (both-right (eqb (b .run) 0) _ u),
       )
 
@@ -117,7 +135,12 @@ module _ (b : Superblock) (table : List Superblock) where
       go (suc m) l h = w .others m (omega arith) (omega arith)
 
   next-of-whole-from : (k : ℕ) → WholeFrom (b ∷ table) (suc k) → WholeFrom table k
-  next-of-whole-from k w = record { at-most-16 = w .at-most-16; in-table = omega (arith, w .in-table); others = λ m l h. w .others (suc m) (omega arith) (omega arith) }
+  next-of-whole-from k w = record {
+    at-most-16 = w .at-most-16;
+    in-table = omega (arith, w .in-table);
+    others =
+        λ m l h. w .others (suc m) (omega arith) (omega arith);
+  }
 
   -- ---- the facts of a list from those of its first superblock and of the others
   module _ (left : ℕ) (f : FitsAt left b) (g : RunsFrom (left + b .run - 1) table) where
@@ -156,7 +179,14 @@ module _ (b : Superblock) (table : List Superblock) where
         go (inr (m, before, covers, of-run)) = inr (suc m, omega arith, omega arith, of-run)
 
     runs-from-next : RunsFrom left (b ∷ table)
-    runs-from-next = record { rest-in-table = omega (arith, g .rest-in-table); rest = rest-of-next; first-of-run = first-of-next; inside-run = inside-of-next; outside-carries-0 = outside }
+    runs-from-next = record {
+      rest-in-table = omega (arith, g .rest-in-table);
+      rest = rest-of-next;
+      first-of-run = first-of-next;
+      inside-run =
+          inside-of-next;
+      outside-carries-0 = outside;
+    }
       where
         outside : (k : ℕ) → k < length (b ∷ table) → isOfRun (getD (b ∷ table) k blank) ≡ false → getD (b ∷ table) k blank .run ≡ 0
         outside zero l e = f .outside-carries-0 e
@@ -169,7 +199,13 @@ module _ (b : Superblock) (table : List Superblock) where
     whole-of-length some = h .first-of-run 0 (omega arith) (of-run-of-length b (h .outside-carries-0 0 (omega arith)) some) some
 
     fits-of-runs-from : FitsAt left b
-    fits-of-runs-from = record { still-of-run = h .rest 0; begins = λ e z. begins (b .run) refl e z; at-most-16 = at-most-16 (b .run) refl; outside-carries-0 = h .outside-carries-0 0 (omega arith) }
+    fits-of-runs-from = record {
+      still-of-run = h .rest 0;
+      begins = λ e z. begins (b .run) refl e z;
+      at-most-16 =
+          at-most-16 (b .run) refl;
+      outside-carries-0 = h .outside-carries-0 0 (omega arith);
+    }
       where
         begins : (r : ℕ) → b .run ≡ r → isOfRun b ≡ true → left ≡ 0 → 0 < b .run
         begins zero q e z = go (h .inside-run 0 (omega arith) e q)
@@ -235,7 +271,8 @@ whole-of-runs-from : (left : ℕ) (l : List Superblock) → RunsFrom left l → 
 unfolding runsWhole
 whole-of-runs-from zero [] h = tt
 whole-of-runs-from (suc left) [] h = omega (arith, h .rest-in-table)
-whole-of-runs-from left (b ∷ table) h = whole-of-fits b table left (fits-of-runs-from b table left h) (whole-of-runs-from (left + b .run - 1) table (next-of-runs-from b table left h))
+whole-of-runs-from left (b ∷ table) h = whole-of-fits b table left (fits-of-runs-from b table left h)
+    (whole-of-runs-from (left + b .run - 1) table (next-of-runs-from b table left h))
 
 module _ (s : State) (length-is-64 : length (s .table) ≡ 64) where
   pub runs-sound-of-valid : T (runsValid s) → RunsSound s
@@ -316,7 +353,8 @@ runs-apart s k n m r j a b ka kb ma mb = go (decLt k m) (decLt m k)
     go (no f) (no g) = omega (arith, le-of-not-below f, le-of-not-below g)
 
 -- "all below N", where the superblocks from N on are unused
-pub run-below-superblocks : (s : State) (k n : ℕ) → RunAt s k n → ((m : ℕ) → m < 64 → s .setup .superblocks ≤ m → superblockAt s m .owner ≡ unusedOwner) → k + n ≤ s .setup .superblocks
+pub run-below-superblocks : (s : State) (k n : ℕ) → RunAt s k n → ((m : ℕ) → m < 64 → s .setup .superblocks ≤ m → superblockAt s m .owner ≡ unusedOwner)
+    → k + n ≤ s .setup .superblocks
 unfolding isOfRun
 run-below-superblocks s k n r unused-from = le-of-not-below go
   where
@@ -386,7 +424,8 @@ module _ (s t : State) (k n : ℕ) (others : (m : ℕ) → m < 64 → Outside k 
       before m b low high (inr below) = below
 
   -- so the runs of t are sound where its superblocks inside are
-  runs-sound-of-range : ((j : ℕ) → k ≤ j → j < k + n → j < 64 → isOfRun (superblockAt t j) ≡ true → 0 < superblockAt t j .run → RunAt t j (superblockAt t j .run))
+  runs-sound-of-range : ((j : ℕ) → k ≤ j → j < k + n → j < 64 → isOfRun (superblockAt t j) ≡ true → 0 < superblockAt t j .run
+      → RunAt t j (superblockAt t j .run))
       → ((j : ℕ) → k ≤ j → j < k + n → isOfRun (superblockAt t j) ≡ true → superblockAt t j .run ≡ 0 → CoveredIn (t .table) j)
       → ((j : ℕ) → k ≤ j → j < k + n → isOfRun (superblockAt t j) ≡ false → superblockAt t j .run ≡ 0) → RunsSound t
   runs-sound-of-range first inside outside =
@@ -405,7 +444,9 @@ pub runs-sound-of-run-taken : (s t : State) (k n : ℕ) → ((m : ℕ) → k ≤
 runs-sound-of-run-taken s t k n free taken others h = runs-sound-of-range s t k n others apart h first inside outside
   where
     apart : (j r i : ℕ) → RunAt s j r → j ≤ i → i < j + r → Outside k n i → (m : ℕ) → j ≤ m → m < j + r → Outside k n m
-    apart j r i a _ _ _ m p q = elim (side-of-range k n m) [ inl out ↦ out | inr (low, high) ↦ absurd (true-not-false (isOfRun (superblockAt s m)) (a .of-run m p q) (free m low high)) ]
+    apart j r i a _ _ _ m p q =
+        elim (side-of-range k n m)
+        [ inl out ↦ out | inr (low, high) ↦ absurd (true-not-false (isOfRun (superblockAt s m)) (a .of-run m p q) (free m low high)) ]
 
     first : (j : ℕ) → k ≤ j → j < k + n → j < 64 → isOfRun (superblockAt t j) ≡ true → 0 < superblockAt t j .run → RunAt t j (superblockAt t j .run)
     first j low high l e some = go (eq-or-lt-of-le low)
@@ -425,7 +466,8 @@ runs-sound-of-run-taken s t k n free taken others h = runs-sound-of-range s t k 
     outside j low high e = absurd (true-not-false (isOfRun (superblockAt t j)) (taken .of-run j low high) e)
 
 -- a run freed: "a free makes the whole run unused"
-pub runs-sound-of-run-freed : (s t : State) (k n : ℕ) → RunAt s k n → ((m : ℕ) → k ≤ m → m < k + n → (isOfRun (superblockAt t m) ≡ false) × (superblockAt t m .run ≡ 0))
+pub runs-sound-of-run-freed : (s t : State) (k n : ℕ) → RunAt s k n
+    → ((m : ℕ) → k ≤ m → m < k + n → (isOfRun (superblockAt t m) ≡ false) × (superblockAt t m .run ≡ 0))
     → ((m : ℕ) → m < 64 → Outside k n m → SameOfRuns s t m) → RunsSound s → RunsSound t
 runs-sound-of-run-freed s t k n a freed others h =
     runs-sound-of-range s t k n others apart h

@@ -1,4 +1,5 @@
--- What keeps of each superblock whether it is of a run and which length it carries keeps the check of the runs, and live blocks go by marks outside runs. Assumes nothing.
+-- What keeps of each superblock whether it is of a run and which length it carries keeps the check of the runs, and live blocks go by marks outside
+-- runs. Assumes nothing.
 use mathlib.Core.Path.{_≡_, refl, sym, ap, ap₂, _∙_, subst}
 use mathlib.Core.Bool.{Bool, true, false}
 use mathlib.Core.List.{List, [], _∷_}
@@ -24,7 +25,8 @@ use Rattle.heap_laws.proofs.RerankedLaws.{reranked-of-run, reranked-run
 abbrev SameRun : Superblock → Superblock → Type 0
 SameRun b d = (isOfRun b ≡ isOfRun d) × (b .run ≡ d .run)
 
-runs-whole-cong : (left : ℕ) (x y : List Superblock) → length x ≡ length y → ((k : ℕ) → k < length x → SameRun (getD x k blank) (getD y k blank)) → runsWhole left x ≡ runsWhole left y
+runs-whole-cong : (left : ℕ) (x y : List Superblock) → length x ≡ length y → ((k : ℕ) → k < length x → SameRun (getD x k blank) (getD y k blank))
+    → runsWhole left x ≡ runsWhole left y
 unfolding runsWhole
 runs-whole-cong zero [] [] e same = refl
 runs-whole-cong (suc left) [] [] e same = refl
@@ -50,7 +52,8 @@ pub reranked-runs-kept : (rank : ℕ → ℕ) (s : State) → length (s .table) 
 reranked-runs-kept rank s long m l = (reranked-of-run rank s long m, reranked-run rank s long m)
 
 pub reranked-runs-valid : (rank : ℕ → ℕ) (s : State) → length (s .table) ≡ 64 → T (runsValid s) → T (runsValid (reranked rank s))
-reranked-runs-valid rank s long valid = runs-valid-of-kept s (reranked rank s) long (length-listed (λ m. withRank (rank m) (superblockAt s m)) 64) (reranked-runs-kept rank s long) valid
+reranked-runs-valid rank s long valid = runs-valid-of-kept s (reranked rank s) long (length-listed (λ m. withRank (rank m) (superblockAt s m)) 64)
+    (reranked-runs-kept rank s long) valid
 
 -- nor have names
 pub runs-valid-with-names : (s : State) (names : List ℕ) → T (runsValid s) → T (runsValid (withNames s names))

@@ -1,11 +1,12 @@
--- What the type of a state says of its lists: 64 superblocks, each with four numbers of marks, 1024 names, and two totals of each heap and class. Assumes nothing.
+-- What the type of a state says of its lists: 64 superblocks, each with four numbers of marks, 1024 names, and two totals of each heap and class.
+-- Assumes nothing.
 use mathlib.Core.Path.{_≡_}
 use mathlib.Core.List.{List, [], _∷_}
 use Prim.Native.Nat.{ℕ, zero, suc, _<_}
 use native.Mathlib.Nat.{le-of-suc-le-suc, not-suc-le-zero}
 use lib.ListN.{length, getD}
 use mir.Val.{Val}
-use denote.Array.{each, Array}
+use denote.Array.{each}
 use denote.Laws.{Is}
 use denote.Shadow.{shadow}
 use Rattle.base_laws.proofs.ReplacedElement.{length-of-length-map}
@@ -23,7 +24,8 @@ marks-length-of-superblock : (b : Superblock) (vals : List Val) → Is B.the-row
 marks-length-of-superblock b vals g = length-of-length-map (λ (x : ℕ). x) (b .live) 4 (g .1 .1 .1 .1 .1 .1 .0 .1 .0 .1)
 
 -- of each superblock of a list
-marks-length-of-each : (table : List Superblock) (vals : List Val) → shadow (each Superblock (B.the-row .own) table vals) → (k : ℕ) → k < length table → length (getD table k blank .live) ≡ 4
+marks-length-of-each : (table : List Superblock) (vals : List Val) → shadow (each Superblock (B.the-row .own) table vals) → (k : ℕ) → k < length table
+    → length (getD table k blank .live) ≡ 4
 marks-length-of-each [] vals g k l = absurd (not-suc-le-zero l)
 marks-length-of-each (b ∷ table) [] g k l = absurd g
 marks-length-of-each (b ∷ table) (v ∷ vals) g zero l = marks-length-of-superblock b (v ∷ []) (g .0)

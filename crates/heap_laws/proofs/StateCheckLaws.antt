@@ -17,21 +17,23 @@ use Rattle.class_rules.specs.Classes.{classCount, blocksOf}
 use Rattle.class_rules.proofs.ClassTableLaws.{blocks-of-le-256}
 use Rattle.marks_laws.proofs.MarkLaws.{live-count-of-no-marks}
 use Rattle.names_rules.specs.Names.{notHeld, noNames, eachHeld}
-use Rattle.names_laws.proofs.NameLaws.{test-of-block-named, each-held-of-blocks-named, same-name-of-same-block, no-two-of-same-name, each-held-of-no-names, no-two-of-no-names}
+use Rattle.names_laws.proofs.NameLaws.{test-of-block-named, each-held-of-blocks-named, same-name-of-same-block, no-two-of-same-name, each-held-of-no-names}
+use Rattle.names_laws.proofs.NameLaws.{no-two-of-no-names}
 use Rattle.filled_rules.proofs.PlacesValidLaws.{live-count-le-of-places-valid}
 use Rattle.heap_rules.specs.declared.Superblock.{Superblock}
 use Rattle.heap_rules.specs.declared.Setup.{Setup}
 use Rattle.heap_rules.specs.declared.State.{State}
 use Rattle.heap_rules.specs.Table.{runOwner, unusedOwner, blank, unused, superblockAt, liveIn, isUnused, isOfRun, isLiveBlock}
 use Rattle.heap_rules.specs.States.{withSuperblock, withNames, newState}
-use Rattle.heap_rules.specs.Counts.{superblocksOf, liveOf, blocksIn, belongs}
+use Rattle.heap_rules.specs.Counts.{superblocksOf, liveOf, blocksIn}
 use Rattle.move_rules.specs.Moves.{bothConditions, mustMove}
-use Rattle.check_rules.specs.Check.{within, withinLimits, isPartOfRun, isUnowned, isOwned, superblockValid, unusedFrom, emptinessInvariant, sparseIfGlobal, namesValid, ranksValid, runsValid, restValid, passes}
+use Rattle.check_rules.specs.Check.{within, withinLimits, isPartOfRun, isUnowned, isOwned, superblockValid, unusedFrom, emptinessInvariant, sparseIfGlobal}
+use Rattle.check_rules.specs.Check.{namesValid, ranksValid, runsValid, restValid, passes}
 use Rattle.check_rules.proofs.ClauseLaws.{clauses-of-rest, rest-of-clauses, limits-of-passes, rest-of-passes, passes-of-limits-and-rest}
 use Rattle.heap_laws.proofs.StateFacts.{Shape, WithinLimits, Unused, Unowned, Owned, Sparse, Sound, NamesSound, SoundWith, SoundAfterFrees}
 use Rattle.heap_rules.specs.Totals.{totalCount, TotalsKept}
 use Rattle.heap_laws.proofs.TotalsLaws.{totals-kept-of-valid, totals-valid-of-kept, length-recounted-superblocks, length-recounted-live}
-use Rattle.heap_laws.proofs.CountLaws.{superblock-at-replaced, superblock-at-others, owner-and-class-of-belongs, superblocks-of-new-state}
+use Rattle.heap_laws.proofs.CountLaws.{superblock-at-replaced, superblock-at-others, superblocks-of-new-state}
 
 -- ---- the setup numbers
 bounds-of-within : (a b x : ℕ) → T (within a b x) → (a ≤ x) × (x ≤ b)
@@ -70,7 +72,8 @@ within-limits-of-facts u l =
     both-make (within 1 8 (u .processors)) _ (within-of-bounds 1 8 (u .processors) (l .processors-low) (l .processors-high))
     (both-make (within 1 64 (u .superblocks)) _ (within-of-bounds 1 64 (u .superblocks) (l .superblocks-low) (l .superblocks-high))
     (both-make (within 1 16 (u .spare)) _ (within-of-bounds 1 16 (u .spare) (l .spare-low) (l .spare-high))
-    (both-make (both (leb 1 (u .p)) (ltb (u .p) (u .q))) _ (both-make (leb 1 (u .p)) (ltb (u .p) (u .q)) (le→leb 1 (u .p) (l .p-low)) (lt→ltb (u .p) (u .q) (l .p-high)))
+    (both-make (both (leb 1 (u .p)) (ltb (u .p) (u .q))) _
+    (both-make (leb 1 (u .p)) (ltb (u .p) (u .q)) (le→leb 1 (u .p) (l .p-low)) (lt→ltb (u .p) (u .q) (l .p-high)))
     (within-of-bounds 2 8 (u .q) (l .q-low) (l .q-high)))))
 
 -- ---- one superblock
@@ -173,7 +176,8 @@ unused-from-of-unused n k b h = go (ltb k n) refl
 
 sparse-of-sparse-if-global : (u : Setup) (b : Superblock) → T (sparseIfGlobal u b) → b .owner ≡ 0 → Sparse u b
 unfolding sparseIfGlobal
-sparse-of-sparse-if-global u b t e = ltb→lt (u .q * liveIn b) ((u .q - u .p) * blocksOf (b .class)) (either-right-of-left-false (not (eqb (b .owner) 0)) _ t (ap not (eq-eqb (b .owner) 0 e)))
+sparse-of-sparse-if-global u b t e = ltb→lt (u .q * liveIn b) ((u .q - u .p) * blocksOf (b .class))
+    (either-right-of-left-false (not (eqb (b .owner) 0)) _ t (ap not (eq-eqb (b .owner) 0 e)))
 
 sparse-if-global-of-sparse : (u : Setup) (b : Superblock) → (b .owner ≡ 0 → Sparse u b) → T (sparseIfGlobal u b)
 unfolding sparseIfGlobal
@@ -184,14 +188,17 @@ sparse-if-global-of-sparse u b h = go (ℕ-discrete (b .owner) 0)
     go (no f) = either-left (not (eqb (b .owner) 0)) _ (T-of-true _ (ap not (ne-eqb (b .owner) 0 f)))
 
 -- ---- the whole state
-not-must-move-of-emptiness-invariant : (s : State) → T (emptinessInvariant s) → (h c : ℕ) → 1 ≤ h → h ≤ s .setup .processors → c < classCount → T (mustMove h c s) → ⊥
+not-must-move-of-emptiness-invariant : (s : State) → T (emptinessInvariant s) → (h c : ℕ) → 1 ≤ h → h ≤ s .setup .processors → c < classCount
+    → T (mustMove h c s) → ⊥
 unfolding emptinessInvariant
 not-must-move-of-emptiness-invariant s t zero c low high lc m = omega arith
 not-must-move-of-emptiness-invariant s t (suc i) c low high lc m =
     T-not (mustMove (suc i) c s)
-    (all-at (λ d. not (mustMove (suc i) d s)) classCount (all-at (λ j. allBelow (λ d. not (mustMove (suc j) d s)) classCount) (s .setup .processors) t i high) c lc) m
+    (all-at (λ d. not (mustMove (suc i) d s)) classCount
+    (all-at (λ j. allBelow (λ d. not (mustMove (suc j) d s)) classCount) (s .setup .processors) t i high) c lc) m
 
-emptiness-invariant-of-not-must-move : (s : State) → ((h c : ℕ) → 1 ≤ h → h ≤ s .setup .processors → c < classCount → T (mustMove h c s) → ⊥) → T (emptinessInvariant s)
+emptiness-invariant-of-not-must-move : (s : State) → ((h c : ℕ) → 1 ≤ h → h ≤ s .setup .processors → c < classCount → T (mustMove h c s) → ⊥)
+    → T (emptinessInvariant s)
 unfolding emptinessInvariant
 emptiness-invariant-of-not-must-move s h =
     all-of-each (λ j. allBelow (λ d. not (mustMove (suc j) d s)) classCount) (s .setup .processors)
@@ -203,10 +210,13 @@ sound-of-limits-and-rest s order a b =
     let clauses = clauses-of-rest s order b in
     record {
       numbers = facts-of-within-limits (s .setup) a;
-      each = λ k l. unowned-or-owned-of-superblock-valid (s .setup) order k (superblockAt s k) (all-at (λ k. superblockValid (s .setup) order k (superblockAt s k)) 64 (clauses .superblocks) k l);
-      past-unused = λ k l. unused-of-unused-from (s .setup .superblocks) k (superblockAt s k) (all-at (λ k. unusedFrom (s .setup .superblocks) k (superblockAt s k)) 64 (clauses .past-unused) k l);
+      each = λ k l. unowned-or-owned-of-superblock-valid (s .setup) order k (superblockAt s k)
+          (all-at (λ k. superblockValid (s .setup) order k (superblockAt s k)) 64 (clauses .superblocks) k l);
+      past-unused = λ k l. unused-of-unused-from (s .setup .superblocks) k (superblockAt s k)
+          (all-at (λ k. unusedFrom (s .setup .superblocks) k (superblockAt s k)) 64 (clauses .past-unused) k l);
       invariant = not-must-move-of-emptiness-invariant s (clauses .processor-heaps);
-      sparse = λ k l. sparse-of-sparse-if-global (s .setup) (superblockAt s k) (all-at (λ k. sparseIfGlobal (s .setup) (superblockAt s k)) 64 (clauses .global-heap) k l);
+      sparse = λ k l. sparse-of-sparse-if-global (s .setup) (superblockAt s k)
+          (all-at (λ k. sparseIfGlobal (s .setup) (superblockAt s k)) 64 (clauses .global-heap) k l);
     }
 
 pub names-valid-of-rest : (s : State) (order : List ℕ) → T (restValid s order) → T (namesValid s)
@@ -226,7 +236,8 @@ names-sound-of-valid s t =
 
 pub names-valid-of-sound : (s : State) → NamesSound s → T (namesValid s)
 unfolding namesValid
-names-valid-of-sound s h = both-make (eachHeld (isLiveBlock s) (s .names)) _ (each-held-of-blocks-named (isLiveBlock s) (s .names) (h .live)) (no-two-of-same-name (s .names) (h .distinct))
+names-valid-of-sound s h = both-make (eachHeld (isLiveBlock s) (s .names)) _ (each-held-of-blocks-named (isLiveBlock s) (s .names) (h .live))
+    (no-two-of-same-name (s .names) (h .distinct))
 
 pub ranks-valid-of-rest : (s : State) (order : List ℕ) → T (restValid s order) → T (ranksValid s)
 ranks-valid-of-rest s order b = clauses-of-rest s order b .ranks
@@ -234,14 +245,17 @@ ranks-valid-of-rest s order b = clauses-of-rest s order b .ranks
 pub runs-valid-of-rest : (s : State) (order : List ℕ) → T (restValid s order) → T (runsValid s)
 runs-valid-of-rest s order b = clauses-of-rest s order b .runs
 
-pub rest-valid-of-sound : (s : State) (order : List ℕ) → Sound s order → T (namesValid s) → TotalsKept s → T (ranksValid s) → T (runsValid s) → T (restValid s order)
+pub rest-valid-of-sound : (s : State) (order : List ℕ) → Sound s order → T (namesValid s) → TotalsKept s → T (ranksValid s) → T (runsValid s)
+    → T (restValid s order)
 rest-valid-of-sound s order h names totals ranks runs =
     rest-of-clauses s order
     (record {
       superblocks = all-of-each (λ k. superblockValid (s .setup) order k (superblockAt s k)) 64 (λ k l. good k (h .each k l));
-      past-unused = all-of-each (λ k. unusedFrom (s .setup .superblocks) k (superblockAt s k)) 64 (λ k l. unused-from-of-unused (s .setup .superblocks) k (superblockAt s k) (h .past-unused k l));
+      past-unused = all-of-each (λ k. unusedFrom (s .setup .superblocks) k (superblockAt s k)) 64
+          (λ k l. unused-from-of-unused (s .setup .superblocks) k (superblockAt s k) (h .past-unused k l));
       processor-heaps = emptiness-invariant-of-not-must-move s (h .invariant);
-      global-heap = all-of-each (λ k. sparseIfGlobal (s .setup) (superblockAt s k)) 64 (λ k l. sparse-if-global-of-sparse (s .setup) (superblockAt s k) (h .sparse k l));
+      global-heap = all-of-each (λ k. sparseIfGlobal (s .setup) (superblockAt s k)) 64
+          (λ k l. sparse-if-global-of-sparse (s .setup) (superblockAt s k) (h .sparse k l));
       names = names;
       totals = totals-valid-of-kept s totals;
       ranks = ranks;
@@ -270,7 +284,8 @@ superblock-at-new-state-unused u k l = getD-replicate 64 k unused blank l
 new-state-not-must-move : (u : Setup) (h c : ℕ) → h < unusedOwner → T (mustMove h c (newState u)) → ⊥
 unfolding mustMove bothConditions blocksIn
 new-state-not-must-move u h c l m =
-    let more = ltb→lt (liveOf h c (newState u) + u .spare * blocksOf c) (superblocksOf h c (newState u) * blocksOf c) (both-left (ltb (liveOf h c (newState u) + u .spare * blocksOf c) (superblocksOf h c (newState u) * blocksOf c)) _ m) in
+    let more = ltb→lt (liveOf h c (newState u) + u .spare * blocksOf c) (superblocksOf h c (newState u) * blocksOf c)
+    (both-left (ltb (liveOf h c (newState u) + u .spare * blocksOf c) (superblocksOf h c (newState u) * blocksOf c)) _ m) in
     let none : superblocksOf h c (newState u) * blocksOf c ≡ 0 = rw (superblocks-of-new-state u h c l) (zero-mul (blocksOf c)) in
     omega arith
 
@@ -298,7 +313,8 @@ new-state-sound u order t = record {
 
 pub new-state-names-valid : (u : Setup) → T (namesValid (newState u))
 unfolding namesValid
-new-state-names-valid u = both-make (eachHeld (isLiveBlock (newState u)) noNames) _ (each-held-of-no-names (isLiveBlock (newState u)) 1024) (no-two-of-no-names 1024)
+new-state-names-valid u = both-make (eachHeld (isLiveBlock (newState u)) noNames) _ (each-held-of-no-names (isLiveBlock (newState u)) 1024)
+    (no-two-of-no-names 1024)
 
 pub new-state-shape : (u : Setup) → Shape (newState u)
 new-state-shape u =
@@ -312,23 +328,45 @@ new-state-shape u =
 
 -- a superblock replaced by one with four numbers of marks keeps the shape
 pub shape-with-superblock : (s : State) (k : ℕ) (b : Superblock) → Shape s → k < 64 → length (b .live) ≡ 4 → Shape (withSuperblock s k b)
-shape-with-superblock s k b h l e = record { length-is = length-set (s .table) k b ∙ h .length-is; marks-length = λ j lj. at j lj (ℕ-discrete j k); names-length = h .names-length; superblock-totals-length = length-recounted-superblocks _; live-totals-length = length-recounted-live _ }
+shape-with-superblock s k b h l e = record {
+  length-is = length-set (s .table) k b ∙ h .length-is;
+  marks-length = λ j lj. at j lj (ℕ-discrete j k);
+  names-length = h .names-length;
+  superblock-totals-length = length-recounted-superblocks _;
+  live-totals-length = length-recounted-live _;
+}
   where
     at : (j : ℕ) → j < 64 → Dec (j ≡ k) → length (superblockAt (withSuperblock s k b) j .live) ≡ 4
-    at j lj (yes q) = ap (λ (i : ℕ). length (superblockAt (withSuperblock s k b) i .live)) q ∙ ap (λ (d : Superblock). length (d .live)) (superblock-at-replaced s k b (h .length-is) l) ∙ e
+    at j lj (yes q) = ap (λ (i : ℕ). length (superblockAt (withSuperblock s k b) i .live)) q ∙ ap (λ (d : Superblock). length (d .live))
+        (superblock-at-replaced s k b (h .length-is) l) ∙ e
     at j lj (no f) = ap (λ (d : Superblock). length (d .live)) (superblock-at-others s k b j f) ∙ h .marks-length j lj
 
 -- other names change nothing of the rest
 pub shape-with-names : (s : State) (names : List ℕ) → Shape s → length names ≡ 1024 → Shape (withNames s names)
-shape-with-names s names h e = record { length-is = h .length-is; marks-length = h .marks-length; names-length = e; superblock-totals-length = h .superblock-totals-length; live-totals-length = h .live-totals-length }
+shape-with-names s names h e = record {
+  length-is = h .length-is;
+  marks-length = h .marks-length;
+  names-length = e;
+  superblock-totals-length =
+      h .superblock-totals-length;
+  live-totals-length = h .live-totals-length;
+}
 
 pub sound-with-names : (s : State) (names order : List ℕ) → Sound s order → Sound (withNames s names) order
 unfolding mustMove blocksIn superblocksOf liveOf
 sound-with-names s names order h = record { numbers = h .numbers; each = h .each; past-unused = h .past-unused; invariant = h .invariant; sparse = h .sparse }
 
-pub sound-after-frees-with-names : (freed : ℕ → ℕ → ℕ) (s : State) (names order : List ℕ) → SoundAfterFrees freed s order → SoundAfterFrees freed (withNames s names) order
+pub sound-after-frees-with-names : (freed : ℕ → ℕ → ℕ) (s : State) (names order : List ℕ) → SoundAfterFrees freed s order
+    → SoundAfterFrees freed (withNames s names) order
 unfolding blocksIn superblocksOf liveOf
-sound-after-frees-with-names freed s names order h = record { numbers = h .numbers; each = h .each; past-unused = h .past-unused; invariant = h .invariant; sparse = h .sparse }
+sound-after-frees-with-names freed s names order h = record {
+  numbers = h .numbers;
+  each = h .each;
+  past-unused = h .past-unused;
+  invariant =
+      h .invariant;
+  sparse = h .sparse;
+}
 
 -- ---- what a state that passes says of one superblock
 -- fewer live than the share of n that sparse allows are fewer than n
@@ -337,7 +375,8 @@ live-lt-blocks-of-sparse q p live n h = go (decLt live n)
   where
     go : Dec (live < n) → live < n
     go (yes l) = l
-    go (no f) = absurd (let z : ⊥ = omega (arith, mul-le-mul-left {m = n} {n = live} q (omega arith), mul-le-mul-right {m = q - p} {n = q} n (omega arith)) in z)
+    go (no f) = absurd (let z : ⊥ =
+        omega (arith, mul-le-mul-left {m = n} {n = live} q (omega arith), mul-le-mul-right {m = q - p} {n = q} n (omega arith)) in z)
 
 module _ {Invariant : ℕ → ℕ → State → Type 0} (s : State) (order : List ℕ) (sound : SoundWith Invariant s order) (k : ℕ) (l : k < 64) where
   -- a superblock that is not unused has a number below N
@@ -365,8 +404,10 @@ module _ {Invariant : ℕ → ℕ → State → Type 0} (s : State) (order : Lis
 
   -- not more live than blocks
   pub live-le-blocks-of-owned : superblockAt s k .owner < runOwner → liveIn (superblockAt s k) ≤ blocksOf (superblockAt s k .class)
-  live-le-blocks-of-owned f = live-count-le-of-places-valid order (superblockAt s k .live) k (blocksOf (superblockAt s k .class)) (blocks-of-le-256 (superblockAt s k .class)) (owned-of-owner f .places)
+  live-le-blocks-of-owned f = live-count-le-of-places-valid order (superblockAt s k .live) k (blocksOf (superblockAt s k .class))
+      (blocks-of-le-256 (superblockAt s k .class)) (owned-of-owner f .places)
 
   -- a sparse superblock has a free block
   pub free-block-in-global : superblockAt s k .owner ≡ 0 → liveIn (superblockAt s k) < blocksOf (superblockAt s k .class)
-  free-block-in-global e = live-lt-blocks-of-sparse (s .setup .q) (s .setup .p) (liveIn (superblockAt s k)) (blocksOf (superblockAt s k .class)) (sound .sparse k l e)
+  free-block-in-global e = live-lt-blocks-of-sparse (s .setup .q) (s .setup .p) (liveIn (superblockAt s k)) (blocksOf (superblockAt s k .class))
+      (sound .sparse k l e)

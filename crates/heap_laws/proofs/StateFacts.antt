@@ -90,7 +90,8 @@ Sound s order = SoundWith (λ h c t. T (mustMove h c t) → ⊥) s order
 -- one of the move rule's conditions fails, read with so many live blocks more: as many of heap h and class c were freed since the rule was last followed
 abbrev pub InvariantBeforeFrees : ℕ → ℕ → ℕ → State → Type 0
 InvariantBeforeFrees freed h c s =
-    (blocksIn h c s ≤ liveOf h c s + freed + s .setup .spare * blocksOf c) ⊎ ((s .setup .q - s .setup .p) * blocksIn h c s ≤ s .setup .q * (liveOf h c s + freed))
+    (blocksIn h c s ≤ liveOf h c s + freed + s .setup .spare * blocksOf c)
+    ⊎ ((s .setup .q - s .setup .p) * blocksIn h c s ≤ s .setup .q * (liveOf h c s + freed))
 
 -- with so many blocks of each heap and class freed since then
 abbrev pub SoundAfterFrees : (ℕ → ℕ → ℕ) → State → List ℕ → Type 0
@@ -115,7 +116,8 @@ pub record RunsSound (s : State) : Type 0 where
   -- a superblock of a run that carries a length is the first of a run that is whole
   pub first-of-run : (k : ℕ) → k < 64 → isOfRun (superblockAt s k) ≡ true → 0 < superblockAt s k .run → RunAt s k (superblockAt s k .run)
   -- one that carries none lies in a run that begins before it
-  pub inside-run : (k : ℕ) → k < 64 → isOfRun (superblockAt s k) ≡ true → superblockAt s k .run ≡ 0 → (m : ℕ) × (m < k) × (k < m + superblockAt s m .run) × (isOfRun (superblockAt s m) ≡ true)
+  pub inside-run : (k : ℕ) → k < 64 → isOfRun (superblockAt s k) ≡ true → superblockAt s k .run ≡ 0 → (m : ℕ) × (m < k) × (k < m + superblockAt s m .run)
+      × (isOfRun (superblockAt s m) ≡ true)
   -- "every other superblock 0"
   pub outside-carries-0 : (k : ℕ) → k < 64 → isOfRun (superblockAt s k) ≡ false → superblockAt s k .run ≡ 0
 
@@ -129,8 +131,10 @@ pub record TransferredFrom (h c : ℕ) (s t : State) : Type 0 where
   pub names : t .names ≡ s .names
   pub totals : TotalsKept s → TotalsKept t
   pub length-is : length (t .table) ≡ 64
-  -- a superblock is as it was, or it was heap h's of class c, is sparse, and only its owner has become 0: "a moved superblock's owner was i and is 0, the others keep theirs"
-  pub each : (k : ℕ) → k < 64 → (superblockAt t k ≡ superblockAt s k) ⊎ (T (belongs h c (superblockAt s k)) × Sparse (s .setup) (superblockAt s k) × (superblockAt t k ≡ withOwner 0 (superblockAt s k)))
+  -- a superblock is as it was, or it was heap h's of class c, is sparse, and only its owner has become 0: "a moved superblock's owner was i and is 0,
+  -- the others keep theirs"
+  pub each : (k : ℕ) → k < 64 → (superblockAt t k ≡ superblockAt s k)
+      ⊎ (T (belongs h c (superblockAt s k)) × Sparse (s .setup) (superblockAt s k) × (superblockAt t k ≡ withOwner 0 (superblockAt s k)))
   -- no other processor heap or class is touched
   pub others : (i d : ℕ) → 0 < i → ((i ≡ h) × (d ≡ c) → ⊥) → (superblocksOf i d t ≡ superblocksOf i d s) × (liveOf i d t ≡ liveOf i d s)
   -- no class changes its number of superblocks or live blocks

@@ -24,7 +24,7 @@ use Rattle.heap_rules.specs.declared.State.{State}
 use Rattle.heap_rules.specs.Table.{blank, superblockAt, liveIn}
 use Rattle.heap_rules.specs.Counts.{total, belongs, oneIfBelongs, liveIfBelongs, superblocksOf, liveOf}
 use Rattle.heap_rules.specs.Totals.{heapCount, totalCount, totalIndex, superblocksKept, liveKept, isCounted, withCounted, countedBelow, recounted, TotalsKept}
-use Rattle.heap_rules.specs.States.{withSuperblock, withNames, newState}
+use Rattle.heap_rules.specs.States.{withSuperblock, newState}
 use Rattle.check_rules.specs.Check.{sameTotals, totalsValid}
 use Rattle.heap_laws.proofs.StateFacts.{Unowned, Owned, Sound}
 use Rattle.heap_laws.proofs.CountLaws.{belongs-true, owner-and-class-of-belongs, superblocks-zero-of-none-belongs}
@@ -33,8 +33,11 @@ use Rattle.heap_laws.proofs.CountLaws.{belongs-true, owner-and-class-of
 pub counted-heap-and-class : (b : Superblock) → isCounted b ≡ true → (b .owner < heapCount) × (b .class < classCount)
 unfolding isCounted
 counted-heap-and-class b e =
-    let t = T-of-true _ e in
-    (ltb→lt (b .owner) heapCount (both-left (ltb (b .owner) heapCount) _ t), ltb→lt (b .class) classCount (both-right (ltb (b .owner) heapCount) (ltb (b .class) classCount) t))
+    let t = T-of-true _ e in (
+      ltb→lt (b .owner) heapCount (both-left (ltb (b .owner) heapCount) _ t),
+      ltb→lt (b .class) classCount
+          (both-right (ltb (b .owner) heapCount) (ltb (b .class) classCount) t),
+    )
 
 -- one that belongs to a heap and class of which totals are kept is counted
 pub counted-of-heap-and-class : (b : Superblock) → b .owner < heapCount → b .class < classCount → isCounted b ≡ true
@@ -58,7 +61,8 @@ with-counted-at f b l h c long lh lc = go (isCounted b) refl (belongs h c b) ref
     x : ℕ
     x = totalIndex (b .owner) (b .class)
 
-    go : (t : Bool) → isCounted b ≡ t → (u : Bool) → belongs h c b ≡ u → getD (pick t (increased x (f b) l) l) (totalIndex h c) 0 ≡ getD l (totalIndex h c) 0 + pick u (f b) 0
+    go : (t : Bool) → isCounted b ≡ t → (u : Bool) → belongs h c b ≡ u → getD (pick t (increased x (f b) l) l) (totalIndex h c) 0
+        ≡ getD l (totalIndex h c) 0 + pick u (f b) 0
     go true e true g =
         let o = owner-and-class-of-belongs h c b (T-of-true _ g) in
         let at : totalIndex h c ≡ x = omega (arith, o .0, o .1) in
@@ -98,7 +102,8 @@ module _ (s : State) (h c : ℕ) (lh : h < heapCount) (lc : c < classCount) wher
   unfolding recounted superblocksOf total oneIfBelongs
   recounted-superblocks =
       counted-below-is-sum (λ b. 1) (s .table) 64 h c lh lc
-      ∙ sum-cong (λ i. pick (belongs h c (superblockAt s i)) 1 0) (λ i. one (belongs h c (superblockAt s i))) 64 (λ i l. one-is-pick (belongs h c (superblockAt s i)))
+      ∙ sum-cong (λ i. pick (belongs h c (superblockAt s i)) 1 0) (λ i. one (belongs h c (superblockAt s i))) 64
+      (λ i l. one-is-pick (belongs h c (superblockAt s i)))
 
   pub recounted-live : getD (recounted (s .table) .live) (totalIndex h c) 0 ≡ liveOf h c s
   unfolding recounted liveOf total liveIfBelongs
@@ -114,8 +119,10 @@ module _ (s : State) (h c : ℕ) (lh : h < heapCount) (lc : c < classCount) wher
   live-kept-is-counted k = ap (λ (t : Totals). getD (t .live) (totalIndex h c) 0) k ∙ recounted-live
 
 -- two lists of totals are equal where those of each heap and class are
-pub totals-equal-of-each : (l m : List ℕ) → length l ≡ totalCount → length m ≡ totalCount → ((h c : ℕ) → h < heapCount → c < classCount → getD l (totalIndex h c) 0 ≡ getD m (totalIndex h c) 0) → l ≡ m
-totals-equal-of-each l m a b each = ext-getD 0 l m (a ∙ sym b) (λ x lx. let i : totalIndex (x / classCount) (x % classCount) ≡ x = omega arith in rw i at (each (x / classCount) (x % classCount) (omega arith) (omega arith)))
+pub totals-equal-of-each : (l m : List ℕ) → length l ≡ totalCount → length m ≡ totalCount
+    → ((h c : ℕ) → h < heapCount → c < classCount → getD l (totalIndex h c) 0 ≡ getD m (totalIndex h c) 0) → l ≡ m
+totals-equal-of-each l m a b each = ext-getD 0 l m (a ∙ sym b) (λ x lx. let i : totalIndex (x / classCount) (x % classCount) ≡ x = omega arith in
+    rw i at (each (x / classCount) (x % classCount) (omega arith) (omega arith)))
 
 -- ---- the clause of the check
 pub totals-kept-of-valid : (s : State) → T (totalsValid s) → TotalsKept s
@@ -144,7 +151,8 @@ zero-in-zeros zero x = refl
 zero-in-zeros (suc n) zero = refl
 zero-in-zeros (suc n) (suc x) = zero-in-zeros n x
 
-with-counted-at-most : (f : Superblock → ℕ) (b : Superblock) (l : List ℕ) (m w : ℕ) → length l ≡ totalCount → f b ≤ w → ((y : ℕ) → getD l y 0 ≤ m) → (x : ℕ) → getD (withCounted f b l) x 0 ≤ m + w
+with-counted-at-most : (f : Superblock → ℕ) (b : Superblock) (l : List ℕ) (m w : ℕ) → length l ≡ totalCount → f b ≤ w → ((y : ℕ) → getD l y 0 ≤ m)
+    → (x : ℕ) → getD (withCounted f b l) x 0 ≤ m + w
 unfolding withCounted
 with-counted-at-most f b l m w long few below x = go (isCounted b) refl
   where
@@ -156,11 +164,13 @@ with-counted-at-most f b l m w long few below x = go (isCounted b) refl
     go false e = omega (arith, below x)
 
 -- where a superblock adds at most w, the total of k of them is at most k × w
-pub counted-below-at-most : (f : Superblock → ℕ) (w : ℕ) (table : List Superblock) (k : ℕ) → ((b : Superblock) → f b ≤ w) → (x : ℕ) → getD (countedBelow f table k) x 0 ≤ k * w
+pub counted-below-at-most : (f : Superblock → ℕ) (w : ℕ) (table : List Superblock) (k : ℕ) → ((b : Superblock) → f b ≤ w) → (x : ℕ)
+    → getD (countedBelow f table k) x 0 ≤ k * w
 unfolding countedBelow
 counted-below-at-most f w table zero few x = omega (arith, zero-in-zeros totalCount x)
 counted-below-at-most f w table (suc k) few x =
-    let r = with-counted-at-most f (getD table k blank) (countedBelow f table k) (k * w) w (length-counted-below f table k) (few (getD table k blank)) (counted-below-at-most f w table k few) x in
+    let r = with-counted-at-most f (getD table k blank) (countedBelow f table k) (k * w) w (length-counted-below f table k) (few (getD table k blank))
+    (counted-below-at-most f w table k few) x in
     omega (arith, suc-mul k w)
 
 pub recounted-superblocks-le-64 : (table : List Superblock) (x : ℕ) → getD (recounted table .superblocks) x 0 ≤ 64
@@ -180,7 +190,8 @@ unfolding recounted
 length-recounted-live table = length-counted-below liveIn table 64
 
 -- "heaps above P have 0": no superblock of a state that passes is theirs
-module _ (s : State) (order : List ℕ) (sound : Sound s order) (kept : TotalsKept s) (h c : ℕ) (above : s .setup .processors < h) (lh : h < heapCount) (lc : c < classCount) where
+module _ (s : State) (order : List ℕ) (sound : Sound s order) (kept : TotalsKept s) (h c : ℕ) (above : s .setup .processors < h) (lh : h < heapCount)
+    (lc : c < classCount) where
   none-belongs-above-processors : (k : ℕ) → k < 64 → belongs h c (superblockAt s k) ≡ false
   none-belongs-above-processors k l = false-of-not-T _ (λ t. go (owner-and-class-of-belongs h c (superblockAt s k) t .0) (sound .each k l))
     where
@@ -196,4 +207,5 @@ module _ (s : State) (order : List ℕ) (sound : Sound s order) (kept : TotalsKe
   unfolding liveOf total liveIfBelongs
   live-kept-above-processors =
       live-kept-is-counted s h c lh lc kept
-      ∙ sum-of-zeros (λ k. pick (belongs h c (superblockAt s k)) (liveIn (superblockAt s k)) 0) 64 (λ k l. ap (λ (t : Bool). pick t (liveIn (superblockAt s k)) 0) (none-belongs-above-processors k l))
+      ∙ sum-of-zeros (λ k. pick (belongs h c (superblockAt s k)) (liveIn (superblockAt s k)) 0) 64
+      (λ k l. ap (λ (t : Bool). pick t (liveIn (superblockAt s k)) 0) (none-belongs-above-processors k l))

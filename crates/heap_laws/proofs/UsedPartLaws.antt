@@ -115,9 +115,11 @@ module _ (s : State) (table : s .table ≡ usedTable s) where
   unfolding emptinessInvariant
   heaps-of-used low few =
       let n = s .setup .superblocks in
-      all-cong (λ i. allBelow (λ c. not (mustMoveBelow n (suc i) c s)) classCount) (λ i. allBelow (λ c. not (mustMove (suc i) c s)) classCount) (s .setup .processors)
+      all-cong (λ i. allBelow (λ c. not (mustMoveBelow n (suc i) c s)) classCount) (λ i. allBelow (λ c. not (mustMove (suc i) c s)) classCount)
+      (s .setup .processors)
       (λ i l.
-      all-cong (λ c. not (mustMoveBelow n (suc i) c s)) (λ c. not (mustMove (suc i) c s)) classCount (λ c m. ap not (must-move-of-used (suc i) c (omega arith) few)))
+      all-cong (λ c. not (mustMoveBelow n (suc i) c s)) (λ c. not (mustMove (suc i) c s)) classCount
+      (λ c m. ap not (must-move-of-used (suc i) c (omega arith) few)))
 
   -- all 64 pass where the first N do, with right totals
   pub rest-of-used-part : (order : List ℕ) → T (withinLimits (s .setup)) → TotalsKept s → T (usedPartValid s order) → T (restValid s order)

@@ -67,14 +67,16 @@ module _ (rank : ℕ → ℕ) (s t : State) (m : ℕ) (before : RankedBelow rank
       go : (j : ℕ) → j < m + 1 → Dec (j ≡ m) → superblockAt (withRankAt t m x) j ≡ withRank (rank j) (superblockAt s j)
       go j l (yes q) =
           subst (λ (i : ℕ). superblockAt (withRankAt t m x) i ≡ withRank (rank i) (superblockAt s i)) (sym q)
-          (getD-set-same (t .table) m (withRank x (superblockAt t m)) blank (omega (arith, before .long)) ∙ ap (withRank x) (before .left m (omega arith)) ∙ ap (λ (r : ℕ). withRank r (superblockAt s m)) e)
+          (getD-set-same (t .table) m (withRank x (superblockAt t m)) blank (omega (arith, before .long)) ∙ ap (withRank x) (before .left m (omega arith))
+          ∙ ap (λ (r : ℕ). withRank r (superblockAt s m)) e)
       go j l (no n) = getD-set-other (t .table) m j _ blank n ∙ before .passed j (omega arith)
 
   -- all passed, then superblock k's rank written
   ranked-end : (k x : ℕ) → 64 ≤ m → k < 64 → withRankAt t k x ≡ withTable s (listed (λ j. withRank (pick (eqb j k) x (rank j)) (superblockAt s j)) 64)
   ranked-end k x h l =
       ap (λ (u : State). withTable u (set (t .table) k (withRank x (superblockAt t k)))) (before .rest)
-      ∙ ap (withTable s) (ext-getD blank (set (t .table) k (withRank x (superblockAt t k))) (listed new 64) (long ∙ sym (length-listed new 64)) (λ j lj. let g : j < 64 = omega (arith, long) in go j g (ℕ-discrete j k) ∙ sym (getD-listed new 64 j blank g)))
+      ∙ ap (withTable s) (ext-getD blank (set (t .table) k (withRank x (superblockAt t k))) (listed new 64) (long ∙ sym (length-listed new 64))
+      (λ j lj. let g : j < 64 = omega (arith, long) in go j g (ℕ-discrete j k) ∙ sym (getD-listed new 64 j blank g)))
     where
       new : ℕ → Superblock
       new j = withRank (pick (eqb j k) x (rank j)) (superblockAt s j)
@@ -102,7 +104,8 @@ more-recent-of-ahead : (b d : Superblock) (behind : ℕ) → EndsAhead (d .rank)
 unfolding isMoreRecent isRanked
 more-recent-of-ahead b d behind (inl e) h l = let z : d .rank ≤ 0 = omega arith in rw (lt-ltb 0 (b .rank) h, le-ltb 0 (d .rank) z)
 more-recent-of-ahead b d behind (inr e) h l =
-    let z : 0 < d .rank = omega arith in let y : b .rank < d .rank = omega arith in rw (lt-ltb 0 (b .rank) h, lt-ltb 0 (d .rank) z, lt-ltb (b .rank) (d .rank) y)
+    let z : 0 < d .rank = omega arith in let y : b .rank < d .rank = omega arith in
+    rw (lt-ltb 0 (b .rank) h, lt-ltb 0 (d .rank) z, lt-ltb (b .rank) (d .rank) y)
 
 not-more-recent-of-unranked : (b d : Superblock) → b .rank ≤ 0 → isMoreRecent b d ≡ false
 unfolding isMoreRecent isRanked
@@ -116,8 +119,10 @@ not-more-recent-of-not-ahead : (b d : Superblock) (behind : ℕ) → b .rank ≤
 not-more-recent-of-not-ahead b d behind fit (inl e) h = absurd (omega arith)
 not-more-recent-of-not-ahead b d behind fit (inr e) h = not-more-recent-of-not-below b d (omega arith) (omega arith)
 
-module _ (s t t' : State) (k m behind : ℕ) (before : RankedBelow (shiftedBack k s) s t m) (low : m < 64) (fit : RanksFit s) (ends : EndsAhead (superblockAt s k .rank) behind) where
-  pub one-back : 0 < superblockAt t m .rank → superblockAt t m .rank < behind → t' ≡ withRankAt t m (superblockAt t m .rank + 1) → RankedBelow (shiftedBack k s) s t' (m + 1)
+module _ (s t t' : State) (k m behind : ℕ) (before : RankedBelow (shiftedBack k s) s t m) (low : m < 64) (fit : RanksFit s)
+    (ends : EndsAhead (superblockAt s k .rank) behind) where
+  pub one-back : 0 < superblockAt t m .rank → superblockAt t m .rank < behind → t' ≡ withRankAt t m (superblockAt t m .rank + 1)
+      → RankedBelow (shiftedBack k s) s t' (m + 1)
   one-back h l e =
       let x = rank-left (shiftedBack k s) s t m before in
       let z = ap one (more-recent-of-ahead (superblockAt s m) (superblockAt s k) behind ends (omega arith) (omega arith)) in
@@ -145,10 +150,12 @@ abbrev pub shiftedAhead : ℕ → State → ℕ → ℕ
 shiftedAhead k s m = superblockAt s m .rank - one (isMoreRecent (superblockAt s k) (superblockAt s m))
 
 module _ (s t t' : State) (k m : ℕ) (before : RankedBelow (shiftedAhead k s) s t m) (low : m < 64) (is : superblockAt s k .rank ≡ 0 → ⊥) where
-  pub one-ahead : superblockAt s k .rank < superblockAt t m .rank → t' ≡ withRankAt t m (superblockAt t m .rank - 1) → RankedBelow (shiftedAhead k s) s t' (m + 1)
+  pub one-ahead : superblockAt s k .rank < superblockAt t m .rank → t' ≡ withRankAt t m (superblockAt t m .rank - 1)
+      → RankedBelow (shiftedAhead k s) s t' (m + 1)
   one-ahead h e =
       let x = rank-left (shiftedAhead k s) s t m before in
-      let z = ap one (more-recent-of-ahead (superblockAt s k) (superblockAt s m) (superblockAt s m .rank) (inr ((λ (q : superblockAt s m .rank ≡ 0). omega arith), refl)) (omega arith) (omega arith)) in
+      let z = ap one (more-recent-of-ahead (superblockAt s k) (superblockAt s m) (superblockAt s m .rank)
+      (inr ((λ (q : superblockAt s m .rank ≡ 0). omega arith), refl)) (omega arith) (omega arith)) in
       rw e (ranked-step-written (shiftedAhead k s) s t m before (superblockAt t m .rank - 1) low (omega arith))
 
   pub not-ahead : superblockAt t m .rank ≤ superblockAt s k .rank → t' ≡ t → RankedBelow (shiftedAhead k s) s t' (m + 1)
@@ -167,7 +174,9 @@ unranked-end s t k m before h l = ranked-end (shiftedAhead k s) s t m before k 0
 -- one that is not ranked leaves no gap
 pub unranked-of-not-ranked : (s : State) (k : ℕ) → length (s .table) ≡ 64 → superblockAt s k .rank ≡ 0 → s ≡ unranked k s
 unfolding unranked rankAfterRenewal
-unranked-of-not-ranked s k long e = ap (withTable s) (ext-getD blank (s .table) (listed new 64) (long ∙ sym (length-listed new 64)) (λ j lj. go j (ℕ-discrete j k) ∙ sym (getD-listed new 64 j blank (omega arith))))
+unranked-of-not-ranked s k long e =
+    ap (withTable s) (ext-getD blank (s .table) (listed new 64) (long ∙ sym (length-listed new 64))
+    (λ j lj. go j (ℕ-discrete j k) ∙ sym (getD-listed new 64 j blank (omega arith))))
   where
     new : ℕ → Superblock
     new j = withRank (pick (eqb j k) 0 (shiftedAhead k s j)) (superblockAt s j)
@@ -181,4 +190,5 @@ unranked-of-not-ranked s k long e = ap (withTable s) (ext-getD blank (s .table) 
 
 -- past the table nothing is ranked
 pub unranked-past-table : (s : State) (k : ℕ) → length (s .table) ≡ 64 → 64 ≤ k → s ≡ unranked k s
-unranked-past-table s k long past = unranked-of-not-ranked s k long (ap (λ (b : Superblock). b .rank) (List·getD-eq-default (s .table) blank {n = k} (omega arith)))
+unranked-past-table s k long past =
+    unranked-of-not-ranked s k long (ap (λ (b : Superblock). b .rank) (List·getD-eq-default (s .table) blank {n = k} (omega arith)))

@@ -16,14 +16,16 @@ use Rattle.heap_rules.proofs.TableCases.{ranked, small-setup, tableHold
 
 -- ranks 2, 0, 4, 1, 3, 0 in heaps 1, 1, 0, 2, 1, 0; the rest unused
 abbrev pub ranked-state : State
-ranked-state = unnamedState small-setup (ranked 1 17 1 2 ∷ ranked 1 17 1 0 ∷ ranked 0 16 1 4 ∷ ranked 2 16 1 1 ∷ ranked 1 17 0 3 ∷ ranked 0 17 0 0 ∷ replicate 58 unused)
+ranked-state = unnamedState small-setup (ranked 1 17 1 2 ∷ ranked 1 17 1 0 ∷ ranked 0 16 1 4 ∷ ranked 2 16 1 1 ∷ ranked 1 17 0 3 ∷ ranked 0 17 0 0
+    ∷ replicate 58 unused)
 
 abbrev pub ranksOf : State → List ℕ
 ranksOf s = map (λ (b : Superblock). b .rank) (s .table)
 
 -- "the one freed into most recently since it was last renewed comes first. Those not freed into since then follow"
 pub is-more-recent-cases :
-    map (λ (r : ℕ). isMoreRecent (ranked 1 17 1 2) (ranked 1 17 1 r)) (0 ∷ 1 ∷ 2 ∷ 3 ∷ []) ++ map (λ (r : ℕ). isMoreRecent (ranked 1 17 1 0) (ranked 1 17 1 r)) (0 ∷ 1 ∷ [])
+    map (λ (r : ℕ). isMoreRecent (ranked 1 17 1 2) (ranked 1 17 1 r)) (0 ∷ 1 ∷ 2 ∷ 3 ∷ [])
+    ++ map (λ (r : ℕ). isMoreRecent (ranked 1 17 1 0) (ranked 1 17 1 r)) (0 ∷ 1 ∷ [])
     ≡ true ∷ false ∷ false ∷ true ∷ false ∷ false ∷ []
 unfolding tableHolds isMoreRecent isRanked
 is-more-recent-cases = refl
@@ -45,7 +47,13 @@ unranked-cases = refl
 -- superblock 63 is ranked as the others are, and nothing but ranks changes, in a state that holds names
 pub last-superblock-ranked-case :
     rankedLatest 63 (withNames (unnamedState small-setup (ranked 1 17 5 1 ∷ replicate 62 unused ++ ranked 2 16 3 0 ∷ [])) (2 ∷ 16128 ∷ []))
-    ≡ record { setup = small-setup; table = ranked 1 17 5 2 ∷ replicate 62 unused ++ ranked 2 16 3 1 ∷ []; names = 2 ∷ 16128 ∷ []; totals = unnamedState small-setup (ranked 1 17 5 1 ∷ replicate 62 unused ++ ranked 2 16 3 0 ∷ []) .totals }
+    ≡ record {
+      setup = small-setup;
+      table = ranked 1 17 5 2 ∷ replicate 62 unused ++ ranked 2 16 3 1 ∷ [];
+      names = 2 ∷ 16128 ∷ [];
+      totals =
+          unnamedState small-setup (ranked 1 17 5 1 ∷ replicate 62 unused ++ ranked 2 16 3 0 ∷ []) .totals;
+    }
 unfolding tableHolds rankedLatest listed rankAfterFree isMoreRecent isRanked
 last-superblock-ranked-case = refl
 

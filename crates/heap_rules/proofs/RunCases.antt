@@ -21,34 +21,40 @@ with-length h n = record { owner = h; class = 0; live = 0 ∷ 0 ∷ 0 ∷ 0 ∷ 
 
 -- "They get owner 254, class field 0, no marks and no rank"
 pub run-part-cases :
-    runPart 0 ∷ runPart 2 ∷ [] ≡ record { owner = 254; class = 0; live = 0 ∷ 0 ∷ 0 ∷ 0 ∷ []; rank = 0; run = 0 } ∷ record { owner = 254; class = 0; live = 0 ∷ 0 ∷ 0 ∷ 0 ∷ []; rank = 0; run = 2 } ∷ []
+    runPart 0 ∷ runPart 2 ∷ [] ≡ record { owner = 254; class = 0; live = 0 ∷ 0 ∷ 0 ∷ 0 ∷ []; rank = 0; run = 0 }
+    ∷ record { owner = 254; class = 0; live = 0 ∷ 0 ∷ 0 ∷ 0 ∷ []; rank = 0; run = 2 } ∷ []
 unfolding tableHolds
 run-part-cases = refl
 
 -- by the owner, whatever the class, the marks and the length
-pub is-of-run-cases : map isOfRun (runPart 0 ∷ runPart 3 ∷ of 254 5 1 ∷ unused ∷ of 0 0 0 ∷ with-length 253 3 ∷ with-length 255 3 ∷ []) ≡ true ∷ true ∷ true ∷ false ∷ false ∷ false ∷ false ∷ []
+pub is-of-run-cases : map isOfRun (runPart 0 ∷ runPart 3 ∷ of 254 5 1 ∷ unused ∷ of 0 0 0 ∷ with-length 253 3 ∷ with-length 255 3 ∷ []) ≡ true ∷ true
+    ∷ true ∷ false ∷ false ∷ false ∷ false ∷ []
 unfolding tableHolds isOfRun
 is-of-run-cases = refl
 
 -- the first of a run has a length, whatever its rank; one of another owner is none
-pub starts-run-cases : map startsRun (runPart 1 ∷ runPart 16 ∷ runPart 0 ∷ withRank 3 (runPart 0) ∷ with-length 255 3 ∷ with-length 253 3 ∷ with-length 0 3 ∷ []) ≡ true ∷ true ∷ replicate 5 false
+pub starts-run-cases : map startsRun (runPart 1 ∷ runPart 16 ∷ runPart 0 ∷ withRank 3 (runPart 0) ∷ with-length 255 3 ∷ with-length 253 3
+    ∷ with-length 0 3 ∷ []) ≡ true ∷ true ∷ replicate 5 false
 unfolding tableHolds startsRun isOfRun
 starts-run-cases = refl
 
 -- a heap's; not of owner 254 or 255
-pub is-of-heap-cases : map isOfHeap (of 0 0 0 ∷ of 1 26 3 ∷ of 8 0 0 ∷ of 253 0 0 ∷ runPart 0 ∷ runPart 1 ∷ unused ∷ []) ≡ true ∷ true ∷ true ∷ true ∷ false ∷ false ∷ false ∷ []
+pub is-of-heap-cases : map isOfHeap (of 0 0 0 ∷ of 1 26 3 ∷ of 8 0 0 ∷ of 253 0 0 ∷ runPart 0 ∷ runPart 1 ∷ unused ∷ []) ≡ true ∷ true ∷ true ∷ true
+    ∷ false ∷ false ∷ false ∷ []
 unfolding tableHolds isOfHeap
 is-of-heap-cases = refl
 
 -- block 0 of the first of a run and no other, though it has no marks, or other marks than a state that passes has; of all others the marked ones
 pub live-blocks-cases :
-    map liveBlocks (runPart 3 ∷ runPart 0 ∷ of 1 16 6 ∷ with-length 255 3 ∷ withMarkAt (runPart 3) 2 ∷ []) ≡ (1 ∷ 0 ∷ 0 ∷ 0 ∷ []) ∷ noMarks ∷ (6 ∷ 0 ∷ 0 ∷ 0 ∷ []) ∷ noMarks ∷ (1 ∷ 0 ∷ 0 ∷ 0 ∷ []) ∷ []
+    map liveBlocks (runPart 3 ∷ runPart 0 ∷ of 1 16 6 ∷ with-length 255 3 ∷ withMarkAt (runPart 3) 2 ∷ []) ≡ (1 ∷ 0 ∷ 0 ∷ 0 ∷ []) ∷ noMarks
+    ∷ (6 ∷ 0 ∷ 0 ∷ 0 ∷ []) ∷ noMarks ∷ (1 ∷ 0 ∷ 0 ∷ 0 ∷ []) ∷ []
 unfolding tableHolds liveBlocks startsRun isOfRun withMark
 live-blocks-cases = refl
 
 -- one superblock changed keeps the length that it carries
 pub length-kept-cases :
-    map (λ (b : Superblock). b .run) (withOwner 3 (runPart 5) ∷ withMarkAt (runPart 5) 70 ∷ withoutMarkAt (runPart 5) 2 ∷ withRank 6 (runPart 5) ∷ []) ≡ 5 ∷ 5 ∷ 5 ∷ 5 ∷ []
+    map (λ (b : Superblock). b .run) (withOwner 3 (runPart 5) ∷ withMarkAt (runPart 5) 70 ∷ withoutMarkAt (runPart 5) 2 ∷ withRank 6 (runPart 5) ∷ []) ≡ 5
+    ∷ 5 ∷ 5 ∷ 5 ∷ []
 unfolding tableHolds
 length-kept-cases = refl
 
@@ -66,8 +72,8 @@ pub superblocks-of-class-beside-run-cases : map (λ (c : ℕ). superblocksOfClas
 unfolding tableHolds superblocksOfClass total isOwnedOfClass isOfHeap sumBelow
 superblocks-of-class-beside-run-cases = refl
 
--- "only those that pass between heaps": one from heap 1 to 0; two, among them the last superblock; the run freed; one of heap 0 that joins a run, and an unused one; an
--- unused one that a heap acquires. Of all these the owners change
+-- "only those that pass between heaps": one from heap 1 to 0; two, among them the last superblock; the run freed; one of heap 0 that joins a run, and
+-- an unused one; an unused one that a heap acquires. Of all these the owners change
 abbrev pub run-unused : State
 run-unused = withSuperblock (withSuperblock (withSuperblock state-with-run 2 unused) 3 unused) 4 unused
 

@@ -11,10 +11,12 @@ use Rattle.marks_rules.specs.Marks.{bit, markBit, isMarked, withMark, withoutMa
 use Rattle.heap_rules.specs.declared.Superblock.{Superblock}
 use Rattle.heap_rules.specs.declared.Setup.{Setup}
 use Rattle.heap_rules.specs.declared.State.{State}
-use Rattle.heap_rules.specs.Table.{unused, isUnused, isOfRun, startsRun, isOfHeap, liveBlocks, withOwner, withMarkAt, withoutMarkAt, withRank, isLiveBlock}
+use Rattle.heap_rules.specs.Table.{unused, isUnused, isOfRun, startsRun, isOfHeap, liveBlocks, withOwner, withMarkAt, withoutMarkAt, withRank}
+use Rattle.heap_rules.specs.Table.{isLiveBlock}
 use Rattle.heap_rules.specs.Totals.{recounted}
 use Rattle.heap_rules.specs.States.{withSuperblock, withNames, noState, newState}
-use Rattle.heap_rules.specs.Counts.{total, belongs, isOwnedOfClass, oneIfBelongs, liveIfBelongs, superblocksOf, blocksIn, liveOf, superblocksOfClass, liveOfClass, ownersChanged}
+use Rattle.heap_rules.specs.Counts.{total, belongs, isOwnedOfClass, oneIfBelongs, liveIfBelongs, superblocksOf, blocksIn, liveOf, superblocksOfClass}
+use Rattle.heap_rules.specs.Counts.{liveOfClass, ownersChanged}
 use Rattle.heap_rules.proofs.CaseStates.{unnamedState}
 
 -- a superblock of heap h and class c with these marks in the first of its four numbers, unranked; and one of rank r
@@ -31,7 +33,8 @@ small-setup = record { processors = 2; superblocks = 5; spare = 1; p = 3; q = 7 
 -- "unused (owner 255, class 0, nothing live)": no mark in any of the four numbers; a rank, and the length of a run, are looked at by the check's other clauses
 pub is-unused-cases :
     map isUnused (of 255 0 0 ∷ of 255 1 0 ∷ of 255 0 4 ∷ of 0 0 0 ∷ of 254 0 0 ∷ of 1 0 0 ∷ []) ≡ true ∷ false ∷ false ∷ false ∷ false ∷ false ∷ []
-    × map (λ (live : List ℕ). isUnused (record { owner = 255; class = 0; live = live; rank = 0; run = 0 })) ((0 ∷ 1 ∷ 0 ∷ 0 ∷ []) ∷ (0 ∷ 0 ∷ 0 ∷ 2 ^ 63 ∷ []) ∷ []) ≡ false ∷ false ∷ []
+    × map (λ (live : List ℕ). isUnused (record { owner = 255; class = 0; live = live; rank = 0; run = 0 }))
+    ((0 ∷ 1 ∷ 0 ∷ 0 ∷ []) ∷ (0 ∷ 0 ∷ 0 ∷ 2 ^ 63 ∷ []) ∷ []) ≡ false ∷ false ∷ []
     × map isUnused (ranked 255 0 0 5 ∷ record { owner = 255; class = 0; live = 0 ∷ 0 ∷ 0 ∷ 0 ∷ []; rank = 0; run = 3 } ∷ []) ≡ true ∷ true ∷ []
 unfolding isUnused liveCount sumBelow markBit bit
 is-unused-cases = (refl, refl, refl)
@@ -58,7 +61,8 @@ pub new-state-case :
     }
 new-state-case = let before = no-state-case in refl
 
--- a superblock replaced: the last, in a state that holds names; setup numbers and names are as they were, and the totals those of the table then. Other names, and nothing else
+-- a superblock replaced: the last, in a state that holds names; setup numbers and names are as they were, and the totals those of the table then.
+-- Other names, and nothing else
 abbrev pub named-table-state : List Superblock → List ℕ → State
 named-table-state table names = record { setup = small-setup; table = table; names = names; totals = recounted table }
 
@@ -75,15 +79,24 @@ names-replaced-case = refl
 -- one superblock changed: its owner, block 70 live, block 2 no longer live, its rank, and nothing else
 pub superblock-change-cases :
     withOwner 3 (ranked 1 17 13 5) ∷ withMarkAt (ranked 1 17 13 5) 70 ∷ withoutMarkAt (ranked 1 17 13 5) 2 ∷ withRank 6 (ranked 1 17 13 5) ∷ []
-    ≡ record { owner = 3; class = 17; live = 13 ∷ 0 ∷ 0 ∷ 0 ∷ []; rank = 5; run = 0 } ∷ record { owner = 1; class = 17; live = 13 ∷ 64 ∷ 0 ∷ 0 ∷ []; rank = 5; run = 0 }
-    ∷ record { owner = 1; class = 17; live = 9 ∷ 0 ∷ 0 ∷ 0 ∷ []; rank = 5; run = 0 } ∷ record { owner = 1; class = 17; live = 13 ∷ 0 ∷ 0 ∷ 0 ∷ []; rank = 6; run = 0 } ∷ []
+    ≡ record { owner = 3; class = 17; live = 13 ∷ 0 ∷ 0 ∷ 0 ∷ []; rank = 5; run = 0 }
+    ∷ record { owner = 1; class = 17; live = 13 ∷ 64 ∷ 0 ∷ 0 ∷ []; rank = 5; run = 0 }
+    ∷ record { owner = 1; class = 17; live = 9 ∷ 0 ∷ 0 ∷ 0 ∷ []; rank = 5; run = 0 } ∷ record {
+      owner = 1;
+      class = 17;
+      live = 13 ∷ 0 ∷ 0 ∷ 0 ∷ [];
+      rank =
+          6;
+      run = 0;
+    } ∷ []
 unfolding withMark withoutMark
 superblock-change-cases = refl
 
 -- block 0 of superblock 1, its last block, block 2 of superblock 6 and block 6 of superblock 63 are live; block 1 of superblock 0 and block 7 of
 -- superblock 63 are not, and there is no superblock 64 and no superblock 255
 pub is-live-block-cases :
-    map (isLiveBlock (unnamedState small-setup (of 0 16 5 ∷ record { owner = 1; class = 0; live = 1 ∷ 0 ∷ 0 ∷ 2 ^ 63 ∷ []; rank = 0; run = 0 } ∷ replicate 4 unused ++ of 2 17 4 ∷ replicate 56 unused ++ of 1 16 64 ∷ [])))
+    map (isLiveBlock (unnamedState small-setup (of 0 16 5 ∷ record { owner = 1; class = 0; live = 1 ∷ 0 ∷ 0 ∷ 2 ^ 63 ∷ []; rank = 0; run = 0 }
+    ∷ replicate 4 unused ++ of 2 17 4 ∷ replicate 56 unused ++ of 1 16 64 ∷ [])))
     (256 ∷ 511 ∷ 1538 ∷ 16134 ∷ 1 ∷ 257 ∷ 510 ∷ 16135 ∷ 16384 ∷ 65535 ∷ [])
     ≡ true ∷ true ∷ true ∷ true ∷ false ∷ false ∷ false ∷ false ∷ false ∷ false ∷ []
 unfolding isLiveBlock liveBlocks startsRun isOfRun isMarked withMark markBit bit
@@ -98,12 +111,14 @@ quickTableHolds =
 -- ---- counts: superblocks 0 to 6 and 63 are in use; heap 1 has three of class 16, with 3, 0 and 7 blocks live; some are ranked, which no count goes by
 abbrev pub counted-state : State
 counted-state =
-    unnamedState small-setup (ranked 1 16 7 2 ∷ of 2 16 31 ∷ ranked 0 16 1 1 ∷ of 1 17 15 ∷ unused ∷ of 1 16 0 ∷ ranked 2 17 511 3 ∷ replicate 56 unused ++ of 1 16 127 ∷ [])
+    unnamedState small-setup (ranked 1 16 7 2 ∷ of 2 16 31 ∷ ranked 0 16 1 1 ∷ of 1 17 15 ∷ unused ∷ of 1 16 0 ∷ ranked 2 17 511 3 ∷ replicate 56 unused
+    ++ of 1 16 127 ∷ [])
 
 -- superblocks 0 and 63 have other owners; superblock 3 other marks, and 5 another class; 4 has come into use
 pub owners-changed-cases :
     map (ownersChanged counted-state)
-    (counted-state ∷ withSuperblock (withSuperblock counted-state 63 (of 2 16 127)) 0 (of 0 16 7) ∷ withSuperblock (withSuperblock counted-state 3 (of 1 17 1)) 5 (of 1 3 0) ∷ withSuperblock counted-state 4 (of 1 0 0) ∷ [])
+    (counted-state ∷ withSuperblock (withSuperblock counted-state 63 (of 2 16 127)) 0 (of 0 16 7)
+    ∷ withSuperblock (withSuperblock counted-state 3 (of 1 17 1)) 5 (of 1 3 0) ∷ withSuperblock counted-state 4 (of 1 0 0) ∷ [])
     ≡ 0 ∷ 2 ∷ 0 ∷ 1 ∷ []
 unfolding quickTableHolds ownersChanged sumBelow
 owners-changed-cases = refl
@@ -118,7 +133,14 @@ counts-beside-names-case = let before = owners-changed-cases in refl
 abbrev pub counts-by-heap : List (ℕ × ℕ × ℕ × ℕ × ℕ)
 counts-by-heap = (1, 16, 3, 30, 10) ∷ (2, 16, 1, 10, 5) ∷ (0, 16, 1, 10, 1) ∷ (1, 17, 1, 9, 4) ∷ (2, 17, 1, 9, 9) ∷ (0, 17, 0, 0, 0) ∷ []
 
-pub counts-by-heap-cases : map (λ (r : ℕ × ℕ × ℕ × ℕ × ℕ). (r .0, r .1, superblocksOf (r .0) (r .1) counted-state, blocksIn (r .0) (r .1) counted-state, liveOf (r .0) (r .1) counted-state)) counts-by-heap ≡ counts-by-heap
+pub counts-by-heap-cases : map
+    (λ (r : ℕ × ℕ × ℕ × ℕ × ℕ). (
+      r .0,
+      r .1,
+      superblocksOf (r .0) (r .1) counted-state,
+      blocksIn (r .0) (r .1) counted-state,
+      liveOf (r .0) (r .1) counted-state,
+    )) counts-by-heap ≡ counts-by-heap
 unfolding superblocksOf blocksIn liveOf total oneIfBelongs liveIfBelongs belongs blocksOf counts liveCount sumBelow markBit bit
 counts-by-heap-cases = let before = counts-beside-names-case in refl
 
@@ -126,7 +148,8 @@ counts-by-heap-cases = let before = counts-beside-names-case in refl
 abbrev pub counts-by-class : List (ℕ × ℕ × ℕ)
 counts-by-class = (16, 5, 16) ∷ (17, 2, 13) ∷ (0, 0, 0) ∷ []
 
-pub counts-by-class-cases : map (λ (r : ℕ × ℕ × ℕ). (r .0, superblocksOfClass (r .0) counted-state, liveOfClass (r .0) counted-state)) counts-by-class ≡ counts-by-class
+pub counts-by-class-cases : map (λ (r : ℕ × ℕ × ℕ). (r .0, superblocksOfClass (r .0) counted-state, liveOfClass (r .0) counted-state)) counts-by-class
+    ≡ counts-by-class
 unfolding superblocksOfClass liveOfClass total isOwnedOfClass isOfHeap liveCount sumBelow markBit bit
 counts-by-class-cases = let before = counts-by-heap-cases in refl
 

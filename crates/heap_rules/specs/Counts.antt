@@ -58,4 +58,5 @@ ownersChanged s t = sumBelow (λ k. one (not (eqb (superblockAt s k .owner) (sup
 -- (document 02, item 7)
 unfoldable pub passedBetweenHeaps : State → State → ℕ
 passedBetweenHeaps s t =
-    sumBelow (λ k. one (both (both (isOfHeap (superblockAt s k)) (isOfHeap (superblockAt t k))) (not (eqb (superblockAt s k .owner) (superblockAt t k .owner))))) tableLength
+    sumBelow (λ k. one (both (both (isOfHeap (superblockAt s k)) (isOfHeap (superblockAt t k)))
+    (not (eqb (superblockAt s k .owner) (superblockAt t k .owner))))) tableLength

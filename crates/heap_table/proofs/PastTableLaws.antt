@@ -1,17 +1,14 @@
 -- What a state has past its table's 64 superblocks, and that a change there changes nothing. Assumes nothing.
 use mathlib.Core.Path.{_≡_, sym, ap, _∙_}
-use mathlib.Core.Bool.{false}
-use mathlib.Core.List.{List, []}
+use mathlib.Core.List.{List}
 use Prim.Native.Nat.{ℕ, _≤_}
 use native.Mathlib.Omega.{arith}
 use lib.ListN.{length, List·getD-eq-default}
 use lib.Seq.{set-out}
-use Rattle.marks_rules.specs.Marks.{isMarked}
-use Rattle.marks_laws.proofs.MarkLaws.{mark-bit-of-empty-list, no-mark-of-mark-bit-zero}
 use Rattle.heap_rules.specs.declared.Superblock.{Superblock}
 use Rattle.heap_rules.specs.declared.Totals.{Totals}
 use Rattle.heap_rules.specs.declared.State.{State}
-use Rattle.heap_rules.specs.Table.{blank, superblockAt, isUnused}
+use Rattle.heap_rules.specs.Table.{blank, superblockAt}
 use Rattle.heap_rules.specs.Totals.{recounted, TotalsKept}
 use Rattle.heap_rules.specs.States.{withSuperblock}
 
@@ -28,4 +25,5 @@ module _ (s : State) (k : ℕ) (long : length (s .table) ≡ 64) (h : 64 ≤ k) 
   pub with-superblock-past-table : (b : Superblock) → TotalsKept s → s ≡ withSuperblock s k b
   with-superblock-past-table b kept =
       ap (λ (t : Totals). record { setup = s .setup; table = s .table; names = s .names; totals = t }) kept
-      ∙ ap (λ (l : List Superblock). record { setup = s .setup; table = l; names = s .names; totals = recounted l }) (sym (set-out (s .table) k b (omega arith)))
+      ∙ ap (λ (l : List Superblock). record { setup = s .setup; table = l; names = s .names; totals = recounted l })
+      (sym (set-out (s .table) k b (omega arith)))

@@ -21,7 +21,8 @@ use Rattle.heap_rules.specs.Table.{blank, liveIn}
 use Rattle.heap_rules.specs.Counts.{belongs}
 use Rattle.heap_rules.specs.Totals.{heapCount, totalCount, totalIndex, isCounted, withCounted, countedBelow, recounted}
 use Rattle.heap_laws.proofs.CountLaws.{belongs-true, owner-and-class-of-belongs}
-use Rattle.heap_laws.proofs.TotalsLaws.{counted-heap-and-class, counted-of-heap-and-class, length-with-counted, with-counted-at, length-counted-below, counted-below-is-sum, totals-equal-of-each}
+use Rattle.heap_laws.proofs.TotalsLaws.{counted-heap-and-class, counted-of-heap-and-class, length-with-counted, with-counted-at, length-counted-below}
+use Rattle.heap_laws.proofs.TotalsLaws.{counted-below-is-sum, totals-equal-of-each}
 use Rattle.heap_totals.specs.OneSuperblock.{indexOf, withoutCounted, countedIn, countedOut}
 
 -- ---- where a superblock is counted
@@ -63,7 +64,8 @@ module _ (b : Superblock) (x : ℕ) (at : x ≡ indexOf (b .owner) (b .class)) w
   -- one of no heap or class is not counted
   pub counted-in-of-no-index : (t : Totals) → totalCount ≤ x → t ≡ countedIn b t
   unfolding countedIn
-  counted-in-of-no-index t l = ap₂ (λ (a d : List ℕ). record { superblocks = a; live = d }) (with-counted-of-no-index (λ y. 1) (t .superblocks) l) (with-counted-of-no-index liveIn (t .live) l)
+  counted-in-of-no-index t l = ap₂ (λ (a d : List ℕ). record { superblocks = a; live = d }) (with-counted-of-no-index (λ y. 1) (t .superblocks) l)
+      (with-counted-of-no-index liveIn (t .live) l)
 
   pub counted-out-of-no-index : (t : Totals) → totalCount ≤ x → t ≡ countedOut b t
   unfolding countedOut withoutCounted
@@ -74,7 +76,8 @@ module _ (b : Superblock) (x : ℕ) (at : x ≡ indexOf (b .owner) (b .class)) w
       → record { superblocks = set (t .superblocks) x (getD (t .superblocks) x 0 + 1); live = set (t .live) x (getD (t .live) x 0 + n) } ≡ countedIn b t
   unfolding countedIn
   counted-in-of-index t n l e =
-      ap₂ (λ (a d : List ℕ). record { superblocks = a; live = d }) (with-counted-of-index (λ y. 1) (t .superblocks) 1 l refl) (with-counted-of-index liveIn (t .live) n l e)
+      ap₂ (λ (a d : List ℕ). record { superblocks = a; live = d }) (with-counted-of-index (λ y. 1) (t .superblocks) 1 l refl)
+      (with-counted-of-index liveIn (t .live) n l e)
 
   pub counted-out-of-index : (t : Totals) (m n live : ℕ) → x < totalCount → m ≡ getD (t .superblocks) x 0 - 1 → live ≡ liveIn b → n ≡ getD (t .live) x 0 - live
       → record { superblocks = set (t .superblocks) x m; live = set (t .live) x n } ≡ countedOut b t
@@ -102,7 +105,8 @@ without-counted-le f b l x = go (isCounted b)
 
     less-at : Dec (at < length l) → Dec (x ≡ at) → getD (set l at (getD l at 0 - f b)) x 0 ≤ getD l x 0
     less-at (yes h) (yes e) =
-        let r : getD (set l at (getD l at 0 - f b)) x 0 ≡ getD l x 0 - f b = ap (λ (i : ℕ). getD (set l at (getD l at 0 - f b)) i 0) e ∙ getD-set-same l at _ 0 h ∙ ap (λ (i : ℕ). getD l i 0 - f b) (sym e) in
+        let r : getD (set l at (getD l at 0 - f b)) x 0 ≡ getD l x 0 - f b = ap (λ (i : ℕ). getD (set l at (getD l at 0 - f b)) i 0) e
+        ∙ getD-set-same l at _ 0 h ∙ ap (λ (i : ℕ). getD l i 0 - f b) (sym e) in
         omega arith
     less-at (no n) (yes e) = let r = ap (λ (m : List ℕ). getD m x 0) (set-out l at (getD l at 0 - f b) (omega arith)) in omega (arith, r)
     less-at d (no n) = let r = getD-set-other l at x (getD l at 0 - f b) 0 n in omega (arith, r)
@@ -127,7 +131,8 @@ without-counted-at f b l h c long lh lc = go (isCounted b) refl (belongs h c b) 
     x : ℕ
     x = totalIndex (b .owner) (b .class)
 
-    go : (t : Bool) → isCounted b ≡ t → (u : Bool) → belongs h c b ≡ u → getD (pick t (set l x (getD l x 0 - f b)) l) (totalIndex h c) 0 ≡ getD l (totalIndex h c) 0 - pick u (f b) 0
+    go : (t : Bool) → isCounted b ≡ t → (u : Bool) → belongs h c b ≡ u → getD (pick t (set l x (getD l x 0 - f b)) l) (totalIndex h c) 0
+        ≡ getD l (totalIndex h c) 0 - pick u (f b) 0
     go true e true g =
         let o = owner-and-class-of-belongs h c b (T-of-true _ g) in
         let at : totalIndex h c ≡ x = omega (arith, o .0, o .1) in
@@ -154,7 +159,8 @@ module _ (f : Superblock → ℕ) (table : List Superblock) (k : ℕ) (b : Super
       without-long = length-without-counted f (getD table k blank) (countedBelow f table 64) ∙ length-counted-below f table 64
 
       each : (h c : ℕ) → h < heapCount → c < classCount
-          → getD (countedBelow f (set table k b) 64) (totalIndex h c) 0 ≡ getD (withCounted f b (withoutCounted f (getD table k blank) (countedBelow f table 64))) (totalIndex h c) 0
+          → getD (countedBelow f (set table k b) 64) (totalIndex h c) 0
+          ≡ getD (withCounted f b (withoutCounted f (getD table k blank) (countedBelow f table 64))) (totalIndex h c) 0
       each h c lh lc =
           let g : Superblock → ℕ = λ x. pick (belongs h c x) (f x) 0 in
           let now = counted-below-is-sum f (set table k b) 64 h c lh lc in
@@ -166,7 +172,9 @@ module _ (f : Superblock → ℕ) (table : List Superblock) (k : ℕ) (b : Super
           omega (arith, now, was, moved, part, out, in')
 
 -- the recount of a table with superblock k replaced: the old one counts no longer, the new one counts
-pub recounted-with-replaced : (table : List Superblock) (k : ℕ) (b : Superblock) → length table ≡ 64 → k < 64 → recounted (set table k b) ≡ countedIn b (countedOut (getD table k blank) (recounted table))
+pub recounted-with-replaced : (table : List Superblock) (k : ℕ) (b : Superblock) → length table ≡ 64 → k < 64 → recounted (set table k b)
+    ≡ countedIn b (countedOut (getD table k blank) (recounted table))
 unfolding recounted countedIn countedOut
 recounted-with-replaced table k b long l =
-    ap₂ (λ (a d : List ℕ). record { superblocks = a; live = d }) (counted-below-with-replaced (λ x. 1) table k b long l) (counted-below-with-replaced liveIn table k b long l)
+    ap₂ (λ (a d : List ℕ). record { superblocks = a; live = d }) (counted-below-with-replaced (λ x. 1) table k b long l)
+    (counted-below-with-replaced liveIn table k b long l)

@@ -20,7 +20,8 @@ abbrev page-dropped : List ℕ
 page-dropped = 0 ∷ 1 ∷ 2 ∷ 1 ∷ 1 ∷ 2 ∷ [] ++ take ++ take ++ take ++ drop-3 0 16 0 0 0 8 ++ take
 
 key-of-drop : keyOf page-dropped (replicate 512 7)
-    ≡ letters "setup 1 2 1 1 2\n" ++ letters "take 1 2048 at 0\n" ++ letters "take 1 2048 at 2048\n" ++ letters "take 1 2048 at 4096\n" ++ letters "drop 1 count 3 moved 1\n" ++ letters "take 1 2048 at 4096\n"
+    ≡ letters "setup 1 2 1 1 2\n" ++ letters "take 1 2048 at 0\n" ++ letters "take 1 2048 at 2048\n" ++ letters "take 1 2048 at 4096\n"
+    ++ letters "drop 1 count 3 moved 1\n" ++ letters "take 1 2048 at 4096\n"
     ++ letters "heap 0 class 26 superblocks 1 live 0\n" ++ letters "heap 1 class 26 superblocks 1 live 1\n" ++ letters "end\n"
 unfolding pastCheckDefinitions
 key-of-drop = key-past-check page-dropped (replicate 512 7) (setup-with 1 2 1 1 2) _ refl refl ∙ refl
@@ -31,7 +32,8 @@ abbrev refused-drop : List ℕ
 refused-drop = setup ++ take-name 5 ++ drop-3 0 0 0 0 6 0 ++ free-name 5
 
 key-of-refused-drop : keyOf refused-drop storage
-    ≡ letters "setup 1 1 1 1 2\n" ++ letters "take 1 name 5 2048 at 0\n" ++ letters "drop 1 count 3 refused 7\n" ++ letters "free 1 name 5 moved 0\n" ++ letters "heap 1 class 26 superblocks 1 live 0\n" ++ letters "end\n"
+    ≡ letters "setup 1 1 1 1 2\n" ++ letters "take 1 name 5 2048 at 0\n" ++ letters "drop 1 count 3 refused 7\n" ++ letters "free 1 name 5 moved 0\n"
+    ++ letters "heap 1 class 26 superblocks 1 live 0\n" ++ letters "end\n"
 unfolding pastCheckDefinitions
 key-of-refused-drop = key-past-check refused-drop storage numbers _ refl refl ∙ refl
 
@@ -50,7 +52,8 @@ refused-drops =
     setup ++ take ++ (5 ∷ 1 ∷ 1 ∷ 0 ∷ 8 ∷ 0 ∷ 0 ∷ 5 ∷ 1 ∷ 1 ∷ 0 ∷ 0 ∷ 1 ∷ 0 ∷ 5 ∷ 1 ∷ 1 ∷ 6 ∷ 0 ∷ 0 ∷ 0 ∷ 5 ∷ 1 ∷ 0 ∷ 5 ∷ 0 ∷ 0 ∷ [])
 
 key-of-refused-drops : keyOf refused-drops storage
-    ≡ letters "setup 1 1 1 1 2\n" ++ letters "take 1 2048 at 0\n" ++ letters "drop 1 count 1 refused 7\n" ++ letters "drop 1 count 1 refused 5\n" ++ letters "drop 1 count 1 refused 6\n" ++ letters "drop 1 count 0 refused 16\n"
+    ≡ letters "setup 1 1 1 1 2\n" ++ letters "take 1 2048 at 0\n" ++ letters "drop 1 count 1 refused 7\n" ++ letters "drop 1 count 1 refused 5\n"
+    ++ letters "drop 1 count 1 refused 6\n" ++ letters "drop 1 count 0 refused 16\n"
     ++ letters "drop 0 count 0 refused 2\n" ++ letters "heap 1 class 26 superblocks 1 live 1\n" ++ letters "end\n"
 unfolding pastCheckDefinitions
 key-of-refused-drops = key-past-check refused-drops storage numbers _ refl refl ∙ refl

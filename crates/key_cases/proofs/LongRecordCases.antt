@@ -26,7 +26,8 @@ abbrev long-take : List ℕ
 long-take = setup-of-3 ++ take ++ take-of 1 16 ++ take-of 1 8
 
 key-of-long-take : keyOf long-take (replicate 768 7)
-    ≡ letters "setup 1 3 1 1 2\n" ++ letters "take 1 2048 at 0\n" ++ letters "take 1 4097 at 4096\n" ++ letters "take 1 2049 refused 17\n" ++ letters "heap 1 class 26 superblocks 1 live 1\n" ++ letters "run 1 superblocks 2\n" ++ letters "end\n"
+    ≡ letters "setup 1 3 1 1 2\n" ++ letters "take 1 2048 at 0\n" ++ letters "take 1 4097 at 4096\n" ++ letters "take 1 2049 refused 17\n"
+    ++ letters "heap 1 class 26 superblocks 1 live 1\n" ++ letters "run 1 superblocks 2\n" ++ letters "end\n"
 unfolding pastCheckDefinitions
 key-of-long-take = key-past-check long-take (replicate 768 7) numbers-of-3 _ refl refl ∙ refl
 
@@ -35,7 +36,8 @@ abbrev named-long-block : List ℕ
 named-long-block = setup-of-3 ++ (3 ∷ 1 ∷ 5 ∷ 0 ∷ 1 ∷ 32 ∷ []) ++ (2 ∷ 1 ∷ 0 ∷ 16 ∷ 0 ∷ 0 ∷ []) ++ free-name 5 ++ free-name 5
 
 key-of-named-long-block : keyOf named-long-block (replicate 768 7)
-    ≡ letters "setup 1 3 1 1 2\n" ++ letters "take 1 name 5 8193 at 0\n" ++ letters "free 1 4096 refused 6\n" ++ letters "free 1 name 5 moved 0\n" ++ letters "free 1 name 5 refused 15\n" ++ letters "end\n"
+    ≡ letters "setup 1 3 1 1 2\n" ++ letters "take 1 name 5 8193 at 0\n" ++ letters "free 1 4096 refused 6\n" ++ letters "free 1 name 5 moved 0\n"
+    ++ letters "free 1 name 5 refused 15\n" ++ letters "end\n"
 unfolding pastCheckDefinitions
 key-of-named-long-block = key-past-check named-long-block (replicate 768 7) numbers-of-3 _ refl refl ∙ refl
 
@@ -44,7 +46,8 @@ abbrev long-block-dropped : List ℕ
 long-block-dropped = setup-of-3 ++ take-of 0 16 ++ take-of 0 32 ++ (5 ∷ 1 ∷ 1 ∷ 0 ∷ 16 ∷ 0 ∷ 0 ∷ []) ++ take-of 1 8
 
 key-of-long-block-dropped : keyOf long-block-dropped (replicate 768 7)
-    ≡ letters "setup 1 3 1 1 2\n" ++ letters "take 1 4096 at 0\n" ++ letters "take 1 8192 at 4096\n" ++ letters "drop 1 count 1 moved 0\n" ++ letters "take 1 2049 at 4096\n" ++ letters "run 0 superblocks 1\n" ++ letters "run 1 superblocks 1\n" ++ letters "end\n"
+    ≡ letters "setup 1 3 1 1 2\n" ++ letters "take 1 4096 at 0\n" ++ letters "take 1 8192 at 4096\n" ++ letters "drop 1 count 1 moved 0\n"
+    ++ letters "take 1 2049 at 4096\n" ++ letters "run 0 superblocks 1\n" ++ letters "run 1 superblocks 1\n" ++ letters "end\n"
 unfolding pastCheckDefinitions
 key-of-long-block-dropped = key-past-check long-block-dropped (replicate 768 7) numbers-of-3 _ refl refl ∙ refl
 

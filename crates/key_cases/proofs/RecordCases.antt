@@ -29,7 +29,8 @@ abbrev refused-take : List ℕ
 refused-take = setup ++ take-by-processor-0 ++ take
 
 key-after-refused-take : keyOf refused-take storage
-    ≡ letters "setup 1 1 1 1 2\n" ++ letters "take 0 2048 refused 2\n" ++ letters "take 1 2048 at 0\n" ++ letters "heap 1 class 26 superblocks 1 live 1\n" ++ letters "end\n"
+    ≡ letters "setup 1 1 1 1 2\n" ++ letters "take 0 2048 refused 2\n" ++ letters "take 1 2048 at 0\n" ++ letters "heap 1 class 26 superblocks 1 live 1\n"
+    ++ letters "end\n"
 unfolding pastCheckDefinitions
 key-after-refused-take = key-past-check refused-take storage numbers _ refl refl ∙ refl
 
@@ -47,7 +48,9 @@ abbrev name-used-again : List ℕ
 name-used-again = setup ++ take-name 5 ++ free-0 ++ take-name 5 ++ take-name 5 ++ free-name 5 ++ free-name 5
 
 key-of-name-used-again : keyOf name-used-again storage
-    ≡ letters "setup 1 1 1 1 2\n" ++ letters "take 1 name 5 2048 at 0\n" ++ letters "free 1 0 moved 0\n" ++ letters "take 1 name 5 2048 at 0\n" ++ letters "take 1 name 5 2048 refused 14\n" ++ letters "free 1 name 5 moved 0\n" ++ letters "free 1 name 5 refused 15\n" ++ letters "heap 1 class 26 superblocks 1 live 0\n" ++ letters "end\n"
+    ≡ letters "setup 1 1 1 1 2\n" ++ letters "take 1 name 5 2048 at 0\n" ++ letters "free 1 0 moved 0\n" ++ letters "take 1 name 5 2048 at 0\n"
+    ++ letters "take 1 name 5 2048 refused 14\n" ++ letters "free 1 name 5 moved 0\n" ++ letters "free 1 name 5 refused 15\n"
+    ++ letters "heap 1 class 26 superblocks 1 live 0\n" ++ letters "end\n"
 unfolding pastCheckDefinitions
 key-of-name-used-again = key-past-check name-used-again storage numbers _ refl refl ∙ refl
 
@@ -56,7 +59,9 @@ abbrev mixed-calls : List ℕ
 mixed-calls = setup ++ take ++ take-name 5 ++ take-name 6 ++ free-name 6 ++ free-name 5 ++ take
 
 key-of-mixed-calls : keyOf mixed-calls storage
-    ≡ letters "setup 1 1 1 1 2\n" ++ letters "take 1 2048 at 0\n" ++ letters "take 1 name 5 2048 at 2048\n" ++ letters "take 1 name 6 2048 refused 4\n" ++ letters "free 1 name 6 refused 15\n" ++ letters "free 1 name 5 moved 0\n" ++ letters "take 1 2048 at 2048\n" ++ letters "heap 1 class 26 superblocks 1 live 2\n" ++ letters "end\n"
+    ≡ letters "setup 1 1 1 1 2\n" ++ letters "take 1 2048 at 0\n" ++ letters "take 1 name 5 2048 at 2048\n" ++ letters "take 1 name 6 2048 refused 4\n"
+    ++ letters "free 1 name 6 refused 15\n" ++ letters "free 1 name 5 moved 0\n" ++ letters "take 1 2048 at 2048\n"
+    ++ letters "heap 1 class 26 superblocks 1 live 2\n" ++ letters "end\n"
 unfolding pastCheckDefinitions
 key-of-mixed-calls = key-past-check mixed-calls storage numbers _ refl refl ∙ refl
 
@@ -68,7 +73,8 @@ storage-after-named-calls : storageOf named-calls (replicate 257 7) ≡ 0 ∷ 1 
 unfolding pastCheckDefinitions
 storage-after-named-calls = storage-past-check named-calls (replicate 257 7) numbers _ refl refl ∙ refl
 
--- two superblocks with one live block each, the second freed into last: the next take is from it, where the lower number is 0 (document 02, item 4). P = 1, N = 2, K = 2
+-- two superblocks with one live block each, the second freed into last: the next take is from it, where the lower number is 0 (document 02, item 4).
+-- P = 1, N = 2, K = 2
 abbrev free-4096 : List ℕ
 free-4096 = 2 ∷ 1 ∷ 0 ∷ 16 ∷ 0 ∷ 0 ∷ []
 
@@ -76,7 +82,8 @@ abbrev last-freed-into : List ℕ
 last-freed-into = 0 ∷ 1 ∷ 2 ∷ 2 ∷ 1 ∷ 2 ∷ [] ++ take ++ take ++ take ++ take ++ free-0 ++ free-4096 ++ take
 
 key-of-last-freed-into : keyOf last-freed-into (replicate 512 7)
-    ≡ letters "setup 1 2 2 1 2\n" ++ letters "take 1 2048 at 0\n" ++ letters "take 1 2048 at 2048\n" ++ letters "take 1 2048 at 4096\n" ++ letters "take 1 2048 at 6144\n" ++ letters "free 1 0 moved 0\n" ++ letters "free 1 4096 moved 0\n"
+    ≡ letters "setup 1 2 2 1 2\n" ++ letters "take 1 2048 at 0\n" ++ letters "take 1 2048 at 2048\n" ++ letters "take 1 2048 at 4096\n"
+    ++ letters "take 1 2048 at 6144\n" ++ letters "free 1 0 moved 0\n" ++ letters "free 1 4096 moved 0\n"
     ++ letters "take 1 2048 at 4096\n" ++ letters "heap 1 class 26 superblocks 2 live 3\n" ++ letters "end\n"
 unfolding pastCheckDefinitions
 key-of-last-freed-into = key-past-check last-freed-into (replicate 512 7) (setup-with 1 2 2 1 2) _ refl refl ∙ refl

@@ -17,7 +17,8 @@ use Rattle.key_rules.specs.KeyClaim.{callsIn}
 
 module _ (r : List ℕ) (at i count first : ℕ) (e : commandAt r at ≡ command.Call (header.Drop i) count first) where
   -- "`drop 1 count 3 moved 1`": a drop prints the processor and the count as in the record, whatever came of it
-  pub drop-printed-as-in-record : (o : Outcome) → dropLine i count o ≡ field (letters "drop ") (byteAt r (at + 1)) ++ field (letters " count ") (byteAt r (at + 2)) ++ result o ++ letters "\n"
+  pub drop-printed-as-in-record : (o : Outcome) → dropLine i count o ≡ field (letters "drop ") (byteAt r (at + 1))
+      ++ field (letters " count ") (byteAt r (at + 2)) ++ result o ++ letters "\n"
   unfolding dropLine
   drop-printed-as-in-record o = let t = drop-iff-drop-at r at i count first .0 e in rw (t .4, t .5)
 

@@ -92,9 +92,11 @@ module _ (r : List ℕ) (before : After) (c : Call) (commands : List Command) wh
   after-call = callOf (before .answer .state) (before .order) c
 
   -- a call's line, before those of the calls after it
-  line-before-step-lines : textOf r after-call commands ≡ stepLines (stepsIn r after-call commands) ++ endingLines (lastAfter after-call (stepsIn r after-call commands)) commands
+  line-before-step-lines : textOf r after-call commands ≡ stepLines (stepsIn r after-call commands)
+      ++ endingLines (lastAfter after-call (stepsIn r after-call commands)) commands
       → lineOf c (after-call .answer .outcome) ++ textOf r after-call commands
-      ≡ (lineOf c (after-call .answer .outcome) ++ stepLines (stepsIn r after-call commands)) ++ endingLines (lastAfter after-call (stepsIn r after-call commands)) commands
+      ≡ (lineOf c (after-call .answer .outcome) ++ stepLines (stepsIn r after-call commands))
+      ++ endingLines (lastAfter after-call (stepsIn r after-call commands)) commands
   line-before-step-lines e = let line = lineOf c (after-call .answer .outcome) in ap (λ (l : List ℕ). line ++ l) e ∙ sym (append-assoc line _ _)
 
 -- the line of a header with its count is that of its call
@@ -120,7 +122,8 @@ text-of-is-step-lines r before (command.Call call count first ∷ commands) n =
     ∙ line-before-step-lines r before c commands (text-of-is-step-lines r after commands n)
 text-of-is-step-lines r before (command.Refused number offset ∷ commands) n = refl
 
-order-after-is-last-order : (r : List ℕ) (before : After) (commands : List Command) → NoSetup commands → orderAfter r before commands ≡ lastAfter before (stepsIn r before commands) .order
+order-after-is-last-order : (r : List ℕ) (before : After) (commands : List Command) → NoSetup commands → orderAfter r before commands ≡ lastAfter before
+    (stepsIn r before commands) .order
 unfolding NoSetup orderAfter stepsIn callsIn stepsBy lastAfter
 order-after-is-last-order r before [] n = refl
 order-after-is-last-order r before (command.Setup processors superblocks spare p q ∷ commands) n = absurd n
@@ -129,7 +132,8 @@ order-after-is-last-order r before (command.Call call count first ∷ commands) 
 order-after-is-last-order r before (command.Refused number offset ∷ commands) n = refl
 
 -- ---- the theorem
-module _ (r order : List ℕ) (u : Setup) (commands : List Command) (e : commandsOf r ≡ command.Setup (u .processors) (u .superblocks) (u .spare) (u .p) (u .q) ∷ commands) where
+module _ (r order : List ℕ) (u : Setup) (commands : List Command) (e : commandsOf r ≡ command.Setup (u .processors) (u .superblocks) (u .spare) (u .p)
+    (u .q) ∷ commands) where
   pub key-claims-of-accepted-setup : setupOf u order .answer .outcome ≡ Ready → KeyClaims r order u commands
   unfolding tailOf keyOf storageOf textOf orderAfter setupText numberOf stepsIn
   key-claims-of-accepted-setup ready =
@@ -141,8 +145,10 @@ module _ (r order : List ℕ) (u : Setup) (commands : List Command) (e : command
         ready = ready;
         linked = linked;
         claims = demand-3 u order after refl ready (stepsBy callOf after (callsIn r commands)) linked;
-        printed = ap (textOf r (beforeFirst order)) e ∙ ap (λ (o : Outcome). setupText u o (textOf r after commands)) ready ∙ ap (λ (l : List ℕ). setupLine u ++ l) (text-of-is-step-lines r after commands n);
-        storage = ap (orderAfter r (beforeFirst order)) e ∙ ap (λ (o : Outcome). pick (eqb (numberOf o) 0) (orderAfter r after commands) (after .order)) ready ∙ order-after-is-last-order r after commands n;
+        printed = ap (textOf r (beforeFirst order)) e ∙ ap (λ (o : Outcome). setupText u o (textOf r after commands)) ready
+            ∙ ap (λ (l : List ℕ). setupLine u ++ l) (text-of-is-step-lines r after commands n);
+        storage = ap (orderAfter r (beforeFirst order)) e ∙ ap (λ (o : Outcome). pick (eqb (numberOf o) 0) (orderAfter r after commands) (after .order))
+            ready ∙ order-after-is-last-order r after commands n;
       }
 
   -- a refused setup prints its stop line alone, and leaves the storage as it was
@@ -207,19 +213,22 @@ key-demand-3 r order = go (commandAt r 0) refl
         inr (number, offset, ap (textOf r (beforeFirst order)) stops, ap (orderAfter r (beforeFirst order)) stops)
 
 -- Document 02, item 3: the totals are the recount after such a record's setup and after each of its calls
-pub key-totals-kept : (r order : List ℕ) (u : Setup) (commands : List Command) → KeyClaims r order u commands → TotalsCountedOver (setupOf u order) (stepsIn r (setupOf u order) commands)
+pub key-totals-kept : (r order : List ℕ) (u : Setup) (commands : List Command) → KeyClaims r order u commands
+    → TotalsCountedOver (setupOf u order) (stepsIn r (setupOf u order) commands)
 key-totals-kept r order u commands h = totals-kept-over-list u order (setupOf u order) refl (stepsIn r (setupOf u order) commands) (h .linked)
 
 -- .. and each class's live totals are the live blocks of the ledger that its calls and their answers make
 pub key-live-totals-agree-with-ledger : (r order : List ℕ) (u : Setup) (commands : List Command) → KeyClaims r order u commands
     → LiveTotalsAgreeOver u (setupOf u order) [] (stepsIn r (setupOf u order) commands)
-key-live-totals-agree-with-ledger r order u commands h = live-totals-agree-with-ledger u order (setupOf u order) refl (h .ready) (stepsIn r (setupOf u order) commands) (h .linked)
+key-live-totals-agree-with-ledger r order u commands h = live-totals-agree-with-ledger u order (setupOf u order) refl (h .ready)
+    (stepsIn r (setupOf u order) commands) (h .linked)
 
--- Document 02, item 4: after its setup and after each of its calls the ranked superblocks are those freed into since they were last renewed, in the order of their last
--- frees, the latest first
+-- Document 02, item 4: after its setup and after each of its calls the ranked superblocks are those freed into since they were last renewed, in the
+-- order of their last frees, the latest first
 pub key-ranked-by-last-free : (r order : List ℕ) (u : Setup) (commands : List Command) → KeyClaims r order u commands
     → RankedByLastFreeOver (setupOf u order) [] [] (stepsIn r (setupOf u order) commands)
-key-ranked-by-last-free r order u commands h = ranked-by-last-free-over-list u order (setupOf u order) refl (h .ready) (stepsIn r (setupOf u order) commands) (h .linked)
+key-ranked-by-last-free r order u commands h = ranked-by-last-free-over-list u order (setupOf u order) refl (h .ready)
+    (stepsIn r (setupOf u order) commands) (h .linked)
 
 -- .. and of equally full superblocks, places 1 and 2 of a take offer the one freed into most recently since it was last renewed, and where none was, the
 -- lowest
@@ -231,7 +240,8 @@ key-offers-last-freed r order u commands h =
 -- Document 02, item 7: after its setup and after each of its calls the long blocks of that ledger are the runs of the state, by start and length
 pub key-long-blocks-agree-with-ledger : (r order : List ℕ) (u : Setup) (commands : List Command) → KeyClaims r order u commands
     → LongBlocksAgreeOver (setupOf u order) [] (stepsIn r (setupOf u order) commands)
-key-long-blocks-agree-with-ledger r order u commands h = long-blocks-agree-with-ledger u order (setupOf u order) refl (h .ready) (stepsIn r (setupOf u order) commands) (h .linked)
+key-long-blocks-agree-with-ledger r order u commands h = long-blocks-agree-with-ledger u order (setupOf u order) refl (h .ready)
+    (stepsIn r (setupOf u order) commands) (h .linked)
 
 -- Document 02, item 2: after its setup and after each of its calls the names of that ledger and those of the state agree ..
 module _ (r order : List ℕ) (u : Setup) (commands : List Command) (h : KeyClaims r order u commands) where

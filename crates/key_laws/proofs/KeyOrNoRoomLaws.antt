@@ -8,7 +8,8 @@ use Rattle.key_rules.specs.declared.Printed.{Printed}
 use Rattle.key_rules.specs.declared.Printed.the-variants.{Text}
 use Rattle.key_rules.specs.Key.{KeyWritten, KeyOrNoRoom}
 
-module _ (r order out : List ℕ) (printed : Printed) (left new : List ℕ) (n : ℕ) (answered : KeyOrNoRoom r order out printed left new) (e : printed ≡ Text n) where
+module _ (r order out : List ℕ) (printed : Printed) (left new : List ℕ) (n : ℕ) (answered : KeyOrNoRoom r order out printed left new)
+    (e : printed ≡ Text n) where
   pub key-text-counted : n ≡ length (take n new)
   unfolding KeyOrNoRoom
   key-text-counted =

@@ -28,9 +28,11 @@ use Rattle.call_rules.specs.Answers.{After, numberOf, refused, checked, isProce
 use Rattle.call_rules.specs.Setup.{setupOf}
 use Rattle.call_rules.specs.LongBlocks.{longTakenFrom, longTakenAt}
 use Rattle.call_rules.specs.Take.{otherPlaces, takenFrom, takenFromOther, takenAt, takeUnchecked, takeOf}
-use Rattle.call_rules.specs.Free.{superblockHolding, isUnmapped, isInRun, isMisaligned, isLiveAt, addressRefusal, smallBlockFreed, blockFreed, smallFreedAt, longFreedAt, freedAt, freeUnchecked, freeOf}
+use Rattle.call_rules.specs.Free.{superblockHolding, isUnmapped, isInRun, isMisaligned, isLiveAt, addressRefusal, smallBlockFreed, blockFreed, smallFreedAt}
+use Rattle.call_rules.specs.Free.{longFreedAt, freedAt, freeUnchecked, freeOf}
 use Rattle.call_rules.specs.Named.{namedTakeOf, heldAddress, namedFreeUnchecked, namedFreeOf}
-use Rattle.call_rules.specs.Drop.{allFreed, firstAddressRefusal, isTouched, thenRestored, Pair, touchedClasses, touchedPairs, eachRestored, dropMoves, droppedAll, dropUnchecked, dropOf}
+use Rattle.call_rules.specs.Drop.{allFreed, firstAddressRefusal, isTouched, thenRestored, Pair, touchedClasses, touchedPairs, eachRestored, dropMoves}
+use Rattle.call_rules.specs.Drop.{droppedAll, dropUnchecked, dropOf}
 use Rattle.call_rules.specs.Calls.{callWith, callOf}
 use Rattle.call_header.specs.declared.CallHeader.{CallHeader}
 use Rattle.call_header.specs.declared.CallHeader.the-variants as header
@@ -42,7 +44,8 @@ use Rattle.record_laws.proofs.CommandLaws.{setup-fits, CallFits, call-fits}
 use Rattle.record_laws.proofs.RefusalOffsets.{bytesIn, bytes-in-commands-le-60000}
 use Rattle.text_rules.proofs.DigitLaws.{length-of-decimal-le-10, length-of-byte-decimal-le-3, length-of-u16-decimal-le-5}
 use Rattle.line_rules.specs.Lines.{result, takeLine, freeLine, namedTakeLine, namedFreeLine, dropLine, callLine, stopLine}
-use Rattle.line_rules.proofs.LineLengthLaws.{length-of-setup-line-le-26, length-of-named-take-line-le, length-of-named-free-line-le, length-of-drop-line-le-31, length-of-drop-line-le-29, length-of-final-lines-le}
+use Rattle.line_rules.proofs.LineLengthLaws.{length-of-setup-line-le-26, length-of-named-take-line-le, length-of-named-free-line-le}
+use Rattle.line_rules.proofs.LineLengthLaws.{length-of-drop-line-le-31, length-of-drop-line-le-29, length-of-final-lines-le}
 use Rattle.key_rules.specs.Key.{beforeFirst, setupText, textOf, keyOf, room}
 use Rattle.key_laws.proofs.SetupKeptLaws.{setup-kept-by-call, processors-after-setup-le-8}
 
@@ -102,7 +105,8 @@ moves-of-transfers-up-to-le (suc k) h c m s =
 
 moves-of-invariant-restored-le-64 : (h c : ℕ) (s : State) → invariantRestored h c s .moves ≤ 64
 unfolding invariantRestored excessTransferred
-moves-of-invariant-restored-le-64 h c s = pick-elim (λ (r : Moved). r .moves ≤ 64) (eqb h 0) _ _ (λ e. omega arith) (λ e. moves-of-transfers-up-to-le 64 h c 0 s)
+moves-of-invariant-restored-le-64 h c s = pick-elim (λ (r : Moved). r .moves ≤ 64) (eqb h 0) _ _ (λ e. omega arith)
+    (λ e. moves-of-transfers-up-to-le 64 h c 0 s)
 
 short-result-of-freed-at : (s : State) (order : List ℕ) (a : ℕ) → ShortResult 12 (freedAt s order a)
 unfolding ShortResult freedAt longFreedAt smallFreedAt result
@@ -143,18 +147,29 @@ length-of-touched-classes-le touched h (suc c) = simp length-append (omega (arit
 length-of-touched-pairs-le : (touched : ℕ → ℕ → Bool) (h : ℕ) → length (touchedPairs touched h) ≤ h * 27
 unfolding touchedPairs
 length-of-touched-pairs-le touched zero = zero-le
-length-of-touched-pairs-le touched (suc h) = simp length-append (omega (arith, length-of-touched-pairs-le touched h, length-of-touched-classes-le touched (suc h) 27))
+length-of-touched-pairs-le touched (suc h) =
+    simp length-append (omega (arith, length-of-touched-pairs-le touched h, length-of-touched-classes-le touched (suc h) 27))
 
 moves-of-each-restored-le : (pairs : List Pair) (before : Moved) → eachRestored pairs before .moves ≤ before .moves + length pairs * 64
 unfolding eachRestored thenRestored
 moves-of-each-restored-le [] before = omega arith
 moves-of-each-restored-le (pair ∷ pairs) before =
-    omega (arith, moves-of-each-restored-le pairs (thenRestored (pair .heap) (pair .class) before), moves-of-invariant-restored-le-64 (pair .heap) (pair .class) (before .state))
+    omega (
+      arith,
+      moves-of-each-restored-le pairs (thenRestored (pair .heap) (pair .class) before),
+      moves-of-invariant-restored-le-64 (pair .heap)
+          (pair .class) (before .state),
+    )
 
 moves-of-drop-le : (s : State) (addresses : List ℕ) → s .setup .processors ≤ 8 → dropMoves s addresses .moves ≤ 8 * 27 * 64
 unfolding dropMoves
 moves-of-drop-le s addresses h =
-    omega (arith, moves-of-each-restored-le (touchedPairs (isTouched s addresses) (s .setup .processors)) (record { moves = 0; state = allFreed s addresses }), length-of-touched-pairs-le (isTouched s addresses) (s .setup .processors))
+    omega (
+      arith,
+      moves-of-each-restored-le (touchedPairs (isTouched s addresses) (s .setup .processors))
+          (record { moves = 0; state = allFreed s addresses }),
+      length-of-touched-pairs-le (isTouched s addresses) (s .setup .processors),
+    )
 
 short-result-of-dropped-all : (s : State) (order addresses : List ℕ) → s .setup .processors ≤ 8 → ShortResult 12 (droppedAll s order addresses)
 unfolding ShortResult droppedAll result
@@ -185,9 +200,11 @@ short-result-of-drop s order i addresses at-most-8 =
     (λ g. short-result-of-refused 12 (firstAddressRefusal s addresses) s order (omega arith) (omega (arith, first-refusal-le-7 s addresses))))))
 
 -- ---- the lines: 10 bytes for each byte of the command
-length-of-take-line-le-32 : (s : State) (order : List ℕ) (i size : ℕ) → i < 256 → size < 65536 → length (takeLine i size (takeOf s order i size .answer .outcome)) ≤ 32
+length-of-take-line-le-32 : (s : State) (order : List ℕ) (i size : ℕ) → i < 256 → size < 65536
+    → length (takeLine i size (takeOf s order i size .answer .outcome)) ≤ 32
 unfolding takeLine ShortResult
-length-of-take-line-le-32 s order i size a b = simp length-append (omega (arith, length-of-byte-decimal-le-3 i a, length-of-u16-decimal-le-5 size b, short-result-of-take s order i size))
+length-of-take-line-le-32 s order i size a b =
+    simp length-append (omega (arith, length-of-byte-decimal-le-3 i a, length-of-u16-decimal-le-5 size b, short-result-of-take s order i size))
 
 length-of-any-result-le-19 : (o : Outcome) → length (result o) ≤ 19
 unfolding result
@@ -198,14 +215,17 @@ length-of-any-result-le-19 (Refused r) = omega (arith, length-of-decimal-le-10 r
 
 length-of-free-line-le-48 : (i address : ℕ) (o : Outcome) → length (freeLine i address o) ≤ 48
 unfolding freeLine
-length-of-free-line-le-48 i address o = simp length-append (omega (arith, length-of-decimal-le-10 i, length-of-decimal-le-10 address, length-of-any-result-le-19 o))
+length-of-free-line-le-48 i address o =
+    simp length-append (omega (arith, length-of-decimal-le-10 i, length-of-decimal-le-10 address, length-of-any-result-le-19 o))
 
 length-of-named-take-line-le-48 : (i m size : ℕ) (o : Outcome) → i < 256 → m < 65536 → size < 65536 → length (namedTakeLine i m size o) ≤ 48
 length-of-named-take-line-le-48 i m size o a b h = omega (arith, length-of-named-take-line-le i m o a b size h, length-of-any-result-le-19 o)
 
-length-of-named-free-line-le-32 : (s : State) (order : List ℕ) (i m : ℕ) → i < 256 → m < 65536 → length (namedFreeLine i m (namedFreeOf s order i m .answer .outcome)) ≤ 32
+length-of-named-free-line-le-32 : (s : State) (order : List ℕ) (i m : ℕ) → i < 256 → m < 65536
+    → length (namedFreeLine i m (namedFreeOf s order i m .answer .outcome)) ≤ 32
 unfolding ShortResult
-length-of-named-free-line-le-32 s order i m a b = omega (arith, length-of-named-free-line-le i m (namedFreeOf s order i m .answer .outcome) a b, short-result-of-named-free s order i m)
+length-of-named-free-line-le-32 s order i m a b =
+    omega (arith, length-of-named-free-line-le i m (namedFreeOf s order i m .answer .outcome) a b, short-result-of-named-free s order i m)
 
 -- a drop of no address has 3 bytes, and its count one digit
 length-of-drop-line-le-10-times : (s : State) (order : List ℕ) (i count : ℕ) (addresses : List ℕ) → s .setup .processors ≤ 8 → i < 256 → count < 256
@@ -253,7 +273,8 @@ CommandsFit (c ∷ commands) = CommandFits c × CommandsFit commands
 module _ (r : List ℕ) (bytes : (i : ℕ) → byteAt r i < 256) where
   command-at-fits : (at : ℕ) (c : Command) → c ≡ commandAt r at → CommandFits c
   unfolding CommandFits
-  command-at-fits at (command.Setup processors superblocks spare p q) e = setup-fits r at (command.Setup processors superblocks spare p q) e bytes processors superblocks spare p q refl
+  command-at-fits at (command.Setup processors superblocks spare p q) e =
+      setup-fits r at (command.Setup processors superblocks spare p q) e bytes processors superblocks spare p q refl
   command-at-fits at (command.Call call count first) e = call-fits r at (command.Call call count first) e bytes call count first refl
   command-at-fits at (command.Refused number offset) e = tt
 
@@ -273,7 +294,13 @@ unfolding textOf setupText bytesIn sizeOfCommand CommandsFit CommandFits
 length-of-text-of-le r before [] h fit = let z = length-of-final-lines-le (before .answer .state) (omega arith) in omega arith
 length-of-text-of-le r before (command.Setup processors superblocks spare p q ∷ commands) h fit =
     pick-elim (λ (l : List ℕ). length l ≤ 10 * (6 + bytesIn commands) + 17540) (eqb (numberOf (after .answer .outcome)) 0) _ _
-    (λ e. simp length-append (omega (arith, length-of-setup-line-le-26 u (fit .0 .0) (fit .0 .1) (fit .0 .2) (fit .0 .3) (fit .0 .4), length-of-text-of-le r after commands (processors-after-setup-le-8 u (before .order)) (fit .1))))
+    (λ e. simp length-append
+    (omega (
+      arith,
+      length-of-setup-line-le-26 u (fit .0 .0) (fit .0 .1) (fit .0 .2) (fit .0 .3) (fit .0 .4),
+      length-of-text-of-le r after commands
+          (processors-after-setup-le-8 u (before .order)) (fit .1),
+    )))
     (λ e. let z = length-of-stop-line-le-33 (numberOf (after .answer .outcome)) 0 in omega arith)
   where
     u : Setup

@@ -30,7 +30,8 @@ two-bytes r a b e = ap (λ (k : ℕ). byteAt r a + 256 * byteAt r k) e
 
 module _ (r : List ℕ) (at i m : ℕ) (o : Outcome) where
   pub named-take-printed-as-in-record : (size : ℕ) → commandAt r at ≡ command.Call (header.NamedTake i m size) 0 0
-      → namedTakeLine i m size o ≡ field (letters "take ") (byteAt r (at + 1)) ++ field (letters " name ") (twoAt r (at + 2)) ++ field (letters " ") (twoAt r (at + 4)) ++ result o ++ letters "\n"
+      → namedTakeLine i m size o ≡ field (letters "take ") (byteAt r (at + 1)) ++ field (letters " name ") (twoAt r (at + 2))
+      ++ field (letters " ") (twoAt r (at + 4)) ++ result o ++ letters "\n"
   unfolding namedTakeLine
   named-take-printed-as-in-record size e =
       let t = named-take-iff-named-take-at r at i m size .0 e in
@@ -48,10 +49,12 @@ module _ (r : List ℕ) (s : State) (order : List ℕ) (i m : ℕ) (commands : L
       → textOf r (stateAndStorage s order) (command.Call (header.NamedTake i m size) 0 0 ∷ commands)
       ≡ namedTakeLine i m size (takeOf s order i size .answer .outcome) ++ textOf r (withNameBound m (takeOf s order i size)) commands
   unfolding textOf callOf callWith callLine withNameBound
-  text-of-named-take-is-of-plain-take size u = ap (λ (z : After). namedTakeLine i m size (z .answer .outcome) ++ textOf r z commands) (named-take-is-plain-take s order i m size passed p u)
+  text-of-named-take-is-of-plain-take size u = ap (λ (z : After). namedTakeLine i m size (z .answer .outcome) ++ textOf r z commands)
+      (named-take-is-plain-take s order i m size passed p u)
 
   pub text-of-named-free-is-of-plain-free : isHeld (s .names) m ≡ true
       → textOf r (stateAndStorage s order) (command.Call (header.NamedFree i m) 0 0 ∷ commands)
       ≡ namedFreeLine i m (freeOf s order i (heldAddress s m) .answer .outcome) ++ textOf r (freeOf s order i (heldAddress s m)) commands
   unfolding textOf callOf callWith callLine
-  text-of-named-free-is-of-plain-free h = ap (λ (z : After). namedFreeLine i m (z .answer .outcome) ++ textOf r z commands) (named-free-is-free-of-held-address s order i m passed p h)
+  text-of-named-free-is-of-plain-free h = ap (λ (z : After). namedFreeLine i m (z .answer .outcome) ++ textOf r z commands)
+      (named-free-is-free-of-held-address s order i m passed p h)

@@ -28,13 +28,16 @@ pub setup-text-of-refused-12 : (u : Setup) (rest : List ℕ) → setupText u (Re
 unfolding setupText numberOf stopLine decimal digits
 setup-text-of-refused-12 u rest = refl
 
-module _ (r order : List ℕ) (u : Setup) (commands : List Command) (e : commandsOf r ≡ command.Setup (u .processors) (u .superblocks) (u .spare) (u .p) (u .q) ∷ commands) where
+module _ (r order : List ℕ) (u : Setup) (commands : List Command) (e : commandsOf r ≡ command.Setup (u .processors) (u .superblocks) (u .spare) (u .p)
+    (u .q) ∷ commands) where
   key-is-setup-text : (after : After) → setupOf u order ≡ after → keyOf r order ≡ setupText u (after .answer .outcome) (textOf r after commands)
   unfolding keyOf textOf
   key-is-setup-text after is = ap (textOf r (beforeFirst order)) e ∙ ap (λ (z : After). setupText u (z .answer .outcome) (textOf r z commands)) is
 
   pub key-of-setup-out-of-limits : withinLimits u ≡ false → keyOf r order ≡ letters "stopped 1 at 0\n"
-  key-of-setup-out-of-limits n = let after = refused 1 noState order in key-is-setup-text after (setup-refused-1-of-limits u order n) ∙ setup-text-of-refused-1 u (textOf r after commands)
+  key-of-setup-out-of-limits n = let after = refused 1 noState order in key-is-setup-text after (setup-refused-1-of-limits u order n)
+      ∙ setup-text-of-refused-1 u (textOf r after commands)
 
   pub key-of-short-storage : withinLimits u ≡ true → length order < u .superblocks * 256 → keyOf r order ≡ letters "stopped 12 at 0\n"
-  key-of-short-storage y few = let after = refused 12 noState order in key-is-setup-text after (setup-refused-12-of-storage u order y few) ∙ setup-text-of-refused-12 u (textOf r after commands)
+  key-of-short-storage y few = let after = refused 12 noState order in key-is-setup-text after (setup-refused-12-of-storage u order y few)
+      ∙ setup-text-of-refused-12 u (textOf r after commands)

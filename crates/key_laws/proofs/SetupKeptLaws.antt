@@ -31,8 +31,10 @@ use Rattle.call_rules.specs.Answers.{After, refused, checked, isProcessor}
 use Rattle.call_rules.specs.Setup.{acceptedSetup, setupOf}
 use Rattle.call_rules.specs.LongBlocks.{longTakenFrom, longTakenAt}
 use Rattle.call_rules.specs.Take.{otherPlaces, unrankedIfEmpty, takenFrom, takenFromOther, takenAt, takeUnchecked, takeOf}
-use Rattle.call_rules.specs.Free.{superblockIndex, superblockHolding, isUnmapped, isInRun, isMisaligned, isLiveAt, markCleared, smallBlockFreed, longBlockFreed, blockFreed, smallFreedAt, longFreedAt, freedAt, freeUnchecked, freeOf}
-use Rattle.call_rules.specs.Named.{isUnavailable, nameBound, boundBy, withNameBound, namedTakeUnchecked, namedTakeOf, heldAddress, namedFreeUnchecked, namedFreeOf}
+use Rattle.call_rules.specs.Free.{superblockIndex, superblockHolding, isUnmapped, isInRun, isMisaligned, isLiveAt, markCleared, smallBlockFreed}
+use Rattle.call_rules.specs.Free.{longBlockFreed, blockFreed, smallFreedAt, longFreedAt, freedAt, freeUnchecked, freeOf}
+use Rattle.call_rules.specs.Named.{isUnavailable, nameBound, boundBy, withNameBound, namedTakeUnchecked, namedTakeOf, heldAddress, namedFreeUnchecked}
+use Rattle.call_rules.specs.Named.{namedFreeOf}
 use Rattle.call_rules.specs.Drop.{allFreed, firstAddressRefusal, thenRestored, Pair, eachRestored, dropMoves, droppedAll, dropUnchecked, dropOf}
 use Rattle.call_rules.specs.Calls as call
 use Rattle.call_rules.specs.Calls.{Call, callOf}
@@ -59,7 +61,8 @@ SetupKept s after = after .answer .state .setup ≡ s .setup
 setup-kept-by-checked : (s : State) (order : List ℕ) (next : After) → SetupKept s next → SetupKept s (checked s order next)
 unfolding SetupKept
 setup-kept-by-checked s order next kept =
-    ⊎-elim (λ d. ap (λ (x : After). x .answer .state .setup) (d .1)) (λ d. ap (λ (x : After). x .answer .state .setup) (d .1) ∙ kept) (checked-refused-or-passed s order next)
+    ⊎-elim (λ d. ap (λ (x : After). x .answer .state .setup) (d .1)) (λ d. ap (λ (x : After). x .answer .state .setup) (d .1) ∙ kept)
+    (checked-refused-or-passed s order next)
 
 setup-kept-by-refused : (r : ℕ) (s : State) (order : List ℕ) → SetupKept s (refused r s order)
 unfolding SetupKept
@@ -93,7 +96,8 @@ setup-kept-by-take s order i size = setup-kept-by-checked s order _ (setup-kept-
 setup-of-block-freed : (s : State) (a : ℕ) → blockFreed s a .setup ≡ s .setup
 unfolding blockFreed longBlockFreed smallBlockFreed markCleared rankedLatest
 setup-of-block-freed s a =
-    pick-elim (λ (t : State). t .setup ≡ s .setup) (isInRun s a) _ _ (λ e. run-freed-keeps-rest (superblockIndex a) (superblockHolding s a .run) s .setup) (λ e. refl)
+    pick-elim (λ (t : State). t .setup ≡ s .setup) (isInRun s a) _ _ (λ e. run-freed-keeps-rest (superblockIndex a) (superblockHolding s a .run) s .setup)
+    (λ e. refl)
 
 setup-kept-by-freed-at : (s : State) (order : List ℕ) (a : ℕ) → SetupKept s (freedAt s order a)
 unfolding SetupKept freedAt longFreedAt smallFreedAt longBlockFreed smallBlockFreed markCleared rankedLatest
@@ -181,7 +185,8 @@ pub processors-after-setup-le-8 : (u : Setup) (order : List ℕ) → setupOf u o
 unfolding setupOf
 processors-after-setup-le-8 u order = go (withinLimits u) (leb (u .superblocks * 256) (length order)) refl
   where
-    go : (a b : Bool) → withinLimits u ≡ a → pick a (pick b (acceptedSetup u order) (refused 12 noState order)) (refused 1 noState order) .answer .state .setup .processors ≤ 8
+    go : (a b : Bool) → withinLimits u ≡ a → pick a (pick b (acceptedSetup u order) (refused 12 noState order))
+        (refused 1 noState order) .answer .state .setup .processors ≤ 8
     go true true e = facts-of-within-limits u (subst T (sym e) tt) .processors-high
     go true false e = omega arith
     go false b e = omega arith

@@ -2,7 +2,7 @@
 use mathlib.Core.Path.{_≡_, refl, sym, ap, _∙_, subst}
 use mathlib.Core.Bool.{Bool, true, false}
 use mathlib.Core.List.{List, [], _∷_, _++_, append-nil}
-use Prim.Native.Nat.{ℕ, _+_, _-_, _*_, _≤_, _<_}
+use Prim.Native.Nat.{ℕ, _+_, _-_, _≤_, _<_}
 use native.Mathlib.Nat.{lt-of-not-le}
 use native.Mathlib.Decide.{decLe}
 use native.Mathlib.Omega.{arith}
@@ -35,14 +35,16 @@ use Rattle.key_replay.specs.Steps.{TextAndOrder, textAhead, orderAhead, 
 use Rattle.key_replay.specs.Steps.{Stepped, nextOf, stopOf, Stopped, CallAt}
 
 -- ---- of what a call left, the state and the storage count
-text-of-starting-from : (r : List ℕ) (after : After) (cs : List Command) → textOf r after cs ≡ textOf r (stateAndStorage (after .answer .state) (after .order)) cs
+text-of-starting-from : (r : List ℕ) (after : After) (cs : List Command)
+    → textOf r after cs ≡ textOf r (stateAndStorage (after .answer .state) (after .order)) cs
 unfolding textOf
 text-of-starting-from r after [] = refl
 text-of-starting-from r after (command.Setup processors superblocks spare p q ∷ cs) = refl
 text-of-starting-from r after (command.Call call count first ∷ cs) = refl
 text-of-starting-from r after (command.Refused number offset ∷ cs) = refl
 
-order-after-starting-from : (r : List ℕ) (after : After) (cs : List Command) → orderAfter r after cs ≡ orderAfter r (stateAndStorage (after .answer .state) (after .order)) cs
+order-after-starting-from : (r : List ℕ) (after : After) (cs : List Command) → orderAfter r after cs
+    ≡ orderAfter r (stateAndStorage (after .answer .state) (after .order)) cs
 unfolding orderAfter
 order-after-starting-from r after [] = refl
 order-after-starting-from r after (command.Setup processors superblocks spare p q ∷ cs) = refl
@@ -74,7 +76,8 @@ abbrev text-and-order : Pasted → List ℕ → TextAndOrder
 text-and-order text order = record { text = text; order = order }
 
 -- what is to come after a command that left this
-ahead-of-next : (r : List ℕ) (after : After) (at end : ℕ) → (textAhead r (nextOf r (after .answer .state) at end) (after .order) ≡ textOf r after (remaining r at))
+ahead-of-next : (r : List ℕ) (after : After) (at end : ℕ)
+    → (textAhead r (nextOf r (after .answer .state) at end) (after .order) ≡ textOf r after (remaining r at))
     × (orderAhead r (nextOf r (after .answer .state) at end) (after .order) ≡ orderAfter r after (remaining r at))
 unfolding textAhead orderAhead closingLines textOf orderAfter
 ahead-of-next r after at end = go (decLe (length r) at)
@@ -85,10 +88,14 @@ ahead-of-next r after at end = go (decLe (length r) at)
 
     go : Dec (length r ≤ at) → Next
     go (yes h) = rw (le-ltb at (length r) h, remaining-end r at h) (refl, refl)
-    go (no f) = rw (lt-ltb at (length r) (lt-of-not-le f), remaining-inside r at (lt-of-not-le f)) (sym (text-of-starting-from r after (commandsAt r at)), sym (order-after-starting-from r after (commandsAt r at)))
+    go (no f) = rw (lt-ltb at (length r) (lt-of-not-le f), remaining-inside r at (lt-of-not-le f)) (
+      sym (text-of-starting-from r after (commandsAt r at)),
+      sym (order-after-starting-from r after (commandsAt r at)),
+    )
 
 text-and-order-ahead-of-next : (r : List ℕ) (after : After) (at end : ℕ) (text : List ℕ)
-    → textAndOrderAhead r (nextOf r (after .answer .state) at end) (after .order) text ≡ text-and-order (pasted text end (textOf r after (remaining r at))) (orderAfter r after (remaining r at))
+    → textAndOrderAhead r (nextOf r (after .answer .state) at end) (after .order) text
+    ≡ text-and-order (pasted text end (textOf r after (remaining r at))) (orderAfter r after (remaining r at))
 unfolding textAndOrderAhead
 text-and-order-ahead-of-next r after at end text =
     let next = ahead-of-next r after at end in
@@ -97,7 +104,9 @@ text-and-order-ahead-of-next r after at end text =
 
 module _ (r : List ℕ) (x : Replay) (order out : List ℕ) (bounds : InBounds x out) (going : x .going ≡ true) where
   -- so far this stands and is to come
-  text-and-order-ahead-of-going : textAndOrderAhead r x order out ≡ text-and-order (pasted out (x .end) (textOf r (stateAndStorage (x .state) order) (commandsAt r (x .at)))) (orderAfter r (stateAndStorage (x .state) order) (commandsAt r (x .at)))
+  text-and-order-ahead-of-going : textAndOrderAhead r x order out
+      ≡ text-and-order (pasted out (x .end) (textOf r (stateAndStorage (x .state) order) (commandsAt r (x .at))))
+      (orderAfter r (stateAndStorage (x .state) order) (commandsAt r (x .at)))
   unfolding textAndOrderAhead textAhead orderAhead
   text-and-order-ahead-of-going = rw going
 
@@ -112,7 +121,12 @@ module _ (r : List ℕ) (x : Replay) (order out : List ℕ) (bounds : InBounds x
     nextReplay = nextOf r (after .answer .state) (x .at + k) end
 
     next-replay-in-bounds : InBounds nextReplay text
-    next-replay-in-bounds = record { position-bound = omega arith; text-end-bound = omega (arith, put-end-le out (x .end) line put, put-length out (x .end) line put); totals-readable = readable }
+    next-replay-in-bounds = record {
+      position-bound = omega arith;
+      text-end-bound =
+          omega (arith, put-end-le out (x .end) line put, put-length out (x .end) line put);
+      totals-readable = readable;
+    }
 
     commands-left-of-next-lt : commandsLeft nextReplay < commandsLeft x
     unfolding commandsLeft
@@ -140,10 +154,12 @@ module _ (r : List ℕ) (x : Replay) (order out : List ℕ) (bounds : InBounds x
             ∙ sym text-and-order-ahead-of-going
 
   -- ---- a stop line
-  stepped-of-stop-line : (number offset : ℕ) (y : Replay) (new text : List ℕ) → textOf r (stateAndStorage (x .state) order) (commandsAt r (x .at)) ≡ stopLine number offset
+  stepped-of-stop-line : (number offset : ℕ) (y : Replay) (new text : List ℕ) → textOf r (stateAndStorage (x .state) order) (commandsAt r (x .at))
+      ≡ stopLine number offset
       → orderAfter r (stateAndStorage (x .state) order) (commandsAt r (x .at)) ≡ new → Stopped x out number offset y text → Stepped r x order out y new text
   unfolding textAndOrderAhead textAhead orderAhead closingLines commandsLeft
-  stepped-of-stop-line number offset y new text e f s = subst (λ (z : Replay). Stepped r x order out z new text) (sym (s .replay-is)) (record { text-and-order-same = same; in-bounds = stays; fewer-commands-left = fewer })
+  stepped-of-stop-line number offset y new text e f s = subst (λ (z : Replay). Stepped r x order out z new text) (sym (s .replay-is))
+      (record { text-and-order-same = same; in-bounds = stays; fewer-commands-left = fewer })
     where
       line : List ℕ
       line = stopLine number offset
@@ -157,7 +173,13 @@ module _ (r : List ℕ) (x : Replay) (order out : List ℕ) (bounds : InBounds x
           ∙ sym text-and-order-ahead-of-going
 
       stays : InBounds (stopOf x (y .end)) text
-      stays = record { position-bound = bounds .position-bound; text-end-bound = omega (arith, put-end-le out (x .end) line (s .line-written), put-length out (x .end) line (s .line-written)); totals-readable = bounds .totals-readable }
+      stays = record {
+        position-bound = bounds .position-bound;
+        text-end-bound =
+            omega (arith, put-end-le out (x .end) line (s .line-written), put-length out (x .end) line (s .line-written));
+        totals-readable =
+            bounds .totals-readable;
+      }
 
       fewer : 0 < commandsLeft x
       fewer = subst (λ (n : ℕ). 0 < n) (sym commands-left-of-going) (omega (arith, bounds .position-bound))
@@ -205,16 +227,19 @@ module _ (r : List ℕ) (x : Replay) (order out : List ℕ) (bounds : InBounds x
 
     commands-at-setup : commandsAt r (x .at) ≡ command.Setup (u .processors) (u .superblocks) (u .spare) (u .p) (u .q) ∷ setup-rest
     unfolding setup-rest
-    commands-at-setup = commands-setup r (x .at) (command.Setup (u .processors) (u .superblocks) (u .spare) (u .p) (u .q)) c (u .processors) (u .superblocks) (u .spare) (u .p) (u .q) refl
+    commands-at-setup = commands-setup r (x .at) (command.Setup (u .processors) (u .superblocks) (u .spare) (u .p) (u .q)) c (u .processors)
+        (u .superblocks) (u .spare) (u .p) (u .q) refl
 
-    text-of-setup-command : textOf r (stateAndStorage (x .state) order) (commandsAt r (x .at)) ≡ pick (eqb number 0) (setupLine u ++ textOf r setup-after setup-rest) (stopLine number 0)
+    text-of-setup-command : textOf r (stateAndStorage (x .state) order) (commandsAt r (x .at)) ≡ pick (eqb number 0)
+        (setupLine u ++ textOf r setup-after setup-rest) (stopLine number 0)
     unfolding textOf setupText setup-after
     text-of-setup-command =
         ap (textOf r (stateAndStorage (x .state) order)) commands-at-setup
         ∙ ap (λ (z : After). setupText u (z .answer .outcome) (textOf r z setup-rest)) (sym e)
         ∙ ap (λ (m : ℕ). pick (eqb m 0) (setupLine u ++ textOf r setup-after setup-rest) (stopLine m 0)) (sym n)
 
-    order-after-setup-command : orderAfter r (stateAndStorage (x .state) order) (commandsAt r (x .at)) ≡ pick (eqb number 0) (orderAfter r setup-after setup-rest) new
+    order-after-setup-command : orderAfter r (stateAndStorage (x .state) order) (commandsAt r (x .at)) ≡ pick (eqb number 0)
+        (orderAfter r setup-after setup-rest) new
     unfolding orderAfter setup-after
     order-after-setup-command =
         ap (orderAfter r (stateAndStorage (x .state) order)) commands-at-setup
@@ -222,13 +247,15 @@ module _ (r : List ℕ) (x : Replay) (order out : List ℕ) (bounds : InBounds x
         ∙ ap (λ (m : ℕ). pick (eqb m 0) (orderAfter r setup-after setup-rest) new) (sym n)
 
     totals-readable-after-setup : TotalsReadable (a .state)
-    totals-readable-after-setup = subst (λ (z : After). TotalsReadable (z .answer .state)) (sym e) (new-or-refused-setup-totals-kept u order, processors-after-setup-le-8 u order)
+    totals-readable-after-setup = subst (λ (z : After). TotalsReadable (z .answer .state)) (sym e)
+        (new-or-refused-setup-totals-kept u order, processors-after-setup-le-8 u order)
 
     pub stepped-of-setup : number ≡ 0 → (end : ℕ) (text : List ℕ) → record { end = end; buffer = text } ≡ pasted out (x .end) (setupLine u)
         → (y : Replay) → y ≡ nextOf r (a .state) (x .at + 6) end → Stepped r x order out y new text
     unfolding setup-after setup-rest
     stepped-of-setup zero end text put y is =
-        let inside-record = setup-first-and-inside r (x .at) (command.Setup (u .processors) (u .superblocks) (u .spare) (u .p) (u .q)) c (u .processors) (u .superblocks) (u .spare) (u .p) (u .q) refl in
+        let inside-record = setup-first-and-inside r (x .at) (command.Setup (u .processors) (u .superblocks) (u .spare) (u .p) (u .q)) c (u .processors)
+        (u .superblocks) (u .spare) (u .p) (u .q) refl in
         let yes : eqb number 0 ≡ true = eq-eqb number 0 zero in
         subst (λ (z : Replay). Stepped r x order out z new text) (sym is)
         (stepped-of-line (setupLine u) setup-after 6 end text put (omega arith) (inside-record .2) (inside-record .0) totals-readable-after-setup
@@ -240,8 +267,10 @@ module _ (r : List ℕ) (x : Replay) (order out : List ℕ) (bounds : InBounds x
         let no : eqb number 0 ≡ false = ne-eqb number 0 some in
         stepped-of-stop-line number 0 y new text (text-of-setup-command ∙ rw no) (order-after-setup-command ∙ rw no) s
 
-  pub stepped-of-refused-command : (number offset : ℕ) → command.Refused number offset ≡ commandAt r (x .at) → (y : Replay) (text : List ℕ) → Stopped x out number offset y text → Stepped r x order out y order text
+  pub stepped-of-refused-command : (number offset : ℕ) → command.Refused number offset ≡ commandAt r (x .at) → (y : Replay) (text : List ℕ)
+      → Stopped x out number offset y text → Stepped r x order out y order text
   unfolding textOf orderAfter
   stepped-of-refused-command number offset c y text s =
       let commands = commands-refused r (x .at) (command.Refused number offset) number offset c refl in
-      stepped-of-stop-line number offset y order text (ap (textOf r (stateAndStorage (x .state) order)) commands) (ap (orderAfter r (stateAndStorage (x .state) order)) commands) s
+      stepped-of-stop-line number offset y order text (ap (textOf r (stateAndStorage (x .state) order)) commands)
+      (ap (orderAfter r (stateAndStorage (x .state) order)) commands) s

@@ -28,25 +28,35 @@ unfolding textAndOrderAhead textAhead orderAhead keyAndStorage keyOf storageOf c
 text-and-order-ahead-at-start r order out s e = rw e
 
 pub in-bounds-at-start : (out : List ℕ) (s : State) → s ≡ noState → InBounds (firstReplay s) out
-in-bounds-at-start out s e = record { position-bound = omega arith; text-end-bound = omega arith; totals-readable = subst TotalsReadable (sym e) (new-state-totals-kept (noState .setup), omega arith) }
+in-bounds-at-start out s e = record {
+  position-bound = omega arith;
+  text-end-bound = omega arith;
+  totals-readable =
+      subst TotalsReadable (sym e) (new-state-totals-kept (noState .setup), omega arith);
+}
 
 -- ---- after each command
-pub text-and-order-ahead-step : (r order₀ out₀ order out new text : List ℕ) (x y : Replay) → textAndOrderAhead r x order out ≡ keyAndStorage r order₀ out₀ → Stepped r x order out y new text → textAndOrderAhead r y new text ≡ keyAndStorage r order₀ out₀
+pub text-and-order-ahead-step : (r order₀ out₀ order out new text : List ℕ) (x y : Replay) → textAndOrderAhead r x order out ≡ keyAndStorage r order₀ out₀
+    → Stepped r x order out y new text → textAndOrderAhead r y new text ≡ keyAndStorage r order₀ out₀
 text-and-order-ahead-step r order₀ out₀ order out new text x y e s = s .text-and-order-same ∙ e
 
-pub finished-of-not-going : (r order₀ out₀ order out : List ℕ) (x : Replay) → InBounds x out → textAndOrderAhead r x order out ≡ keyAndStorage r order₀ out₀ → x .going ≡ false → Finished r order₀ out₀ x order out
+pub finished-of-not-going : (r order₀ out₀ order out : List ℕ) (x : Replay) → InBounds x out → textAndOrderAhead r x order out
+    ≡ keyAndStorage r order₀ out₀ → x .going ≡ false → Finished r order₀ out₀ x order out
 finished-of-not-going r order₀ out₀ order out x bounds same done = record { text-and-order-same = same; in-bounds = bounds; not-going = done }
 
 -- ---- after the last command
 -- the closing lines in the buffer: the whole key, and the storage
-closing-lines-complete-key : (r order out : List ℕ) (x : Replay) (new mid : List ℕ) → Finished r order out x new mid → (pasted mid (x .end) (closingLines (x .stopped) (x .state)) ≡ pasted out 0 (keyOf r order)) × (new ≡ storageOf r order)
+closing-lines-complete-key : (r order out : List ℕ) (x : Replay) (new mid : List ℕ) → Finished r order out x new mid
+    → (pasted mid (x .end) (closingLines (x .stopped) (x .state)) ≡ pasted out 0 (keyOf r order)) × (new ≡ storageOf r order)
 unfolding textAndOrderAhead textAhead orderAhead keyAndStorage
 closing-lines-complete-key r order out x new mid o = (ap (λ (z : TextAndOrder). z .text) same, ap (λ (z : TextAndOrder). z .order) same)
   where
-    same : _≡_ {A = TextAndOrder} (record { text = pasted mid (x .end) (closingLines (x .stopped) (x .state)); order = new }) (record { text = pasted out 0 (keyOf r order); order = storageOf r order })
+    same : _≡_ {A = TextAndOrder} (record { text = pasted mid (x .end) (closingLines (x .stopped) (x .state)); order = new })
+        (record { text = pasted out 0 (keyOf r order); order = storageOf r order })
     same = rw (o .not-going) at (o .text-and-order-same)
 
-pub key-written-of-finished : (r order out : List ℕ) (x : Replay) (new mid text : List ℕ) (n : ℕ) → ((i : ℕ) → byteAt r i < 256) → room ≤ length out → Finished r order out x new mid
+pub key-written-of-finished : (r order out : List ℕ) (x : Replay) (new mid text : List ℕ) (n : ℕ) → ((i : ℕ) → byteAt r i < 256) → room ≤ length out
+    → Finished r order out x new mid
     → record { end = n; buffer = text } ≡ pasted mid (x .end) (closingLines (x .stopped) (x .state)) → KeyOrNoRoom r order out (Text n) new text
 unfolding KeyOrNoRoom
 key-written-of-finished r order out x new mid text n bytes big finished-of-not-going put =

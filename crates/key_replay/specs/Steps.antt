@@ -18,7 +18,8 @@ use Rattle.key_rules.specs.Key.{stateAndStorage, textOf, orderAfter, keyOf, sto
 
 -- the text still to come
 unfoldable pub textAhead : List ℕ → Replay → List ℕ → List ℕ
-textAhead r x order = pick (x .going) (textOf r (stateAndStorage (x .state) order) (commandsFrom (suc (length r)) r (x .at))) (closingLines (x .stopped) (x .state))
+textAhead r x order = pick (x .going) (textOf r (stateAndStorage (x .state) order) (commandsFrom (suc (length r)) r (x .at)))
+    (closingLines (x .stopped) (x .state))
 
 -- the storage that the commands still to be read leave
 unfoldable pub orderAhead : List ℕ → Replay → List ℕ → List ℕ

@@ -88,7 +88,8 @@ key-written-holds : KeyWritten setup (places-of 7) (replicate 23 5) 20 (places-o
 unfolding keyDefinitions
 key-written-holds = record { text = refl; count = refl; behind = refl; storage = refl }
 
--- not with another text; with another count, though the buffer ends there; with a byte behind the text changed; with the places as they were, or others; none of these, whatever else holds
+-- not with another text; with another count, though the buffer ends there; with a byte behind the text changed; with the places as they were, or
+-- others; none of these, whatever else holds
 other-text-not-written : KeyWritten setup (places-of 7) (replicate 23 5) 20 (places-of 0) (letters "setup 1 1 1 1 3\n" ++ letters "end\n" ++ replicate 3 5) → ⊥
 unfolding keyDefinitions
 other-text-not-written k = let z : _≡_ {A = ℕ} 51 50 = ap (λ (l : List ℕ). getD l 14 0) (k .text) in omega arith
@@ -102,13 +103,17 @@ unfolding keyDefinitions
 byte-behind-not-kept k = let z : _≡_ {A = ℕ} 6 5 = ap (λ (l : List ℕ). getD l 2 0) (k .behind) in omega arith
 
 other-storage-not-left :
-    (KeyWritten setup (places-of 7) (replicate 23 5) 20 (places-of 7) (setup-key ++ replicate 3 5) → ⊥) × (KeyWritten setup (places-of 7) (replicate 23 5) 20 (replicate 257 0) (setup-key ++ replicate 3 5) → ⊥)
+    (KeyWritten setup (places-of 7) (replicate 23 5) 20 (places-of 7) (setup-key ++ replicate 3 5) → ⊥)
+    × (KeyWritten setup (places-of 7) (replicate 23 5) 20 (replicate 257 0) (setup-key ++ replicate 3 5) → ⊥)
 unfolding keyDefinitions
-other-storage-not-left =
-    (λ k. let z : _≡_ {A = ℕ} 7 0 = ap (λ (l : List ℕ). getD l 0 9) (k .storage) in omega arith, λ k. let z : _≡_ {A = ℕ} 0 7 = ap (λ (l : List ℕ). getD l 256 9) (k .storage) in omega arith)
+other-storage-not-left = (
+  λ k. let z : _≡_ {A = ℕ} 7 0 = ap (λ (l : List ℕ). getD l 0 9) (k .storage) in omega arith,
+  λ k. let z : _≡_ {A = ℕ} 0 7 =
+      ap (λ (l : List ℕ). getD l 256 9) (k .storage) in omega arith,
+)
 
--- "the key, wherever the buffer has room for every key; else nothing was changed": no text in a buffer that has not the room, though this key fits in it; no other text than the key in one that
--- has; nothing told for want of room where there is room
+-- "the key, wherever the buffer has room for every key; else nothing was changed": no text in a buffer that has not the room, though this key fits in
+-- it; no other text than the key in one that has; nothing told for want of room where there is room
 text-without-room-fails : KeyOrNoRoom setup (places-of 7) (replicate 23 5) (Text 20) (places-of 0) (setup-key ++ replicate 3 5) → ⊥
 unfolding KeyOrNoRoom
 text-without-room-fails k = let z : room ≤ 23 = k .0 in omega arith
@@ -127,10 +132,14 @@ unfolding KeyOrNoRoom
 no-room-holds = (omega arith, refl, refl)
 
 no-room-changed-fails :
-    (KeyOrNoRoom setup (places-of 7) (replicate 23 5) NoRoom (places-of 7) (setup-key ++ replicate 3 5) → ⊥) × (KeyOrNoRoom setup (places-of 7) (replicate 23 5) NoRoom (places-of 0) (replicate 23 5) → ⊥)
+    (KeyOrNoRoom setup (places-of 7) (replicate 23 5) NoRoom (places-of 7) (setup-key ++ replicate 3 5) → ⊥)
+    × (KeyOrNoRoom setup (places-of 7) (replicate 23 5) NoRoom (places-of 0) (replicate 23 5) → ⊥)
 unfolding KeyOrNoRoom
-no-room-changed-fails =
-    (λ k. let z : _≡_ {A = ℕ} 115 5 = ap (λ (l : List ℕ). getD l 0 9) (k .2) in omega arith, λ k. let z : _≡_ {A = ℕ} 0 7 = ap (λ (l : List ℕ). getD l 0 9) (k .1) in omega arith)
+no-room-changed-fails = (
+  λ k. let z : _≡_ {A = ℕ} 115 5 = ap (λ (l : List ℕ). getD l 0 9) (k .2) in omega arith,
+  λ k. let z : _≡_ {A = ℕ} 0 7 =
+      ap (λ (l : List ℕ). getD l 0 9) (k .1) in omega arith,
+)
 
 -- calls on no state, which are refused 13: each has its own line, and the record goes on; a stop line is the last
 text-of-calls-on-no-state :
@@ -181,7 +190,8 @@ casesWithoutCheckHold =
     also text-of-calls-on-no-state also room-enough also text-of-call also storage-of-call also keyClaimsHold also tt
 
 -- an unknown byte behind a setup and an accepted take: their lines, and the stop line with the byte's own offset, as the last line
-key-stopped-by-unknown-byte : keyOf (setup ++ take ++ (6 ∷ [])) storage ≡ letters "setup 1 1 1 1 2\n" ++ letters "take 1 2048 at 0\n" ++ letters "stopped 8 at 10\n"
+key-stopped-by-unknown-byte : keyOf (setup ++ take ++ (6 ∷ [])) storage ≡ letters "setup 1 1 1 1 2\n" ++ letters "take 1 2048 at 0\n"
+    ++ letters "stopped 8 at 10\n"
 unfolding casesWithoutCheckHold keyDefinitions
 key-stopped-by-unknown-byte = refl
 
@@ -193,7 +203,8 @@ key-of-refused-take = refl
 -- ---- calls by name, on a state of that setup: heap 1 has the superblock, of class 26, with these marks; name 5 points at its block j, or at none
 abbrev with-name-5 : ℕ → ℕ → List ℕ → After
 with-name-5 marks j order =
-    stateAndStorage (withNames (unnamedState (record { processors = 1; superblocks = 1; spare = 1; p = 1; q = 2 }) (of 1 26 marks ∷ replicate 63 unused)) (withName noNames 5 j)) order
+    stateAndStorage (withNames (unnamedState (record { processors = 1; superblocks = 1; spare = 1; p = 1; q = 2 }) (of 1 26 marks ∷ replicate 63 unused))
+    (withName noNames 5 j)) order
 
 -- a named free lets go the block that the name holds, not the one at address 0: the take after it gets that block
 text-of-held-block-freed : textOf [] (with-name-5 3 1 (1 ∷ 0 ∷ replicate 254 0)) (Call (header.NamedFree 1 5) 0 0 ∷ Call (header.Take 1 2048) 0 0 ∷ [])
@@ -220,7 +231,8 @@ both-blocks = 9 ∷ 0 ∷ 8 ∷ 0 ∷ 0 ∷ 0 ∷ 0 ∷ 0 ∷ 0 ∷ 9 ∷ []
 -- the line has the count and the moves, the blocks are free, the last one first, and the name is let go
 text-of-drop : textOf both-blocks (with-name-5 3 0 (replicate 256 0))
     (Call (header.Drop 1) 2 1 ∷ Call (header.NamedFree 1 5) 0 0 ∷ Call (header.Take 1 2048) 0 0 ∷ [])
-    ≡ letters "drop 1 count 2 moved 0\n" ++ letters "free 1 name 5 refused 15\n" ++ letters "take 1 2048 at 0\n" ++ letters "heap 1 class 26 superblocks 1 live 1\n" ++ letters "end\n"
+    ≡ letters "drop 1 count 2 moved 0\n" ++ letters "free 1 name 5 refused 15\n" ++ letters "take 1 2048 at 0\n"
+    ++ letters "heap 1 class 26 superblocks 1 live 1\n" ++ letters "end\n"
 unfolding casesWithoutCheckHold keyDefinitions
 text-of-drop = refl
 

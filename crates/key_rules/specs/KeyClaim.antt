@@ -57,5 +57,7 @@ pub record KeyClaims (r order : List ℕ) (u : Setup) (commands : List Command) 
   pub linked : Linked (setupOf u order) (stepsIn r (setupOf u order) commands)
   pub claims : Claims u (setupOf u order) [] (λ c. 0) (stepsIn r (setupOf u order) commands)
   pub printed : keyOf r order
-      ≡ setupLine u ++ (stepLines (stepsIn r (setupOf u order) commands) ++ endingLines (lastAfter (setupOf u order) (stepsIn r (setupOf u order) commands)) commands)
+      ≡ setupLine u
+      ++ (stepLines (stepsIn r (setupOf u order) commands)
+      ++ endingLines (lastAfter (setupOf u order) (stepsIn r (setupOf u order) commands)) commands)
   pub storage : storageOf r order ≡ lastAfter (setupOf u order) (stepsIn r (setupOf u order) commands) .order

@@ -8,11 +8,13 @@ use Rattle.line_rules.specs.Lines.{field}
 
 module _ (l₀ : List ℕ) {l : List ℕ} (at : ℕ) {r : ℕ} where
   -- the text put is this word
-  pub word-put : (text : List ℕ) → record { end = r; buffer = l } ≡ pasted l₀ at text → (word : List ℕ) → text ≡ word → record { end = r; buffer = l } ≡ pasted l₀ at word
+  pub word-put : (text : List ℕ) → record { end = r; buffer = l } ≡ pasted l₀ at text → (word : List ℕ) → text ≡ word → record { end = r; buffer = l }
+      ≡ pasted l₀ at word
   word-put text p word e = rw e at p
 
   -- it was put at this place
-  pub place-put : (text : List ℕ) → record { end = r; buffer = l } ≡ pasted l₀ at text → (place : ℕ) → at ≡ place → record { end = r; buffer = l } ≡ pasted l₀ place text
+  pub place-put : (text : List ℕ) → record { end = r; buffer = l } ≡ pasted l₀ at text → (place : ℕ) → at ≡ place → record { end = r; buffer = l }
+      ≡ pasted l₀ place text
   place-put text p place e = rw (← e) p
 
   -- the text put is this word and this number

@@ -19,8 +19,10 @@ module _ (l₀ : List ℕ) {l : List ℕ} (at : ℕ) {r : ℕ} (s : State) where
   heap-line-if-of-no-superblock-kept h c lh lc kept z p = rw (← superblocks-kept-are-counted s h c lh lc kept, eq-eqb _ 0 z) p
 
   -- another has one, with both totals as kept
-  pub heap-line-if-of-superblocks-kept : (h c : ℕ) → h < heapCount → c < classCount → TotalsKept s → (getD (s .totals .superblocks) (h * classCount + c) 0 ≡ 0 → ⊥)
-      → record { end = r; buffer = l } ≡ pasted l₀ at (heapLine h c (getD (s .totals .superblocks) (h * classCount + c) 0) (getD (s .totals .live) (h * classCount + c) 0))
+  pub heap-line-if-of-superblocks-kept : (h c : ℕ) → h < heapCount → c < classCount → TotalsKept s
+      → (getD (s .totals .superblocks) (h * classCount + c) 0 ≡ 0 → ⊥)
+      → record { end = r; buffer = l }
+      ≡ pasted l₀ at (heapLine h c (getD (s .totals .superblocks) (h * classCount + c) 0) (getD (s .totals .live) (h * classCount + c) 0))
       → record { end = r; buffer = l } ≡ pasted l₀ at (heapLineIf h c s)
   unfolding heapLineIf superblocksKept liveKept
   heap-line-if-of-superblocks-kept h c lh lc kept some p =

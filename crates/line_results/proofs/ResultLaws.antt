@@ -12,14 +12,17 @@ module _ (l₀ : List ℕ) {l : List ℕ} (at : ℕ) {r : ℕ} (o : Outcome) whe
   unfolding result
   result-of-ready-put p k = rw k p
 
-  pub result-of-address-put : (a : ℕ) → record { end = r; buffer = l } ≡ pasted l₀ at (field (letters " at ") a) → o ≡ Address a → record { end = r; buffer = l } ≡ pasted l₀ at (result o)
+  pub result-of-address-put : (a : ℕ) → record { end = r; buffer = l } ≡ pasted l₀ at (field (letters " at ") a) → o ≡ Address a
+      → record { end = r; buffer = l } ≡ pasted l₀ at (result o)
   unfolding result
   result-of-address-put a p k = rw k p
 
-  pub result-of-moves-put : (m : ℕ) → record { end = r; buffer = l } ≡ pasted l₀ at (field (letters " moved ") m) → o ≡ Moves m → record { end = r; buffer = l } ≡ pasted l₀ at (result o)
+  pub result-of-moves-put : (m : ℕ) → record { end = r; buffer = l } ≡ pasted l₀ at (field (letters " moved ") m) → o ≡ Moves m
+      → record { end = r; buffer = l } ≡ pasted l₀ at (result o)
   unfolding result
   result-of-moves-put m p k = rw k p
 
-  pub result-of-refused-put : (n : ℕ) → record { end = r; buffer = l } ≡ pasted l₀ at (field (letters " refused ") n) → o ≡ Refused n → record { end = r; buffer = l } ≡ pasted l₀ at (result o)
+  pub result-of-refused-put : (n : ℕ) → record { end = r; buffer = l } ≡ pasted l₀ at (field (letters " refused ") n) → o ≡ Refused n
+      → record { end = r; buffer = l } ≡ pasted l₀ at (result o)
   unfolding result
   result-of-refused-put n p k = rw k p

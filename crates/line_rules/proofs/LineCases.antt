@@ -16,7 +16,8 @@ use Rattle.heap_rules.specs.Totals.{noTotals}
 use Rattle.heap_rules.proofs.CaseStates.{unnamedState}
 use Rattle.call_header.specs.declared.CallHeader.the-variants as header
 use Rattle.call_rules.specs.declared.Outcome.the-variants.{Address, Moves, Refused}
-use Rattle.line_rules.specs.Lines.{setupLine, takeLine, freeLine, namedTakeLine, namedFreeLine, dropLine, callLine, stopLine, heapLine, heapLineIf, classLines, runLine, runLineIf, finalLines, closingLines}
+use Rattle.line_rules.specs.Lines.{setupLine, takeLine, freeLine, namedTakeLine, namedFreeLine, dropLine, callLine, stopLine, heapLine, heapLineIf}
+use Rattle.line_rules.specs.Lines.{classLines, runLine, runLineIf, finalLines, closingLines}
 use Rattle.line_rules.proofs.LineDefinitions.{lineDefinitions}
 
 -- ---- the whole case
@@ -92,7 +93,8 @@ unfolding lineDefinitions
 named-free-line-case = refl
 
 -- name 0 and size 0 print as 0, and a refused name as it is in the record
-named-line-limit-cases : (namedTakeLine 1 0 0 (Address 16) ≡ letters "take 1 name 0 0 at 16\n") × (namedFreeLine 1 65535 (Refused 15) ≡ letters "free 1 name 65535 refused 15\n")
+named-line-limit-cases : (namedTakeLine 1 0 0 (Address 16) ≡ letters "take 1 name 0 0 at 16\n")
+    × (namedFreeLine 1 65535 (Refused 15) ≡ letters "free 1 name 65535 refused 15\n")
 unfolding lineDefinitions
 named-line-limit-cases = (refl, refl)
 
@@ -110,12 +112,14 @@ unfolding lineDefinitions
 drop-line-case = refl
 
 -- count 0 prints as 0; the longest line of a refused one
-drop-line-limit-cases : (dropLine 4 0 (Refused 16) ≡ letters "drop 4 count 0 refused 16\n") × (dropLine 255 255 (Refused 16) ≡ letters "drop 255 count 255 refused 16\n")
+drop-line-limit-cases : (dropLine 4 0 (Refused 16) ≡ letters "drop 4 count 0 refused 16\n")
+    × (dropLine 255 255 (Refused 16) ≡ letters "drop 255 count 255 refused 16\n")
 unfolding lineDefinitions
 drop-line-limit-cases = (refl, refl)
 
 -- a drop's header with so many addresses beside it; no other call prints that number
-call-line-cases : (callLine (header.Drop 6) 120 (Moves 57) ≡ letters "drop 6 count 120 moved 57\n") × (callLine (header.Free 6 200704) 120 (Moves 5) ≡ letters "free 6 200704 moved 5\n")
+call-line-cases : (callLine (header.Drop 6) 120 (Moves 57) ≡ letters "drop 6 count 120 moved 57\n")
+    × (callLine (header.Free 6 200704) 120 (Moves 5) ≡ letters "free 6 200704 moved 5\n")
 unfolding lineDefinitions
 call-line-cases = (refl, refl)
 
@@ -126,7 +130,8 @@ superblock owner class marks rank = record { owner = owner; class = class; live 
 
 abbrev several-superblocks : State
 several-superblocks =
-    unnamedState (record { processors = 2; superblocks = 63; spare = 15; p = 3; q = 8 }) (superblock 2 26 3 5 ∷ superblock 1 11 0 0 ∷ superblock 1 0 15 3 ∷ superblock 3 8 1 8 ∷ superblock 2 26 3 2 ∷ unused ∷ superblock 1 11 0 0 ∷ superblock 0 9 31 1
+    unnamedState (record { processors = 2; superblocks = 63; spare = 15; p = 3; q = 8 }) (superblock 2 26 3 5 ∷ superblock 1 11 0 0 ∷ superblock 1 0 15 3
+    ∷ superblock 3 8 1 8 ∷ superblock 2 26 3 2 ∷ unused ∷ superblock 1 11 0 0 ∷ superblock 0 9 31 1
     ∷ superblock 2 26 1 7 ∷ superblock 1 0 3 0 ∷ superblock 2 26 3 4 ∷ superblock 1 11 0 6 ∷ replicate 52 unused)
 
 -- superblocks with nothing live have a line, and a class without a superblock has none
@@ -144,20 +149,22 @@ unfolding lineDefinitions
 run-line-cases = (refl, refl)
 
 -- P = 1: heap 1's superblock, a run of two, one of one beside it, heap 0's superblock, and at the end of the table two runs more; an unused superblock that
--- carries a length, as no state that passes has, begins no run. Names 0, 1 and 1023 hold block 0 of superblock 0, the first run and the last, two superblocks are ranked, and
--- the totals kept are 0, as in no state that passes: no line shows names or ranks, and the lines are counted
+-- carries a length, as no state that passes has, begins no run. Names 0, 1 and 1023 hold block 0 of superblock 0, the first run and the last, two
+-- superblocks are ranked, and the totals kept are 0, as in no state that passes: no line shows names or ranks, and the lines are counted
 abbrev several-runs : State
 several-runs =
     record {
       setup = record { processors = 1; superblocks = 64; spare = 15; p = 3; q = 8 };
-      table = superblock 1 11 1 2 ∷ runPart 2 ∷ runPart 0 ∷ runPart 1 ∷ superblock 0 9 3 1 ∷ record { owner = 255; class = 0; live = 0 ∷ 0 ∷ 0 ∷ 0 ∷ []; rank = 0; run = 4 }
+      table = superblock 1 11 1 2 ∷ runPart 2 ∷ runPart 0 ∷ runPart 1 ∷ superblock 0 9 3 1
+          ∷ record { owner = 255; class = 0; live = 0 ∷ 0 ∷ 0 ∷ 0 ∷ []; rank = 0; run = 4 }
           ∷ replicate 55 unused ++ runPart 2 ∷ runPart 0 ∷ runPart 1 ∷ [];
       names = withName (withName (withName noNames 0 0) 1 256) 1023 16128;
       totals = noTotals;
     }
 
 -- a line for the first of a run alone, though a name holds it, and none for its others
-run-line-if-cases : (runLineIf 1 several-runs ≡ letters "run 1 superblocks 2\n") × (runLineIf 2 several-runs ≡ []) × (runLineIf 5 several-runs ≡ []) × (runLineIf 4 several-runs ≡ [])
+run-line-if-cases : (runLineIf 1 several-runs ≡ letters "run 1 superblocks 2\n") × (runLineIf 2 several-runs ≡ []) × (runLineIf 5 several-runs ≡ [])
+    × (runLineIf 4 several-runs ≡ [])
 unfolding lineDefinitions nameDefinitions
 run-line-if-cases = (refl, refl, refl, refl)
 
@@ -176,23 +183,27 @@ quickLinesHold =
     also heap-line-if-of-nothing-live-case also heap-line-if-of-no-superblock-case also run-line-cases also run-line-if-cases also closing-lines-cases
     also tt
 
-class-lines-case : classLines 1 27 several-superblocks ≡ letters "heap 1 class 0 superblocks 2 live 6\nheap 1 class 11 superblocks 3 live 0\n"
+class-lines-case : classLines 1 27 several-superblocks ≡ letters "heap 1 class 0 superblocks 2 live 6\n"
+    ++ letters "heap 1 class 11 superblocks 3 live 0\n"
 unfolding quickLinesHold lineDefinitions
 class-lines-case = refl
 
 -- "by first superblock", after the heaps and "before `end`"
 final-lines-with-runs-case : finalLines several-runs
-    ≡ letters "heap 0 class 9 superblocks 1 live 2\nheap 1 class 11 superblocks 1 live 1\nrun 1 superblocks 2\nrun 3 superblocks 1\nrun 61 superblocks 2\nrun 63 superblocks 1\nend\n"
+    ≡ letters "heap 0 class 9 superblocks 1 live 2\nheap 1 class 11 superblocks 1 live 1\n"
+    ++ letters "run 1 superblocks 2\nrun 3 superblocks 1\nrun 61 superblocks 2\nrun 63 superblocks 1\nend\n"
 unfolding lineDefinitions nameDefinitions
 final-lines-with-runs-case = let before = class-lines-case in refl
 
 final-lines-case : finalLines several-superblocks
-    ≡ letters "heap 0 class 9 superblocks 1 live 5\nheap 1 class 0 superblocks 2 live 6\nheap 1 class 11 superblocks 3 live 0\nheap 2 class 26 superblocks 4 live 7\nend\n"
+    ≡ letters "heap 0 class 9 superblocks 1 live 5\nheap 1 class 0 superblocks 2 live 6\n"
+    ++ letters "heap 1 class 11 superblocks 3 live 0\nheap 2 class 26 superblocks 4 live 7\nend\n"
 unfolding lineDefinitions
 final-lines-case = let before = final-lines-with-runs-case in refl
 
 -- the whole case's own: block 0 of class 0 is live in superblock 0, block 0 of class 26 in superblock 1
-final-lines-of-whole-case : finalLines (unnamedState (record { processors = 1; superblocks = 2; spare = 1; p = 1; q = 4 }) (superblock 1 0 1 0 ∷ superblock 1 26 1 0 ∷ replicate 62 unused))
+final-lines-of-whole-case : finalLines (unnamedState (record { processors = 1; superblocks = 2; spare = 1; p = 1; q = 4 })
+    (superblock 1 0 1 0 ∷ superblock 1 26 1 0 ∷ replicate 62 unused))
     ≡ letters "heap 1 class 0 superblocks 1 live 1\nheap 1 class 26 superblocks 1 live 1\nend\n"
 unfolding lineDefinitions
 final-lines-of-whole-case = let before = final-lines-case in refl

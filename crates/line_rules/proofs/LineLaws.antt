@@ -8,6 +8,7 @@ use Rattle.line_rules.specs.Lines.{field, result, takeLine}
 use Rattle.line_rules.proofs.LineDefinitions.{lineDefinitions}
 
 -- size 0 "prints as 0" (document 02, item 1), whatever the processor and the outcome
-pub size-0-prints-as-0 : (processor : ℕ) (outcome : Outcome) → takeLine processor 0 outcome ≡ field (letters "take ") processor ++ letters " 0" ++ result outcome ++ letters "\n"
+pub size-0-prints-as-0 : (processor : ℕ) (outcome : Outcome) → takeLine processor 0 outcome ≡ field (letters "take ") processor ++ letters " 0"
+    ++ result outcome ++ letters "\n"
 unfolding lineDefinitions
 size-0-prints-as-0 processor outcome = refl

@@ -1,5 +1,4 @@
 -- How long the lines are at most, where each number fits its type. Assumes nothing.
-use mathlib.Core.Path.{_≡_, refl}
 use mathlib.Core.Bool.{Bool, true, false}
 use mathlib.Core.List.{[]}
 use Prim.Native.Nat.{ℕ, zero, suc, _+_, _*_, _≤_, _<_, zero-le}
@@ -14,21 +13,29 @@ use Rattle.heap_rules.specs.declared.State.{State}
 use Rattle.heap_rules.specs.Table.{superblockAt, startsRun}
 use Rattle.heap_rules.specs.Counts.{superblocksOf, liveOf}
 use Rattle.call_rules.specs.declared.Outcome.{Outcome}
-use Rattle.call_rules.specs.declared.Outcome.the-variants.{Ready, Address, Moves, Refused}
-use Rattle.line_rules.specs.Lines.{setupLine, result, takeLine, freeLine, namedTakeLine, namedFreeLine, dropLine, stopLine, heapLine, heapLineIf, classLines, heapLines, runLine, runLineIf, runLines, finalLines}
+use Rattle.line_rules.specs.Lines.{setupLine, result, namedTakeLine, namedFreeLine, dropLine, heapLine, heapLineIf, classLines, heapLines, runLine}
+use Rattle.line_rules.specs.Lines.{runLineIf, runLines, finalLines}
 -- the computed cases come first: a wrong definition fails there
 use Rattle.line_rules.proofs.LineCases as cases
 
 pub length-of-setup-line-le-26 : (u : Setup) → u .processors < 256 → u .superblocks < 256 → u .spare < 256 → u .p < 256 → u .q < 256 → length (setupLine u) ≤ 26
 unfolding setupLine
 length-of-setup-line-le-26 u a b c d e =
-    simp length-append (omega (arith, length-of-byte-decimal-le-3 (u .processors) a, length-of-byte-decimal-le-3 (u .superblocks) b, length-of-byte-decimal-le-3 (u .spare) c, length-of-byte-decimal-le-3 (u .p) d, length-of-byte-decimal-le-3 (u .q) e))
+    simp length-append (omega (
+      arith,
+      length-of-byte-decimal-le-3 (u .processors) a,
+      length-of-byte-decimal-le-3 (u .superblocks) b,
+      length-of-byte-decimal-le-3 (u .spare) c,
+      length-of-byte-decimal-le-3 (u .p) d,
+      length-of-byte-decimal-le-3 (u .q) e,
+    ))
 
 -- a call by name, of any outcome
 module _ (processor name : ℕ) (o : Outcome) (a : processor < 256) (b : name < 65536) where
   pub length-of-named-take-line-le : (size : ℕ) → size < 65536 → length (namedTakeLine processor name size o) ≤ 26 + length (result o)
   unfolding namedTakeLine
-  length-of-named-take-line-le size h = simp length-append (omega (arith, length-of-byte-decimal-le-3 processor a, length-of-u16-decimal-le-5 name b, length-of-u16-decimal-le-5 size h))
+  length-of-named-take-line-le size h =
+      simp length-append (omega (arith, length-of-byte-decimal-le-3 processor a, length-of-u16-decimal-le-5 name b, length-of-u16-decimal-le-5 size h))
 
   pub length-of-named-free-line-le : length (namedFreeLine processor name o) ≤ 20 + length (result o)
   unfolding namedFreeLine
@@ -50,7 +57,14 @@ module _ (processor count : ℕ) (o : Outcome) (a : processor < 256) (short : le
 
 pub length-of-heap-line-le-64 : (h c superblocks live : ℕ) → h < 256 → c < 256 → length (heapLine h c superblocks live) ≤ 64
 unfolding heapLine
-length-of-heap-line-le-64 h c superblocks live a b = simp length-append (omega (arith, length-of-byte-decimal-le-3 h a, length-of-byte-decimal-le-3 c b, length-of-decimal-le-10 superblocks, length-of-decimal-le-10 live))
+length-of-heap-line-le-64 h c superblocks live a b =
+    simp length-append (omega (
+      arith,
+      length-of-byte-decimal-le-3 h a,
+      length-of-byte-decimal-le-3 c b,
+      length-of-decimal-le-10 superblocks,
+      length-of-decimal-le-10 live,
+    ))
 
 length-of-heap-line-if-le-64 : (h c : ℕ) (s : State) → h < 256 → c < 256 → length (heapLineIf h c s) ≤ 64
 unfolding heapLineIf
@@ -63,12 +77,14 @@ length-of-heap-line-if-le-64 h c s a b = go (eqb (superblocksOf h c s) 0)
 length-of-class-lines-le : (h c : ℕ) (s : State) → h < 256 → c ≤ 256 → length (classLines h c s) ≤ c * 64
 unfolding classLines
 length-of-class-lines-le h zero s a b = zero-le
-length-of-class-lines-le h (suc c) s a b = simp length-append (omega (arith, length-of-class-lines-le h c s a (omega arith), length-of-heap-line-if-le-64 h c s a (omega arith)))
+length-of-class-lines-le h (suc c) s a b =
+    simp length-append (omega (arith, length-of-class-lines-le h c s a (omega arith), length-of-heap-line-if-le-64 h c s a (omega arith)))
 
 length-of-heap-lines-le : (h : ℕ) (s : State) → h ≤ 256 → length (heapLines h s) ≤ h * (27 * 64)
 unfolding heapLines
 length-of-heap-lines-le zero s a = zero-le
-length-of-heap-lines-le (suc h) s a = simp length-append (omega (arith, length-of-heap-lines-le h s (omega arith), length-of-class-lines-le h 27 s (omega arith) (omega arith)))
+length-of-heap-lines-le (suc h) s a =
+    simp length-append (omega (arith, length-of-heap-lines-le h s (omega arith), length-of-class-lines-le h 27 s (omega arith) (omega arith)))
 
 pub length-of-run-line-le-31 : (first n : ℕ) → first < 256 → length (runLine first n) ≤ 31
 unfolding runLine
@@ -89,4 +105,5 @@ length-of-run-lines-le (suc k) s a = simp length-append (omega (arith, length-of
 
 pub length-of-final-lines-le : (s : State) → s .setup .processors < 256 → length (finalLines s) ≤ (s .setup .processors + 1) * (27 * 64) + 64 * 31 + 4
 unfolding finalLines
-length-of-final-lines-le s a = simp length-append (omega (arith, length-of-heap-lines-le (suc (s .setup .processors)) s (omega arith), length-of-run-lines-le 64 s (omega arith)))
+length-of-final-lines-le s a =
+    simp length-append (omega (arith, length-of-heap-lines-le (suc (s .setup .processors)) s (omega arith), length-of-run-lines-le 64 s (omega arith)))

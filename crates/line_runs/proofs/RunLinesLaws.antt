@@ -33,5 +33,6 @@ module _ (l₀ : List ℕ) {l : List ℕ} (at : ℕ) {r : ℕ} (s : State) where
   unfolding runLines
   run-lines-step k p q = rw add-one (paste-then-paste l₀ (runLines k s) (runLineIf k s) at p q)
 
-  pub run-lines-end : (k : ℕ) → k ≤ 64 → 64 ≤ k → record { end = r; buffer = l } ≡ pasted l₀ at (runLines k s) → record { end = r; buffer = l } ≡ pasted l₀ at (runLines 64 s)
+  pub run-lines-end : (k : ℕ) → k ≤ 64 → 64 ≤ k → record { end = r; buffer = l } ≡ pasted l₀ at (runLines k s) → record { end = r; buffer = l }
+      ≡ pasted l₀ at (runLines 64 s)
   run-lines-end k a b p = p ∙ ap (λ (m : ℕ). pasted l₀ at (runLines m s)) (le-antisymm a b)

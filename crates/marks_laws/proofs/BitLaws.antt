@@ -2,7 +2,8 @@
 use mathlib.Core.Path.{_≡_, refl, sym, ap, _∙_, subst}
 use mathlib.Core.Bool.{Bool}
 use Prim.Native.Nat.{ℕ, zero, suc, _+_, _-_, _*_, _/_, _%_, _^_, _≤_, _<_}
-use native.Mathlib.Nat.{mod-lt, zero-lt-suc, div-div-eq-div-mul, pow-suc, mul-comm, div-one, zero-div, div-eq-of-lt, lt-of-lt-of-le, lt-of-le-of-lt, add-comm, sub-add-cancel}
+use native.Mathlib.Nat.{mod-lt, zero-lt-suc, div-div-eq-div-mul, pow-suc, mul-comm, div-one, zero-div, div-eq-of-lt, lt-of-lt-of-le, lt-of-le-of-lt}
+use native.Mathlib.Nat.{add-comm, sub-add-cancel}
 use native.Mathlib.Decide.{decLt}
 use native.Mathlib.Numerals.{add-one}
 use native.Mathlib.Omega.{arith}
@@ -62,7 +63,8 @@ all-but-one-row b = allBelow (all-but-one-test b) 64
 
 pub bit-of-all-but-one : (b k : ℕ) → b < 64 → k < 64 → bit (2 ^ 64 - 1 - 2 ^ b) k ≡ 1 - one (eqb b k)
 unfolding allBelow bit all-but-one-test all-but-one-row
-bit-of-all-but-one b k hb hk = eqb→eq ((2 ^ 64 - 1 - 2 ^ b) / 2 ^ k % 2) (1 - one (eqb b k)) (all-at (all-but-one-test b) 64 (all-at all-but-one-row 64 tt b hb) k hk)
+bit-of-all-but-one b k hb hk = eqb→eq ((2 ^ 64 - 1 - 2 ^ b) / 2 ^ k % 2) (1 - one (eqb b k))
+    (all-at (all-but-one-test b) 64 (all-at all-but-one-row 64 tt b hb) k hk)
 
 -- ---- the ones of a number are the sum of its bits
 bit-of-half : (x k : ℕ) → bit (x / 2) k ≡ bit x (suc k)

@@ -13,7 +13,7 @@ use lib.Bits.{bitOr, bitAnd, or-zero-r, and-zero-r}
 use lib.Count.{ones}
 use Rattle.base_laws.specs.Sums.{one, sumBelow}
 use Rattle.base_laws.proofs.TestLaws.{one-of-equal, one-of-different}
-use Rattle.base_laws.proofs.SumLaws.{sum-cong, sum-split, sum-suc-of-term-suc, sum-of-zeros, pos-term-of-pos-sum, term-le-sum}
+use Rattle.base_laws.proofs.SumLaws.{sum-cong, sum-split, sum-suc-of-term-suc, sum-of-zeros, term-le-sum}
 use Rattle.base_laws.proofs.Counting.{sum-le-of-terms-le-one}
 use Rattle.marks_rules.specs.Marks.{bit, markBit, isMarked, withMark, withoutMark, liveCount, noMarks}
 use Rattle.marks_laws.proofs.BitLaws.{bit-lt-two, bit-or, bit-and, bit-pow, bit-of-all-but-one, bit-of-zero, ones-is-sum-of-bits}
@@ -149,11 +149,13 @@ module _ (l : List ℕ) (j : ℕ) (long : length l ≡ 4) (below : j < 256) wher
   -- a block taken is one more live block, a block freed one less
   pub live-count-with-mark : markBit l j ≡ 0 → liveCount (withMark l j) ≡ suc (liveCount l)
   unfolding liveCount
-  live-count-with-mark e = sum-suc-of-term-suc (markBit l) (markBit (withMark l j)) 256 j below (λ k n. with-mark-other l j k n) (with-mark-same ∙ ap suc (sym e))
+  live-count-with-mark e = sum-suc-of-term-suc (markBit l) (markBit (withMark l j)) 256 j below (λ k n. with-mark-other l j k n)
+      (with-mark-same ∙ ap suc (sym e))
 
   pub live-count-without-mark : markBit l j ≡ 1 → liveCount l ≡ suc (liveCount (withoutMark l j))
   unfolding liveCount
-  live-count-without-mark e = sum-suc-of-term-suc (markBit (withoutMark l j)) (markBit l) 256 j below (λ k n. sym (without-mark-other l j k n)) (e ∙ ap suc (sym (without-mark-same l j)))
+  live-count-without-mark e = sum-suc-of-term-suc (markBit (withoutMark l j)) (markBit l) 256 j below (λ k n. sym (without-mark-other l j k n))
+      (e ∙ ap suc (sym (without-mark-same l j)))
 
 -- ---- the live count
 pub live-count-le-256 : (l : List ℕ) → liveCount l ≤ 256
@@ -183,7 +185,8 @@ bit-of-word-is-mark-bit l i k h = ap₂ (λ (a b : ℕ). bit (getD l a 0) b) (di
 word-sum : (l : List ℕ) (i : ℕ) → getD l i 0 < 2 ^ 64 → ones (getD l i 0) ≡ sumBelow (λ k. markBit l (i * 64 + k)) 64
 word-sum l i h = ones-is-sum-of-bits 64 (getD l i 0) h ∙ sum-cong (bit (getD l i 0)) (λ k. markBit l (i * 64 + k)) 64 (λ k lk. bit-of-word-is-mark-bit l i k lk)
 
-pub live-count-is-ones-of-words : (l : List ℕ) → ((i : ℕ) → getD l i 0 < 2 ^ 64) → ones (getD l 0 0) + ones (getD l 1 0) + ones (getD l 2 0) + ones (getD l 3 0) ≡ liveCount l
+pub live-count-is-ones-of-words : (l : List ℕ) → ((i : ℕ) → getD l i 0 < 2 ^ 64) → ones (getD l 0 0) + ones (getD l 1 0) + ones (getD l 2 0) + ones
+    (getD l 3 0) ≡ liveCount l
 unfolding liveCount
 live-count-is-ones-of-words l h =
     let a = word-sum l 0 (h 0) in

@@ -1,6 +1,6 @@
 -- Marks in cases that tell the definitions from near misses, by computation. Assumes nothing.
 use mathlib.Core.Path.{_≡_, refl}
-use mathlib.Core.Bool.{Bool, true, false, not}
+use mathlib.Core.Bool.{Bool, true, false}
 use mathlib.Core.List.{List, [], _∷_, map}
 use Prim.Native.Nat.{ℕ, _+_, _-_, _^_}
 use Rattle.base_laws.specs.Sums.{sumBelow, allBelow}
@@ -22,7 +22,8 @@ mark-cases = refl
 
 -- "The live count of a superblock is the number of its set marks."
 pub live-count-cases :
-    map liveCount (six-live ∷ noMarks ∷ ((2 ^ 64 - 1) ∷ (2 ^ 64 - 1) ∷ (2 ^ 64 - 1) ∷ (2 ^ 64 - 1) ∷ []) ∷ (0 ∷ 0 ∷ 0 ∷ 2 ^ 63 ∷ []) ∷ (1 ∷ 0 ∷ 0 ∷ 0 ∷ []) ∷ [])
+    map liveCount (six-live ∷ noMarks ∷ ((2 ^ 64 - 1) ∷ (2 ^ 64 - 1) ∷ (2 ^ 64 - 1) ∷ (2 ^ 64 - 1) ∷ []) ∷ (0 ∷ 0 ∷ 0 ∷ 2 ^ 63 ∷ [])
+    ∷ (1 ∷ 0 ∷ 0 ∷ 0 ∷ []) ∷ [])
     ≡ 6 ∷ 0 ∷ 256 ∷ 1 ∷ 1 ∷ []
 unfolding liveCount sumBelow markBit bit
 live-count-cases = refl
@@ -41,13 +42,15 @@ pub without-mark-cases :
 unfolding withoutMark
 without-mark-cases = refl
 
--- the first and the last block of a number, each beside the other: blocks 0, 63, 64, 127, 128, 191, 192 and 255 become live in turn, and then are no longer live, of all eight
+-- the first and the last block of a number, each beside the other: blocks 0, 63, 64, 127, 128, 191, 192 and 255 become live in turn, and then are no
+-- longer live, of all eight
 abbrev pub ends-of-numbers : List ℕ
 ends-of-numbers = 0 ∷ 63 ∷ 64 ∷ 127 ∷ 128 ∷ 191 ∷ 192 ∷ 255 ∷ []
 
 pub marks-at-ends-cases :
     map (withMark noMarks) ends-of-numbers
-    ≡ (1 ∷ 0 ∷ 0 ∷ 0 ∷ []) ∷ (2 ^ 63 ∷ 0 ∷ 0 ∷ 0 ∷ []) ∷ (0 ∷ 1 ∷ 0 ∷ 0 ∷ []) ∷ (0 ∷ 2 ^ 63 ∷ 0 ∷ 0 ∷ []) ∷ (0 ∷ 0 ∷ 1 ∷ 0 ∷ []) ∷ (0 ∷ 0 ∷ 2 ^ 63 ∷ 0 ∷ []) ∷ (0 ∷ 0 ∷ 0 ∷ 1 ∷ []) ∷ (0 ∷ 0 ∷ 0 ∷ 2 ^ 63 ∷ []) ∷ []
+    ≡ (1 ∷ 0 ∷ 0 ∷ 0 ∷ []) ∷ (2 ^ 63 ∷ 0 ∷ 0 ∷ 0 ∷ []) ∷ (0 ∷ 1 ∷ 0 ∷ 0 ∷ []) ∷ (0 ∷ 2 ^ 63 ∷ 0 ∷ 0 ∷ []) ∷ (0 ∷ 0 ∷ 1 ∷ 0 ∷ [])
+    ∷ (0 ∷ 0 ∷ 2 ^ 63 ∷ 0 ∷ []) ∷ (0 ∷ 0 ∷ 0 ∷ 1 ∷ []) ∷ (0 ∷ 0 ∷ 0 ∷ 2 ^ 63 ∷ []) ∷ []
     × map (withoutMark ((2 ^ 63 + 1) ∷ (2 ^ 63 + 1) ∷ (2 ^ 63 + 1) ∷ (2 ^ 63 + 1) ∷ [])) ends-of-numbers
     ≡ (2 ^ 63 ∷ (2 ^ 63 + 1) ∷ (2 ^ 63 + 1) ∷ (2 ^ 63 + 1) ∷ []) ∷ (1 ∷ (2 ^ 63 + 1) ∷ (2 ^ 63 + 1) ∷ (2 ^ 63 + 1) ∷ [])
     ∷ ((2 ^ 63 + 1) ∷ 2 ^ 63 ∷ (2 ^ 63 + 1) ∷ (2 ^ 63 + 1) ∷ []) ∷ ((2 ^ 63 + 1) ∷ 1 ∷ (2 ^ 63 + 1) ∷ (2 ^ 63 + 1) ∷ [])

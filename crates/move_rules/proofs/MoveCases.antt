@@ -40,24 +40,69 @@ stateOfCase k =
 
 -- "p/q = 1/4, K = 1, heap 1 class 16 with live counts 7, 7, 7, 8, 8, 8: freeing from an 8 moves two superblocks"; here that block is freed already
 abbrev pub marked-case : MoveCase
-marked-case = record { spare = 1; p = 1; q = 4; class = 16; table = map (superblock-with 1 16) (7 ∷ 7 ∷ 7 ∷ 7 ∷ 8 ∷ 8 ∷ []); moves = 2; owners = 0 ∷ 0 ∷ 1 ∷ 1 ∷ 1 ∷ 1 ∷ [] }
+marked-case = record {
+  spare = 1;
+  p = 1;
+  q = 4;
+  class = 16;
+  table = map (superblock-with 1 16) (7 ∷ 7 ∷ 7 ∷ 7 ∷ 8 ∷ 8 ∷ []);
+  moves = 2;
+  owners =
+      0 ∷ 0 ∷ 1 ∷ 1 ∷ 1 ∷ 1 ∷ [];
+}
 
 -- A full heap of a class whose superblocks have a tail, 2 blocks of 1536 bytes in 4096. In bytes it would look part empty:
 -- 15360 + 1 × 4096 is below 20480, and 8 × 15360 below 7 × 20480.
 abbrev pub full-with-tails : MoveCase
-full-with-tails = record { spare = 1; p = 1; q = 8; class = 24; table = map (superblock-with 1 24) (2 ∷ 2 ∷ 2 ∷ 2 ∷ 2 ∷ []); moves = 0; owners = 1 ∷ 1 ∷ 1 ∷ 1 ∷ 1 ∷ [] }
+full-with-tails = record {
+  spare = 1;
+  p = 1;
+  q = 8;
+  class = 24;
+  table = map (superblock-with 1 24) (2 ∷ 2 ∷ 2 ∷ 2 ∷ 2 ∷ []);
+  moves = 0;
+  owners =
+      1 ∷ 1 ∷ 1 ∷ 1 ∷ 1 ∷ [];
+}
 
 -- 4 × 37 is below 3 × 50, where 37 is not below 3 × 50 / 4 rounded down; the lower number among the emptiest moves
 abbrev pub division-rounds : MoveCase
-division-rounds = record { spare = 1; p = 1; q = 4; class = 16; table = map (superblock-with 1 16) (8 ∷ 7 ∷ 8 ∷ 7 ∷ 7 ∷ []); moves = 1; owners = 1 ∷ 0 ∷ 1 ∷ 1 ∷ 1 ∷ [] }
+division-rounds = record {
+  spare = 1;
+  p = 1;
+  q = 4;
+  class = 16;
+  table = map (superblock-with 1 16) (8 ∷ 7 ∷ 8 ∷ 7 ∷ 7 ∷ []);
+  moves = 1;
+  owners =
+      1 ∷ 0 ∷ 1 ∷ 1 ∷ 1 ∷ [];
+}
 
 -- u + K × n is a, and q × u is (q - p) × a: neither moves
 abbrev pub first-condition-equal : MoveCase
-first-condition-equal = record { spare = 1; p = 1; q = 8; class = 16; table = map (superblock-with 1 16) (7 ∷ 7 ∷ 8 ∷ 8 ∷ []); moves = 0; owners = 1 ∷ 1 ∷ 1 ∷ 1 ∷ [] }
+first-condition-equal = record {
+  spare = 1;
+  p = 1;
+  q = 8;
+  class = 16;
+  table = map (superblock-with 1 16) (7 ∷ 7 ∷ 8 ∷ 8 ∷ []);
+  moves = 0;
+  owners =
+      1 ∷ 1 ∷ 1 ∷ 1 ∷ [];
+}
 
 abbrev pub second-condition-equal : MoveCase
 second-condition-equal =
-    record { spare = 1; p = 1; q = 4; class = 16; table = map (superblock-with 1 16) (7 ∷ 7 ∷ 7 ∷ 7 ∷ 8 ∷ 8 ∷ 8 ∷ 8 ∷ []); moves = 0; owners = 1 ∷ 1 ∷ 1 ∷ 1 ∷ 1 ∷ 1 ∷ 1 ∷ 1 ∷ [] }
+    record {
+      spare = 1;
+      p = 1;
+      q = 4;
+      class = 16;
+      table = map (superblock-with 1 16) (7 ∷ 7 ∷ 7 ∷ 7 ∷ 8 ∷ 8 ∷ 8 ∷ 8 ∷ []);
+      moves = 0;
+      owners =
+          1 ∷ 1 ∷ 1 ∷ 1 ∷ 1 ∷ 1 ∷ 1 ∷ 1 ∷ [];
+    }
 
 -- with K = 2, three nearly empty superblocks: one moves, and two may stay
 abbrev pub two-spare : MoveCase
@@ -90,7 +135,16 @@ full-elsewhere =
 
 -- five empty superblocks: four move, as many as there are but K
 abbrev pub four-moves : MoveCase
-four-moves = record { spare = 1; p = 1; q = 8; class = 26; table = map (superblock-with 1 26) (0 ∷ 0 ∷ 0 ∷ 0 ∷ 0 ∷ []); moves = 4; owners = 0 ∷ 0 ∷ 0 ∷ 0 ∷ 1 ∷ [] }
+four-moves = record {
+  spare = 1;
+  p = 1;
+  q = 8;
+  class = 26;
+  table = map (superblock-with 1 26) (0 ∷ 0 ∷ 0 ∷ 0 ∷ 0 ∷ []);
+  moves = 4;
+  owners = 0 ∷ 0 ∷ 0 ∷ 0
+      ∷ 1 ∷ [];
+}
 
 abbrev pub cases : List MoveCase
 cases = first-condition-equal ∷ second-condition-equal ∷ two-spare ∷ empty-elsewhere ∷ full-elsewhere ∷ four-moves ∷ []
@@ -123,30 +177,43 @@ pub invariant-restored-in-global-case : invariantRestored 0 16 all-global ≡ re
 unfolding invariantRestored
 invariant-restored-in-global-case = refl
 
--- one superblock passes to heap 0, in a state with ranks, a run and names: its owner is 0, and its class, marks and rank, the other superblocks and the names are as they were
+-- one superblock passes to heap 0, in a state with ranks, a run and names: its owner is 0, and its class, marks and rank, the other superblocks and
+-- the names are as they were
 abbrev pub ranked-table : ℕ → List Superblock
 ranked-table owner = ranked 1 16 3 2 ∷ ranked owner 16 5 1 ∷ runPart 1 ∷ replicate 61 unused
 
 pub transferred-whole-state-case :
-    transferred 1 (withNames (unnamedState small-setup (ranked-table 2)) (256 ∷ 512 ∷ [])) ≡ withNames (unnamedState small-setup (ranked-table 0)) (256 ∷ 512 ∷ [])
+    transferred 1 (withNames (unnamedState small-setup (ranked-table 2)) (256 ∷ 512 ∷ [])) ≡ withNames (unnamedState small-setup (ranked-table 0))
+    (256 ∷ 512 ∷ [])
 unfolding transferred
 transferred-whole-state-case = refl
 
 -- in blocks, not in bytes
 pub full-with-tails-stays : result-of full-with-tails ≡ expected-of full-with-tails
-unfolding excessTransferred transfersUpTo mustMove bothConditions transferred foundTransferred emptiest chosenBelow prefer fewerLive belongs total oneIfBelongs liveIfBelongs superblocksOf blocksIn liveOf
+unfolding excessTransferred transfersUpTo mustMove bothConditions transferred foundTransferred emptiest chosenBelow prefer fewerLive belongs total
+    oneIfBelongs liveIfBelongs superblocksOf blocksIn liveOf
     sumBelow sizes counts sizeOf blocksOf bit markBit liveCount
 full-with-tails-stays = refl
 
 -- heap 2, the last: of its two superblocks of class 26 with nothing live one moves, and of heap 1's, full, none
 abbrev pub last-heap-empty : State
 last-heap-empty =
-    stateOfCase (record { spare = 1; p = 1; q = 4; class = 26; table = superblock-with 1 26 2 ∷ superblock-with 2 26 0 ∷ superblock-with 1 26 2 ∷ superblock-with 2 26 0 ∷ []; moves = 1; owners = [] })
+    stateOfCase (record {
+      spare = 1;
+      p = 1;
+      q = 4;
+      class = 26;
+      table = superblock-with 1 26 2 ∷ superblock-with 2 26 0 ∷ superblock-with 1 26 2
+          ∷ superblock-with 2 26 0 ∷ [];
+      moves = 1;
+      owners = [];
+    })
 
 pub last-heap-moves :
     map (λ (h : ℕ). invariantRestored h 26 last-heap-empty .moves) (1 ∷ 2 ∷ []) ≡ 0 ∷ 1 ∷ []
     × map (λ (b : Superblock). b .owner) (take 5 (invariantRestored 2 26 last-heap-empty .state .table)) ≡ 1 ∷ 0 ∷ 1 ∷ 2 ∷ 255 ∷ []
-unfolding invariantRestored excessTransferred transfersUpTo mustMove bothConditions transferred foundTransferred emptiest chosenBelow prefer fewerLive belongs total oneIfBelongs liveIfBelongs superblocksOf blocksIn liveOf
+unfolding invariantRestored excessTransferred transfersUpTo mustMove bothConditions transferred foundTransferred emptiest chosenBelow prefer fewerLive
+    belongs total oneIfBelongs liveIfBelongs superblocksOf blocksIn liveOf
     sumBelow sizes counts sizeOf blocksOf bit markBit liveCount
 last-heap-moves = (refl, refl)
 
@@ -158,7 +225,8 @@ quickMovesHold =
 
 -- compared before it is divided
 pub division-rounds-moves-one : result-of division-rounds ≡ expected-of division-rounds
-unfolding quickMovesHold excessTransferred transfersUpTo mustMove bothConditions transferred foundTransferred emptiest chosenBelow prefer fewerLive belongs total oneIfBelongs liveIfBelongs superblocksOf blocksIn liveOf
+unfolding quickMovesHold excessTransferred transfersUpTo mustMove bothConditions transferred foundTransferred emptiest chosenBelow prefer fewerLive
+    belongs total oneIfBelongs liveIfBelongs superblocksOf blocksIn liveOf
     sumBelow sizes counts sizeOf blocksOf bit markBit liveCount
 division-rounds-moves-one = refl
 
@@ -167,25 +235,30 @@ pub invariant-restored-whole-state-case :
     invariantRestored 1 16 (stateOfCase division-rounds)
     ≡ record {
       moves = 1;
-      state = unnamedState (record { processors = 2; superblocks = 64; spare = 1; p = 1; q = 4 }) (superblock-with 1 16 8 ∷ superblock-with 0 16 7 ∷ superblock-with 1 16 8 ∷ superblock-with 1 16 7 ∷ superblock-with 1 16 7 ∷ replicate 59 unused);
+      state = unnamedState (record { processors = 2; superblocks = 64; spare = 1; p = 1; q = 4 }) (superblock-with 1 16 8 ∷ superblock-with 0 16 7
+          ∷ superblock-with 1 16 8 ∷ superblock-with 1 16 7 ∷ superblock-with 1 16 7 ∷ replicate 59 unused);
     }
-unfolding invariantRestored excessTransferred transfersUpTo mustMove bothConditions transferred foundTransferred emptiest chosenBelow prefer fewerLive belongs total oneIfBelongs liveIfBelongs superblocksOf blocksIn liveOf
+unfolding invariantRestored excessTransferred transfersUpTo mustMove bothConditions transferred foundTransferred emptiest chosenBelow prefer fewerLive
+    belongs total oneIfBelongs liveIfBelongs superblocksOf blocksIn liveOf
     sumBelow sizes counts sizeOf blocksOf bit markBit liveCount
 invariant-restored-whole-state-case = let before = division-rounds-moves-one in refl
 
 -- two moves in one free
 pub marked-case-moves-two : result-of marked-case ≡ expected-of marked-case
-unfolding excessTransferred transfersUpTo mustMove bothConditions transferred foundTransferred emptiest chosenBelow prefer fewerLive belongs total oneIfBelongs liveIfBelongs superblocksOf blocksIn liveOf
+unfolding excessTransferred transfersUpTo mustMove bothConditions transferred foundTransferred emptiest chosenBelow prefer fewerLive belongs total
+    oneIfBelongs liveIfBelongs superblocksOf blocksIn liveOf
     sumBelow sizes counts sizeOf blocksOf bit markBit liveCount
 marked-case-moves-two = let before = invariant-restored-whole-state-case in refl
 
 pub move-rule-cases : map result-of cases ≡ map expected-of cases
-unfolding excessTransferred transfersUpTo mustMove bothConditions transferred foundTransferred emptiest chosenBelow prefer fewerLive belongs total oneIfBelongs liveIfBelongs superblocksOf blocksIn liveOf
+unfolding excessTransferred transfersUpTo mustMove bothConditions transferred foundTransferred emptiest chosenBelow prefer fewerLive belongs total
+    oneIfBelongs liveIfBelongs superblocksOf blocksIn liveOf
     sumBelow sizes counts sizeOf blocksOf bit markBit liveCount
 move-rule-cases = let before = marked-case-moves-two in refl
 
 -- one move, as in Figure 2 of document 003, is not enough: both conditions still hold after it
 pub marked-case-must-move-again : mustMove 1 16 (foundTransferred (emptiest 1 16 (stateOfCase marked-case)) (stateOfCase marked-case)) ≡ true
-unfolding mustMove bothConditions transferred foundTransferred emptiest chosenBelow prefer fewerLive belongs total oneIfBelongs liveIfBelongs superblocksOf blocksIn liveOf
+unfolding mustMove bothConditions transferred foundTransferred emptiest chosenBelow prefer fewerLive belongs total oneIfBelongs liveIfBelongs
+    superblocksOf blocksIn liveOf
     sumBelow sizes counts sizeOf blocksOf bit markBit liveCount
 marked-case-must-move-again = let before = move-rule-cases in refl

@@ -19,7 +19,8 @@ use Rattle.choice_rules.specs.Choice.{emptiest}
 use Rattle.move_rules.specs.Moves.{bothConditions, mustMove, transferred, foundTransferred, transfersUpTo, excessTransferred}
 use Rattle.heap_laws.proofs.CountLaws.{superblocks-of-le-64}
 use Rattle.heap_laws.proofs.TotalsLaws.{superblocks-kept-are-counted, live-kept-is-counted, recounted-superblocks-le-64}
-use Rattle.heap_laws.proofs.MoveLaws.{length-of-found-transferred, totals-kept-of-found-transferred, superblocks-after-transfer, transfers-up-to-stop, transfers-up-to-step}
+use Rattle.heap_laws.proofs.MoveLaws.{length-of-found-transferred, totals-kept-of-found-transferred, superblocks-after-transfer, transfers-up-to-stop}
+use Rattle.heap_laws.proofs.MoveLaws.{transfers-up-to-step}
 use Rattle.heap_table.proofs.PastTableLaws.{with-superblock-past-table}
 
 -- a total of superblocks is at most 64
@@ -28,12 +29,21 @@ superblocks-total-le-64 s x kept = rw kept (recounted-superblocks-le-64 (s .tabl
 
 -- the test, from the totals kept
 pub must-move-from-totals : (h c : ℕ) (s : State) (n : ℕ) (r : Bool) → h < heapCount → c < classCount → TotalsKept s → n ≡ blocksOf c
-    → r ≡ bothConditions (s .setup .spare) (s .setup .p) (s .setup .q) n (getD (s .totals .superblocks) (h * classCount + c) 0 * n) (getD (s .totals .live) (h * classCount + c) 0) → r ≡ mustMove h c s
+    → r ≡ bothConditions (s .setup .spare) (s .setup .p) (s .setup .q) n (getD (s .totals .superblocks) (h * classCount + c) 0 * n)
+    (getD (s .totals .live) (h * classCount + c) 0) → r ≡ mustMove h c s
 unfolding mustMove blocksIn superblocksKept liveKept
 must-move-from-totals h c s n r lh lc kept p g = rw (← p, ← superblocks-kept-are-counted s h c lh lc kept, ← live-kept-is-counted s h c lh lc kept) g
 
 -- a superblock replaced by one of heap 0 has passed on; past the table's end nothing does
-pub transferred-by-replacement : (k : ℕ) (s t : State) → t ≡ withSuperblock s k (record { owner = 0; class = superblockAt s k .class; live = superblockAt s k .live; rank = superblockAt s k .rank; run = superblockAt s k .run }) → t ≡ transferred k s
+pub transferred-by-replacement : (k : ℕ) (s t : State)
+    → t ≡ withSuperblock s k (record {
+      owner = 0;
+      class = superblockAt s k .class;
+      live = superblockAt s k .live;
+      rank = superblockAt s k .rank;
+      run =
+          superblockAt s k .run;
+    }) → t ≡ transferred k s
 unfolding transferred
 transferred-by-replacement k s t e = e
 
@@ -56,7 +66,8 @@ transfer-invariant-start h c s long kept = record { transfers-left = refl; super
 pub transfer-count-fits-w8 : (h c : ℕ) (s t : State) (m : ℕ) → TransferInvariant h c s t m → Fits w8 (m + 1)
 transfer-count-fits-w8 h c s t m d = omega (arith, superblocks-of-le-64 h c s)
 
-pub excess-transferred-at-loop-end : (h c : ℕ) (s t : State) (m : ℕ) (must : Bool) → TransferInvariant h c s t m → must ≡ mustMove h c t → must ≡ false → _≡_ {A = Moved} (record { moves = m; state = t }) (excessTransferred h c s)
+pub excess-transferred-at-loop-end : (h c : ℕ) (s t : State) (m : ℕ) (must : Bool) → TransferInvariant h c s t m → must ≡ mustMove h c t → must ≡ false
+    → _≡_ {A = Moved} (record { moves = m; state = t }) (excessTransferred h c s)
 excess-transferred-at-loop-end h c s t m must d e f = sym (transfers-up-to-stop (64 - m) h c m t (sym e ∙ f)) ∙ d .transfers-left
 
 -- the first of two tests that both hold; so a loop that asks more than the rule still makes the rule's moves, and only ends too early
@@ -65,7 +76,8 @@ left-true-of-and true more e = refl
 left-true-of-and false more e = e
 
 -- one move: a superblock less, and the state that it leaves
-module _ (h c : ℕ) (t next : State) (must : Bool) (found : Found) (long : length (t .table) ≡ 64) (pos : 0 < h) (asked : must ≡ mustMove h c t) (holds : must ≡ true)
+module _ (h c : ℕ) (t next : State) (must : Bool) (found : Found) (long : length (t .table) ≡ 64) (pos : 0 < h) (asked : must ≡ mustMove h c t)
+    (holds : must ≡ true)
     (chosen : found ≡ emptiest h c t) (next-is : next ≡ foundTransferred found t) where
   next-is-emptiest-transferred : next ≡ foundTransferred (emptiest h c t) t
   next-is-emptiest-transferred = next-is ∙ ap (λ (f : Found). foundTransferred f t) chosen
@@ -74,7 +86,8 @@ module _ (h c : ℕ) (t next : State) (must : Bool) (found : Found) (long : leng
   must-move-true = sym asked ∙ holds
 
   one-superblock-less : superblocksOf h c next + 1 ≡ superblocksOf h c t
-  one-superblock-less = ap (λ (x : State). superblocksOf h c x + 1) next-is-emptiest-transferred ∙ superblocks-after-transfer h c t long pos (T-of-true (mustMove h c t) must-move-true)
+  one-superblock-less = ap (λ (x : State). superblocksOf h c x + 1) next-is-emptiest-transferred ∙ superblocks-after-transfer h c t long pos
+      (T-of-true (mustMove h c t) must-move-true)
 
   pub superblocks-decrease : superblocksOf h c next < superblocksOf h c t
   superblocks-decrease = omega (arith, one-superblock-less)
@@ -84,7 +97,8 @@ module _ (h c : ℕ) (t next : State) (must : Bool) (found : Found) (long : leng
       let low : m < 64 = omega (arith, superblocks-of-le-64 h c s, one-superblock-less) in
       let fuel : suc (64 - (m + 1)) ≡ 64 - m = omega arith in
       record {
-        transfers-left = ap (λ (x : State). transfersUpTo (64 - (m + 1)) h c (m + 1) x) next-is-emptiest-transferred ∙ sym (transfers-up-to-step (64 - (m + 1)) h c m t must-move-true) ∙ ap (λ (k : ℕ). transfersUpTo k h c m t) fuel ∙ d .transfers-left;
+        transfers-left = ap (λ (x : State). transfersUpTo (64 - (m + 1)) h c (m + 1) x) next-is-emptiest-transferred
+            ∙ sym (transfers-up-to-step (64 - (m + 1)) h c m t must-move-true) ∙ ap (λ (k : ℕ). transfersUpTo k h c m t) fuel ∙ d .transfers-left;
         superblocks-left = omega (arith, one-superblock-less);
         length-is = ap (λ (x : State). length (x .table)) next-is ∙ length-of-found-transferred found t ∙ long;
         totals = subst TotalsKept (sym next-is) (totals-kept-of-found-transferred found t (d .totals));

@@ -2,26 +2,32 @@
 use mathlib.Core.Path.{_≡_, refl, sym, ap, _∙_, subst}
 use mathlib.Core.Bool.{Bool, true, false, not}
 use mathlib.Core.Logic.{_⊎_, inl, inr, ⊎-elim}
-use mathlib.Core.List.{List, [], _∷_, map}
+use mathlib.Core.List.{List, [], _∷_}
 use Prim.Native.Nat.{ℕ, zero, suc, _<_}
 use native.Mathlib.Decide.{ℕ-discrete}
 use native.Mathlib.Omega.{arith}
-use borrow.Author.Tests.{eq-eqb, ne-eqb, eqb-true, eqb-false, ltb-true}
-use lib.ListN.{length, getD, set, replicate, length-set, length-map, length-replicate, getD-replicate}
+use borrow.Author.Tests.{eq-eqb, ne-eqb, eqb-false}
+use lib.ListN.{length, replicate, length-set, length-map, getD-replicate}
 use lib.Seq.{getD-set-same, getD-set-other}
 use lib.Dec.{T, eqb, ltb, T-not, not-T, eqb→eq, ltb→lt, lt→ltb}
 use Rattle.base_laws.specs.Sums.{pick, both, either}
-use Rattle.base_laws.proofs.TestLaws.{T-of-true, true-of-T, false-of-not-T, not-T-of-false, both-left, both-right, both-make, either-left, either-right, either-right-of-left-false, pick-true, pick-false}
+use Rattle.base_laws.proofs.TestLaws.{T-of-true, false-of-not-T, both-left, both-right, both-make, either-left, either-right, either-right-of-left-false}
+use Rattle.base_laws.proofs.TestLaws.{pick-true, pick-false}
 use Rattle.names_rules.specs.Names.{notHeld, isName, blockNamed, isHeld, noNames, withName, withoutBlock, eachHeld, isNamed, noTwoAtOne}
 
 -- ---- a name is held
 pub held-facts : (names : List ℕ) (m : ℕ) → T (isHeld names m) → (m < 1024) × (blockNamed names m ≡ notHeld → ⊥)
 unfolding isHeld isName
-held-facts names m t = (ltb→lt m 1024 (both-left (ltb m 1024) _ t), λ e. T-not (eqb (blockNamed names m) notHeld) (both-right (ltb m 1024) _ t) (T-of-true _ (eq-eqb (blockNamed names m) notHeld e)))
+held-facts names m t = (
+  ltb→lt m 1024 (both-left (ltb m 1024) _ t),
+  λ e. T-not (eqb (blockNamed names m) notHeld) (both-right (ltb m 1024) _ t)
+      (T-of-true _ (eq-eqb (blockNamed names m) notHeld e)),
+)
 
 pub held-of-facts : (names : List ℕ) (m : ℕ) → m < 1024 → (blockNamed names m ≡ notHeld → ⊥) → T (isHeld names m)
 unfolding isHeld isName
-held-of-facts names m l f = both-make (ltb m 1024) _ (lt→ltb m 1024 l) (not-T (eqb (blockNamed names m) notHeld) (λ t. f (eqb→eq (blockNamed names m) notHeld t)))
+held-of-facts names m l f =
+    both-make (ltb m 1024) _ (lt→ltb m 1024 l) (not-T (eqb (blockNamed names m) notHeld) (λ t. f (eqb→eq (blockNamed names m) notHeld t)))
 
 -- no name of a new setup is held
 pub not-held-of-no-names : (m : ℕ) → isHeld noNames m ≡ false
@@ -45,7 +51,8 @@ unfolding withName
 length-with-name names m b = length-set names m b
 
 -- ---- a block's name is let go
-pub block-named-without-block : (names : List ℕ) (b m : ℕ) → blockNamed (withoutBlock names b) m ≡ pick (eqb (blockNamed names m) b) notHeld (blockNamed names m)
+pub block-named-without-block : (names : List ℕ) (b m : ℕ) → blockNamed (withoutBlock names b) m ≡ pick (eqb (blockNamed names m) b) notHeld
+    (blockNamed names m)
 unfolding blockNamed withoutBlock
 block-named-without-block [] b m = same (eqb notHeld b)
   where
@@ -63,10 +70,12 @@ length-without-block names b = length-map names (λ x. pick (eqb x b) notHeld x)
 pub not-held-without-block : (names : List ℕ) (b m : ℕ) → blockNamed names m ≡ b → isHeld (withoutBlock names b) m ≡ false
 not-held-without-block names b m e =
     false-of-not-T (isHeld (withoutBlock names b) m)
-    (λ t. held-facts (withoutBlock names b) m t .1 (block-named-without-block names b m ∙ pick-true (eqb (blockNamed names m) b) notHeld (blockNamed names m) (eq-eqb (blockNamed names m) b e)))
+    (λ t. held-facts (withoutBlock names b) m t .1 (block-named-without-block names b m ∙ pick-true (eqb (blockNamed names m) b) notHeld
+    (blockNamed names m) (eq-eqb (blockNamed names m) b e)))
 
 pub block-named-without-other-block : (names : List ℕ) (b m : ℕ) → (blockNamed names m ≡ b → ⊥) → blockNamed (withoutBlock names b) m ≡ blockNamed names m
-block-named-without-other-block names b m f = block-named-without-block names b m ∙ pick-false (eqb (blockNamed names m) b) notHeld (blockNamed names m) (ne-eqb (blockNamed names m) b f)
+block-named-without-other-block names b m f = block-named-without-block names b m ∙ pick-false (eqb (blockNamed names m) b) notHeld (blockNamed names m)
+    (ne-eqb (blockNamed names m) b f)
 
 -- what a name points at decides whether it is held
 pub held-cong : (x y : List ℕ) (m : ℕ) → blockNamed x m ≡ blockNamed y m → isHeld x m ≡ isHeld y m
@@ -91,14 +100,16 @@ each-held-cons test x names h t = both-make (either (eqb x notHeld) (test x)) _ 
     go (yes e) = either-left (eqb x notHeld) (test x) (T-of-true _ (eq-eqb x notHeld e))
     go (no f) = either-right (eqb x notHeld) (test x) (h f)
 
-pub test-of-block-named : (test : ℕ → Bool) (names : List ℕ) → T (eachHeld test names) → (m : ℕ) → (blockNamed names m ≡ notHeld → ⊥) → T (test (blockNamed names m))
+pub test-of-block-named : (test : ℕ → Bool) (names : List ℕ) → T (eachHeld test names) → (m : ℕ) → (blockNamed names m ≡ notHeld → ⊥)
+    → T (test (blockNamed names m))
 unfolding blockNamed
 test-of-block-named test [] t m f = absurd (f refl)
 test-of-block-named test (x ∷ names) t zero f = held-or-test test x names t f
 test-of-block-named test (x ∷ names) t (suc m) f = test-of-block-named test names (rest-of-each test x names t) m f
 
 -- and the test passes where each block that a name points at does
-pub each-held-of-blocks-named : (test : ℕ → Bool) (names : List ℕ) → ((m : ℕ) → (blockNamed names m ≡ notHeld → ⊥) → T (test (blockNamed names m))) → T (eachHeld test names)
+pub each-held-of-blocks-named : (test : ℕ → Bool) (names : List ℕ) → ((m : ℕ) → (blockNamed names m ≡ notHeld → ⊥) → T (test (blockNamed names m)))
+    → T (eachHeld test names)
 unfolding blockNamed eachHeld
 each-held-of-blocks-named test [] h = tt
 each-held-of-blocks-named test (x ∷ names) h = each-held-cons test x names (h 0) (each-held-of-blocks-named test names (λ m. h (suc m)))
@@ -133,18 +144,22 @@ test-of-named test (x ∷ names) t b f n =
 pub each-held-of-tests : (p q : ℕ → Bool) (names : List ℕ) → ((b : ℕ) → T (p b) → T (q b)) → T (eachHeld p names) → T (eachHeld q names)
 unfolding eachHeld
 each-held-of-tests p q [] h t = tt
-each-held-of-tests p q (x ∷ names) h t = each-held-cons q x names (λ f. h x (held-or-test p x names t f)) (each-held-of-tests p q names h (rest-of-each p x names t))
+each-held-of-tests p q (x ∷ names) h t = each-held-cons q x names (λ f. h x (held-or-test p x names t f))
+    (each-held-of-tests p q names h (rest-of-each p x names t))
 
 pub each-held-with-name : (test : ℕ → Bool) (names : List ℕ) (m b : ℕ) → T (test b) → T (eachHeld test names) → T (eachHeld test (withName names m b))
 unfolding withName
 each-held-with-name test [] m b h t = t
 each-held-with-name test (x ∷ names) zero b h t = each-held-cons test b names (λ f. h) (rest-of-each test x names t)
-each-held-with-name test (x ∷ names) (suc m) b h t = each-held-cons test x (withName names m b) (held-or-test test x names t) (each-held-with-name test names m b h (rest-of-each test x names t))
+each-held-with-name test (x ∷ names) (suc m) b h t = each-held-cons test x (withName names m b) (held-or-test test x names t)
+    (each-held-with-name test names m b h (rest-of-each test x names t))
 
-pub each-held-without-block : (p q : ℕ → Bool) (names : List ℕ) (b : ℕ) → ((x : ℕ) → (x ≡ b → ⊥) → T (p x) → T (q x)) → T (eachHeld p names) → T (eachHeld q (withoutBlock names b))
+pub each-held-without-block : (p q : ℕ → Bool) (names : List ℕ) (b : ℕ) → ((x : ℕ) → (x ≡ b → ⊥) → T (p x) → T (q x)) → T (eachHeld p names)
+    → T (eachHeld q (withoutBlock names b))
 unfolding withoutBlock eachHeld
 each-held-without-block p q [] b h t = tt
-each-held-without-block p q (x ∷ names) b h t = each-held-cons q (pick (eqb x b) notHeld x) (withoutBlock names b) (go (eqb x b) refl) (each-held-without-block p q names b h (rest-of-each p x names t))
+each-held-without-block p q (x ∷ names) b h t = each-held-cons q (pick (eqb x b) notHeld x) (withoutBlock names b) (go (eqb x b) refl)
+    (each-held-without-block p q names b h (rest-of-each p x names t))
   where
     go : (w : Bool) → eqb x b ≡ w → (pick w notHeld x ≡ notHeld → ⊥) → T (q (pick w notHeld x))
     go true e f = absurd (f refl)
@@ -153,7 +168,9 @@ each-held-without-block p q (x ∷ names) b h t = each-held-cons q (pick (eqb x 
 -- ---- "no two at one"
 not-named-behind : (x : ℕ) (names : List ℕ) → T (noTwoAtOne (x ∷ names)) → (x ≡ notHeld → ⊥) → T (isNamed x names) → ⊥
 unfolding noTwoAtOne
-not-named-behind x names t f = T-not (isNamed x names) (either-right-of-left-false (eqb x notHeld) (not (isNamed x names)) (both-left (either (eqb x notHeld) (not (isNamed x names))) _ t) (ne-eqb x notHeld f))
+not-named-behind x names t f =
+    T-not (isNamed x names) (either-right-of-left-false (eqb x notHeld) (not (isNamed x names))
+    (both-left (either (eqb x notHeld) (not (isNamed x names))) _ t) (ne-eqb x notHeld f))
 
 rest-of-no-two : (x : ℕ) (names : List ℕ) → T (noTwoAtOne (x ∷ names)) → T (noTwoAtOne names)
 unfolding noTwoAtOne
@@ -175,12 +192,14 @@ named-of-block-named (x ∷ names) zero b e f = named-here b x names e
 named-of-block-named (x ∷ names) (suc m) b e f = named-behind b x names (named-of-block-named names m b e f)
 
 -- two held names that point at one block are one
-pub same-name-of-same-block : (names : List ℕ) → T (noTwoAtOne names) → (l m : ℕ) → (blockNamed names l ≡ notHeld → ⊥) → blockNamed names l ≡ blockNamed names m → l ≡ m
+pub same-name-of-same-block : (names : List ℕ) → T (noTwoAtOne names) → (l m : ℕ) → (blockNamed names l ≡ notHeld → ⊥)
+    → blockNamed names l ≡ blockNamed names m → l ≡ m
 unfolding blockNamed
 same-name-of-same-block [] t l m f e = absurd (f refl)
 same-name-of-same-block (x ∷ names) t zero zero f e = refl
 same-name-of-same-block (x ∷ names) t zero (suc m) f e = absurd (not-named-behind x names t f (named-of-block-named names m x (sym e) f))
-same-name-of-same-block (x ∷ names) t (suc l) zero f e = absurd (not-named-behind x names t (λ q. f (e ∙ q)) (named-of-block-named names l x e (λ q. f (e ∙ q))))
+same-name-of-same-block (x ∷ names) t (suc l) zero f e =
+    absurd (not-named-behind x names t (λ q. f (e ∙ q)) (named-of-block-named names l x e (λ q. f (e ∙ q))))
 same-name-of-same-block (x ∷ names) t (suc l) (suc m) f e = ap suc (same-name-of-same-block names (rest-of-no-two x names t) l m f e)
 
 -- a named block is some name's
@@ -191,7 +210,8 @@ block-named-of-named (x ∷ names) b n =
     ⊎-elim (λ e. (0, e)) (λ t. let h = block-named-of-named names b t in (suc (h .0), h .1)) (named-cases b x names n)
 
 -- and no two names are at one block where such names are one
-pub no-two-of-same-name : (names : List ℕ) → ((l m : ℕ) → (blockNamed names l ≡ notHeld → ⊥) → blockNamed names l ≡ blockNamed names m → l ≡ m) → T (noTwoAtOne names)
+pub no-two-of-same-name : (names : List ℕ) → ((l m : ℕ) → (blockNamed names l ≡ notHeld → ⊥) → blockNamed names l ≡ blockNamed names m → l ≡ m)
+    → T (noTwoAtOne names)
 unfolding blockNamed noTwoAtOne
 no-two-of-same-name [] h = tt
 no-two-of-same-name (x ∷ names) h =
@@ -238,7 +258,8 @@ named-without-block (y ∷ names) b x f n =
 pub no-two-without-block : (names : List ℕ) (b : ℕ) → T (noTwoAtOne names) → T (noTwoAtOne (withoutBlock names b))
 unfolding withoutBlock noTwoAtOne
 no-two-without-block [] b t = tt
-no-two-without-block (x ∷ names) b t = no-two-cons (pick (eqb x b) notHeld x) (withoutBlock names b) (go (eqb x b) refl) (no-two-without-block names b (rest-of-no-two x names t))
+no-two-without-block (x ∷ names) b t = no-two-cons (pick (eqb x b) notHeld x) (withoutBlock names b) (go (eqb x b) refl)
+    (no-two-without-block names b (rest-of-no-two x names t))
   where
     go : (w : Bool) → eqb x b ≡ w → (pick w notHeld x ≡ notHeld → ⊥) → T (isNamed (pick w notHeld x) (withoutBlock names b)) → ⊥
     go true e f h = f refl

@@ -40,18 +40,21 @@ with-name-case = refl
 -- the name of block 261 is let go, of block 0, and of block 16383, which is the last name; nothing changes where the block has no name
 pub without-block-cases :
     map (withoutBlock three-names) (261 ∷ 0 ∷ 16383 ∷ 262 ∷ 65535 ∷ [])
-    ≡ (65535 ∷ 65535 ∷ 0 ∷ replicate 1020 65535 ++ 16383 ∷ []) ∷ (261 ∷ 65535 ∷ 65535 ∷ replicate 1020 65535 ++ 16383 ∷ []) ∷ (261 ∷ 65535 ∷ 0 ∷ replicate 1021 65535) ∷ three-names ∷ three-names ∷ []
+    ≡ (65535 ∷ 65535 ∷ 0 ∷ replicate 1020 65535 ++ 16383 ∷ []) ∷ (261 ∷ 65535 ∷ 65535 ∷ replicate 1020 65535 ++ 16383 ∷ [])
+    ∷ (261 ∷ 65535 ∷ 0 ∷ replicate 1021 65535) ∷ three-names ∷ three-names ∷ []
 unfolding nameDefinitions
 without-block-cases = refl
 
 -- each held name, the last one too: all are below 16384, not all below 16383, nor all above 0; names that are not held are not asked
-pub each-held-cases : map (λ (n : ℕ). eachHeld (λ b. ltb b n) three-names) (16384 ∷ 16383 ∷ 262 ∷ []) ≡ true ∷ false ∷ false ∷ [] × eachHeld (ltb 0) three-names ≡ false × eachHeld (ltb 0) noNames ≡ true
+pub each-held-cases : map (λ (n : ℕ). eachHeld (λ b. ltb b n) three-names) (16384 ∷ 16383 ∷ 262 ∷ []) ≡ true ∷ false ∷ false ∷ []
+    × eachHeld (ltb 0) three-names ≡ false × eachHeld (ltb 0) noNames ≡ true
 unfolding nameDefinitions
 each-held-cases = (refl, refl, refl)
 
 -- "no two at one": the first and the last name at block 261, two neighbours at block 0; any number of names may be held by none
 pub no-two-at-one-cases :
-    noTwoAtOne three-names ∷ noTwoAtOne noNames ∷ noTwoAtOne (withName three-names 1023 261) ∷ noTwoAtOne (withName three-names 1 0) ∷ noTwoAtOne (withName three-names 1 1) ∷ []
+    noTwoAtOne three-names ∷ noTwoAtOne noNames ∷ noTwoAtOne (withName three-names 1023 261) ∷ noTwoAtOne (withName three-names 1 0)
+    ∷ noTwoAtOne (withName three-names 1 1) ∷ []
     ≡ true ∷ true ∷ false ∷ false ∷ true ∷ []
     × map (λ (b : ℕ). isNamed b three-names) (261 ∷ 0 ∷ 16383 ∷ 5 ∷ []) ≡ true ∷ true ∷ true ∷ false ∷ []
 unfolding nameDefinitions

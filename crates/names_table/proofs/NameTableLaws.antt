@@ -54,7 +54,8 @@ module _ (names : List ℕ) (m : ℕ) where
 unfoldable pub releasedBelow : List ℕ → ℕ → ℕ → List ℕ
 releasedBelow names b i = withoutBlock (take i names) b ++ drop i names
 
-released-below-suc : (names : List ℕ) (b i : ℕ) → i < length names → set (releasedBelow names b i) i (pick (eqb (getD names i 0) b) notHeld (getD names i 0)) ≡ releasedBelow names b (suc i)
+released-below-suc : (names : List ℕ) (b i : ℕ) → i < length names
+    → set (releasedBelow names b i) i (pick (eqb (getD names i 0) b) notHeld (getD names i 0)) ≡ releasedBelow names b (suc i)
 unfolding releasedBelow withoutBlock
 released-below-suc [] b i h = absurd (not-suc-le-zero h)
 released-below-suc (x ∷ names) b zero h = refl

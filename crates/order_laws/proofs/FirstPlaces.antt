@@ -8,7 +8,8 @@ use native.Mathlib.Omega.{arith}
 use lib.ListN.{length, getD, take, drop, length-take, length-drop}
 use lib.Seq.{length-take-le, take-all, getD-take, getD-drop, getD-set-same, getD-set-other, ext-getD}
 use Rattle.order_rules.specs.Order.{place, withPlace, renewed, cleared}
-use Rattle.order_laws.proofs.OrderLaws.{length-renewed, renewed-place, renewed-index-below, renewed-index-above, length-with-place, length-cleared, cleared-index-below}
+use Rattle.order_laws.proofs.OrderLaws.{length-renewed, renewed-place, renewed-index-below, renewed-index-above, length-with-place, length-cleared}
+use Rattle.order_laws.proofs.OrderLaws.{cleared-index-below}
 
 -- both storages have the first n places, and hold the same there
 pub record SameFirst (n : ℕ) (x y : List ℕ) : Type 0 where
@@ -32,7 +33,12 @@ same-first-of-take-equal n x y e = go (decLt (length x) n)
     go (yes l) = let q = lengths in inl (sym (take-all n x (omega arith)) ∙ e ∙ take-all n y (omega arith))
     go (no f) =
         let q = lengths in
-        inr (record { first-covers = omega arith; second-covers = omega arith; same = λ i l. sym (getD-take n x i 0 l) ∙ ap (λ (z : List ℕ). getD z i 0) e ∙ getD-take n y i 0 l })
+        inr (record {
+          first-covers = omega arith;
+          second-covers = omega arith;
+          same = λ i l. sym (getD-take n x i 0 l) ∙ ap (λ (z : List ℕ). getD z i 0) e
+              ∙ getD-take n y i 0 l;
+        })
 
 pub drop-equal-of-same-rest : (n : ℕ) (x y : List ℕ) → length x ≡ length y → ((i : ℕ) → n ≤ i → getD x i 0 ≡ getD y i 0) → drop n x ≡ drop n y
 drop-equal-of-same-rest n x y long h =
@@ -40,7 +46,8 @@ drop-equal-of-same-rest n x y long h =
     (λ i l. getD-drop n x i 0 ∙ h (n + i) (omega arith) ∙ sym (getD-drop n y i 0))
 
 -- a renewed superblock's places, by their numbers in the storage
-pub renewed-at-index : (l : List ℕ) (s n i : ℕ) → n ≤ 256 → s * 256 + n ≤ length l → s * 256 ≤ i → i < s * 256 + n → getD (renewed l s n) i 0 ≡ n - 1 - (i - s * 256)
+pub renewed-at-index : (l : List ℕ) (s n i : ℕ) → n ≤ 256 → s * 256 + n ≤ length l → s * 256 ≤ i → i < s * 256 + n → getD (renewed l s n) i 0
+    ≡ n - 1 - (i - s * 256)
 unfolding place
 renewed-at-index l s n i small fits low high =
     subst (λ (j : ℕ). getD (renewed l s n) j 0 ≡ n - 1 - (i - s * 256)) (there low) (renewed-place l s n (i - s * 256) small fits (omega arith))

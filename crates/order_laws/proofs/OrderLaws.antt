@@ -6,7 +6,8 @@ use Prim.Native.Nat.{ℕ, zero, suc, _+_, _-_, _*_, _≤_, _<_, min}
 use native.Mathlib.Nat.{not-suc-le-zero, le-of-suc-le-suc}
 use native.Mathlib.Decide.{decLt}
 use native.Mathlib.Omega.{arith}
-use lib.ListN.{length, getD, take, drop, replicate, length-append, length-drop, length-set, length-replicate, getD-replicate, List·getD-append, List·getD-eq-default}
+use lib.ListN.{length, getD, take, drop, replicate, length-append, length-drop, length-set, length-replicate, getD-replicate, List·getD-append}
+use lib.ListN.{List·getD-eq-default}
 use lib.Seq.{length-take-le, getD-append-add, getD-take, getD-drop, set-out, getD-set-same, getD-set-other}
 use borrow.Author.Tests.{le-leb, lt-leb}
 use lib.Dec.{leb, leb→le}
@@ -55,7 +56,8 @@ module _ (l : List ℕ) (s n : ℕ) (fits : s * 256 + n ≤ length l) where
   with-renewed-places-in : (j : ℕ) → j < n → getD (withRenewedPlaces l s n) (s * 256 + j) 0 ≡ n - 1 - j
   unfolding withRenewedPlaces
   with-renewed-places-in j h =
-      List·getD-append (take (s * 256) l ++ descending n) (drop (s * 256 + n) l) 0 (s * 256 + j) (omega (arith, length-before-superblock, length-descending n, length-append (take (s * 256) l) (descending n)))
+      List·getD-append (take (s * 256) l ++ descending n) (drop (s * 256 + n) l) 0 (s * 256 + j)
+      (omega (arith, length-before-superblock, length-descending n, length-append (take (s * 256) l) (descending n)))
       ∙ ap (λ (k : ℕ). getD (take (s * 256) l ++ descending n) (k + j) 0) (sym length-before-superblock)
       ∙ getD-append-add (take (s * 256) l) (descending n) j 0
       ∙ getD-descending n j h
@@ -63,7 +65,8 @@ module _ (l : List ℕ) (s n : ℕ) (fits : s * 256 + n ≤ length l) where
   with-renewed-places-below : (i : ℕ) → i < s * 256 → getD (withRenewedPlaces l s n) i 0 ≡ getD l i 0
   unfolding withRenewedPlaces
   with-renewed-places-below i h =
-      List·getD-append (take (s * 256) l ++ descending n) (drop (s * 256 + n) l) 0 i (omega (arith, length-before-superblock, length-append (take (s * 256) l) (descending n)))
+      List·getD-append (take (s * 256) l ++ descending n) (drop (s * 256 + n) l) 0 i
+      (omega (arith, length-before-superblock, length-append (take (s * 256) l) (descending n)))
       ∙ List·getD-append (take (s * 256) l) (descending n) 0 i (omega (arith, length-before-superblock))
       ∙ getD-take (s * 256) l i 0 h
 
@@ -90,7 +93,8 @@ renewed-elim l s n P fit none = go (both (leb n 256) (leb (s * 256 + n) (length 
     go : (t : Bool) → both (leb n 256) (leb (s * 256 + n) (length l)) ≡ t → P (pick t (withRenewedPlaces l s n) l)
     go true e =
         let t = T-of-true (both (leb n 256) (leb (s * 256 + n) (length l))) e in
-        fit (leb→le n 256 (both-left (leb n 256) (leb (s * 256 + n) (length l)) t)) (leb→le (s * 256 + n) (length l) (both-right (leb n 256) (leb (s * 256 + n) (length l)) t))
+        fit (leb→le n 256 (both-left (leb n 256) (leb (s * 256 + n) (length l)) t))
+        (leb→le (s * 256 + n) (length l) (both-right (leb n 256) (leb (s * 256 + n) (length l)) t))
     go false e = none
 
 pub length-renewed : (l : List ℕ) (s n : ℕ) → length (renewed l s n) ≡ length l
@@ -130,7 +134,8 @@ renewed-place-past-blocks l s n p h = renewed-index-above l s n (s * 256 + p) (o
 
 pub renewed-other-superblock : (l : List ℕ) (s n t p : ℕ) → (t ≡ s → ⊥) → p < 256 → place (renewed l s n) t p ≡ place l t p
 unfolding place
-renewed-other-superblock l s n t p other h = renewed-elim l s n (λ (x : List ℕ). getD x (t * 256 + p) 0 ≡ getD l (t * 256 + p) 0) (λ small fits. go small fits (decLt t s)) refl
+renewed-other-superblock l s n t p other h = renewed-elim l s n (λ (x : List ℕ). getD x (t * 256 + p) 0 ≡ getD l (t * 256 + p) 0)
+    (λ small fits. go small fits (decLt t s)) refl
   where
     go : n ≤ 256 → s * 256 + n ≤ length l → Dec (t < s) → getD (withRenewedPlaces l s n) (t * 256 + p) 0 ≡ getD l (t * 256 + p) 0
     go small fits (yes q) = with-renewed-places-below l s n fits (t * 256 + p) (omega arith)

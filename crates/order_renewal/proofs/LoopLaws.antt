@@ -12,7 +12,8 @@ use Rattle.order_rules.specs.Order.{descending, withRenewedPlaces, renewed, cle
 use Rattle.order_laws.proofs.OrderLaws.{length-descending, getD-descending, renewed-is-with-renewed-places}
 
 -- renewal: the first j numbers of descending n are pasted in; a turn pastes one more
-pub renew-loop-step : (d : List ℕ) (at n j : ℕ) → at + n ≤ length d → j < n → set (paste d at (descending n) j) (at + j) (n - 1 - j) ≡ paste d at (descending n) (j + 1)
+pub renew-loop-step : (d : List ℕ) (at n j : ℕ) → at + n ≤ length d → j < n → set (paste d at (descending n) j) (at + j) (n - 1 - j)
+    ≡ paste d at (descending n) (j + 1)
 renew-loop-step d at n j h l =
     ap (set (paste d at (descending n) j) (at + j)) (sym (getD-descending n j l))
     ∙ paste-suc d at (descending n) j 0 (omega arith) (omega (arith, length-descending n))

@@ -1,4 +1,5 @@
--- The order storage in cases that tell the definitions from near misses, by computation. Every place that should not be written holds something. Assumes nothing.
+-- The order storage in cases that tell the definitions from near misses, by computation. Every place that should not be written holds something.
+-- Assumes nothing.
 use mathlib.Core.Path.{_≡_, refl}
 use mathlib.Core.List.{List, [], _∷_, _++_, map}
 use Prim.Native.Nat.{ℕ}
@@ -36,7 +37,8 @@ unfolding renewed withRenewedPlaces descending
 renewed-case = refl
 
 -- seven places of superblock 3 are lent: enough for 7 blocks, not for 8
-pub renewed-last-superblock-case : renewed storage 3 7 ≡ replicate 256 70 ++ (11 ∷ 12 ∷ 13 ∷ 14 ∷ 15 ∷ replicate 251 71) ++ (21 ∷ 22 ∷ replicate 254 72) ++ 6 ∷ 5 ∷ 4 ∷ 3 ∷ 2 ∷ 1 ∷ 0 ∷ []
+pub renewed-last-superblock-case : renewed storage 3 7 ≡ replicate 256 70 ++ (11 ∷ 12 ∷ 13 ∷ 14 ∷ 15 ∷ replicate 251 71) ++ (21 ∷ 22 ∷ replicate 254 72)
+    ++ 6 ∷ 5 ∷ 4 ∷ 3 ∷ 2 ∷ 1 ∷ 0 ∷ []
 unfolding renewed withRenewedPlaces descending
 renewed-last-superblock-case = refl
 

@@ -31,7 +31,8 @@ module _ (r : Input) (buf : List ℕ) (n : ℕ) (within : WithinBuffer r buf) (e
   input-bytes-counted = input-counts-buffer .1
 
 -- the bytes that one read puts behind those that stand in a buffer lie within the buffer
-pub read-bytes-within-buffer : (buf part new : List ℕ) (done got : ℕ) (r : Input) → WithinBuffer r part → r ≡ Bytes got → done < length buf → length part ≡ length (take (length buf - done) (drop done buf)) → length new ≡ length buf → done + got ≤ length new
+pub read-bytes-within-buffer : (buf part new : List ℕ) (done got : ℕ) (r : Input) → WithinBuffer r part → r ≡ Bytes got → done < length buf
+    → length part ≡ length (take (length buf - done) (drop done buf)) → length new ≡ length buf → done + got ≤ length new
 read-bytes-within-buffer buf part new done got r within e before whole same =
     omega (arith, input-bytes-within-buffer r part got within e, length-take (length buf - done) (drop done buf), length-drop done buf)
 

@@ -3,7 +3,7 @@ use mathlib.Core.Path.{_≡_, refl, sym, ap, _∙_, subst}
 use mathlib.Core.Bool.{Bool, true, false}
 use mathlib.Core.List.{List, [], _∷_}
 use mathlib.Core.Logic.{⊎-elim}
-use Prim.Native.Nat.{ℕ, zero, suc, _+_, _*_, _≤_, _<_}
+use Prim.Native.Nat.{ℕ, zero, suc, _+_, _≤_, _<_}
 use native.Mathlib.Omega.{arith}
 use borrow.Author.Tests.{leb-false, lt-leb, le-leb}
 use lib.ListN.{length}
@@ -38,14 +38,6 @@ CallFits (header.NamedTake processor name size) count first = (processor < 256) 
 CallFits (header.NamedFree processor name) count first = (processor < 256) × (name < 65536)
 CallFits (header.Drop processor) count first = (processor < 256) × (count < 256) × (first < 4294967296)
 
-call-size-le-1023 : (call : CallHeader) (count first : ℕ) → CallFits call count first → callSize call count ≤ 1023
-unfolding CallFits callSize
-call-size-le-1023 (header.Take processor size) count first fit = omega arith
-call-size-le-1023 (header.Free processor address) count first fit = omega arith
-call-size-le-1023 (header.NamedTake processor name size) count first fit = omega arith
-call-size-le-1023 (header.NamedFree processor name) count first fit = omega arith
-call-size-le-1023 (header.Drop processor) count first fit = omega arith
-
 module _ (r : List ℕ) (at : ℕ) (c : Command) (e : c ≡ commandAt r at) where
   pub command-inside : isRefused c ≡ false → CommandInside r at c
   unfolding ReadAt sizeOfCommand
@@ -57,8 +49,10 @@ module _ (r : List ℕ) (at : ℕ) (c : Command) (e : c ≡ commandAt r at) wher
       go (Refused number offset) t = absurd t
 
   -- a setup is first, a call is not
-  pub setup-first-and-inside : (processors superblocks spare p q : ℕ) → c ≡ Setup processors superblocks spare p q → (length r ≤ 60000) × (at ≡ 0) × (at + 6 ≤ length r)
-  setup-first-and-inside processors superblocks spare p q k = let t = setup-iff-setup-at r at processors superblocks spare p q .0 (sym e ∙ k) in (t .0, t .1, t .3)
+  pub setup-first-and-inside : (processors superblocks spare p q : ℕ) → c ≡ Setup processors superblocks spare p q → (length r ≤ 60000) × (at ≡ 0)
+      × (at + 6 ≤ length r)
+  setup-first-and-inside processors superblocks spare p q k = let t = setup-iff-setup-at r at processors superblocks spare p q .0 (sym e ∙ k) in
+      (t .0, t .1, t .3)
 
   pub call-later-and-inside : (call : CallHeader) (count first : ℕ) → c ≡ Call call count first
       → (length r ≤ 60000) × (0 < at) × (at + callSize call count ≤ length r)
@@ -80,10 +74,16 @@ module _ (r : List ℕ) (at : ℕ) (c : Command) (e : c ≡ commandAt r at) wher
 
   -- the numbers of a command fit their types where the record's bytes do
   module _ (bytes : (i : ℕ) → byteAt r i < 256) where
-    pub setup-fits : (processors superblocks spare p q : ℕ) → c ≡ Setup processors superblocks spare p q → (processors < 256) × (superblocks < 256) × (spare < 256) × (p < 256) × (q < 256)
+    pub setup-fits : (processors superblocks spare p q : ℕ) → c ≡ Setup processors superblocks spare p q → (processors < 256) × (superblocks < 256)
+        × (spare < 256) × (p < 256) × (q < 256)
     setup-fits processors superblocks spare p q k =
-        let t = setup-iff-setup-at r at processors superblocks spare p q .0 (sym e ∙ k) in
-        (omega (arith, bytes (at + 1)), omega (arith, bytes (at + 2)), omega (arith, bytes (at + 3)), omega (arith, bytes (at + 4)), omega (arith, bytes (at + 5)))
+        let t = setup-iff-setup-at r at processors superblocks spare p q .0 (sym e ∙ k) in (
+          omega (arith, bytes (at + 1)),
+          omega (arith, bytes (at + 2)),
+          omega (arith, bytes (at + 3)),
+          omega (arith, bytes (at + 4)),
+          omega (arith, bytes (at + 5)),
+        )
 
     pub call-fits : (call : CallHeader) (count first : ℕ) → c ≡ Call call count first → CallFits call count first
     unfolding ReadAt NumbersAt CallFits isRefused
@@ -98,24 +98,17 @@ module _ (r : List ℕ) (at : ℕ) (c : Command) (e : c ≡ commandAt r at) wher
         go (header.NamedFree processor name) l t = (omega (arith, bytes (at + 1)), omega (arith, bytes (at + 2), bytes (at + 3)))
         go (header.Drop processor) l t = (omega (arith, bytes (at + 1)), omega (arith, bytes (at + 2)), omega arith)
 
-    -- so that a command has 3 to 1023 bytes
-    pub size-le-1023 : isRefused c ≡ false → sizeOfCommand c ≤ 1023
-    unfolding sizeOfCommand isRefused
-    size-le-1023 f = go c refl f
-      where
-        go : (d : Command) → c ≡ d → isRefused d ≡ false → sizeOfCommand d ≤ 1023
-        go (Setup processors superblocks spare p q) k f = omega arith
-        go (Call call count first) k f = call-size-le-1023 call count first (call-fits call count first k)
-        go (Refused number offset) k f = absurd (subst T f tt)
-
 -- ---- the commands that follow
 
 -- the number of commands at most is without effect once it is above the bytes left
-pub commands-from-count-irrelevant : (m n : ℕ) (r : List ℕ) (at : ℕ) → 0 < m → 0 < n → length r < at + m → length r < at + n → commandsFrom m r at ≡ commandsFrom n r at
+pub commands-from-count-irrelevant : (m n : ℕ) (r : List ℕ) (at : ℕ) → 0 < m → 0 < n → length r < at + m → length r < at + n
+    → commandsFrom m r at ≡ commandsFrom n r at
 unfolding commandsFrom
 commands-from-count-irrelevant zero n r at p q h k = absurd (omega arith)
 commands-from-count-irrelevant (suc m) zero r at p q h k = absurd (omega arith)
-commands-from-count-irrelevant (suc m) (suc n) r at p q h k = ap (λ (l : List Command). c ∷ l) (go (commands-from-count-irrelevant m n r (at + sizeOfCommand c)) (isRefused c) refl (leb (length r) (at + sizeOfCommand c)) refl)
+commands-from-count-irrelevant (suc m) (suc n) r at p q h k =
+    ap (λ (l : List Command). c ∷ l) (go (commands-from-count-irrelevant m n r (at + sizeOfCommand c)) (isRefused c) refl
+    (leb (length r) (at + sizeOfCommand c)) refl)
   where
     c : Command
     c = commandAt r at
@@ -153,7 +146,8 @@ pub remaining-end : (r : List ℕ) (at : ℕ) → length r ≤ at → remaining 
 unfolding remaining
 remaining-end r at h = rw (le-leb (length r) at h)
 
-pub commands-refused : (r : List ℕ) (at : ℕ) (c : Command) (number offset : ℕ) → c ≡ commandAt r at → c ≡ Refused number offset → commandsAt r at ≡ Refused number offset ∷ []
+pub commands-refused : (r : List ℕ) (at : ℕ) (c : Command) (number offset : ℕ) → c ≡ commandAt r at → c ≡ Refused number offset
+    → commandsAt r at ≡ Refused number offset ∷ []
 unfolding commandsFrom isRefused
 commands-refused r at c number offset e k = rw (← e, k)
 

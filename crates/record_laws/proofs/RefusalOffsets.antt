@@ -27,7 +27,8 @@ bytesIn (c ∷ commands) = sizeOfCommand c + bytesIn commands
 ReadPosition : List ℕ → ℕ → Type 0
 ReadPosition r at = (at ≡ 0) ⊎ ((length r ≤ 60000) × (at < length r))
 
-refusal-offset-is-position : (r : List ℕ) (at : ℕ) → ReadPosition r at → {c : Command} → CommandRow r at c → (number offset : ℕ) → c ≡ Refused number offset → offset ≡ at
+refusal-offset-is-position : (r : List ℕ) (at : ℕ) → ReadPosition r at → {c : Command} → CommandRow r at c → (number offset : ℕ)
+    → c ≡ Refused number offset → offset ≡ at
 unfolding ReadPosition isRefused
 refusal-offset-is-position r at (inl z) (row.record-too-long l) number offset e = cc
 refusal-offset-is-position r at (inr a) (row.record-too-long l) number offset e = absurd (omega arith)
@@ -53,7 +54,11 @@ refused-offset-from : (most : ℕ) (r : List ℕ) (at : ℕ) → ReadPosition r 
     → commandsFrom most r at ≡ before ++ (Refused number offset ∷ after) → (offset ≡ at + bytesIn before) × (after ≡ [])
 unfolding commandsFrom bytesIn isRefused ReadPosition
 refused-offset-from zero r at a before after number offset e = absurd (nil-not-append-cons before after (Refused number offset) e)
-refused-offset-from (suc most) r at a [] after number offset e = (let z = refusal-offset-is-position r at a (row-of-command-at r at) number offset here in omega arith, sym behind)
+refused-offset-from (suc most) r at a [] after number offset e = (
+  let z = refusal-offset-is-position r at a (row-of-command-at r at) number offset here in
+      omega arith,
+  sym behind,
+)
   where
     c : Command
     c = commandAt r at
@@ -85,7 +90,8 @@ refused-offset-from (suc most) r at a (d ∷ before) after number offset e =
     rest = cc
 
     go : (ReadPosition r (at + sizeOfCommand c) → (before after : List Command) (number offset : ℕ)
-        → commandsFrom most r (at + sizeOfCommand c) ≡ before ++ (Refused number offset ∷ after) → (offset ≡ at + sizeOfCommand c + bytesIn before) × (after ≡ []))
+        → commandsFrom most r (at + sizeOfCommand c) ≡ before ++ (Refused number offset ∷ after) → (offset ≡ at + sizeOfCommand c + bytesIn before)
+        × (after ≡ []))
         → (t : Bool) → isRefused c ≡ t → (u : Bool) → leb (length r) (at + sizeOfCommand c) ≡ u
         → pick (either t u) [] (commandsFrom most r (at + sizeOfCommand c)) ≡ Rest → (offset ≡ at + (sizeOfCommand d + bytesIn before)) × (after ≡ [])
     go again true f u g h = absurd (nil-not-append-cons before after (Refused number offset) h)
@@ -106,7 +112,8 @@ refused-offset r before after number offset e = let z = refused-offset-from (suc
 bytes-in-commands-from-le : (most : ℕ) (r : List ℕ) (at : ℕ) → at ≤ length r → at + bytesIn (commandsFrom most r at) ≤ length r
 unfolding commandsFrom bytesIn
 bytes-in-commands-from-le zero r at h = omega arith
-bytes-in-commands-from-le (suc most) r at h = go (bytes-in-commands-from-le most r (at + sizeOfCommand c)) (isRefused c) refl (leb (length r) (at + sizeOfCommand c)) refl
+bytes-in-commands-from-le (suc most) r at h = go (bytes-in-commands-from-le most r (at + sizeOfCommand c)) (isRefused c) refl
+    (leb (length r) (at + sizeOfCommand c)) refl
   where
     c : Command
     c = commandAt r at

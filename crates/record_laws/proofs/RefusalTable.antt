@@ -106,7 +106,8 @@ module _ (r : List ℕ) (at : ℕ) where
 
   abbrev pub TakeAt : ℕ → ℕ → Type 0
   TakeAt processor size =
-      (length r ≤ 60000) × (0 < at) × (byteAt r at ≡ 1) × (at + 4 ≤ length r) × (processor ≡ byteAt r (at + 1)) × (size ≡ byteAt r (at + 2) + 256 * byteAt r (at + 3))
+      (length r ≤ 60000) × (0 < at) × (byteAt r at ≡ 1) × (at + 4 ≤ length r) × (processor ≡ byteAt r (at + 1))
+      × (size ≡ byteAt r (at + 2) + 256 * byteAt r (at + 3))
 
   abbrev pub FreeAt : ℕ → ℕ → Type 0
   FreeAt processor address =
@@ -120,12 +121,14 @@ module _ (r : List ℕ) (at : ℕ) where
 
   abbrev pub NamedFreeAt : ℕ → ℕ → Type 0
   NamedFreeAt processor name =
-      (length r ≤ 60000) × (0 < at) × (byteAt r at ≡ 4) × (at + 4 ≤ length r) × (processor ≡ byteAt r (at + 1)) × (name ≡ byteAt r (at + 2) + 256 * byteAt r (at + 3))
+      (length r ≤ 60000) × (0 < at) × (byteAt r at ≡ 4) × (at + 4 ≤ length r) × (processor ≡ byteAt r (at + 1))
+      × (name ≡ byteAt r (at + 2) + 256 * byteAt r (at + 3))
 
   -- the addresses begin at byte 3 of the command
   abbrev pub DropAt : ℕ → ℕ → ℕ → Type 0
   DropAt processor count first =
-      (length r ≤ 60000) × (0 < at) × (byteAt r at ≡ 5) × (at + 3 + 4 * count ≤ length r) × (processor ≡ byteAt r (at + 1)) × (count ≡ byteAt r (at + 2)) × (first ≡ at + 3)
+      (length r ≤ 60000) × (0 < at) × (byteAt r at ≡ 5) × (at + 3 + 4 * count ≤ length r) × (processor ≡ byteAt r (at + 1)) × (count ≡ byteAt r (at + 2))
+      × (first ≡ at + 3)
 
   -- the numbers of a call that is read, by its kind; beside the header of any call but a drop stand 0 and 0
   unfoldable pub NumbersAt : CallHeader → ℕ → ℕ → Type 0
@@ -201,9 +204,16 @@ byte-at-cong r i j e = ap (byteAt r) e
 two-at-by-bytes : (r : List ℕ) (i j : ℕ) → i + 1 ≡ j → twoAt r i ≡ byteAt r i + 256 * byteAt r j
 two-at-by-bytes r i j e = omega (arith, byte-at-cong r (i + 1) j e)
 
-four-at-by-bytes : (r : List ℕ) (at : ℕ) → fourAt r (at + 2) ≡ byteAt r (at + 2) + 256 * byteAt r (at + 3) + 65536 * byteAt r (at + 4) + 16777216 * byteAt r (at + 5)
+four-at-by-bytes : (r : List ℕ) (at : ℕ) → fourAt r (at + 2) ≡ byteAt r (at + 2) + 256 * byteAt r (at + 3) + 65536 * byteAt r (at + 4) + 16777216 * byteAt
+    r (at + 5)
 four-at-by-bytes r at =
-    omega (arith, byte-at-cong r (at + 2 + 1) (at + 3) (omega arith), byte-at-cong r (at + 2 + 2) (at + 4) (omega arith), byte-at-cong r (at + 2 + 2 + 1) (at + 5) (omega arith))
+    omega (
+      arith,
+      byte-at-cong r (at + 2 + 1) (at + 3) (omega arith),
+      byte-at-cong r (at + 2 + 2) (at + 4) (omega arith),
+      byte-at-cong r (at + 2 + 2 + 1)
+          (at + 5) (omega arith),
+    )
 
 -- ---- every command of every record, by the table
 
@@ -470,7 +480,8 @@ module _ (r : List ℕ) (at : ℕ) where
       only (past-record-end l u m c i) f = absurd (subst T f tt)
       only (read d h) f = h
 
-  pub setup-iff-setup-at : (processors superblocks spare p q : ℕ) → commandAt r at ≡ Setup processors superblocks spare p q ↔ SetupAt r at processors superblocks spare p q
+  pub setup-iff-setup-at : (processors superblocks spare p q : ℕ) → commandAt r at ≡ Setup processors superblocks spare p q
+      ↔ SetupAt r at processors superblocks spare p q
   unfolding ReadAt isRefused
   setup-iff-setup-at processors superblocks spare p q = command-iff-read-at (Setup processors superblocks spare p q) refl
 
@@ -515,7 +526,15 @@ module _ (r : List ℕ) (at : ℕ) where
         length-of-fours-at r first count ∙ t .5,
         λ i h.
             fours-at-number r first count i h
-            ∙ omega (arith, byte-at-cong r (first + 4 * i) (at + 3 + 4 * i) (omega arith), byte-at-cong r (first + 4 * i + 1) (at + 4 + 4 * i) (omega arith), byte-at-cong r (first + 4 * i + 2) (at + 5 + 4 * i) (omega arith), byte-at-cong r (first + 4 * i + 2 + 1) (at + 6 + 4 * i) (omega arith)),
+            ∙ omega (
+              arith,
+              byte-at-cong r (first + 4 * i) (at + 3 + 4 * i) (omega arith),
+              byte-at-cong r (first + 4 * i + 1) (at + 4 + 4 * i)
+                  (omega arith),
+              byte-at-cong r (first + 4 * i + 2) (at + 5 + 4 * i) (omega arith),
+              byte-at-cong r (first + 4 * i + 2 + 1) (at + 6 + 4 * i)
+                  (omega arith),
+            ),
       )
 
   -- ---- the offset of a refusal: the command's own first byte, and 0 for 11

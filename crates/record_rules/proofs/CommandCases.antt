@@ -241,7 +241,8 @@ recordsHold =
     whole-case also no-byte also unknown-first also unknown-later also take-first also setup-later also free-truncated also commands-of-distinct-bytes
     also addresses-of-distinct-bytes also setup-truncated also setup-twice also free-first also free-first-truncated also take-truncated
     also free-of-one-byte also named-calls-read also named-take-truncated also named-free-truncated also named-take-first also named-free-first
-    also last-command-read also past-the-end also names-read-as-they-are also drops-read also drop-of-255-read also drop-truncated also drop-of-0-truncated also drop-of-255-truncated
+    also last-command-read also past-the-end also names-read-as-they-are also drops-read also drop-of-255-read also drop-truncated also
+    drop-of-0-truncated also drop-of-255-truncated
     also drop-first also size-0-read-as-0 also values-of-all-kinds also other-command-fails also tt
 
 -- 60000 bytes are read and 60001 are not, whatever they are

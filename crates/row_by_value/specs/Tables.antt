@@ -34,4 +34,9 @@ abbrev pub refusedCall : ℕ → Control → List Superblock → TableCall
 refusedCall r control table = record { table = table; answer = record { outcome = Refused r; control = control }; accepted = isAccepted (Refused r) }
 
 abbrev pub answeredCall : Answer → TableCall
-answeredCall a = record { table = a .state .table; answer = record { outcome = a .outcome; control = controlOf (a .state) }; accepted = isAccepted (a .outcome) }
+answeredCall a = record {
+  table = a .state .table;
+  answer = record { outcome = a .outcome; control = controlOf (a .state) };
+  accepted =
+      isAccepted (a .outcome);
+}

@@ -59,7 +59,8 @@ module _ {M : Type 1} (𝓤 : URA M) (H : Heap 𝓤) (A : Atoms 𝓤) (mem : Mem
   abbrev pub Store : Contract 𝓤
   Store = tripleOf 𝓤 H A store.signature (store.spec 𝓤 H A mem run)
 
-  pub load-ensures-load-of : (κ : Lft) (x : RefT (List Superblock)) (r : List Superblock) → ent 𝓤 (ensured 𝓤 H A load′.ended (load′.clauses 𝓤 H A mem run) (κ, tt) (x, tt) tt r) (fact 𝓤 (r ≡ loadOf (x .now)))
+  pub load-ensures-load-of : (κ : Lft) (x : RefT (List Superblock)) (r : List Superblock)
+      → ent 𝓤 (ensured 𝓤 H A load′.ended (load′.clauses 𝓤 H A mem run) (κ, tt) (x, tt) tt r) (fact 𝓤 (r ≡ loadOf (x .now)))
   load-ensures-load-of κ x r = exE 𝓤 _ (λ ws. snd∗ 𝓤 (sem 𝓤 H A (lasts load′.ended (κ, tt) (x, tt) ws)) (fact 𝓤 (r ≡ loadOf (x .now))))
 
 module _ {M : Type 1} (𝓤 : URA M) (H : Heap 𝓤) (A : Atoms 𝓤) (W : Given 𝓤 H A) where
@@ -78,7 +79,9 @@ module _ {M : Type 1} (𝓤 : URA M) (H : Heap 𝓤) (A : Atoms 𝓤) (W : Given
     abbrev pub load-ghosts : ℕ → GName → Load 𝓤 H A mem run .Ghost
     load-ghosts ν δ = (((ν ∷ [], tt), (fullShare, tt), tt, (x δ, tt), (s ∷ [], tt)), tt)
 
-    pub load-precondition : (ν : ℕ) (δ : GName) → ent 𝓤 (sep 𝓤 (A .lft (ν ∷ []) fullShare) (sem 𝓤 H A (ShrSlice (named 0) (ν ∷ []) T.the-row .own (x δ) (s ∷ [])))) (Load 𝓤 H A mem run .pre (load-ghosts ν δ))
+    pub load-precondition : (ν : ℕ) (δ : GName)
+        → ent 𝓤 (sep 𝓤 (A .lft (ν ∷ []) fullShare) (sem 𝓤 H A (ShrSlice (named 0) (ν ∷ []) T.the-row .own (x δ) (s ∷ []))))
+        (Load 𝓤 H A mem run .pre (load-ghosts ν δ))
     load-precondition ν δ =
         qed W (‵ (flft (ν ∷ []) fullShare) ∷ ‵ (ShrSlice (named 0) (ν ∷ []) T.the-row .own (x δ) (s ∷ [])) ∷ []) ∵
         nothing ! $ move ! (2 ∷ 0 ∷ []) $ fjoin ! $ nothing ! $ move ! (2 ∷ 0 ∷ []) $ join ! $ join ! $ frame ! $ done !
@@ -87,8 +90,11 @@ module _ {M : Type 1} (𝓤 : URA M) (H : Heap 𝓤) (A : Atoms 𝓤) (W : Given
       abbrev pub store-ghosts : Store 𝓤 H A mem run .Ghost
       store-ghosts = (((κ, tt), (q, tt), tt, (x γ, (r .table, (r .accepted, tt))), (s ∷ [], (table-val r ∷ [], (vbool (r .accepted) ∷ [], tt)))), tt)
 
-      pub store-precondition : Is (Array T.the-row 64) (r .table) (table-val r ∷ []) → ent 𝓤 (sep 𝓤 (A .lft κ q) (sem 𝓤 H A (MutSlice (named 0) κ T.the-row .own (x γ) (s ∷ [])))) (Store 𝓤 H A mem run .pre store-ghosts)
+      pub store-precondition : Is (Array T.the-row 64) (r .table) (table-val r ∷ [])
+          → ent 𝓤 (sep 𝓤 (A .lft κ q) (sem 𝓤 H A (MutSlice (named 0) κ T.the-row .own (x γ) (s ∷ [])))) (Store 𝓤 H A mem run .pre store-ghosts)
       store-precondition g =
           qed W (‵ (flft κ q) ∷ ‵ (MutSlice (named 0) κ T.the-row .own (x γ) (s ∷ [])) ∷ []) ∵
-          nothing ! $ owned ! bool (Is bool) (bool-makes 𝓤 H A W) (r .accepted) (vbool (r .accepted) ∷ []) (machine-value-of-bool (r .accepted)) $ fjoin ! $ owned ! (Array T.the-row 64) (Is (Array T.the-row 64)) (array-makes 𝓤 H A W T.the-row (LL.makes T.the-type T′.the-plain 𝓤 H A) 64) (r .table) (table-val r ∷ []) g $ fjoin ! $ move ! (2 ∷ 0 ∷ []) $ fjoin ! $
+          nothing ! $ owned ! bool (Is bool) (bool-makes 𝓤 H A W) (r .accepted) (vbool (r .accepted) ∷ []) (machine-value-of-bool (r .accepted)) $ fjoin !
+          $ owned ! (Array T.the-row 64) (Is (Array T.the-row 64)) (array-makes 𝓤 H A W T.the-row (LL.makes T.the-type T′.the-plain 𝓤 H A) 64)
+          (r .table) (table-val r ∷ []) g $ fjoin ! $ move ! (2 ∷ 0 ∷ []) $ fjoin ! $
           nothing ! $ move ! (2 ∷ 0 ∷ []) $ join ! $ join ! $ frame ! $ done !

@@ -51,7 +51,8 @@ fn call_table(
 ) -> TableCall
     ensures { λ r. ⌜ rowAfterCall r (now (order .exit)) ≡ callOn n control table (now (order .entry)) (callWith call (now (addresses .entry))) ⌝ }
     ensures accepts { λ r. ⌜ r .accepted ≡ isAccepted (r .answer .outcome) ⌝ }
-    ensures number_and_values { λ r. ⌜ HasNumberAndValuesOf (r .answer .outcome) (callOn n control table (now (order .entry)) (callWith call (now (addresses .entry))) .outcome) ⌝ }
+    ensures number_and_values { λ r.
+        ⌜ HasNumberAndValuesOf (r .answer .outcome) (callOn n control table (now (order .entry)) (callWith call (now (addresses .entry))) .outcome) ⌝ }
     ensures passes { λ r. ⌜ PassesIfAccepted (r .answer .outcome) (stateOf (r .answer .control) (r .table)) (now (order .exit)) ⌝ }
     ensures moves { λ r. ⌜ MovesAtMost (mostMoves (control .setup .q) (callWith call (now (addresses .entry)))) (r .answer .outcome) ⌝ }
 {
@@ -76,8 +77,10 @@ pub fn call_row(
     call: CallHeader,
     addresses: &[u32],
 ) -> RowAnswer
-    ensures { λ r. ⌜ rowAfter r (now (row .exit)) (now (order .exit)) ≡ rowCall control (now (row .entry)) (now (order .entry)) (callWith call (now (addresses .entry))) ⌝ }
-    ensures number_and_values { λ r. ⌜ HasNumberAndValuesOf (r .outcome) (rowCall control (now (row .entry)) (now (order .entry)) (callWith call (now (addresses .entry))) .outcome) ⌝ }
+    ensures { λ r. ⌜ rowAfter r (now (row .exit)) (now (order .exit)) ≡ rowCall control (now (row .entry)) (now (order .entry))
+        (callWith call (now (addresses .entry))) ⌝ }
+    ensures number_and_values { λ r.
+        ⌜ HasNumberAndValuesOf (r .outcome) (rowCall control (now (row .entry)) (now (order .entry)) (callWith call (now (addresses .entry))) .outcome) ⌝ }
     ensures passes { λ r. ⌜ PassesIfAccepted (r .outcome) (stateOf (r .control) (now (row .exit))) (now (order .exit)) ⌝ }
     ensures moves { λ r. ⌜ MovesAtMost (mostMoves (control .setup .q) (callWith call (now (addresses .entry)))) (r .outcome) ⌝ }
 {

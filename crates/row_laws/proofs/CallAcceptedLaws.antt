@@ -1,4 +1,5 @@
--- A take or a free, plain or named, or a drop, whichever it is: refused, it changes nothing; accepted, it leaves a state that passes, and as many superblocks. Assumes nothing.
+-- A take or a free, plain or named, or a drop, whichever it is: refused, it changes nothing; accepted, it leaves a state that passes, and as many
+-- superblocks. Assumes nothing.
 use mathlib.Core.Path.{_≡_, refl, sym, ap, _∙_, subst}
 use mathlib.Core.Bool.{true, false}
 use mathlib.Core.Logic.{_⊎_, inl, inr, ⊎-elim}
@@ -22,7 +23,8 @@ use Rattle.call_rules.specs.Free.{superblockHolding, isInRun, smallBlockFreed, 
 use Rattle.call_rules.specs.Drop.{droppedAll, dropOf}
 use Rattle.call_rules.specs.Named.{nameBound, boundBy, withNameBound, namedTakeOf, heldAddress, namedFreeOf}
 use Rattle.call_rules.specs.Calls.{Call, Take, Free, NamedTake, NamedFree, Drop, callOf}
-use Rattle.call_laws.proofs.CallEffects.{Passed, TakeAccepted, LongTakeAccepted, FreeAccepted, LongFreeAccepted, NamedTakeAccepted, NamedLongTakeAccepted, NamedFreeAccepted, NamedLongFreeAccepted}
+use Rattle.call_laws.proofs.CallEffects.{Passed, TakeAccepted, LongTakeAccepted, FreeAccepted, LongFreeAccepted, NamedTakeAccepted, NamedLongTakeAccepted}
+use Rattle.call_laws.proofs.CallEffects.{NamedFreeAccepted, NamedLongFreeAccepted}
 use Rattle.call_laws.proofs.RunEffectLaws.{run-taken-keeps-rest}
 use Rattle.call_laws.proofs.TakeLaws.{take-refused-or-accepted, take-passed, take-shape}
 use Rattle.call_laws.proofs.RunTakenLaws.{long-take-passed, long-take-shape}
@@ -38,7 +40,8 @@ length-of-taken-from : (k : ℕ) (s : State) (order : List ℕ) → length (take
 unfolding takenFrom
 length-of-taken-from k s order = length-set (s .table) k (withMarkAt (superblockAt s k) (nextBlock s order k))
 
-length-of-taken-from-other : (i c k : ℕ) (s : State) (order : List ℕ) → length (s .table) ≡ 64 → length (takenFromOther i c k s order .answer .state .table) ≡ 64
+length-of-taken-from-other : (i c k : ℕ) (s : State) (order : List ℕ) → length (s .table) ≡ 64
+    → length (takenFromOther i c k s order .answer .state .table) ≡ 64
 unfolding takenFromOther
 length-of-taken-from-other i c k s order long =
     length-of-taken-from k (withSuperblock (unrankedIfEmpty k s) k (acquired i c (superblockAt s k))) _
@@ -83,7 +86,8 @@ pub record CallAccepted (s : State) (order : List ℕ) (result : After) : Type 0
   pub not-refused : (r : ℕ) → result .answer .outcome ≡ Refused r → ⊥
   pub passes : Shape s → Passed (result .answer .state) (result .order) × Shape (result .answer .state)
 
-call-accepted-of-result : (s : State) (order : List ℕ) (result x : After) → result ≡ x → Passed s order → (length (s .table) ≡ 64 → length (x .answer .state .table) ≡ 64) → isRefusal (x .answer .outcome) ≡ 0
+call-accepted-of-result : (s : State) (order : List ℕ) (result x : After) → result ≡ x → Passed s order
+    → (length (s .table) ≡ 64 → length (x .answer .state .table) ≡ 64) → isRefusal (x .answer .outcome) ≡ 0
     → (Shape s → Passed (result .answer .state) (result .order) × Shape (result .answer .state)) → CallAccepted s order result
 unfolding isRefusal
 call-accepted-of-result s order result x e p l n after =
@@ -97,8 +101,10 @@ call-accepted-of-result s order result x e p l n after =
 call-accepted-of-take : (s : State) (order : List ℕ) (i size k : ℕ) → TakeAccepted s order i size k → CallAccepted s order (takeOf s order i size)
 unfolding isRefusal takenFrom takenFromOther
 call-accepted-of-take s order i size k acc =
-    ⊎-elim (λ h. call-accepted-of-result s order (takeOf s order i size) (takenFrom k s order) (h .1) (acc .passed) (λ long. length-of-taken-from k s order ∙ long) refl after)
-    (λ h. call-accepted-of-result s order (takeOf s order i size) (takenFromOther i (classOf size) k s order) (h .2) (acc .passed) (length-of-taken-from-other i (classOf size) k s order) refl after)
+    ⊎-elim (λ h. call-accepted-of-result s order (takeOf s order i size) (takenFrom k s order) (h .1) (acc .passed)
+    (λ long. length-of-taken-from k s order ∙ long) refl after)
+    (λ h. call-accepted-of-result s order (takeOf s order i size) (takenFromOther i (classOf size) k s order) (h .2) (acc .passed)
+    (length-of-taken-from-other i (classOf size) k s order) refl after)
     (acc .place)
   where
     after : Shape s → Passed (takeOf s order i size .answer .state) (takeOf s order i size .order) × Shape (takeOf s order i size .answer .state)
@@ -107,63 +113,81 @@ call-accepted-of-take s order i size k acc =
 call-accepted-of-long-take : (s : State) (order : List ℕ) (i size k : ℕ) → LongTakeAccepted s order i size k → CallAccepted s order (takeOf s order i size)
 unfolding isRefusal longTakenFrom
 call-accepted-of-long-take s order i size k acc =
-    call-accepted-of-result s order (takeOf s order i size) (longTakenFrom k (runLength size) s order) (acc .result-is) (acc .passed) (length-of-long-taken-from k (runLength size) s order) refl
+    call-accepted-of-result s order (takeOf s order i size) (longTakenFrom k (runLength size) s order) (acc .result-is) (acc .passed)
+    (length-of-long-taken-from k (runLength size) s order) refl
     (λ shape. (long-take-passed s order i size k shape acc, long-take-shape s order i size k shape acc))
 
 call-accepted-of-free : (s : State) (order : List ℕ) (i a : ℕ) → FreeAccepted s order i a → CallAccepted s order (freeOf s order i a)
 unfolding isRefusal smallFreedAt
 call-accepted-of-free s order i a acc =
-    call-accepted-of-result s order (freeOf s order i a) (smallFreedAt s order a) (acc .result-is) (acc .address .passed) (λ long. length-of-small-freed-at s order a long (acc .outside-run)) refl
+    call-accepted-of-result s order (freeOf s order i a) (smallFreedAt s order a) (acc .result-is) (acc .address .passed)
+    (λ long. length-of-small-freed-at s order a long (acc .outside-run)) refl
     (λ shape. (free-passed s order i a shape acc, free-shape s order i a shape acc))
 
 call-accepted-of-long-free : (s : State) (order : List ℕ) (i a : ℕ) → LongFreeAccepted s order i a → CallAccepted s order (freeOf s order i a)
 unfolding isRefusal longFreedAt
 call-accepted-of-long-free s order i a acc =
-    call-accepted-of-result s order (freeOf s order i a) (longFreedAt s order a) (acc .result-is) (acc .address .passed) (λ long. length-of-long-freed-at s order a long (acc .in-run)) refl
+    call-accepted-of-result s order (freeOf s order i a) (longFreedAt s order a) (acc .result-is) (acc .address .passed)
+    (λ long. length-of-long-freed-at s order a long (acc .in-run)) refl
     (λ shape. (long-free-passed s order i a shape acc, long-free-shape s order i a shape acc))
 
-call-accepted-of-drop : (s : State) (order : List ℕ) (i : ℕ) (addresses : List ℕ) → DropAccepted s order i addresses → CallAccepted s order (dropOf s order i addresses)
+call-accepted-of-drop : (s : State) (order : List ℕ) (i : ℕ) (addresses : List ℕ) → DropAccepted s order i addresses
+    → CallAccepted s order (dropOf s order i addresses)
 unfolding isRefusal droppedAll
 call-accepted-of-drop s order i addresses acc =
-    call-accepted-of-result s order (dropOf s order i addresses) (droppedAll s order addresses) (acc .result-is) (acc .passed) (length-of-drop-moves s addresses) refl
+    call-accepted-of-result s order (dropOf s order i addresses) (droppedAll s order addresses) (acc .result-is) (acc .passed)
+    (length-of-drop-moves s addresses) refl
     (λ shape. (drop-passed s order i addresses shape acc, drop-shape s order i addresses shape acc))
 
 -- a named take is the plain one with the name bound, and a named free the free of the held address
-call-accepted-of-name-bound : (s : State) (order : List ℕ) (i m size : ℕ) → CallAccepted s order (takeOf s order i size) → namedTakeOf s order i m size ≡ withNameBound m (takeOf s order i size)
-    → (Shape s → Passed (namedTakeOf s order i m size .answer .state) (namedTakeOf s order i m size .order) × Shape (namedTakeOf s order i m size .answer .state)) → CallAccepted s order (namedTakeOf s order i m size)
+call-accepted-of-name-bound : (s : State) (order : List ℕ) (i m size : ℕ) → CallAccepted s order (takeOf s order i size) → namedTakeOf s order i m size
+    ≡ withNameBound m (takeOf s order i size)
+    → (Shape s → Passed (namedTakeOf s order i m size .answer .state) (namedTakeOf s order i m size .order)
+    × Shape (namedTakeOf s order i m size .answer .state)) → CallAccepted s order (namedTakeOf s order i m size)
 unfolding withNameBound
 call-accepted-of-name-bound s order i m size plain result-is after =
     let result = takeOf s order i size .answer in
     record {
       passed = plain .passed;
-      length-is = λ long. ap (λ (y : After). length (y .answer .state .table)) result-is ∙ ap length (table-of-bound-by (result .outcome) m (result .state)) ∙ plain .length-is long;
+      length-is = λ long. ap (λ (y : After). length (y .answer .state .table)) result-is
+          ∙ ap length (table-of-bound-by (result .outcome) m (result .state)) ∙ plain .length-is long;
       not-refused = λ r f. plain .not-refused r (sym (ap (λ (y : After). y .answer .outcome) result-is) ∙ f);
       passes = after;
     }
 
-call-accepted-of-named-take : (s : State) (order : List ℕ) (i m size k : ℕ) → NamedTakeAccepted s order i m size k → CallAccepted s order (namedTakeOf s order i m size)
+call-accepted-of-named-take : (s : State) (order : List ℕ) (i m size k : ℕ) → NamedTakeAccepted s order i m size k
+    → CallAccepted s order (namedTakeOf s order i m size)
 call-accepted-of-named-take s order i m size k acc =
     call-accepted-of-name-bound s order i m size (call-accepted-of-take s order i size k (acc .taken)) (acc .result-is)
     (λ shape. (named-take-passed s order i m size k shape acc, named-take-shape s order i m size k shape acc))
 
-call-accepted-of-named-long-take : (s : State) (order : List ℕ) (i m size k : ℕ) → NamedLongTakeAccepted s order i m size k → CallAccepted s order (namedTakeOf s order i m size)
+call-accepted-of-named-long-take : (s : State) (order : List ℕ) (i m size k : ℕ) → NamedLongTakeAccepted s order i m size k
+    → CallAccepted s order (namedTakeOf s order i m size)
 call-accepted-of-named-long-take s order i m size k acc =
     call-accepted-of-name-bound s order i m size (call-accepted-of-long-take s order i size k (acc .taken)) (acc .result-is)
     (λ shape. (named-long-take-passed s order i m size k shape acc, named-long-take-shape s order i m size k shape acc))
 
 call-accepted-of-named-free : (s : State) (order : List ℕ) (i m : ℕ) → NamedFreeAccepted s order i m → CallAccepted s order (namedFreeOf s order i m)
-call-accepted-of-named-free s order i m acc = subst (CallAccepted s order) (sym (acc .result-is)) (call-accepted-of-free s order i (heldAddress s m) (acc .freed))
+call-accepted-of-named-free s order i m acc = subst (CallAccepted s order) (sym (acc .result-is))
+    (call-accepted-of-free s order i (heldAddress s m) (acc .freed))
 
 call-accepted-of-named-long-free : (s : State) (order : List ℕ) (i m : ℕ) → NamedLongFreeAccepted s order i m → CallAccepted s order (namedFreeOf s order i m)
-call-accepted-of-named-long-free s order i m acc = subst (CallAccepted s order) (sym (acc .result-is)) (call-accepted-of-long-free s order i (heldAddress s m) (acc .freed))
+call-accepted-of-named-long-free s order i m acc = subst (CallAccepted s order) (sym (acc .result-is))
+    (call-accepted-of-long-free s order i (heldAddress s m) (acc .freed))
 
-pub call-refused-or-accepted : (s : State) (order : List ℕ) (call : Call) → ((r : ℕ) × (callOf s order call ≡ refused r s order)) ⊎ CallAccepted s order (callOf s order call)
+pub call-refused-or-accepted : (s : State) (order : List ℕ) (call : Call) → ((r : ℕ) × (callOf s order call ≡ refused r s order))
+    ⊎ CallAccepted s order (callOf s order call)
 unfolding callOf
 call-refused-or-accepted s order (Take i size) =
-    ⊎-elim inl (λ h. inr (⊎-elim (λ g. call-accepted-of-take s order i size (g .0) (g .1)) (λ g. call-accepted-of-long-take s order i size (g .0) (g .1)) h)) (take-refused-or-accepted s order i size)
-call-refused-or-accepted s order (Free i a) = ⊎-elim inl (λ h. inr (⊎-elim (call-accepted-of-free s order i a) (call-accepted-of-long-free s order i a) h)) (free-refused-or-accepted s order i a)
+    ⊎-elim inl (λ h. inr (⊎-elim (λ g. call-accepted-of-take s order i size (g .0) (g .1)) (λ g. call-accepted-of-long-take s order i size (g .0) (g .1))
+    h)) (take-refused-or-accepted s order i size)
+call-refused-or-accepted s order (Free i a) =
+    ⊎-elim inl (λ h. inr (⊎-elim (call-accepted-of-free s order i a) (call-accepted-of-long-free s order i a) h)) (free-refused-or-accepted s order i a)
 call-refused-or-accepted s order (NamedTake i m size) =
-    ⊎-elim inl (λ h. inr (⊎-elim (λ g. call-accepted-of-named-take s order i m size (g .0) (g .1)) (λ g. call-accepted-of-named-long-take s order i m size (g .0) (g .1)) h)) (named-take-refused-or-accepted s order i m size)
+    ⊎-elim inl (λ h. inr (⊎-elim (λ g. call-accepted-of-named-take s order i m size (g .0) (g .1))
+    (λ g. call-accepted-of-named-long-take s order i m size (g .0) (g .1)) h)) (named-take-refused-or-accepted s order i m size)
 call-refused-or-accepted s order (NamedFree i m) =
-    ⊎-elim inl (λ h. inr (⊎-elim (call-accepted-of-named-free s order i m) (call-accepted-of-named-long-free s order i m) h)) (named-free-refused-or-accepted s order i m)
-call-refused-or-accepted s order (Drop i addresses) = ⊎-elim inl (λ h. inr (call-accepted-of-drop s order i addresses h)) (drop-refused-or-accepted s order i addresses)
+    ⊎-elim inl (λ h. inr (⊎-elim (call-accepted-of-named-free s order i m) (call-accepted-of-named-long-free s order i m) h))
+    (named-free-refused-or-accepted s order i m)
+call-refused-or-accepted s order (Drop i addresses) = ⊎-elim inl (λ h. inr (call-accepted-of-drop s order i addresses h))
+    (drop-refused-or-accepted s order i addresses)

@@ -57,10 +57,12 @@ unused-row = replicate 64 unused-superblock
 
 -- what a take of the first block leaves, with the names then, and a free of it
 abbrev pub row-after-take : List ℕ → RowAfter
-row-after-take names = row-after (Address 0) (control-with example-setup names (totals-with-live 1)) (first-block-live ∷ replicate 63 unused-superblock) (1 ∷ 0 ∷ replicate 254 7 ++ 8 ∷ 9 ∷ [])
+row-after-take names = row-after (Address 0) (control-with example-setup names (totals-with-live 1)) (first-block-live ∷ replicate 63 unused-superblock)
+    (1 ∷ 0 ∷ replicate 254 7 ++ 8 ∷ 9 ∷ [])
 
 abbrev pub row-after-free : RowAfter
-row-after-free = row-after (Moves 0) (control-with example-setup no-name-held (totals-with-live 0)) (no-block-live ∷ replicate 63 unused-superblock) (1 ∷ 0 ∷ replicate 254 7 ++ 8 ∷ 9 ∷ [])
+row-after-free = row-after (Moves 0) (control-with example-setup no-name-held (totals-with-live 0)) (no-block-live ∷ replicate 63 unused-superblock)
+    (1 ∷ 0 ∷ replicate 254 7 ++ 8 ∷ 9 ∷ [])
 
 -- a call on the row that such a take left; and one that is refused there
 abbrev pub case-after : RowAfter → Call → RowAfter → CallCase
@@ -84,7 +86,8 @@ whole-row-calls-behind-check : map row-call-behind-check whole-row-call-cases �
 unfolding uncheckedCallDefinitions
 whole-row-calls-behind-check = refl
 
-pub whole-row-call-cases-are-computed : map (λ (k : CallCase). rowCall (k .control) (k .row) (k .order) (k .call)) whole-row-call-cases ≡ map (λ (k : CallCase). k .after) whole-row-call-cases
+pub whole-row-call-cases-are-computed : map (λ (k : CallCase). rowCall (k .control) (k .row) (k .order) (k .call)) whole-row-call-cases
+    ≡ map (λ (k : CallCase). k .after) whole-row-call-cases
 whole-row-call-cases-are-computed = row-calls-past-check whole-row-call-cases refl whole-row-calls-pass ∙ whole-row-calls-behind-check
 
 -- Names: an accepted named take hands its name back held; a held name is refused, 14, and handed back; either free of its block lets it go; and then it is not
@@ -104,7 +107,8 @@ named-row-calls-behind-check : map row-call-behind-check named-row-call-cases �
 unfolding uncheckedCallDefinitions
 named-row-calls-behind-check = refl
 
-pub named-row-call-cases-are-computed : map (λ (k : CallCase). rowCall (k .control) (k .row) (k .order) (k .call)) named-row-call-cases ≡ map (λ (k : CallCase). k .after) named-row-call-cases
+pub named-row-call-cases-are-computed : map (λ (k : CallCase). rowCall (k .control) (k .row) (k .order) (k .call)) named-row-call-cases
+    ≡ map (λ (k : CallCase). k .after) named-row-call-cases
 named-row-call-cases-are-computed = row-calls-past-check named-row-call-cases refl named-row-calls-pass ∙ named-row-calls-behind-check
 
 -- a name at a block that is not live fails the check, 13, and is handed back
@@ -129,7 +133,8 @@ wrong-totals-refused : map (refused-by totalsValid) wrong-totals-cases ≡ map (
 unfolding checkDefinitions
 wrong-totals-refused = refl
 
-pub wrong-totals-cases-are-computed : map (λ (k : CallCase). rowCall (k .control) (k .row) (k .order) (k .call)) wrong-totals-cases ≡ map (λ (k : CallCase). k .after) wrong-totals-cases
+pub wrong-totals-cases-are-computed : map (λ (k : CallCase). rowCall (k .control) (k .row) (k .order) (k .call)) wrong-totals-cases
+    ≡ map (λ (k : CallCase). k .after) wrong-totals-cases
 wrong-totals-cases-are-computed = row-calls-refused totalsValid (λ s order t. clauses-of-rest s order t .totals) wrong-totals-cases wrong-totals-refused
 
 -- Ranks: a row with a rank of 2 alone, or with an unused record ranked, fails the check, 13, and keeps them
@@ -142,11 +147,12 @@ wrong-ranks-refused : map (refused-by ranksValid) wrong-ranks-cases ≡ map (λ 
 unfolding checkDefinitions
 wrong-ranks-refused = refl
 
-pub wrong-ranks-cases-are-computed : map (λ (k : CallCase). rowCall (k .control) (k .row) (k .order) (k .call)) wrong-ranks-cases ≡ map (λ (k : CallCase). k .after) wrong-ranks-cases
+pub wrong-ranks-cases-are-computed : map (λ (k : CallCase). rowCall (k .control) (k .row) (k .order) (k .call)) wrong-ranks-cases
+    ≡ map (λ (k : CallCase). k .after) wrong-ranks-cases
 wrong-ranks-cases-are-computed = row-calls-refused ranksValid (λ s order t. clauses-of-rest s order t .ranks) wrong-ranks-cases wrong-ranks-refused
 
--- Long blocks (document 02, item 7): with N = 1 a size of 2049 takes superblock 0 as a run of one and writes no order place; another address in it is refused 6; either free makes it
--- unused; the name that holds it is handed back, and let go
+-- Long blocks (document 02, item 7): with N = 1 a size of 2049 takes superblock 0 as a run of one and writes no order place; another address in it is
+-- refused 6; either free makes it unused; the name that holds it is handed back, and let go
 abbrev pub run-part : ℕ → Superblock
 run-part n = record { owner = 254; class = 0; live = 0 ∷ 0 ∷ 0 ∷ 0 ∷ []; rank = 0; run = n }
 
@@ -159,10 +165,12 @@ row-after-long-free = row-after (Moves 0) unnamed-control unused-row storage-of-
 abbrev pub long-row-call-cases : List CallCase
 long-row-call-cases =
     record { control = unnamed-control; row = unused-row; order = storage-of-258; call = Take 2 2049; after = row-after-long-take no-name-held }
-    ∷ refused-after (row-after-long-take no-name-held) (Free 1 2048) 6 ∷ refused-after (row-after-long-take no-name-held) (Take 1 16) 4 ∷ refused-after (row-after-long-take no-name-held) (Take 1 2049) 17
+    ∷ refused-after (row-after-long-take no-name-held) (Free 1 2048) 6 ∷ refused-after (row-after-long-take no-name-held) (Take 1 16) 4
+    ∷ refused-after (row-after-long-take no-name-held) (Take 1 2049) 17
     ∷ case-after (row-after-long-take no-name-held) (Free 1 0) row-after-long-free
     ∷ record { control = unnamed-control; row = unused-row; order = storage-of-258; call = NamedTake 2 6 2049; after = row-after-long-take name-6-held }
-    ∷ case-after (row-after-long-take name-6-held) (NamedFree 1 6) row-after-long-free ∷ case-after (row-after-long-take name-6-held) (Drop 1 (0 ∷ [])) row-after-long-free ∷ []
+    ∷ case-after (row-after-long-take name-6-held) (NamedFree 1 6) row-after-long-free ∷ case-after (row-after-long-take name-6-held)
+    (Drop 1 (0 ∷ [])) row-after-long-free ∷ []
 
 long-row-calls-pass : map row-passes long-row-call-cases ≡ map (λ (k : CallCase). true) long-row-call-cases
 unfolding usedPartDefinitions
@@ -172,7 +180,8 @@ long-row-calls-behind-check : map row-call-behind-check long-row-call-cases ≡ 
 unfolding uncheckedCallDefinitions
 long-row-calls-behind-check = refl
 
-pub long-row-call-cases-are-computed : map (λ (k : CallCase). rowCall (k .control) (k .row) (k .order) (k .call)) long-row-call-cases ≡ map (λ (k : CallCase). k .after) long-row-call-cases
+pub long-row-call-cases-are-computed : map (λ (k : CallCase). rowCall (k .control) (k .row) (k .order) (k .call)) long-row-call-cases
+    ≡ map (λ (k : CallCase). k .after) long-row-call-cases
 long-row-call-cases-are-computed = row-calls-past-check long-row-call-cases refl long-row-calls-pass ∙ long-row-calls-behind-check
 
 -- the clauses of runs: that they are whole, and below N
@@ -182,18 +191,21 @@ runsWholeAndBelowN s = both (runsValid s) (allBelow (λ k. unusedFrom (s .setup 
 asks-runs : (s : State) (order : List ℕ) → T (restValid s order) → T (runsWholeAndBelowN s)
 asks-runs s order t = let clauses = clauses-of-rest s order t in both-make (runsValid s) _ (clauses .runs) (clauses .past-unused)
 
--- Runs: a row with a run that is cut off, one whose first record carries no length, one past N or an unused record that carries a length fails the check, 13, and keeps them
+-- Runs: a row with a run that is cut off, one whose first record carries no length, one past N or an unused record that carries a length fails the
+-- check, 13, and keeps them
 abbrev pub wrong-runs-cases : List CallCase
 wrong-runs-cases =
     map (λ (row : List Superblock). call-refused-case 13 unnamed-control row storage-of-258 (Take 2 2048))
-    ((run-part 2 ∷ replicate 63 unused-superblock) ∷ (run-part 0 ∷ replicate 63 unused-superblock) ∷ (unused-superblock ∷ run-part 1 ∷ replicate 62 unused-superblock)
+    ((run-part 2 ∷ replicate 63 unused-superblock) ∷ (run-part 0 ∷ replicate 63 unused-superblock)
+    ∷ (unused-superblock ∷ run-part 1 ∷ replicate 62 unused-superblock)
     ∷ (record { owner = 255; class = 0; live = 0 ∷ 0 ∷ 0 ∷ 0 ∷ []; rank = 0; run = 1 } ∷ replicate 63 unused-superblock) ∷ [])
 
 wrong-runs-refused : map (refused-by runsWholeAndBelowN) wrong-runs-cases ≡ map (λ (k : CallCase). true) wrong-runs-cases
 unfolding checkDefinitions
 wrong-runs-refused = refl
 
-pub wrong-runs-cases-are-computed : map (λ (k : CallCase). rowCall (k .control) (k .row) (k .order) (k .call)) wrong-runs-cases ≡ map (λ (k : CallCase). k .after) wrong-runs-cases
+pub wrong-runs-cases-are-computed : map (λ (k : CallCase). rowCall (k .control) (k .row) (k .order) (k .call)) wrong-runs-cases
+    ≡ map (λ (k : CallCase). k .after) wrong-runs-cases
 wrong-runs-cases-are-computed = row-calls-refused runsWholeAndBelowN asks-runs wrong-runs-cases wrong-runs-refused
 
 -- ---- lists
@@ -219,14 +231,16 @@ take-then-free-linked =
     (nth-after 2 whole-row-call-cases computed, (nth-after 3 whole-row-call-cases computed, tt))
 
 -- and the names that it handed back: a block that is taken by name is freed by it
-pub named-take-then-named-free-linked : RowLinked row-after-setup (record { call = NamedTake 2 6 2048; after = row-after-take name-6-held } ∷ record { call = NamedFree 1 6; after = row-after-free } ∷ [])
+pub named-take-then-named-free-linked : RowLinked row-after-setup (record { call = NamedTake 2 6 2048; after = row-after-take name-6-held }
+    ∷ record { call = NamedFree 1 6; after = row-after-free } ∷ [])
 unfolding RowLinked
 named-take-then-named-free-linked =
     let computed = named-row-call-cases-are-computed in
     (nth-after 0 named-row-call-cases computed, (nth-after 3 named-row-call-cases computed, tt))
 
 -- and the run that it wrote: a long block that is taken is freed
-pub long-take-then-free-linked : RowLinked row-after-setup (record { call = Take 2 2049; after = row-after-long-take no-name-held } ∷ record { call = Free 1 0; after = row-after-long-free } ∷ [])
+pub long-take-then-free-linked : RowLinked row-after-setup (record { call = Take 2 2049; after = row-after-long-take no-name-held }
+    ∷ record { call = Free 1 0; after = row-after-long-free } ∷ [])
 unfolding RowLinked
 long-take-then-free-linked =
     let computed = long-row-call-cases-are-computed in

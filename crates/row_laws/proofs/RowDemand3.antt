@@ -16,12 +16,14 @@ use Rattle.row_rules.specs.RowClaim.{RowStep, RowLinked, RowClaims, asAfter, st
 use Rattle.row_laws.proofs.RowLaws.{call-on-64-is-call-of, length-of-row-call, row-setup-ready}
 
 -- calls on one row of 64 records are a list of calls on states
-pub linked-of-row-linked : (before : RowAfter) (steps : List RowStep) → length (before .row) ≡ 64 → RowLinked before steps → Linked (asAfter before) (map stepOf steps)
+pub linked-of-row-linked : (before : RowAfter) (steps : List RowStep) → length (before .row) ≡ 64 → RowLinked before steps
+    → Linked (asAfter before) (map stepOf steps)
 unfolding RowLinked Linked
 linked-of-row-linked before [] long linked = tt
 linked-of-row-linked before (step ∷ steps) long linked = (
   ap asAfter (linked .0 ∙ call-on-64-is-call-of (length (before .row)) (before .control) (before .row) (before .order) (step .call) long),
-  linked-of-row-linked (step .after) steps (ap (λ (x : RowAfter). length (x .row)) (linked .0) ∙ length-of-row-call (before .control) (before .row) (before .order) (step .call) ∙ long) (linked .1),
+  linked-of-row-linked (step .after) steps (ap (λ (x : RowAfter). length (x .row)) (linked .0) ∙ length-of-row-call (before .control) (before .row)
+      (before .order) (step .call) ∙ long) (linked .1),
 )
 
 -- .. and after an accepted setup on the row, one from what that setup leaves
@@ -31,7 +33,8 @@ row-list-is-call-list u row order start e ready steps linked =
     let h = row-setup-ready u row order (ap (λ (x : RowAfter). x .outcome) (sym e) ∙ ready) in
     (ap asAfter e ∙ h .1, linked-of-row-linked start steps (ap (λ (x : RowAfter). length (x .row)) e ∙ h .2) linked)
 
--- For every accepted setup on a lent row, whatever stood in row and storage before, and every list of takes and frees on that row after it, plain and named, and of drops.
+-- For every accepted setup on a lent row, whatever stood in row and storage before, and every list of takes and frees on that row after it, plain and
+-- named, and of drops.
 pub row-demand-3 : (u : Setup) (row : List Superblock) (order : List ℕ) (start : RowAfter) → start ≡ rowSetup u row order → start .outcome ≡ Ready
     → (steps : List RowStep) → RowLinked start steps → RowClaims u start [] (λ c. 0) steps
 row-demand-3 u row order start e ready steps linked =

@@ -14,7 +14,8 @@ use Rattle.row_rules.specs.Row.{stateOf, callOn, rowCall}
 use Rattle.row_laws.proofs.RowLaws.{call-on-64-is-call-of}
 
 -- A drop of one address is the free of it, on every row, of any length.
-pub row-drop-of-one-is-free : (control : Control) (row : List Superblock) (order : List ℕ) (i a : ℕ) → rowCall control row order (Drop i (a ∷ [])) ≡ rowCall control row order (Free i a)
+pub row-drop-of-one-is-free : (control : Control) (row : List Superblock) (order : List ℕ) (i a : ℕ) → rowCall control row order (Drop i (a ∷ []))
+    ≡ rowCall control row order (Free i a)
 unfolding callOn callOf
 row-drop-of-one-is-free control row order i a = rw (drop-of-one-is-free (stateOf control row) order i a)
 

@@ -40,7 +40,8 @@ use Rattle.row_rules.specs.RowClaim.{asAfter}
 use Rattle.row_laws.proofs.CallAcceptedLaws.{CallAccepted, call-refused-or-accepted}
 
 -- document 02, item 1: "turns a size of 0 into the smallest block", on a row too
-pub row-take-of-size-0 : (control : Control) (row : List Superblock) (order : List ℕ) (i : ℕ) → rowCall control row order (Take i 0) ≡ rowCall control row order (Take i (sizeOf 0))
+pub row-take-of-size-0 : (control : Control) (row : List Superblock) (order : List ℕ) (i : ℕ) → rowCall control row order (Take i 0)
+    ≡ rowCall control row order (Take i (sizeOf 0))
 unfolding callOn
 row-take-of-size-0 control row order i = rw (take-of-size-0 (stateOf control row) order i)
 
@@ -57,11 +58,13 @@ module _ (n : ℕ) (u : Setup) (row : List Superblock) (order : List ℕ) where
   unfolding setupOn
   setup-on-refused-1-of-limits e = rw e
 
-  pub setup-on-refused-12-of-storage : withinLimits u ≡ true → length order < u .superblocks * 256 → setupOn n u row order ≡ rowRefused 12 (controlOf noState) row order
+  pub setup-on-refused-12-of-storage : withinLimits u ≡ true → length order < u .superblocks * 256 → setupOn n u row order
+      ≡ rowRefused 12 (controlOf noState) row order
   unfolding setupOn
   setup-on-refused-12-of-storage e l = rw (e, lt-leb (u .superblocks * 256) (length order) l)
 
-  pub setup-on-refused-13-of-length : withinLimits u ≡ true → u .superblocks * 256 ≤ length order → (n ≡ 64 → ⊥) → setupOn n u row order ≡ rowRefused 13 (controlOf noState) row order
+  pub setup-on-refused-13-of-length : withinLimits u ≡ true → u .superblocks * 256 ≤ length order → (n ≡ 64 → ⊥) → setupOn n u row order
+      ≡ rowRefused 13 (controlOf noState) row order
   unfolding setupOn
   setup-on-refused-13-of-length e l f = rw (e, le-leb (u .superblocks * 256) (length order) l, ne-eqb n 64 f)
 
@@ -75,7 +78,8 @@ module _ (n : ℕ) (u : Setup) (row : List Superblock) (order : List ℕ) where
   setup-on-other-length-not-accepted f = go (withinLimits u) (leb (u .superblocks * 256) (length order)) (eqb n 64) (ne-eqb n 64 f)
     where
       go : (a b c : Bool) → c ≡ false
-          → numberOf (pick a (pick b (pick c (rowAcceptedSetup u order) (rowRefused 13 (controlOf noState) row order)) (rowRefused 12 (controlOf noState) row order)) (rowRefused 1 (controlOf noState) row order) .outcome) ≡ 0
+          → numberOf (pick a (pick b (pick c (rowAcceptedSetup u order) (rowRefused 13 (controlOf noState) row order))
+          (rowRefused 12 (controlOf noState) row order)) (rowRefused 1 (controlOf noState) row order) .outcome) ≡ 0
           → ⊥
       go true true true e z = true-not-false true refl e
       go true true false e z = absurd (omega (arith, z))
@@ -88,15 +92,18 @@ module _ (n : ℕ) (control : Control) (row : List Superblock) (order : List ℕ
   unfolding callOn
   call-on-refused-13-of-limits e = rw e
 
-  pub call-on-refused-12-of-storage : withinLimits (control .setup) ≡ true → length order < control .setup .superblocks * 256 → callOn n control row order call ≡ rowRefused 12 control row order
+  pub call-on-refused-12-of-storage : withinLimits (control .setup) ≡ true → length order < control .setup .superblocks * 256
+      → callOn n control row order call ≡ rowRefused 12 control row order
   unfolding callOn
   call-on-refused-12-of-storage e l = rw (e, lt-leb (control .setup .superblocks * 256) (length order) l)
 
-  pub call-on-refused-13-of-length : withinLimits (control .setup) ≡ true → control .setup .superblocks * 256 ≤ length order → (n ≡ 64 → ⊥) → callOn n control row order call ≡ rowRefused 13 control row order
+  pub call-on-refused-13-of-length : withinLimits (control .setup) ≡ true → control .setup .superblocks * 256 ≤ length order → (n ≡ 64 → ⊥)
+      → callOn n control row order call ≡ rowRefused 13 control row order
   unfolding callOn
   call-on-refused-13-of-length e l f = rw (e, le-leb (control .setup .superblocks * 256) (length order) l, ne-eqb n 64 f)
 
-  pub call-on-past-first-refusals : withinLimits (control .setup) ≡ true → control .setup .superblocks * 256 ≤ length order → n ≡ 64 → callOn n control row order call ≡ asRowAfter (callOf (stateOf control row) order call)
+  pub call-on-past-first-refusals : withinLimits (control .setup) ≡ true → control .setup .superblocks * 256 ≤ length order → n ≡ 64
+      → callOn n control row order call ≡ asRowAfter (callOf (stateOf control row) order call)
   unfolding callOn
   call-on-past-first-refusals e l f = rw (e, le-leb (control .setup .superblocks * 256) (length order) l, eq-eqb n 64 f)
 
@@ -104,7 +111,8 @@ module _ (n : ℕ) (control : Control) (row : List Superblock) (order : List ℕ
   pub call-on-other-length-refused : (n ≡ 64 → ⊥) → (r : ℕ) × (callOn n control row order call ≡ rowRefused r control row order)
   call-on-other-length-refused f = go (withinLimits (control .setup)) (leb (control .setup .superblocks * 256) (length order)) refl refl
     where
-      go : (a b : Bool) → withinLimits (control .setup) ≡ a → leb (control .setup .superblocks * 256) (length order) ≡ b → (r : ℕ) × (callOn n control row order call ≡ rowRefused r control row order)
+      go : (a b : Bool) → withinLimits (control .setup) ≡ a → leb (control .setup .superblocks * 256) (length order) ≡ b → (r : ℕ)
+          × (callOn n control row order call ≡ rowRefused r control row order)
       go true true e g = (13, call-on-refused-13-of-length e (leb-true (control .setup .superblocks * 256) (length order) g) f)
       go true false e g = (12, call-on-refused-12-of-storage e (leb-false (control .setup .superblocks * 256) (length order) g))
       go false b e g = (13, call-on-refused-13-of-limits e)
@@ -114,7 +122,8 @@ module _ (n : ℕ) (control : Control) (row : List Superblock) (order : List ℕ
   call-on-other-length-not-accepted f = go (withinLimits (control .setup)) (leb (control .setup .superblocks * 256) (length order)) (eqb n 64) (ne-eqb n 64 f)
     where
       go : (a b c : Bool) → c ≡ false
-          → numberOf (pick a (pick b (pick c (asRowAfter (callOf (stateOf control row) order call)) (rowRefused 13 control row order)) (rowRefused 12 control row order)) (rowRefused 13 control row order) .outcome) ≡ 0
+          → numberOf (pick a (pick b (pick c (asRowAfter (callOf (stateOf control row) order call)) (rowRefused 13 control row order))
+          (rowRefused 12 control row order)) (rowRefused 13 control row order) .outcome) ≡ 0
           → ⊥
       go true true true e z = true-not-false true refl e
       go true true false e z = absurd (omega (arith, z))
@@ -128,7 +137,8 @@ module _ (n : ℕ) (control : Control) (row : List Superblock) (order : List ℕ
       checks-first : callOf (stateOf control row) order call ≡ checked (stateOf control row) order (callUnchecked (stateOf control row) order call)
       checks-first = call-of-checks-first (stateOf control row) order call
 
-      go : (a b : Bool) → withinLimits (control .setup) ≡ a → leb (control .setup .superblocks * 256) (length order) ≡ b → callOn n control row order call ≡ asRowAfter (callOf (stateOf control row) order call)
+      go : (a b : Bool) → withinLimits (control .setup) ≡ a → leb (control .setup .superblocks * 256) (length order) ≡ b → callOn n control row order call
+          ≡ asRowAfter (callOf (stateOf control row) order call)
       go true true e g = call-on-past-first-refusals e (leb-true (control .setup .superblocks * 256) (length order) g) f
       go true false e g =
           let l = leb-false (control .setup .superblocks * 256) (length order) g in
@@ -138,11 +148,13 @@ module _ (n : ℕ) (control : Control) (row : List Superblock) (order : List ℕ
 -- ---- a setup on a lent row
 module _ (u : Setup) (row : List Superblock) (order : List ℕ) where
   -- accepted or refused, and nothing between
-  pub row-setup-refused-or-accepted : ((r : ℕ) × (rowSetup u row order ≡ rowRefused r (controlOf noState) row order)) ⊎ (T (withinLimits u) × (u .superblocks * 256 ≤ length order) × (rowSetup u row order ≡ rowAcceptedSetup u order))
+  pub row-setup-refused-or-accepted : ((r : ℕ) × (rowSetup u row order ≡ rowRefused r (controlOf noState) row order))
+      ⊎ (T (withinLimits u) × (u .superblocks * 256 ≤ length order) × (rowSetup u row order ≡ rowAcceptedSetup u order))
   row-setup-refused-or-accepted = go (withinLimits u) (leb (u .superblocks * 256) (length order)) (ℕ-discrete (length row) 64) refl refl
     where
       go : (a b : Bool) → Dec (length row ≡ 64) → withinLimits u ≡ a → leb (u .superblocks * 256) (length order) ≡ b
-          → ((r : ℕ) × (rowSetup u row order ≡ rowRefused r (controlOf noState) row order)) ⊎ (T (withinLimits u) × (u .superblocks * 256 ≤ length order) × (rowSetup u row order ≡ rowAcceptedSetup u order))
+          → ((r : ℕ) × (rowSetup u row order ≡ rowRefused r (controlOf noState) row order))
+          ⊎ (T (withinLimits u) × (u .superblocks * 256 ≤ length order) × (rowSetup u row order ≡ rowAcceptedSetup u order))
       go true true (yes f) e g =
           let l = leb-true (u .superblocks * 256) (length order) g in
           inr (T-of-true (withinLimits u) e, l, setup-on-accepted (length row) u row order e l f)
@@ -155,7 +167,8 @@ module _ (u : Setup) (row : List Superblock) (order : List ℕ) where
   unfolding numberOf isReady
   row-setup-refused r e = go row-setup-refused-or-accepted
     where
-      go : ((n : ℕ) × (rowSetup u row order ≡ rowRefused n (controlOf noState) row order)) ⊎ (T (withinLimits u) × (u .superblocks * 256 ≤ length order) × (rowSetup u row order ≡ rowAcceptedSetup u order))
+      go : ((n : ℕ) × (rowSetup u row order ≡ rowRefused n (controlOf noState) row order))
+          ⊎ (T (withinLimits u) × (u .superblocks * 256 ≤ length order) × (rowSetup u row order ≡ rowAcceptedSetup u order))
           → rowSetup u row order ≡ rowRefused r (controlOf noState) row order
       go (inl h) =
           let same : h .0 ≡ r = sym (ap (λ (x : RowAfter). numberOf (x .outcome)) (h .1)) ∙ ap numberOf e in
@@ -163,41 +176,58 @@ module _ (u : Setup) (row : List Superblock) (order : List ℕ) where
       go (inr h) = absurd (let z : _≡_ {A = ℕ} 1 0 = sym (ap (λ (x : RowAfter). isReady (x .outcome)) (h .2)) ∙ ap isReady e in omega arith)
 
   -- what is stored only where the number is 0 is the row that the rules leave
-  pub row-setup-row-if-accepted : (b : Bool) → b ≡ eqb (numberOf (rowSetup u row order .outcome)) 0 → pick b (rowSetup u row order .row) row ≡ rowSetup u row order .row
+  pub row-setup-row-if-accepted : (b : Bool) → b ≡ eqb (numberOf (rowSetup u row order .outcome)) 0 → pick b (rowSetup u row order .row) row
+      ≡ rowSetup u row order .row
   unfolding numberOf
   row-setup-row-if-accepted true e = refl
   row-setup-row-if-accepted false e = go row-setup-refused-or-accepted
     where
-      go : ((n : ℕ) × (rowSetup u row order ≡ rowRefused n (controlOf noState) row order)) ⊎ (T (withinLimits u) × (u .superblocks * 256 ≤ length order) × (rowSetup u row order ≡ rowAcceptedSetup u order))
+      go : ((n : ℕ) × (rowSetup u row order ≡ rowRefused n (controlOf noState) row order))
+          ⊎ (T (withinLimits u) × (u .superblocks * 256 ≤ length order) × (rowSetup u row order ≡ rowAcceptedSetup u order))
           → row ≡ rowSetup u row order .row
       go (inl h) = sym (ap (λ (x : RowAfter). x .row) (h .1))
-      go (inr h) = absurd (true-not-false (eqb (numberOf (rowSetup u row order .outcome)) 0) (ap (λ (x : RowAfter). eqb (numberOf (x .outcome)) 0) (h .2)) (sym e))
+      go (inr h) = absurd (true-not-false (eqb (numberOf (rowSetup u row order .outcome)) 0) (ap (λ (x : RowAfter). eqb (numberOf (x .outcome)) 0) (h .2))
+          (sym e))
 
   -- an accepted one writes 64 unused superblocks, whatever stood in the row, and they pass
   pub row-setup-ready : rowSetup u row order .outcome ≡ Ready
       → (rowSetup u row order ≡ rowAcceptedSetup u order) × (asAfter (rowSetup u row order) ≡ setupOf u order) × (length (rowSetup u row order .row) ≡ 64)
-      × Passed (stateOf (rowSetup u row order .control) (rowSetup u row order .row)) (rowSetup u row order .order) × Shape (stateOf (rowSetup u row order .control) (rowSetup u row order .row))
+      × Passed (stateOf (rowSetup u row order .control) (rowSetup u row order .row)) (rowSetup u row order .order)
+      × Shape (stateOf (rowSetup u row order .control) (rowSetup u row order .row))
   unfolding isReady
   row-setup-ready e = go row-setup-refused-or-accepted
     where
-      go : ((n : ℕ) × (rowSetup u row order ≡ rowRefused n (controlOf noState) row order)) ⊎ (T (withinLimits u) × (u .superblocks * 256 ≤ length order) × (rowSetup u row order ≡ rowAcceptedSetup u order))
+      go : ((n : ℕ) × (rowSetup u row order ≡ rowRefused n (controlOf noState) row order))
+          ⊎ (T (withinLimits u) × (u .superblocks * 256 ≤ length order) × (rowSetup u row order ≡ rowAcceptedSetup u order))
           → (rowSetup u row order ≡ rowAcceptedSetup u order) × (asAfter (rowSetup u row order) ≡ setupOf u order) × (length (rowSetup u row order .row) ≡ 64)
-          × Passed (stateOf (rowSetup u row order .control) (rowSetup u row order .row)) (rowSetup u row order .order) × Shape (stateOf (rowSetup u row order .control) (rowSetup u row order .row))
+          × Passed (stateOf (rowSetup u row order .control) (rowSetup u row order .row)) (rowSetup u row order .order)
+          × Shape (stateOf (rowSetup u row order .control) (rowSetup u row order .row))
       go (inl h) = absurd (let z : _≡_ {A = ℕ} 0 1 = sym (ap (λ (x : RowAfter). isReady (x .outcome)) (h .1)) ∙ ap isReady e in omega arith)
       go (inr (t, l, s)) =
           let places : List ℕ = cleared order (u .superblocks * 256) in
-          let room : u .superblocks * 256 ≤ length places = subst (λ (n : ℕ). u .superblocks * 256 ≤ n) (sym (length-cleared order (u .superblocks * 256))) l in (
+          let room : u .superblocks * 256 ≤ length places =
+          subst (λ (n : ℕ). u .superblocks * 256 ≤ n) (sym (length-cleared order (u .superblocks * 256))) l in (
             s,
             ap asAfter s ∙ sym (state-setup-accepts u order (true-of-T (withinLimits u) t) l),
             ap (λ (x : RowAfter). length (x .row)) s ∙ length-replicate 64 unused,
-            subst (λ (x : RowAfter). Passed (stateOf (x .control) (x .row)) (x .order)) (sym s) (record { sound = new-state-sound u places t; names = new-state-names-valid u; totals = new-state-totals-kept u; ranks = new-state-ranks-sound u; runs = runs-valid-of-sound _ (new-state-shape u .length-is) (new-state-runs-sound u); room = room }),
+            subst (λ (x : RowAfter). Passed (stateOf (x .control) (x .row)) (x .order)) (sym s)
+                (record {
+                  sound = new-state-sound u places t;
+                  names = new-state-names-valid u;
+                  totals = new-state-totals-kept u;
+                  ranks =
+                      new-state-ranks-sound u;
+                  runs = runs-valid-of-sound _ (new-state-shape u .length-is) (new-state-runs-sound u);
+                  room = room;
+                }),
             subst (λ (x : RowAfter). Shape (stateOf (x .control) (x .row))) (sym s) (new-state-shape u),
           )
 
 -- ---- a call on a lent row
 module _ (control : Control) (row : List Superblock) (order : List ℕ) (call : Call) where
   abbrev RowCallAccepted : Type 0
-  RowCallAccepted = (length row ≡ 64) × CallAccepted (stateOf control row) order (callOf (stateOf control row) order call) × (rowCall control row order call ≡ asRowAfter (callOf (stateOf control row) order call))
+  RowCallAccepted = (length row ≡ 64) × CallAccepted (stateOf control row) order (callOf (stateOf control row) order call)
+      × (rowCall control row order call ≡ asRowAfter (callOf (stateOf control row) order call))
 
   -- it is refused and changes nothing, or the row is 64 long and the call is accepted on its state
   pub row-call-refused-or-accepted : ((r : ℕ) × (rowCall control row order call ≡ rowRefused r control row order)) ⊎ RowCallAccepted
@@ -214,14 +244,16 @@ module _ (control : Control) (row : List Superblock) (order : List ℕ) (call : 
   unfolding numberOf
   row-call-refused r e = go row-call-refused-or-accepted
     where
-      go : ((n : ℕ) × (rowCall control row order call ≡ rowRefused n control row order)) ⊎ RowCallAccepted → rowCall control row order call ≡ rowRefused r control row order
+      go : ((n : ℕ) × (rowCall control row order call ≡ rowRefused n control row order)) ⊎ RowCallAccepted → rowCall control row order call
+          ≡ rowRefused r control row order
       go (inl h) =
           let same : h .0 ≡ r = sym (ap (λ (x : RowAfter). numberOf (x .outcome)) (h .1)) ∙ ap numberOf e in
           h .1 ∙ ap (λ (n : ℕ). rowRefused n control row order) same
       go (inr (f, g, s)) = absurd (g .not-refused r (ap (λ (x : RowAfter). x .outcome) (sym s) ∙ e))
 
   -- what is stored only where the number is 0 is the row that the rules leave
-  pub row-call-row-if-accepted : (b : Bool) → b ≡ eqb (numberOf (rowCall control row order call .outcome)) 0 → pick b (rowCall control row order call .row) row ≡ rowCall control row order call .row
+  pub row-call-row-if-accepted : (b : Bool) → b ≡ eqb (numberOf (rowCall control row order call .outcome)) 0
+      → pick b (rowCall control row order call .row) row ≡ rowCall control row order call .row
   unfolding numberOf
   row-call-row-if-accepted true e = refl
   row-call-row-if-accepted false e = go row-call-refused-or-accepted
@@ -235,12 +267,14 @@ module _ (control : Control) (row : List Superblock) (order : List ℕ) (call : 
       go : ((n : ℕ) × (rowCall control row order call ≡ rowRefused n control row order)) ⊎ RowCallAccepted → row ≡ rowCall control row order call .row
       go (inl h) = sym (ap (λ (x : RowAfter). x .row) (h .1))
       go (inr (f, g, s)) =
-          let zero-is : numberOf (rowCall control row order call .outcome) ≡ 0 = ap (λ (x : RowAfter). numberOf (x .outcome)) s ∙ number-0 (callOf (stateOf control row) order call .answer .outcome) (g .not-refused) in
+          let zero-is : numberOf (rowCall control row order call .outcome) ≡ 0 = ap (λ (x : RowAfter). numberOf (x .outcome)) s
+          ∙ number-0 (callOf (stateOf control row) order call .answer .outcome) (g .not-refused) in
           absurd (true-not-false (eqb (numberOf (rowCall control row order call .outcome)) 0) (ap (λ (n : ℕ). eqb n 0) zero-is) (sym e))
 
   -- no call changes the row's length, and an accepted one leaves 64 records
   pub length-of-row-call : length (rowCall control row order call .row) ≡ length row
-  length-of-row-call = ⊎-elim (λ h. ap (λ (x : RowAfter). length (x .row)) (h .1)) (λ h. ap (λ (x : RowAfter). length (x .row)) (h .2) ∙ h .1 .length-is (h .0) ∙ sym (h .0)) row-call-refused-or-accepted
+  length-of-row-call = ⊎-elim (λ h. ap (λ (x : RowAfter). length (x .row)) (h .1)) (λ h. ap (λ (x : RowAfter). length (x .row)) (h .2)
+      ∙ h .1 .length-is (h .0) ∙ sym (h .0)) row-call-refused-or-accepted
 
   module _ (goes : (r : ℕ) → rowCall control row order call .outcome ≡ Refused r → ⊥) where
     row-call-accepted : RowCallAccepted
@@ -251,6 +285,8 @@ module _ (control : Control) (row : List Superblock) (order : List ℕ) (call : 
 
     -- "An accepted call yields a state that passes."
     pub accepted-row-call-passes : Shape (stateOf control row)
-        → Passed (stateOf (rowCall control row order call .control) (rowCall control row order call .row)) (rowCall control row order call .order) × Shape (stateOf (rowCall control row order call .control) (rowCall control row order call .row))
+        → Passed (stateOf (rowCall control row order call .control) (rowCall control row order call .row)) (rowCall control row order call .order)
+        × Shape (stateOf (rowCall control row order call .control) (rowCall control row order call .row))
     accepted-row-call-passes shape =
-        subst (λ (x : RowAfter). Passed (stateOf (x .control) (x .row)) (x .order) × Shape (stateOf (x .control) (x .row))) (sym (row-call-accepted .2)) (row-call-accepted .1 .passes shape)
+        subst (λ (x : RowAfter). Passed (stateOf (x .control) (x .row)) (x .order) × Shape (stateOf (x .control) (x .row))) (sym (row-call-accepted .2))
+        (row-call-accepted .1 .passes shape)

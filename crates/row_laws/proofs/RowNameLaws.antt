@@ -30,26 +30,32 @@ use Rattle.row_laws.proofs.RowDemand3.{row-list-is-call-list}
 -- "A new or refused setup holds no names"
 pub row-setup-holds-no-names : (u : Setup) (row : List Superblock) (order : List ℕ) (m : ℕ) → isHeld (rowSetup u row order .control .names) m ≡ false
 row-setup-holds-no-names u row order m =
-    ⊎-elim (λ h. ap (λ (x : RowAfter). isHeld (x .control .names) m) (h .1) ∙ not-held-of-no-names m) (λ h. ap (λ (x : RowAfter). isHeld (x .control .names) m) (h .2) ∙ not-held-of-no-names m)
+    ⊎-elim (λ h. ap (λ (x : RowAfter). isHeld (x .control .names) m) (h .1) ∙ not-held-of-no-names m)
+    (λ h. ap (λ (x : RowAfter). isHeld (x .control .names) m) (h .2) ∙ not-held-of-no-names m)
     (row-setup-refused-or-accepted u row order)
 
 -- "a refused take binds none", and no refused call changes a name
-pub refused-row-call-keeps-names : (control : Control) (row : List Superblock) (order : List ℕ) (call : Call) (r : ℕ) → rowCall control row order call .outcome ≡ Refused r
+pub refused-row-call-keeps-names : (control : Control) (row : List Superblock) (order : List ℕ) (call : Call) (r : ℕ)
+    → rowCall control row order call .outcome ≡ Refused r
     → rowCall control row order call .control .names ≡ control .names
 refused-row-call-keeps-names control row order call r e = ap (λ (x : RowAfter). x .control .names) (row-call-refused control row order call r e)
 
 -- "A named call does what the plain one does, a free with the held address", on a row of 64 records that passes, for a processor in range
-module _ (control : Control) (row : List Superblock) (order : List ℕ) (i m : ℕ) (long : length row ≡ 64) (passed : Passed (stateOf control row) order) (p : isProcessor (stateOf control row) i ≡ true) where
+module _ (control : Control) (row : List Superblock) (order : List ℕ) (i m : ℕ) (long : length row ≡ 64) (passed : Passed (stateOf control row) order)
+    (p : isProcessor (stateOf control row) i ≡ true) where
   row-call-is-call-of : (call : Call) → rowCall control row order call ≡ asRowAfter (callOf (stateOf control row) order call)
   row-call-is-call-of call = call-on-64-is-call-of (length row) control row order call long
 
   -- a take for a name that is free is the plain take with the name bound
-  pub row-named-take-is-plain-take : (size : ℕ) → isUnavailable (stateOf control row) m ≡ false → rowCall control row order (NamedTake i m size) ≡ asRowAfter (withNameBound m (callOf (stateOf control row) order (Take i size)))
+  pub row-named-take-is-plain-take : (size : ℕ) → isUnavailable (stateOf control row) m ≡ false → rowCall control row order (NamedTake i m size)
+      ≡ asRowAfter (withNameBound m (callOf (stateOf control row) order (Take i size)))
   unfolding callOf
-  row-named-take-is-plain-take size free = row-call-is-call-of (NamedTake i m size) ∙ ap asRowAfter (named-take-is-plain-take (stateOf control row) order i m size passed p free)
+  row-named-take-is-plain-take size free = row-call-is-call-of (NamedTake i m size)
+      ∙ ap asRowAfter (named-take-is-plain-take (stateOf control row) order i m size passed p free)
 
   -- a free of a held name is the plain free of its address
-  pub row-named-free-is-free-of-held-address : isHeld (control .names) m ≡ true → rowCall control row order (NamedFree i m) ≡ rowCall control row order (Free i (heldAddress (stateOf control row) m))
+  pub row-named-free-is-free-of-held-address : isHeld (control .names) m ≡ true → rowCall control row order (NamedFree i m) ≡ rowCall control row order
+      (Free i (heldAddress (stateOf control row) m))
   unfolding callOf
   row-named-free-is-free-of-held-address held =
       row-call-is-call-of (NamedFree i m) ∙ ap asRowAfter (named-free-is-free-of-held-address (stateOf control row) order i m passed p held)

@@ -61,15 +61,20 @@ abbrev answer-val : List Superblock → RowAnswer → Val
 answer-val zs r = R′.the-laws .1 .0 .val (R.the-type .to (records-answer zs r) .1 .0)
 
 pub machine-value-of-records : (zs : List Superblock) (r : RowAnswer) (w : Val) → Is (Array T.the-row 65) zs (w ∷ []) → w ∷ [] ≡ records-val zs r ∷ []
-machine-value-of-records zs r w g = R′.the-laws .0 .tells (R.the-type .to (records-answer zs r) .0) (w ∷ []) (field-array-of-declared-array T.the-type 65 zs _ g)
+machine-value-of-records zs r w g = R′.the-laws .0 .tells (R.the-type .to (records-answer zs r) .0) (w ∷ [])
+    (field-array-of-declared-array T.the-type 65 zs _ g)
 
 pub machine-value-of-answer : (zs : List Superblock) (r : RowAnswer) (w : Val) → Is N.the-row r (w ∷ []) → w ∷ [] ≡ answer-val zs r ∷ []
 machine-value-of-answer zs r w g = R′.the-laws .1 .0 .tells (R.the-type .to (records-answer zs r) .1 .0) (w ∷ []) g
 
-pub records-answer-has-machine-value : (zs : List Superblock) (r : RowAnswer) (w w′ : Val) → Is (Array T.the-row 65) zs (w ∷ []) → Is N.the-row r (w′ ∷ []) → Is R.the-row (records-answer zs r) (machine-value (records-answer zs r) ∷ [])
+pub records-answer-has-machine-value : (zs : List Superblock) (r : RowAnswer) (w w′ : Val) → Is (Array T.the-row 65) zs (w ∷ [])
+    → Is N.the-row r (w′ ∷ []) → Is R.the-row (records-answer zs r) (machine-value (records-answer zs r) ∷ [])
 records-answer-has-machine-value zs r w w′ g g′ =
-    LL.owes R.the-type R′.the-laws (records-answer zs r)
-    (subst (Is (Array (T.the-field .row) 65) (R.the-type .to (records-answer zs r) .0)) (machine-value-of-records zs r w g) (field-array-of-declared-array T.the-type 65 zs _ g), (subst (Is (N.the-field .row) (R.the-type .to (records-answer zs r) .1 .0)) (machine-value-of-answer zs r w′ g′) g′, tt))
+    LL.owes R.the-type R′.the-laws (records-answer zs r) (
+      subst (Is (Array (T.the-field .row) 65) (R.the-type .to (records-answer zs r) .0)) (machine-value-of-records zs r w g)
+          (field-array-of-declared-array T.the-type 65 zs _ g),
+      (subst (Is (N.the-field .row) (R.the-type .to (records-answer zs r) .1 .0)) (machine-value-of-answer zs r w′ g′) g′, tt),
+    )
 
 module _ {M : Type 1} (𝓤 : URA M) (H : Heap 𝓤) (A : Atoms 𝓤) (W : Given 𝓤 H A) where
   pub array65-typed : (zs : List Superblock) (w : Val) → Is (Array T.the-row 65) zs (w ∷ []) → Holds (hasTy Array65 w) × WT w

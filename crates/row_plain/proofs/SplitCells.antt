@@ -15,15 +15,20 @@ use denote.Index.{place}
 use denote.Steps.{nothing}
 
 module _ {M : Type 1} (𝓤 : URA M) (H : Heap 𝓤) (A : Atoms 𝓤) (W : Given 𝓤 H A) (R : RattleType) (ys : List (R .Denot)) (b : ℕ) where
-  pub cells-split : (xs : List (R .Denot)) (o : ℕ) → ent 𝓤 (sem 𝓤 H A (cells (mem R) (xs ++ ys) b o)) (sep 𝓤 (sem 𝓤 H A (cells (mem R) xs b o)) (sem 𝓤 H A (cells (mem R) ys b (place (mem R .size) o (length xs)))))
+  pub cells-split : (xs : List (R .Denot)) (o : ℕ) → ent 𝓤 (sem 𝓤 H A (cells (mem R) (xs ++ ys) b o))
+      (sep 𝓤 (sem 𝓤 H A (cells (mem R) xs b o)) (sem 𝓤 H A (cells (mem R) ys b (place (mem R .size) o (length xs)))))
   cells-split [] o = qed W (‵ (cells (mem R) ys b o) ∷ []) ∵ nothing ! $ done !
   cells-split (x ∷ xs) o =
       qed W (‵ (cells (mem R) (x ∷ (xs ++ ys)) b o) ∷ []) ∵ fsplit ! $ move ! (1 ∷ []) $
-      use1 W (‵ (cells (mem R) xs b (o + mem R .size)) ⊛ ‵ (cells (mem R) ys b (place (mem R .size) (o + mem R .size) (length xs)))) (cells-split xs (o + mem R .size)) $ split ! $
+      use1 W (‵ (cells (mem R) xs b (o + mem R .size)) ⊛ ‵ (cells (mem R) ys b (place (mem R .size) (o + mem R .size) (length xs))))
+      (cells-split xs (o + mem R .size)) $ split ! $
       move ! (2 ∷ 0 ∷ []) $ fjoin ! $ done !
 
-  pub cells-joined : (xs : List (R .Denot)) (o : ℕ) → ent 𝓤 (sep 𝓤 (sem 𝓤 H A (cells (mem R) xs b o)) (sem 𝓤 H A (cells (mem R) ys b (place (mem R .size) o (length xs))))) (sem 𝓤 H A (cells (mem R) (xs ++ ys) b o))
+  pub cells-joined : (xs : List (R .Denot)) (o : ℕ)
+      → ent 𝓤 (sep 𝓤 (sem 𝓤 H A (cells (mem R) xs b o)) (sem 𝓤 H A (cells (mem R) ys b (place (mem R .size) o (length xs)))))
+      (sem 𝓤 H A (cells (mem R) (xs ++ ys) b o))
   cells-joined [] o = qed W (‵ ftrue ∷ ‵ (cells (mem R) ys b o) ∷ []) ∵ drop ! $ done !
   cells-joined (x ∷ xs) o =
-      qed W (‵ (cells (mem R) (x ∷ xs) b o) ∷ ‵ (cells (mem R) ys b (place (mem R .size) (o + mem R .size) (length xs))) ∷ []) ∵ fsplit ! $ move ! (1 ∷ 2 ∷ []) $
+      qed W (‵ (cells (mem R) (x ∷ xs) b o) ∷ ‵ (cells (mem R) ys b (place (mem R .size) (o + mem R .size) (length xs))) ∷ []) ∵ fsplit !
+      $ move ! (1 ∷ 2 ∷ []) $
       use2 W (‵ (cells (mem R) (xs ++ ys) b (o + mem R .size))) (cells-joined xs (o + mem R .size)) $ move ! (1 ∷ 0 ∷ []) $ done !

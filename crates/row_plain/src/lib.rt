@@ -33,7 +33,8 @@ fn borrow_call(
     addresses: &[u32],
 ) -> RecordsAnswer
     requires { ⌜ n ≤ recordCount ⌝ }
-    ensures { λ r. ⌜ record { returned = r; order = now (order .exit) } ≡ recordsAfter n records (rowCall control (take n records) (now (order .entry)) (callWith call (now (addresses .entry)))) ⌝ }
+    ensures { λ r. ⌜ record { returned = r; order = now (order .exit) } ≡ recordsAfter n records
+        (rowCall control (take n records) (now (order .entry)) (callWith call (now (addresses .entry)))) ⌝ }
     ensures passes { λ r. ⌜ PassesIfAccepted (r .answer .outcome) (stateOf (r .answer .control) (take n (r .records))) (now (order .exit)) ⌝ }
     ensures moves { λ r. ⌜ MovesAtMost (mostMoves (control .setup .q) (callWith call (now (addresses .entry)))) (r .answer .outcome) ⌝ }
 {
@@ -52,8 +53,11 @@ pub fn call_by_row(
     call: CallHeader,
     addresses: &[u32],
 ) -> RecordsAnswer
-    ensures { λ r. ⌜ record { returned = r; order = now (order .exit) } ≡ recordsAfter n records (rowCall control (take n records) (now (order .entry)) (callWith call (now (addresses .entry)))) ⌝ }
-    ensures number_and_values { λ r. ⌜ HasNumberAndValuesOf (r .answer .outcome) (rowCall control (take n records) (now (order .entry)) (callWith call (now (addresses .entry))) .outcome) ⌝ }
+    ensures { λ r. ⌜ record { returned = r; order = now (order .exit) } ≡ recordsAfter n records
+        (rowCall control (take n records) (now (order .entry)) (callWith call (now (addresses .entry)))) ⌝ }
+    ensures number_and_values { λ r.
+        ⌜ HasNumberAndValuesOf (r .answer .outcome)
+        (rowCall control (take n records) (now (order .entry)) (callWith call (now (addresses .entry))) .outcome) ⌝ }
     ensures passes { λ r. ⌜ PassesIfAccepted (r .answer .outcome) (stateOf (r .answer .control) (take n (r .records))) (now (order .exit)) ⌝ }
     ensures moves { λ r. ⌜ MovesAtMost (mostMoves (control .setup .q) (callWith call (now (addresses .entry)))) (r .answer .outcome) ⌝ }
 {

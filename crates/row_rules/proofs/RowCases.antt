@@ -1,4 +1,5 @@
--- Cases of the calls on a lent row, each shown whole: outcome, setup numbers, names, totals, row and all order places. No two of the numbers in them are the same by chance. Assumes nothing.
+-- Cases of the calls on a lent row, each shown whole: outcome, setup numbers, names, totals, row and all order places. No two of the numbers in them
+-- are the same by chance. Assumes nothing.
 use mathlib.Core.Path.{_≡_, refl, ap}
 use mathlib.Core.List.{List, [], _∷_, _++_, map}
 use Prim.Native.Nat.{ℕ}
@@ -86,18 +87,36 @@ pub record SetupCase : Type 0 where
 
 -- a refused setup hands back five zeros, no names and totals of 0, and leaves row and storage
 abbrev pub setup-refused-case : ℕ → Setup → List Superblock → List ℕ → SetupCase
-setup-refused-case r u row order = record { setup = u; row = row; order = order; after = row-after (Refused r) (control-with zero-setup no-name-held zero-totals) row order }
+setup-refused-case r u row order =
+    record { setup = u; row = row; order = order; after = row-after (Refused r) (control-with zero-setup no-name-held zero-totals) row order }
 
 -- "1, 12, then 13 for a lent row that is not 64 long"; an accepted one writes all 64 records, whatever they were, and the first N × 256 places, and
 -- holds no names and has totals of 0; N × 256 places are enough
 abbrev pub row-setup-cases : List SetupCase
 row-setup-cases =
-    setup-refused-case 1 setup-with-p-equal-q (replicate 63 invalid-superblock) storage-of-255 ∷ setup-refused-case 12 example-setup (replicate 63 invalid-superblock) storage-of-255 ∷ setup-refused-case 13 example-setup (replicate 63 invalid-superblock) storage-of-258 ∷ setup-refused-case 13 example-setup (replicate 65 invalid-superblock) storage-of-258
-    ∷ setup-refused-case 1 setup-with-p-equal-q (replicate 64 invalid-superblock) storage-of-258 ∷ setup-refused-case 12 example-setup (replicate 64 invalid-superblock) storage-of-255
-    ∷ record { setup = example-setup; row = replicate 64 invalid-superblock; order = storage-of-258; after = row-after Ready (control-with example-setup no-name-held zero-totals) (replicate 64 unused-superblock) (replicate 256 0 ++ 8 ∷ 9 ∷ []) }
-    ∷ record { setup = example-setup; row = replicate 64 invalid-superblock; order = storage-of-256; after = row-after Ready (control-with example-setup no-name-held zero-totals) (replicate 64 unused-superblock) (replicate 256 0) } ∷ []
+    setup-refused-case 1 setup-with-p-equal-q (replicate 63 invalid-superblock) storage-of-255
+    ∷ setup-refused-case 12 example-setup (replicate 63 invalid-superblock) storage-of-255
+    ∷ setup-refused-case 13 example-setup (replicate 63 invalid-superblock) storage-of-258
+    ∷ setup-refused-case 13 example-setup (replicate 65 invalid-superblock) storage-of-258
+    ∷ setup-refused-case 1 setup-with-p-equal-q (replicate 64 invalid-superblock) storage-of-258
+    ∷ setup-refused-case 12 example-setup (replicate 64 invalid-superblock) storage-of-255
+    ∷ record {
+      setup = example-setup;
+      row = replicate 64 invalid-superblock;
+      order = storage-of-258;
+      after =
+          row-after Ready (control-with example-setup no-name-held zero-totals) (replicate 64 unused-superblock) (replicate 256 0 ++ 8 ∷ 9 ∷ []);
+    }
+    ∷ record {
+      setup = example-setup;
+      row = replicate 64 invalid-superblock;
+      order = storage-of-256;
+      after =
+          row-after Ready (control-with example-setup no-name-held zero-totals) (replicate 64 unused-superblock) (replicate 256 0);
+    } ∷ []
 
-pub row-setup-cases-are-computed : map (λ (k : SetupCase). rowSetup (k .setup) (k .row) (k .order)) row-setup-cases ≡ map (λ (k : SetupCase). k .after) row-setup-cases
+pub row-setup-cases-are-computed : map (λ (k : SetupCase). rowSetup (k .setup) (k .row) (k .order)) row-setup-cases
+    ≡ map (λ (k : SetupCase). k .after) row-setup-cases
 unfolding setupOn withinLimits cleared
 row-setup-cases-are-computed = refl
 
@@ -111,25 +130,35 @@ pub record CallCase : Type 0 where
 
 -- a refused one hands back the setup numbers, the names and the totals, and leaves row and storage
 abbrev pub call-refused-case : ℕ → Control → List Superblock → List ℕ → Call → CallCase
-call-refused-case r control row order call = record { control = control; row = row; order = order; call = call; after = row-after (Refused r) control row order }
+call-refused-case r control row order call =
+    record { control = control; row = row; order = order; call = call; after = row-after (Refused r) control row order }
 
 -- "13 for setup numbers, 12, the rest of 13", in which is the row's length; N × 256 places are enough
 abbrev pub row-call-cases : List CallCase
 row-call-cases =
-    call-refused-case 13 control-with-p-equal-q (replicate 63 ranked-superblock) storage-of-255 (Take 2 2048) ∷ call-refused-case 12 example-control (replicate 63 ranked-superblock) storage-of-255 (Take 2 2048) ∷ call-refused-case 13 example-control (replicate 63 ranked-superblock) storage-of-258 (Take 2 2048)
-    ∷ call-refused-case 13 example-control (replicate 65 ranked-superblock) storage-of-258 (Free 2 0) ∷ call-refused-case 13 example-control (replicate 64 invalid-superblock) storage-of-258 (Take 2 2048)
-    ∷ call-refused-case 12 example-control (replicate 65 ranked-superblock) storage-of-255 (NamedTake 2 10 2048) ∷ call-refused-case 13 example-control (replicate 63 ranked-superblock) storage-of-258 (NamedFree 2 6)
-    ∷ call-refused-case 12 example-control (replicate 65 ranked-superblock) storage-of-255 (Drop 0 []) ∷ call-refused-case 13 example-control (replicate 65 ranked-superblock) storage-of-258 (Drop 0 []) ∷ call-refused-case 13 example-control (replicate 64 invalid-superblock) storage-of-258 (Drop 0 [])
+    call-refused-case 13 control-with-p-equal-q (replicate 63 ranked-superblock) storage-of-255 (Take 2 2048)
+    ∷ call-refused-case 12 example-control (replicate 63 ranked-superblock) storage-of-255 (Take 2 2048)
+    ∷ call-refused-case 13 example-control (replicate 63 ranked-superblock) storage-of-258 (Take 2 2048)
+    ∷ call-refused-case 13 example-control (replicate 65 ranked-superblock) storage-of-258 (Free 2 0)
+    ∷ call-refused-case 13 example-control (replicate 64 invalid-superblock) storage-of-258 (Take 2 2048)
+    ∷ call-refused-case 12 example-control (replicate 65 ranked-superblock) storage-of-255 (NamedTake 2 10 2048)
+    ∷ call-refused-case 13 example-control (replicate 63 ranked-superblock) storage-of-258 (NamedFree 2 6)
+    ∷ call-refused-case 12 example-control (replicate 65 ranked-superblock) storage-of-255 (Drop 0 [])
+    ∷ call-refused-case 13 example-control (replicate 65 ranked-superblock) storage-of-258 (Drop 0 [])
+    ∷ call-refused-case 13 example-control (replicate 64 invalid-superblock) storage-of-258 (Drop 0 [])
     ∷ call-refused-case 13 example-control (replicate 63 ranked-superblock) storage-of-256 (Take 2 2048) ∷ []
 
-pub row-call-cases-are-computed : map (λ (k : CallCase). rowCall (k .control) (k .row) (k .order) (k .call)) row-call-cases ≡ map (λ (k : CallCase). k .after) row-call-cases
+pub row-call-cases-are-computed : map (λ (k : CallCase). rowCall (k .control) (k .row) (k .order) (k .call)) row-call-cases
+    ≡ map (λ (k : CallCase). k .after) row-call-cases
 unfolding callOn callOf takeOf dropOf checked withinLimits restValid superblockValid isOwned isUnowned isUnused isPartOfRun isOfRun allBelow
 row-call-cases-are-computed = refl
 
 -- a call on 64 records leaves what the call on their state leaves: outcome, setup numbers, names, totals, row and storage, whatever the names, the totals, the
 -- row and the call
 pub call-on-64-is-computed : (names : List ℕ) (totals : Totals) (row : List Superblock) (call : Call)
-    → (let a = callOf (record { setup = example-setup; table = row; names = names; totals = totals }) storage-of-258 call in callOn 64 (control-with example-setup names totals) row storage-of-258 call ≡ row-after (a .answer .outcome) (control-with (a .answer .state .setup) (a .answer .state .names) (a .answer .state .totals)) (a .answer .state .table) (a .order))
+    → (let a = callOf (record { setup = example-setup; table = row; names = names; totals = totals }) storage-of-258 call in
+    callOn 64 (control-with example-setup names totals) row storage-of-258 call ≡ row-after (a .answer .outcome)
+    (control-with (a .answer .state .setup) (a .answer .state .names) (a .answer .state .totals)) (a .answer .state .table) (a .order))
 unfolding callOn withinLimits
 call-on-64-is-computed names totals row call = refl
 
@@ -141,7 +170,8 @@ abbrev pub refused-step : Call → Control → List Superblock → RowStep
 refused-step call control row = record { call = call; after = row-after (Refused 13) control row storage-of-258 }
 
 -- each call gets the setup numbers, the names, the totals and the row that the one before it left
-pub refused-calls-linked : RowLinked refused-before (refused-step (Take 2 2048) example-control (replicate 63 ranked-superblock) ∷ refused-step (Free 1 0) example-control (replicate 63 ranked-superblock) ∷ [])
+pub refused-calls-linked : RowLinked refused-before (refused-step (Take 2 2048) example-control (replicate 63 ranked-superblock)
+    ∷ refused-step (Free 1 0) example-control (replicate 63 ranked-superblock) ∷ [])
 unfolding RowLinked callOn withinLimits
 refused-calls-linked = (refl, (refl, tt))
 
@@ -154,7 +184,8 @@ another-row-not-linked linked =
 
 -- nor is one that got another storage
 pub other-storage-not-linked :
-    RowLinked refused-before (record { call = Take 2 2048; after = row-after (Refused 13) example-control (replicate 63 ranked-superblock) (replicate 258 9) } ∷ []) → ⊥
+    RowLinked refused-before
+    (record { call = Take 2 2048; after = row-after (Refused 13) example-control (replicate 63 ranked-superblock) (replicate 258 9) } ∷ []) → ⊥
 unfolding RowLinked callOn withinLimits
 other-storage-not-linked linked =
     let z : _≡_ {A = ℕ} 9 7 = ap (λ (x : RowAfter). getD (x .order) 0 1) (linked .0) in
@@ -168,14 +199,16 @@ other-ranks-not-linked linked =
     absurd (omega (arith, z))
 
 -- nor one that got other names
-pub other-names-not-linked : RowLinked refused-before (refused-step (Take 2 2048) (control-with example-setup no-name-held example-totals) (replicate 63 ranked-superblock) ∷ []) → ⊥
+pub other-names-not-linked : RowLinked refused-before (refused-step (Take 2 2048) (control-with example-setup no-name-held example-totals)
+    (replicate 63 ranked-superblock) ∷ []) → ⊥
 unfolding RowLinked callOn withinLimits
 other-names-not-linked linked =
     let z : _≡_ {A = ℕ} 65535 0 = ap (λ (x : RowAfter). getD (x .control .names) 6 1) (linked .0) in
     absurd (omega (arith, z))
 
 -- nor one that got other totals
-pub other-totals-not-linked : RowLinked refused-before (refused-step (Take 2 2048) (control-with example-setup name-6-held zero-totals) (replicate 63 ranked-superblock) ∷ []) → ⊥
+pub other-totals-not-linked : RowLinked refused-before (refused-step (Take 2 2048) (control-with example-setup name-6-held zero-totals)
+    (replicate 63 ranked-superblock) ∷ []) → ⊥
 unfolding RowLinked callOn withinLimits
 other-totals-not-linked linked =
     let z : _≡_ {A = ℕ} 0 22 = ap (λ (x : RowAfter). getD (x .control .totals .superblocks) 242 1) (linked .0) in

@@ -18,7 +18,11 @@ pub record RecordsAfter : Type 0 where
 
 -- what a call on a row left, and behind it the records that were not lent
 abbrev pub recordsWith : RowAfter → List Superblock → RecordsAfter
-recordsWith x others = record { returned = record { records = x .row ++ others; answer = record { outcome = x .outcome; control = x .control } }; order = x .order }
+recordsWith x others = record {
+  returned = record { records = x .row ++ others; answer = record { outcome = x .outcome; control = x .control } };
+  order =
+      x .order;
+}
 
 -- the same where the first n records were lent, or all where they are fewer
 abbrev pub recordsAfter : ℕ → List Superblock → RowAfter → RecordsAfter

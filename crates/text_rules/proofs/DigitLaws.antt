@@ -75,7 +75,8 @@ length-of-u16-decimal-le-5 n h = length-of-digits-le-of-lt-pow 10 5 n (omega ari
 
 -- ---- digits put into a buffer: the only one; the last one after the others
 module _ (l₀ : List ℕ) (at most n x : ℕ) (m : 1 ≤ most) (e : x ≡ 48 + n % 10) where
-  pub paste-one-digit : {l : List ℕ} {r : ℕ} → n < 10 → record { end = r; buffer = l } ≡ pasted l₀ at (x ∷ []) → record { end = r; buffer = l } ≡ pasted l₀ at (digits most n)
+  pub paste-one-digit : {l : List ℕ} {r : ℕ} → n < 10 → record { end = r; buffer = l } ≡ pasted l₀ at (x ∷ []) → record { end = r; buffer = l }
+      ≡ pasted l₀ at (digits most n)
   paste-one-digit h p = rw (digits-of-one-digit most n m h, ← e) p
 
   pub paste-last-digit : {l₁ l₂ : List ℕ} {r₁ r₂ : ℕ} → 10 ≤ n → record { end = r₁; buffer = l₁ } ≡ pasted l₀ at (digits (most - 1) (n / 10))

@@ -18,9 +18,14 @@ pasted-cong p q = rw (p, q)
 
 module _ (old : List ℕ) (at : ℕ) (text : List ℕ) where
   -- a text that fits stands whole between what was before and behind it
-  paste-fitting : at + length text ≤ length old → pasted old at text ≡ record { end = at + length text; buffer = take at old ++ text ++ drop (at + length text) old }
+  paste-fitting : at + length text ≤ length old → pasted old at text ≡ record {
+    end = at + length text;
+    buffer = take at old ++ text
+        ++ drop (at + length text) old;
+  }
   unfolding pasted
-  paste-fitting h = pasted-cong (omega arith) (ap (λ (x : List ℕ). take at old ++ x ++ drop (at + length text) old) (take-all (length old - at) text (omega arith)))
+  paste-fitting h = pasted-cong (omega arith)
+      (ap (λ (x : List ℕ). take at old ++ x ++ drop (at + length text) old) (take-all (length old - at) text (omega arith)))
 
   -- of one that does not, as much as there is room for
   paste-truncated : length old ≤ at + length text → pasted old at text ≡ record { end = length old; buffer = take at old ++ take (length old - at) text }
@@ -69,7 +74,8 @@ module _ (old : List ℕ) (at : ℕ) (text : List ℕ) where
       go : Dec (at + length text ≤ length old) → drop (at + length text) (pasted old at text .buffer) ≡ drop (at + length text) old
       go (yes h) = rw (paste-fitting h) (drop-at (take at old ++ text) (drop (at + length text) old) (at + length text) (length-of-pasted-prefix h))
       go (no h) =
-          drop-of-length-le (pasted old at text .buffer) {i = at + length text} (omega (arith, paste-length)) ∙ sym (drop-of-length-le old {i = at + length text} (omega arith))
+          drop-of-length-le (pasted old at text .buffer) {i = at + length text} (omega (arith, paste-length))
+          ∙ sym (drop-of-length-le old {i = at + length text} (omega arith))
 
   -- where the text fits: where it ends, and what stands up to there
   pub paste-end : at + length text ≤ length old → pasted old at text .end ≡ at + length text
@@ -83,16 +89,19 @@ pub paste-nothing : (old : List ℕ) (at : ℕ) → pasted old at [] ≡ record 
 unfolding pasted
 paste-nothing old at =
     let e : at + 0 ≡ at = add-zero at in
-    pasted-cong (rw e) (rw e (ap (λ (x : List ℕ). take at old ++ x ++ drop at old) (take-nil (length old - at)) ∙ ap (λ (x : List ℕ). x ++ drop at old) (append-nil (take at old)) ∙ take-append-drop at old))
+    pasted-cong (rw e) (rw e (ap (λ (x : List ℕ). take at old ++ x ++ drop at old) (take-nil (length old - at))
+    ∙ ap (λ (x : List ℕ). x ++ drop at old) (append-nil (take at old)) ∙ take-append-drop at old))
 
 -- the first text reaches the buffer's end
-paste-append-truncated : (old : List ℕ) (at : ℕ) (a b : List ℕ) → length old ≤ at + length a → pasted (pasted old at a .buffer) (pasted old at a .end) b ≡ pasted old at (a ++ b)
+paste-append-truncated : (old : List ℕ) (at : ℕ) (a b : List ℕ) → length old ≤ at + length a → pasted (pasted old at a .buffer) (pasted old at a .end) b
+    ≡ pasted old at (a ++ b)
 paste-append-truncated old at a b h =
     let k : length (a ++ b) ≡ length a + length b = length-append a b in
     let e : pasted old at a .end ≡ length old = ap (λ (x : Pasted). x .end) (paste-truncated old at a h) in
     let n : length (pasted old at a .buffer) ≡ length old = paste-length old at a in
     paste-past (pasted old at a .buffer) (pasted old at a .end) b (omega arith)
-    ∙ pasted-cong n (ap (λ (x : Pasted). x .buffer) (paste-truncated old at a h) ∙ ap (λ (x : List ℕ). take at old ++ x) (sym (take-append-le (length old - at) a b (omega arith))))
+    ∙ pasted-cong n (ap (λ (x : Pasted). x .buffer) (paste-truncated old at a h)
+    ∙ ap (λ (x : List ℕ). take at old ++ x) (sym (take-append-le (length old - at) a b (omega arith))))
     ∙ sym (paste-truncated old at (a ++ b) (omega arith))
 
 -- the first text fits
@@ -113,9 +122,11 @@ paste-after-fitting old at a b h =
     ∙ ap (λ (x : ℕ). drop x old) q in
     let e : length old - at ≡ length a + (length old - n) = omega arith in
     let t : take (length old - at) (a ++ b) ≡ a ++ take (length old - n) b = ap (λ (x : ℕ). take x (a ++ b)) e ∙ take-append-add a b (length old - n) in
-    pasted-cong (omega arith) (rw (f, g, l, t) (ap (λ (x : List ℕ). x ++ drop (at + length (a ++ b)) old) (append-assoc (take at old) a (take (length old - n) b))))
+    pasted-cong (omega arith)
+    (rw (f, g, l, t) (ap (λ (x : List ℕ). x ++ drop (at + length (a ++ b)) old) (append-assoc (take at old) a (take (length old - n) b))))
 
-paste-append-fitting : (old : List ℕ) (at : ℕ) (a b : List ℕ) → at + length a ≤ length old → pasted (pasted old at a .buffer) (pasted old at a .end) b ≡ pasted old at (a ++ b)
+paste-append-fitting : (old : List ℕ) (at : ℕ) (a b : List ℕ) → at + length a ≤ length old → pasted (pasted old at a .buffer) (pasted old at a .end) b
+    ≡ pasted old at (a ++ b)
 paste-append-fitting old at a b h = ap (λ (x : Pasted). pasted (x .buffer) (x .end) b) (paste-fitting old at a h) ∙ paste-after-fitting old at a b h
 
 -- one text pasted where another ended is the two pasted as one
@@ -132,7 +143,8 @@ pub paste-then-paste : (l₀ : List ℕ) {l₁ l₂ : List ℕ} (a b : List ℕ)
 paste-then-paste l₀ a b at p q = q ∙ ap (λ (x : Pasted). pasted (x .buffer) (x .end) b) p ∙ paste-append l₀ at a b
 
 -- nothing more put after a text
-pub paste-nothing-after : (l₀ a : List ℕ) (at : ℕ) {l : List ℕ} {r : ℕ} → record { end = r; buffer = l } ≡ pasted l₀ at a → record { end = r; buffer = l } ≡ pasted l r []
+pub paste-nothing-after : (l₀ a : List ℕ) (at : ℕ) {l : List ℕ} {r : ℕ} → record { end = r; buffer = l } ≡ pasted l₀ at a → record { end = r; buffer = l }
+    ≡ pasted l r []
 paste-nothing-after l₀ a at p = p ∙ sym (ap (λ (x : Pasted). pasted (x .buffer) (x .end) []) p ∙ paste-append l₀ at a [] ∙ ap (pasted l₀ at) (append-nil a))
 
 -- ---- what a caller learns of a text that was put: always, and where it tested that there is room
@@ -163,7 +175,8 @@ module _ (old : List ℕ) (at : ℕ) (text : List ℕ) {new : List ℕ} {r : ℕ
 module _ (l : List ℕ) (at x r : ℕ) where
   pub paste-byte-inside : at < length l → r ≡ at + 1 → record { end = r; buffer = set l at x } ≡ pasted l at (x ∷ [])
   paste-byte-inside h e =
-      pasted-cong e (set-split l at x h ∙ sym (append-snoc (take at l) x (drop (suc at) l)) ∙ ap (λ (k : ℕ). take at l ++ (x ∷ []) ++ drop k l) (sym (add-one at)))
+      pasted-cong e (set-split l at x h ∙ sym (append-snoc (take at l) x (drop (suc at) l)) ∙ ap (λ (k : ℕ). take at l ++ (x ∷ []) ++ drop k l)
+      (sym (add-one at)))
       ∙ sym (paste-fitting l at (x ∷ []) (omega arith))
 
   pub paste-byte-past-end : length l ≤ at → r ≡ length l → record { end = r; buffer = l } ≡ pasted l at (x ∷ [])

@@ -13,7 +13,8 @@ use Rattle.answer_names.proofs.name_lines.Statement.{statement}
 use Rattle.answer_names.proofs.name_lines.Tie as tie
 
 abbrev Inv-loop : tie.InvT-loop
-Inv-loop out₀ at names end₀ m₀ out end m = (m ≤ 1024) × (record { end = end; buffer = out } ≡ pasted out₀ end₀ (linesOfNames names m)) × (length out ≡ length out₀)
+Inv-loop out₀ at names end₀ m₀ out end m = (m ≤ 1024) × (record { end = end; buffer = out } ≡ pasted out₀ end₀ (linesOfNames names m))
+    × (length out ≡ length out₀)
 
 abbrev μ-loop : tie.MeasureT-loop
 μ-loop out₀ at names end₀ m₀ out end m = 1024 - m

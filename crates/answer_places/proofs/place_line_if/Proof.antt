@@ -1,5 +1,4 @@
 -- `answer_places::place_line_if` meets its contract: the fields one after another where the number changed. Assumes nothing.
-use native.Mathlib.Omega.{arith}
 use mathlib.Core.Path.{refl}
 use Rattle.text_rules.specs.Text.{letters}
 use Rattle.line_fields.proofs.FieldLaws.{last-field-put, put-then-last-field}

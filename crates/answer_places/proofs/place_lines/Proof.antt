@@ -1,4 +1,5 @@
--- `answer_places::place_lines` meets its contract. The loop's invariant: the lines of the places passed are put. The measure is the places left. Assumes nothing.
+-- `answer_places::place_lines` meets its contract. The loop's invariant: the lines of the places passed are put. The measure is the places left.
+-- Assumes nothing.
 use mathlib.Core.Path.{_≡_, refl, _∙_}
 use Prim.Native.Nat.{_≤_, _-_}
 use native.Mathlib.Omega.{arith}
@@ -13,7 +14,8 @@ use Rattle.answer_places.proofs.place_lines.Statement.{statement}
 use Rattle.answer_places.proofs.place_lines.Tie as tie
 
 abbrev Inv-loop : tie.InvT-loop
-Inv-loop out₀ at before after n end₀ i₀ out end i = (i ≤ n) × (record { end = end; buffer = out } ≡ pasted out₀ end₀ (linesOfPlaces before after i)) × (length out ≡ length out₀)
+Inv-loop out₀ at before after n end₀ i₀ out end i = (i ≤ n) × (record { end = end; buffer = out } ≡ pasted out₀ end₀ (linesOfPlaces before after i))
+    × (length out ≡ length out₀)
 
 abbrev μ-loop : tie.MeasureT-loop
 μ-loop out₀ at before after n end₀ i₀ out end i = n - i
@@ -60,7 +62,9 @@ same-length c = search needs
 returns : tie.Need-returns Inv-loop μ-loop
 returns c =
     let l = c .before .loop in
-    paste-then-paste _ _ _ _ (c .before .before .before .before .put-nothing .ensures) (place-lines-end _ _ _ _ (l .i) (c .before .before .before .before .before .before .lesser .result) (omega arith) (omega arith) (omega arith) (l .inv .1))
+    paste-then-paste _ _ _ _ (c .before .before .before .before .put-nothing .ensures)
+    (place-lines-end _ _ _ _ (l .i) (c .before .before .before .before .before .before .lesser .result) (omega arith) (omega arith) (omega arith)
+    (l .inv .1))
 
 pub place-lines-spec : {M : Type 1} → statement M
 place-lines-spec =

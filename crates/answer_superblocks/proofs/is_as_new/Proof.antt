@@ -1,4 +1,5 @@
--- `answer_superblocks::is_as_new` meets its contract: the tests of rank and run length and of an unused superblock are the definition's, in its order. Assumes nothing.
+-- `answer_superblocks::is_as_new` meets its contract: the tests of rank and run length and of an unused superblock are the definition's, in its
+-- order. Assumes nothing.
 use borrow.Author.Tests.{eq-eqb, ne-eqb}
 use Rattle.answer_rules.specs.AnswerLines.{isAsNew}
 use borrow.Author.Needs.{needs}

@@ -1,4 +1,5 @@
--- `answer_superblocks::superblock_lines` meets its contract. The loop's invariant: the lines of the records passed are put. The measure is the records left. Assumes nothing.
+-- `answer_superblocks::superblock_lines` meets its contract. The loop's invariant: the lines of the records passed are put. The measure is the
+-- records left. Assumes nothing.
 use mathlib.Core.Path.{_≡_, refl, _∙_}
 use Prim.Native.Nat.{_≤_, _-_}
 use native.Mathlib.Omega.{arith}
@@ -13,7 +14,8 @@ use Rattle.answer_superblocks.proofs.superblock_lines.Statement.{statem
 use Rattle.answer_superblocks.proofs.superblock_lines.Tie as tie
 
 abbrev Inv-loop : tie.InvT-loop
-Inv-loop out₀ at n records m end₀ k₀ out end k = (k ≤ m) × (record { end = end; buffer = out } ≡ pasted out₀ end₀ (linesOfFirst records k)) × (length out ≡ length out₀)
+Inv-loop out₀ at n records m end₀ k₀ out end k = (k ≤ m) × (record { end = end; buffer = out } ≡ pasted out₀ end₀ (linesOfFirst records k))
+    × (length out ≡ length out₀)
 
 abbrev μ-loop : tie.MeasureT-loop
 μ-loop out₀ at n records m end₀ k₀ out end k = m - k
@@ -62,7 +64,8 @@ returns c =
     let l = c .before .loop in
     let m = c .before .before .before .before .before .before .at-most in
     let z = c .before .before .before .before .before .before .before .before in
-    paste-then-paste _ _ _ _ (c .before .before .before .before .put-nothing .ensures) (superblock-lines-of-first _ _ _ _ (m .result) (l .k) (records-length z) (m .ensures .0) (omega arith) (omega arith) (l .inv .1))
+    paste-then-paste _ _ _ _ (c .before .before .before .before .put-nothing .ensures)
+    (superblock-lines-of-first _ _ _ _ (m .result) (l .k) (records-length z) (m .ensures .0) (omega arith) (omega arith) (l .inv .1))
 
 pub superblock-lines-spec : {M : Type 1} → statement M
 superblock-lines-spec =

@@ -65,13 +65,15 @@ same-length-3 : tie.Need-same-length-3
 same-length-3 c = search needs
 
 returns-3 : tie.Need-returns-3
-returns-3 c = outcome-line-of-moves _ _ _ _ (last-field-put _ _ _ _ _ (c .before .before .put-last-field2 .ensures) (letters "moved ") _ refl refl) (search needs)
+returns-3 c = outcome-line-of-moves _ _ _ _ (last-field-put _ _ _ _ _ (c .before .before .put-last-field2 .ensures) (letters "moved ") _ refl refl)
+    (search needs)
 
 same-length-4 : tie.Need-same-length-4
 same-length-4 c = search needs
 
 returns-4 : tie.Need-returns-4
-returns-4 c = outcome-line-of-refused _ _ _ _ (last-field-put _ _ _ _ _ (c .before .before .put-last-field3 .ensures) (letters "refused ") _ refl refl) (search needs)
+returns-4 c = outcome-line-of-refused _ _ _ _ (last-field-put _ _ _ _ _ (c .before .before .put-last-field3 .ensures) (letters "refused ") _ refl refl)
+    (search needs)
 
 pub outcome-line-spec : {M : Type 1} → statement M
 outcome-line-spec =

@@ -52,7 +52,9 @@ returns c =
     let p₅ = d₅ .total-lines .ensures in
     let p₆ = d₆ .place-lines .ensures in
     let p₇ = word-put _ _ _ (d₇ .put-text .ensures) (letters "end\n") refl in
-    paste-then-paste _ _ _ _ (paste-then-paste _ _ _ _ (paste-then-paste _ _ _ _ (paste-then-paste _ _ _ _ (paste-then-paste _ _ _ _ (paste-then-paste _ _ _ _ p₁ p₂) p₃) p₄) p₅) p₆) p₇
+    paste-then-paste _ _ _ _
+    (paste-then-paste _ _ _ _ (paste-then-paste _ _ _ _ (paste-then-paste _ _ _ _ (paste-then-paste _ _ _ _ (paste-then-paste _ _ _ _ p₁ p₂) p₃) p₄)
+    p₅) p₆) p₇
 
 pub row-answer-text-spec : {M : Type 1} → statement M
 row-answer-text-spec =

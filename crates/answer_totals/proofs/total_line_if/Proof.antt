@@ -62,7 +62,8 @@ returns-2 c =
     let p₂ = field-put _ _ _ _ (d₂ .put-byte2 .ensures) (letters " class ") _ refl refl in
     let p₃ = field-put _ _ _ _ (d₃ .put-byte3 .ensures) (letters " superblocks ") (a .superblocks) refl (omega arith) in
     let p₄ = last-field-put _ _ _ _ _ (d₄ .put-last-field .ensures) (letters " live ") (a .live) refl (omega arith) in
-    total-line-if-of-others _ _ _ _ _ (z .result) (z .ensures) (search needs) (put-then-last-field _ _ _ _ _ (paste-then-paste _ _ _ _ (paste-then-paste _ _ _ _ p₁ p₂) p₃) p₄)
+    total-line-if-of-others _ _ _ _ _ (z .result) (z .ensures) (search needs)
+    (put-then-last-field _ _ _ _ _ (paste-then-paste _ _ _ _ (paste-then-paste _ _ _ _ p₁ p₂) p₃) p₄)
 
 pub total-line-if-spec : {M : Type 1} → statement M
 total-line-if-spec =

@@ -1,4 +1,5 @@
--- `answer_totals::total_lines` meets its contract. The loop's invariant: the lines of the totals passed are put. The measure is the totals left. Assumes nothing.
+-- `answer_totals::total_lines` meets its contract. The loop's invariant: the lines of the totals passed are put. The measure is the totals left.
+-- Assumes nothing.
 use mathlib.Core.Path.{_≡_, refl, _∙_}
 use Prim.Native.Nat.{_≤_, _-_}
 use native.Mathlib.Omega.{arith}
@@ -14,7 +15,8 @@ use Rattle.answer_totals.proofs.total_lines.Statement.{statement}
 use Rattle.answer_totals.proofs.total_lines.Tie as tie
 
 abbrev Inv-loop : tie.InvT-loop
-Inv-loop out₀ at totals end₀ x₀ out end x = (x ≤ totalCount) × (record { end = end; buffer = out } ≡ pasted out₀ end₀ (linesOfTotals totals x)) × (length out ≡ length out₀)
+Inv-loop out₀ at totals end₀ x₀ out end x = (x ≤ totalCount) × (record { end = end; buffer = out } ≡ pasted out₀ end₀ (linesOfTotals totals x))
+    × (length out ≡ length out₀)
 
 abbrev μ-loop : tie.MeasureT-loop
 μ-loop out₀ at totals end₀ x₀ out end x = totalCount - x

@@ -1,6 +1,7 @@
 -- `block_release::free_block_or_run` meets its contract: by whether the superblock is of a run. Assumes nothing.
 use borrow.Author.Needs.{needs}
-use Rattle.block_release.proofs.FreeStepLaws.{ranked-latest-keeps-totals, run-freed-alone, no-place-written-for-run, block-freed-alone, order-pushed-of-block}
+use Rattle.block_release.proofs.FreeStepLaws.{ranked-latest-keeps-totals, run-freed-alone, no-place-written-for-run, block-freed-alone}
+use Rattle.block_release.proofs.FreeStepLaws.{order-pushed-of-block}
 use Rattle.block_release.proofs.free_block_or_run.Statement.{statement}
 use Rattle.block_release.proofs.free_block_or_run.Tie as tie
 

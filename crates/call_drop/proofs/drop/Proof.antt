@@ -27,7 +27,8 @@ returns-3 : tie.Need-returns-3
 returns-3 c = drop-unchecked-clauses _ _ _ _ (search drop-outcomes)
 
 drop-all-requires : tie.Need-drop-all-requires
-drop-all-requires c κs = blocks-can-be-dropped _ _ (c .before .before .before .before .before .before .before .before .pre) _ _ (search shape-of-state) (c .before .before .first-address-refusal .ensures) (c .before .if3 .left)
+drop-all-requires c κs = blocks-can-be-dropped _ _ (c .before .before .before .before .before .before .before .before .pre) _ _ (search shape-of-state)
+    (c .before .before .first-address-refusal .ensures) (c .before .if3 .left)
 
 same-length : tie.Need-same-length
 same-length c = search needs

@@ -11,7 +11,8 @@ free-all-requires : tie.Need-free-all-requires
 free-all-requires c κs = search needs
 
 restore-heaps-requires : tie.Need-restore-heaps-requires
-restore-heaps-requires c κs = let pre = c .before .before .before .before .before .before .before .pre in moves-can-be-made _ _ _ (c .before .before .free-all .ensures .0) (pre .1) (pre .2)
+restore-heaps-requires c κs = let pre = c .before .before .before .before .before .before .before .pre in
+    moves-can-be-made _ _ _ (c .before .before .free-all .ensures .0) (pre .1) (pre .2)
 
 same-length : tie.Need-same-length
 same-length c = search needs

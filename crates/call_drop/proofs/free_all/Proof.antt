@@ -1,4 +1,5 @@
--- `call_drop::free_all` meets its contract. The loop's invariant: the frees at the addresses passed are made. The measure is what is left of them. Assumes nothing.
+-- `call_drop::free_all` meets its contract. The loop's invariant: the frees at the addresses passed are made. The measure is what is left of them.
+-- Assumes nothing.
 use mathlib.Core.Path.{_≡_, refl}
 use Prim.Native.Nat.{_-_, _≤_}
 use native.Mathlib.Omega.{arith}
@@ -24,7 +25,8 @@ shared-slice-read-address : tie.Need-shared-slice-read-address Inv-loop μ-loop
 shared-slice-read-address c = search needs
 
 release-block-requires : tie.Need-release-block-requires Inv-loop μ-loop
-release-block-requires c κs = let at = c .before .before .before in free-can-be-made _ _ _ _ _ _ (at .loop .inv .2) (at .before .before .before .pre) (c .before .before .loop-test .taken)
+release-block-requires c κs = let at = c .before .before .before in free-can-be-made _ _ _ _ _ _ (at .loop .inv .2) (at .before .before .before .pre)
+    (c .before .before .loop-test .taken)
 
 loop-again : tie.Need-loop-again Inv-loop μ-loop
 loop-again c = (omega arith, search needs, search free-made)

@@ -1,4 +1,5 @@
--- `call_drop::restore_classes` meets its contract. The loop's invariant: the classes passed have made their moves. The measure is what is left of the classes. Assumes nothing.
+-- `call_drop::restore_classes` meets its contract. The loop's invariant: the classes passed have made their moves. The measure is what is left of the
+-- classes. Assumes nothing.
 use mathlib.Core.Logic.{⊎-elim}
 use Prim.Native.Nat.{_-_, _≤_}
 use native.Mathlib.Omega.{arith}

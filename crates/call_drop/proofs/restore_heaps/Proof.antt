@@ -1,4 +1,5 @@
--- `call_drop::restore_heaps` meets its contract. The loop's invariant: the heaps passed have made their moves. The measure is what is left of the heaps. Assumes nothing.
+-- `call_drop::restore_heaps` meets its contract. The loop's invariant: the heaps passed have made their moves. The measure is what is left of the
+-- heaps. Assumes nothing.
 use Prim.Native.Nat.{_+_, _-_, _≤_}
 use native.Mathlib.Omega.{arith}
 use Rattle.base_laws.proofs.ReplacedElement.{length-of-length-map}

@@ -1,4 +1,5 @@
--- `call_drop::touched_pairs` meets its contract. The loop's invariant: the array tells the heaps and classes of the addresses passed. The measure is what is left of them. Assumes nothing.
+-- `call_drop::touched_pairs` meets its contract. The loop's invariant: the array tells the heaps and classes of the addresses passed. The measure is
+-- what is left of them. Assumes nothing.
 use mathlib.Core.Path.{refl, sym, subst}
 use mathlib.Core.Bool.{Bool}
 use mathlib.Core.List.{List}
@@ -45,10 +46,12 @@ cast-at-2 : tie.Need-cast-at-2 Inv-loop μ-loop
 cast-at-2 c = omega arith
 
 add-at : tie.Need-add-at Inv-loop μ-loop
-add-at c = let low = pair-in-array _ _ _ (c .before .before .before .before .before .before .before .before .pre) (c .before .before .before .before .before .before .loop-test .taken) _ _ refl refl (c .before .before .if1 .taken) in omega arith
+add-at c = let low = pair-in-array _ _ _ (c .before .before .before .before .before .before .before .before .pre)
+    (c .before .before .before .before .before .before .loop-test .taken) _ _ refl refl (c .before .before .if1 .taken) in omega arith
 
 array-write-touched : tie.Need-array-write-touched Inv-loop μ-loop
-array-write-touched c = pair-in-array _ _ _ (c .before .before .before .before .before .before .before .before .pre) (c .before .before .before .before .before .before .loop-test .taken) _ _ refl refl (c .before .before .if1 .taken)
+array-write-touched c = pair-in-array _ _ _ (c .before .before .before .before .before .before .before .before .pre)
+    (c .before .before .before .before .before .before .loop-test .taken) _ _ refl refl (c .before .before .if1 .taken)
 
 add-i : tie.Need-add-i Inv-loop μ-loop
 add-i c = search needs
@@ -59,8 +62,14 @@ loop-less c = search needs
 loop-again : tie.Need-loop-again Inv-loop μ-loop
 loop-again c = (
   omega arith,
-  ⊎-elim (λ w. subst (λ (l : List Bool). ToldBelow l (c .before .before .before .before .before .before .args .t1) (c .before .before .before .before .before .before .args .addresses .now) (c .before .before .before .before .before .loop .i + 1)) (sym (w .3)) (told-at-next _ _ _ (c .before .before .before .before .before .before .pre) (c .before .before .before .before .loop-test .taken) _ _ refl refl (w .0 .taken) _ (c .before .before .before .before .before .loop .inv .1)))
-      (λ w. subst (λ (l : List Bool). ToldBelow l (c .before .before .before .before .before .before .args .t1) (c .before .before .before .before .before .before .args .addresses .now) (c .before .before .before .before .before .loop .i + 1)) (sym (w .1)) (told-past-run _ _ _ (c .before .before .before .before .before .before .pre) (c .before .before .before .before .loop-test .taken) _ _ refl refl (w .0 .left) _ (c .before .before .before .before .before .loop .inv .1))) (c .if1 .came),
+  ⊎-elim (λ w. subst (λ (l : List Bool). ToldBelow l (c .before .before .before .before .before .before .args .t1)
+      (c .before .before .before .before .before .before .args .addresses .now) (c .before .before .before .before .before .loop .i + 1)) (sym (w .3))
+      (told-at-next _ _ _ (c .before .before .before .before .before .before .pre) (c .before .before .before .before .loop-test .taken) _ _ refl refl
+      (w .0 .taken) _ (c .before .before .before .before .before .loop .inv .1)))
+      (λ w. subst (λ (l : List Bool). ToldBelow l (c .before .before .before .before .before .before .args .t1)
+      (c .before .before .before .before .before .before .args .addresses .now) (c .before .before .before .before .before .loop .i + 1)) (sym (w .1))
+      (told-past-run _ _ _ (c .before .before .before .before .before .before .pre) (c .before .before .before .before .loop-test .taken) _ _ refl
+      refl (w .0 .left) _ (c .before .before .before .before .before .loop .inv .1))) (c .if1 .came),
 )
 
 returns : tie.Need-returns Inv-loop μ-loop

@@ -1,11 +1,14 @@
--- `call_drop_addresses::first_address_refusal` meets its contract. The loop's invariant: the addresses passed meet no refusal. The measure is what is left of them. Assumes nothing.
+-- `call_drop_addresses::first_address_refusal` meets its contract. The loop's invariant: the addresses passed meet no refusal. The measure is what is
+-- left of them. Assumes nothing.
 use mathlib.Core.Logic.{⊎-elim}
 use borrow.Author.Needs.{needs}
 use Prim.Native.Nat.{_-_, _≤_}
 use native.Mathlib.Omega.{arith}
 use lib.ListN.{length}
 use Rattle.base_laws.proofs.ReplacedElement.{length-of-length-map}
-use Rattle.call_drop_addresses.proofs.FirstAddressRefusalLaws.{NoneRefused, none-refused-yet, past-table-refused, first-bad-refused, run-of-address-fits, none-refused-past-run, none-refused-past-block, none-refused-at-end}
+use Rattle.call_drop_addresses.proofs.FirstAddressRefusalLaws.{NoneRefused, none-refused-yet, past-table-refused, first-bad-refused}
+use Rattle.call_drop_addresses.proofs.FirstAddressRefusalLaws.{run-of-address-fits, none-refused-past-run, none-refused-past-block}
+use Rattle.call_drop_addresses.proofs.FirstAddressRefusalLaws.{none-refused-at-end}
 use Rattle.call_drop_addresses.proofs.first_address_refusal.Statement.{statement}
 use Rattle.call_drop_addresses.proofs.first_address_refusal.Tie as tie
 
@@ -46,7 +49,8 @@ without-run-requires : tie.Need-without-run-requires Inv-loop μ-loop
 without-run-requires c κs =
     let tested = c .before .before .before in
     let read = tested .before .before .before in
-    run-of-address-fits _ _ _ _ (read .before .before .loop .inv .1) (read .before .loop-test .taken) _ (tested .refusal-in .ensures) (c .before .before .if2 .left) (omega arith)
+    run-of-address-fits _ _ _ _ (read .before .before .loop .inv .1) (read .before .loop-test .taken) _ (tested .refusal-in .ensures)
+    (c .before .before .if2 .left) (omega arith)
 
 without-mark-requires : tie.Need-without-mark-requires Inv-loop μ-loop
 without-mark-requires c κs = search needs
@@ -69,8 +73,10 @@ loop-again c =
     let read = tested .before .before .before in (
       omega arith,
       ⊎-elim
-          (λ w. none-refused-past-run _ _ _ _ (read .before .before .loop .inv .1) (read .before .loop-test .taken) _ (tested .refusal-in .ensures) (c .before .before .if2 .left) (omega arith) (w .0 .taken) _ _ (w .1 .ensures) (w .2))
-          (λ w. none-refused-past-block _ _ _ _ (read .before .before .loop .inv .1) (read .before .loop-test .taken) _ (tested .refusal-in .ensures) (c .before .before .if2 .left) (omega arith) (w .0 .left) _ _ (w .1 .ensures) (w .2))
+          (λ w. none-refused-past-run _ _ _ _ (read .before .before .loop .inv .1) (read .before .loop-test .taken) _ (tested .refusal-in .ensures)
+          (c .before .before .if2 .left) (omega arith) (w .0 .taken) _ _ (w .1 .ensures) (w .2))
+          (λ w. none-refused-past-block _ _ _ _ (read .before .before .loop .inv .1) (read .before .loop-test .taken) _ (tested .refusal-in .ensures)
+          (c .before .before .if2 .left) (omega arith) (w .0 .left) _ _ (w .1 .ensures) (w .2))
           (c .if3 .came),
     )
 

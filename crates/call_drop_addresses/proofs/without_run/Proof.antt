@@ -1,4 +1,5 @@
--- `call_drop_addresses::without_run` meets its contract. The loop's invariant: the first j superblocks of the run are unused. The measure is what is left of the run. Assumes nothing.
+-- `call_drop_addresses::without_run` meets its contract. The loop's invariant: the first j superblocks of the run are unused. The measure is what is
+-- left of the run. Assumes nothing.
 use mathlib.Core.Path.{_≡_}
 use Prim.Native.Nat.{_-_, _≤_}
 use native.Mathlib.Omega.{arith}

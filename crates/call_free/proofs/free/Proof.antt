@@ -24,7 +24,8 @@ returns-2 : tie.Need-returns-2
 returns-2 c = free-unchecked-clauses _ _ _ _ (search free-outcomes)
 
 free-at-requires : tie.Need-free-at-requires
-free-at-requires c κs = freed-superblock _ _ _ (c .before .before .before .before .before .before .pre) _ (c .before .before .refusal .ensures) (c .before .if2 .left) (search shape-of-state)
+free-at-requires c κs = freed-superblock _ _ _ (c .before .before .before .before .before .before .pre) _ (c .before .before .refusal .ensures)
+    (c .before .if2 .left) (search shape-of-state)
 
 same-length : tie.Need-same-length
 same-length c = search needs

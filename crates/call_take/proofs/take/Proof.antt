@@ -22,13 +22,15 @@ is-long-requires : tie.Need-is-long-requires
 is-long-requires c κs = search needs
 
 take-long-requires : tie.Need-take-long-requires
-take-long-requires c κs = (true-of-equal _ _ (c .before .is-long .ensures) (c .if2 .taken), search superblocks-in-table, search (T-of-true, totals-kept-of-passes))
+take-long-requires c κs =
+    (true-of-equal _ _ (c .before .is-long .ensures) (c .if2 .taken), search superblocks-in-table, search (T-of-true, totals-kept-of-passes))
 
 returns-2 : tie.Need-returns-2
 returns-2 c =
     let accepted = not-false _ (c .before .before .before .if1 .left) in
     take-unchecked-clauses _ _ _ _
-    (take-unchecked-is-long-taken _ _ _ _ _ (c .before .before .before .before .is-processor .ensures) (omega arith) accepted _ (c .before .before .is-long .ensures) _ (c .before .if2 .taken) (c .take-long .ensures _))
+    (take-unchecked-is-long-taken _ _ _ _ _ (c .before .before .before .before .is-processor .ensures) (omega arith) accepted _
+    (c .before .before .is-long .ensures) _ (c .before .if2 .taken) (c .take-long .ensures _))
 
 class-of-requires : tie.Need-class-of-requires
 class-of-requires c κs = search needs

@@ -9,7 +9,8 @@ use Rattle.base_laws.proofs.TestLaws.{T-of-true}
 use Rattle.marks_rules.specs.Marks.{bit, markBit, noMarkFrom, withMark}
 use Rattle.marks_laws.proofs.BitLaws.{shl-one}
 use Rattle.order_rules.specs.Order.{place}
-use Rattle.filled_rules.proofs.SeenMarksLaws.{SeenMarks, each-once-false-of-high-block, each-once-false-of-repeated-block, each-once-true-of-all-seen, seen-marks-start, seen-marks-step}
+use Rattle.filled_rules.proofs.SeenMarksLaws.{SeenMarks, each-once-false-of-high-block, each-once-false-of-repeated-block, each-once-true-of-all-seen}
+use Rattle.filled_rules.proofs.SeenMarksLaws.{seen-marks-start, seen-marks-step}
 use Rattle.check_filled.proofs.each_once.Statement.{statement}
 use Rattle.check_filled.proofs.each_once.Tie as tie
 
@@ -46,7 +47,8 @@ returns c =
     let i = c .before .before in
     let z = i .before .before in
     let a = z .args in
-    each-once-false-of-high-block (a .order .now) (a .live) (a .s) (a .n) (z .pre .0) (no-mark-from-n z) (i .before .loop .p) (a .m) (z .pre .1) (i .loop-test .taken) (c .if1 .taken)
+    each-once-false-of-high-block (a .order .now) (a .live) (a .s) (a .n) (z .pre .0) (no-mark-from-n z) (i .before .loop .p) (a .m) (z .pre .1)
+    (i .loop-test .taken) (c .if1 .taken)
 
 mul-x : tie.Need-mul-x Inv-loop μ-loop
 mul-x c = omega arith
@@ -65,7 +67,8 @@ returns-2 c =
     let z = i .before .before in
     let a = z .args in
     let l = i .before .loop in
-    each-once-false-of-repeated-block (a .order .now) (a .live) (a .s) (a .n) (z .pre .0) (no-mark-from-n z) (l .seen) (l .p) (a .m) (z .pre .1) (l .inv .1) (i .loop-test .taken) (e .if1 .left) (c .if2 .taken)
+    each-once-false-of-repeated-block (a .order .now) (a .live) (a .s) (a .n) (z .pre .0) (no-mark-from-n z) (l .seen) (l .p) (a .m) (z .pre .1)
+    (l .inv .1) (i .loop-test .taken) (e .if1 .left) (c .if2 .taken)
 
 shl-seen : tie.Need-shl-seen Inv-loop μ-loop
 shl-seen c = omega arith
@@ -82,7 +85,9 @@ add-p c = omega arith
 loop-less : tie.Need-loop-less Inv-loop μ-loop
 loop-less c = omega arith
 
-seen-bit-clear : (c : tie.Else2 Inv-loop μ-loop) → markBit (c .before .before .before .before .loop .seen) (place (c .before .before .before .before .before .args .order .now) (c .before .before .before .before .before .args .s) (c .before .before .before .before .loop .p)) ≡ 0
+seen-bit-clear : (c : tie.Else2 Inv-loop μ-loop) → markBit (c .before .before .before .before .loop .seen)
+    (place (c .before .before .before .before .before .args .order .now) (c .before .before .before .before .before .args .s)
+    (c .before .before .before .before .loop .p)) ≡ 0
 unfolding place markBit bit
 seen-bit-clear c = omega arith
 
@@ -93,15 +98,19 @@ loop-again c =
     let i = e .before .before in
     let z = i .before .before in
     let a = z .args in
-    let l = i .before .loop in
-    (omega arith, rw (shl-one (place (a .order .now) (a .s) (l .p) % 64) (omega arith)) (seen-marks-step (a .order .now) (a .live) (a .s) (a .n) (l .seen) (l .p) (z .pre .0) (l .inv .1) (e .if1 .left) (seen-bit-clear c)))
+    let l = i .before .loop in (
+      omega arith,
+      rw (shl-one (place (a .order .now) (a .s) (l .p) % 64) (omega arith))
+          (seen-marks-step (a .order .now) (a .live) (a .s) (a .n) (l .seen) (l .p) (z .pre .0) (l .inv .1) (e .if1 .left) (seen-bit-clear c)),
+    )
 
 returns-3 : tie.Need-returns-3 Inv-loop μ-loop
 returns-3 c =
     let z = c .before .before in
     let a = z .args in
     let l = c .before .loop in
-    each-once-true-of-all-seen (a .order .now) (a .live) (a .s) (a .n) (z .pre .0) (no-mark-from-n z) (l .seen) (l .p) (a .m) (z .pre .1) (l .inv .1) (omega arith)
+    each-once-true-of-all-seen (a .order .now) (a .live) (a .s) (a .n) (z .pre .0) (no-mark-from-n z) (l .seen) (l .p) (a .m) (z .pre .1) (l .inv .1)
+    (omega arith)
 
 pub each-once-spec : {M : Type 1} → statement M
 each-once-spec =

@@ -1,4 +1,5 @@
--- `check_invariant::emptiness_invariant` meets its contract. The loop's invariant: the heaps passed keep the invariant. The measure is the heaps left. Assumes nothing.
+-- `check_invariant::emptiness_invariant` meets its contract. The loop's invariant: the heaps passed keep the invariant. The measure is the heaps
+-- left. Assumes nothing.
 use Prim.Native.Nat.{ℕ, _-_, _≤_, _<_}
 use native.Mathlib.Omega.{arith}
 use lib.Dec.{T}
@@ -9,7 +10,8 @@ use Rattle.check_invariant.proofs.emptiness_invariant.Statement.{statem
 use Rattle.check_invariant.proofs.emptiness_invariant.Tie as tie
 
 abbrev Inv-loop : tie.InvT-loop
-Inv-loop setup superblocks live heap₀ heap = (heap ≤ heapCount) × ((i : ℕ) → i < heap → T (heapInvariant setup (record { superblocks = superblocks; live = live }) i))
+Inv-loop setup superblocks live heap₀ heap = (heap ≤ heapCount)
+    × ((i : ℕ) → i < heap → T (heapInvariant setup (record { superblocks = superblocks; live = live }) i))
 
 abbrev μ-loop : tie.MeasureT-loop
 μ-loop setup superblocks live heap₀ heap = heapCount - heap

@@ -1,16 +1,19 @@
--- `check_invariant::heap_invariant` meets its contract. The loop's invariant: the classes passed keep the invariant. The measure is the classes left. Assumes nothing.
+-- `check_invariant::heap_invariant` meets its contract. The loop's invariant: the classes passed keep the invariant. The measure is the classes left.
+-- Assumes nothing.
 use Prim.Native.Nat.{ℕ, _-_, _≤_, _<_}
 use native.Mathlib.Omega.{arith}
 use borrow.Author.Needs.{needs}
 use lib.Dec.{T}
 use Rattle.class_rules.specs.Classes.{classCount}
 use Rattle.check_invariant.specs.TotalsInvariant.{classInvariant}
-use Rattle.check_invariant.proofs.EmptinessInvariantLaws.{heap-invariant-of-heap-0, heap-invariant-past-processors, heap-invariant-false-of-class, class-invariants-step, heap-invariant-of-all-classes}
+use Rattle.check_invariant.proofs.EmptinessInvariantLaws.{heap-invariant-of-heap-0, heap-invariant-past-processors, heap-invariant-false-of-class}
+use Rattle.check_invariant.proofs.EmptinessInvariantLaws.{class-invariants-step, heap-invariant-of-all-classes}
 use Rattle.check_invariant.proofs.heap_invariant.Statement.{statement}
 use Rattle.check_invariant.proofs.heap_invariant.Tie as tie
 
 abbrev Inv-loop : tie.InvT-loop
-Inv-loop setup superblocks live heap base c₀ c = (c ≤ classCount) × ((d : ℕ) → d < c → T (classInvariant setup (record { superblocks = superblocks; live = live }) heap d))
+Inv-loop setup superblocks live heap base c₀ c = (c ≤ classCount)
+    × ((d : ℕ) → d < c → T (classInvariant setup (record { superblocks = superblocks; live = live }) heap d))
 
 abbrev μ-loop : tie.MeasureT-loop
 μ-loop setup superblocks live heap base c₀ c = classCount - c

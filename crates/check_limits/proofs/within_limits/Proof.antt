@@ -1,5 +1,6 @@
 -- `check_limits::within_limits` meets its contract: each way out answers one setup number. Assumes nothing.
-use Rattle.check_limits.proofs.WithinLimitsLaws.{within-limits-false-of-processors, within-limits-false-of-superblocks, within-limits-false-of-spare, within-limits-false-of-p, within-limits-false-of-q, within-limits-is-q-test}
+use Rattle.check_limits.proofs.WithinLimitsLaws.{within-limits-false-of-processors, within-limits-false-of-superblocks, within-limits-false-of-spare}
+use Rattle.check_limits.proofs.WithinLimitsLaws.{within-limits-false-of-p, within-limits-false-of-q, within-limits-is-q-test}
 use native.Mathlib.Omega.{arith}
 use borrow.Author.Needs.{needs}
 use Rattle.check_limits.proofs.within_limits.Statement.{statement}

@@ -9,7 +9,8 @@ use mir.Syntax.{w16}
 use mir.Val.{Fits}
 use lib.ListN.{getD}
 use Rattle.marks_rules.specs.Marks.{bit, markBit}
-use Rattle.check_names.proofs.NameScanLaws.{Scanned, scan-start, scan-false-of-no-mark, scan-false-of-no-block, scan-step-not-held, scan-step-held, scan-end}
+use Rattle.check_names.proofs.NameScanLaws.{Scanned, scan-start, scan-false-of-no-mark, scan-false-of-no-block, scan-step-not-held, scan-step-held}
+use Rattle.check_names.proofs.NameScanLaws.{scan-end}
 use Rattle.check_names.proofs.each_has_a_mark.Statement.{statement}
 use Rattle.check_names.proofs.each_has_a_mark.Tie as tie
 

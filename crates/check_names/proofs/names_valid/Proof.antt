@@ -7,7 +7,8 @@ use native.Mathlib.Omega.{arith}
 use borrow.Author.Needs.{needs}
 use lib.ListN.{drop}
 use Rattle.check_names.specs.NameScan.{heldCount}
-use Rattle.check_names.proofs.NameScanLaws.{count-start, count-step-held, count-step-not-held, count-end, names-valid-of-none-held, names-valid-is-each-has-a-mark}
+use Rattle.check_names.proofs.NameScanLaws.{count-start, count-step-held, count-step-not-held, count-end, names-valid-of-none-held}
+use Rattle.check_names.proofs.NameScanLaws.{names-valid-is-each-has-a-mark}
 use Rattle.check_names.proofs.names_valid.Statement.{statement}
 use Rattle.check_names.proofs.names_valid.Tie as tie
 
@@ -37,8 +38,12 @@ loop-less c = omega arith
 
 loop-again : tie.Need-loop-again Inv-loop μ-loop
 loop-again c =
-    let h : c .before .before .before .loop .i < 1024 = omega arith in
-    (omega arith, ⊎-elim (λ w. omega arith) (λ w. omega arith) (c .if1 .came), ⊎-elim (λ w. search (count-step-held, needs)) (λ w. search (count-step-not-held, needs)) (c .if1 .came))
+    let h : c .before .before .before .loop .i < 1024 = omega arith in (
+      omega arith,
+      ⊎-elim (λ w. omega arith) (λ w. omega arith) (c .if1 .came),
+      ⊎-elim (λ w. search (count-step-held, needs))
+          (λ w. search (count-step-not-held, needs)) (c .if1 .came),
+    )
 
 returns : tie.Need-returns Inv-loop μ-loop
 returns c =

@@ -9,7 +9,8 @@ use borrow.Author.Needs.{needs}
 use Rattle.marks_rules.specs.Marks.{bit, markBit}
 use Rattle.heap_rules.specs.Table.{superblockAt}
 use Rattle.check_rules.specs.Check.{isUnowned}
-use Rattle.check_ranks.proofs.RankScanLaws.{rankOf, not-unowned-of-owner, RanksMet, none-met, ranked-le, step-unranked, false-of-met-twice, false-of-unowned, step-higher, step-not-higher, ranks-valid-of-highest}
+use Rattle.check_ranks.proofs.RankScanLaws.{rankOf, not-unowned-of-owner, RanksMet, none-met, ranked-le, step-unranked, false-of-met-twice}
+use Rattle.check_ranks.proofs.RankScanLaws.{false-of-unowned, step-higher, step-not-higher, ranks-valid-of-highest}
 use Rattle.check_ranks.proofs.ranks_valid.Statement.{statement}
 use Rattle.check_ranks.proofs.ranks_valid.Tie as tie
 
@@ -86,11 +87,13 @@ loop-again c =
       omega arith,
       ⊎-elim
           (λ w.
-          let u : isUnowned (superblockAt s (l .k)) ≡ false = ⊎-elim (λ v. sym (v .1 .ensures) ∙ v .2 .left) (λ v. not-unowned-of-owner (superblockAt s (l .k)) (v .left)) (w .3 .came) in
+          let u : isUnowned (superblockAt s (l .k)) ≡ false =
+          ⊎-elim (λ v. sym (v .1 .ensures) ∙ v .2 .left) (λ v. not-unowned-of-owner (superblockAt s (l .k)) (v .left)) (w .3 .came) in
           step-higher s (l .met) (l .ranked) (l .highest) (l .k) (l .inv .1) low (omega arith) _ _ _ fits (w .1 .left) u (w .4 .taken) (w .5) (w .6) (w .7))
           (⊎-elim
           (λ w.
-          let u : isUnowned (superblockAt s (l .k)) ≡ false = ⊎-elim (λ v. sym (v .1 .ensures) ∙ v .2 .left) (λ v. not-unowned-of-owner (superblockAt s (l .k)) (v .left)) (w .3 .came) in
+          let u : isUnowned (superblockAt s (l .k)) ≡ false =
+          ⊎-elim (λ v. sym (v .1 .ensures) ∙ v .2 .left) (λ v. not-unowned-of-owner (superblockAt s (l .k)) (v .left)) (w .3 .came) in
           step-not-higher s (l .met) (l .ranked) (l .highest) (l .k) (l .inv .1) low (omega arith) _ _ _ fits (w .1 .left) u (w .4 .left) (w .5) (w .6) (w .7))
           (λ w. let none : rankOf s (l .k) ≤ 0 = omega arith in search step-unranked))
           (c .if1 .came),

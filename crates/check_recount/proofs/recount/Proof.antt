@@ -1,10 +1,12 @@
--- `check_recount::recount` meets its contract. The loop's invariant: the superblocks passed are counted. The measure is what is left of the table. Assumes nothing.
+-- `check_recount::recount` meets its contract. The loop's invariant: the superblocks passed are counted. The measure is what is left of the table.
+-- Assumes nothing.
 use mathlib.Core.Path.{refl}
 use mathlib.Core.Logic.{⊎-elim}
 use Prim.Native.Nat.{_-_, _≤_}
 use native.Mathlib.Omega.{arith}
 use borrow.Author.Needs.{needs}
-use Rattle.check_recount.proofs.RecountLaws.{RecountedBelow, recounted-below-0, recounted-below-counted, recounted-below-not-counted, superblocks-fit-w8, live-fit-w16, recounted-below-64}
+use Rattle.check_recount.proofs.RecountLaws.{RecountedBelow, recounted-below-0, recounted-below-counted, recounted-below-not-counted}
+use Rattle.check_recount.proofs.RecountLaws.{superblocks-fit-w8, live-fit-w16, recounted-below-64}
 use Rattle.check_recount.proofs.recount.Statement.{statement}
 use Rattle.check_recount.proofs.recount.Tie as tie
 

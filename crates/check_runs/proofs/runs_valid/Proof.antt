@@ -6,7 +6,8 @@ use Prim.Native.Nat.{_-_, _≤_}
 use native.Mathlib.Omega.{arith}
 use lib.ListN.{length}
 use borrow.Author.Needs.{needs}
-use Rattle.check_runs.proofs.RunScanLaws.{Scanned, scan-start, false-of-broken-run, false-of-length-in-run, step-in-run, false-of-no-length, false-of-above-16, step-first-of-run, false-of-length-outside, step-outside, scan-end}
+use Rattle.check_runs.proofs.RunScanLaws.{Scanned, scan-start, false-of-broken-run, false-of-length-in-run, step-in-run, false-of-no-length}
+use Rattle.check_runs.proofs.RunScanLaws.{false-of-above-16, step-first-of-run, false-of-length-outside, step-outside, scan-end}
 use Rattle.check_runs.proofs.runs_valid.Statement.{statement}
 use Rattle.check_runs.proofs.runs_valid.Tie as tie
 
@@ -49,7 +50,8 @@ returns-3 c =
 returns-4 : tie.Need-returns-4 Inv-loop μ-loop
 returns-4 c =
     let l = c .before .before .before .before .before .before .before .before .before in
-    false-of-above-16 _ _ (l .loop .k) (table-length (l .before)) (omega arith) (l .loop .inv .1) (omega arith) (c .before .before .before .before .if4 .taken) (omega arith)
+    false-of-above-16 _ _ (l .loop .k) (table-length (l .before)) (omega arith) (l .loop .inv .1) (omega arith)
+    (c .before .before .before .before .if4 .taken) (omega arith)
 
 sub-left-2 : tie.Need-sub-left-2 Inv-loop μ-loop
 sub-left-2 c = omega arith
@@ -57,7 +59,8 @@ sub-left-2 c = omega arith
 returns-5 : tie.Need-returns-5 Inv-loop μ-loop
 returns-5 c =
     let l = c .before .before .before .before .before .before .before in
-    false-of-length-outside _ _ (l .loop .k) (table-length (l .before)) (omega arith) (l .loop .inv .1) (omega arith) (c .before .before .if4 .left) (omega arith)
+    false-of-length-outside _ _ (l .loop .k) (table-length (l .before)) (omega arith) (l .loop .inv .1) (omega arith) (c .before .before .if4 .left)
+    (omega arith)
 
 add-k : tie.Need-add-k Inv-loop μ-loop
 add-k c = omega arith
@@ -72,7 +75,8 @@ loop-again c =
       ⊎-elim
           (λ w. step-in-run _ _ (l .loop .k) (table-length (l .before)) (omega arith) (l .loop .inv .1) (omega arith) _ (w .2 .left) (omega arith) (w .5))
           (⊎-elim
-          (λ w. step-first-of-run _ _ (l .loop .k) (table-length (l .before)) (omega arith) (l .loop .inv .1) (omega arith) _ (w .2 .taken) (omega arith) (omega arith) (w .8))
+          (λ w. step-first-of-run _ _ (l .loop .k) (table-length (l .before)) (omega arith) (l .loop .inv .1) (omega arith) _ (w .2 .taken) (omega arith)
+          (omega arith) (w .8))
           (λ w. step-outside _ _ (l .loop .k) (table-length (l .before)) (omega arith) (l .loop .inv .1) (omega arith) _ (w .2 .left) (omega arith) (w .5)))
           (c .if1 .came),
     )

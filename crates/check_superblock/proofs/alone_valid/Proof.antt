@@ -1,5 +1,7 @@
 -- `check_superblock::alone_valid` meets its contract: each way out answers one clause of the check. Assumes nothing.
-use Rattle.check_superblock.proofs.AloneValidLaws.{alone-valid-of-unused, alone-valid-false-past-n, alone-valid-of-part-of-run, alone-valid-false-of-owner, alone-valid-false-of-class, alone-valid-false-of-not-sparse, alone-valid-is-places-valid}
+use Rattle.check_superblock.proofs.AloneValidLaws.{alone-valid-of-unused, alone-valid-false-past-n, alone-valid-of-part-of-run}
+use Rattle.check_superblock.proofs.AloneValidLaws.{alone-valid-false-of-owner, alone-valid-false-of-class, alone-valid-false-of-not-sparse}
+use Rattle.check_superblock.proofs.AloneValidLaws.{alone-valid-is-places-valid}
 use borrow.Author.Needs.{needs}
 use Rattle.check_superblock.proofs.alone_valid.Statement.{statement}
 use Rattle.check_superblock.proofs.alone_valid.Tie as tie

@@ -1,4 +1,5 @@
--- `check_superblock::each_valid` meets its contract. The loop's invariant: the superblocks passed are valid. The measure is what is left of the table. Assumes nothing.
+-- `check_superblock::each_valid` meets its contract. The loop's invariant: the superblocks passed are valid. The measure is what is left of the
+-- table. Assumes nothing.
 use Prim.Native.Nat.{ℕ, _-_, _≤_, _<_}
 use native.Mathlib.Omega.{arith}
 use borrow.Author.Needs.{needs}

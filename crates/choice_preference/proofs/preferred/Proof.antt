@@ -1,5 +1,6 @@
 -- `choice_preference::preferred` meets its contract: each arm is one preference, or none. Assumes nothing.
-use Rattle.choice_preference.proofs.PreferenceLaws.{preferred-fuller, preferred-more-recent, not-preferred-emptier, preferred-fewer-live, none-preferred-of-empty, none-preferred-of-unused}
+use Rattle.choice_preference.proofs.PreferenceLaws.{preferred-fuller, preferred-more-recent, not-preferred-emptier, preferred-fewer-live}
+use Rattle.choice_preference.proofs.PreferenceLaws.{none-preferred-of-empty, none-preferred-of-unused}
 use borrow.Author.Needs.{needs}
 use Rattle.choice_preference.proofs.preferred.Statement.{statement}
 use Rattle.choice_preference.proofs.preferred.Tie as tie

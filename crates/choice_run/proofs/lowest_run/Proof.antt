@@ -1,6 +1,5 @@
 -- `choice_run::lowest_run` meets its contract. The loop's invariant: so many available superblocks stand in a row before superblock k, no run ends
 -- at or before k, and the scan ends at N or at the table's end. The measure is what is left of the superblocks. Assumes nothing.
-use mathlib.Core.Path.{refl}
 use mathlib.Core.Logic.{⊎-elim, inl, inr}
 use Prim.Native.Nat.{_-_, _≤_}
 use native.Mathlib.Omega.{arith}

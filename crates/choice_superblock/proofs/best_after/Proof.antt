@@ -1,5 +1,6 @@
 -- `choice_superblock::best_after` meets its contract: one law for each way through the code. Assumes nothing.
-use Rattle.choice_superblock.proofs.ScanLaws.{best-after-other-class, best-after-other-live, best-after-not-preferred, best-after-preferred, best-after-first}
+use Rattle.choice_superblock.proofs.ScanLaws.{best-after-other-class, best-after-other-live, best-after-not-preferred, best-after-preferred}
+use Rattle.choice_superblock.proofs.ScanLaws.{best-after-first}
 use borrow.Author.Needs.{needs}
 use Rattle.choice_superblock.proofs.best_after.Statement.{statement}
 use Rattle.choice_superblock.proofs.best_after.Tie as tie

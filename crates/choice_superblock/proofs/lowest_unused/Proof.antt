@@ -17,7 +17,8 @@ scan-requires c κs = search needs
 
 returns : tie.Need-returns
 unfolding lowestUnused meetsCriterion preferredBy
-returns c = chosen-unused-past-table (c .before .before .before .before .args .s .table) (search length-of-length-map) (c .before .before .before .before .args .s .setup .superblocks) (c .scan .result) (omega arith) (c .scan .ensures)
+returns c = chosen-unused-past-table (c .before .before .before .before .args .s .table) (search length-of-length-map)
+    (c .before .before .before .before .args .s .setup .superblocks) (c .scan .result) (omega arith) (c .scan .ensures)
 
 scan-requires-2 : tie.Need-scan-requires-2
 scan-requires-2 c κs = search needs

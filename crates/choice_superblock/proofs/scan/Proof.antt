@@ -1,4 +1,5 @@
--- `choice_superblock::scan` meets its contract. The loop's invariant: the best so far is the choice among the superblocks looked at, and live count and rank kept are that superblock's. Assumes nothing.
+-- `choice_superblock::scan` meets its contract. The loop's invariant: the best so far is the choice among the superblocks looked at, and live count
+-- and rank kept are that superblock's. Assumes nothing.
 use mathlib.Core.Logic.{⊎-elim}
 use Prim.Native.Nat.{_≤_, _-_}
 use borrow.Author.Needs.{needs}

@@ -1,5 +1,5 @@
--- `form_lists::load_addresses` meets its contract. The loop's invariant: the addresses passed are as the bytes have them. The measure is what is left of the 512.
--- Assumes nothing.
+-- `form_lists::load_addresses` meets its contract. The loop's invariant: the addresses passed are as the bytes have them. The measure is what is left
+-- of the 512. Assumes nothing.
 use mathlib.Core.Path.{_≡_, refl}
 use Prim.Native.Nat.{_+_, _-_, _*_, _≤_, _<_, zero-le}
 use native.Mathlib.Omega.{arith}

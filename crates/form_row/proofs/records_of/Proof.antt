@@ -1,4 +1,5 @@
--- `form_row::records_of` meets its contract. The loop's invariant: the superblocks passed are copied. The measure is what is left of the table. Assumes nothing.
+-- `form_row::records_of` meets its contract. The loop's invariant: the superblocks passed are copied. The measure is what is left of the table.
+-- Assumes nothing.
 use Prim.Native.Nat.{_-_, _≤_}
 use native.Mathlib.Omega.{arith}
 use borrow.Author.Needs.{needs}

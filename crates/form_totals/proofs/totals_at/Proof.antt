@@ -15,7 +15,8 @@ use Rattle.form_totals.proofs.totals_at.Statement.{statement}
 use Rattle.form_totals.proofs.totals_at.Tie as tie
 
 abbrev Inv-loop : tie.InvT-loop
-Inv-loop bytes at superblocks₀ live₀ x₀ superblocks live x = (x ≤ totalCount) × (length superblocks ≡ totalCount) × (length live ≡ totalCount) × (take x superblocks ≡ listed (λ i. byteAt bytes (at + i)) x) × (take x live ≡ listed (λ i. twoAt bytes (at + (totalCount + 2 * i))) x)
+Inv-loop bytes at superblocks₀ live₀ x₀ superblocks live x = (x ≤ totalCount) × (length superblocks ≡ totalCount) × (length live ≡ totalCount)
+    × (take x superblocks ≡ listed (λ i. byteAt bytes (at + i)) x) × (take x live ≡ listed (λ i. twoAt bytes (at + (totalCount + 2 * i))) x)
 
 abbrev μ-loop : tie.MeasureT-loop
 μ-loop bytes at superblocks₀ live₀ x₀ superblocks live x = totalCount - x
@@ -58,8 +59,13 @@ loop-less c = omega arith
 
 loop-again : tie.Need-loop-again Inv-loop μ-loop
 loop-again c =
-    let h : c .before .before .before .before .before .loop .x < totalCount = omega arith in
-    (omega arith, search (needs, length-set), search (needs, length-set), search (listed-step, byte-at-position-after), search (listed-step, two-at-position-after))
+    let h : c .before .before .before .before .before .loop .x < totalCount = omega arith in (
+      omega arith,
+      search (needs, length-set),
+      search (needs, length-set),
+      search (listed-step, byte-at-position-after),
+      search (listed-step, two-at-position-after),
+    )
 
 returns : tie.Need-returns Inv-loop μ-loop
 returns c = search totals-in-of-all-totals

@@ -5,7 +5,8 @@ use Prim.Native.Nat.{_-_, _≤_, _<_}
 use native.Mathlib.Omega.{arith}
 use borrow.Author.Tests.{ltb-true, ltb-false}
 use Rattle.base_laws.proofs.ReplacedElement.{length-of-length-map}
-use Rattle.heap_ranks.proofs.RankingLaws.{RankedBelow, ranked-none, shiftedBack, EndsAhead, one-back, unranked-not-back, behind-not-back, ranked-latest-end}
+use Rattle.heap_ranks.proofs.RankingLaws.{RankedBelow, ranked-none, shiftedBack, EndsAhead, one-back, unranked-not-back, behind-not-back}
+use Rattle.heap_ranks.proofs.RankingLaws.{ranked-latest-end}
 use Rattle.heap_ranks.proofs.rank_latest.Statement.{statement}
 use Rattle.heap_ranks.proofs.rank_latest.Tie as tie
 
@@ -52,8 +53,11 @@ loop-again : tie.Need-loop-again Inv-loop μ-loop
 loop-again c =
     let h : c .before .before .loop .m < 64 = omega arith in
     let fit = c .before .before .before .before .pre .1 in
-    let ends : EndsAhead _ _ = ⊎-elim (λ w. inl (w .0 .taken, w .1)) (λ w. inr (w .0 .left, w .1)) (c .before .before .before .if1 .came) in
-    (omega arith, ⊎-elim (λ w. search (one-back, ltb-true)) (λ w. ⊎-elim (λ u. search (behind-not-back, ltb-false)) (λ u. search unranked-not-back) (w .0 .came)) (c .if2 .came))
+    let ends : EndsAhead _ _ = ⊎-elim (λ w. inl (w .0 .taken, w .1)) (λ w. inr (w .0 .left, w .1)) (c .before .before .before .if1 .came) in (
+      omega arith,
+      ⊎-elim (λ w. search (one-back, ltb-true)) (λ w. ⊎-elim (λ u. search (behind-not-back, ltb-false)) (λ u. search unranked-not-back)
+          (w .0 .came)) (c .if2 .came),
+    )
 
 mul-t-2 : tie.Need-mul-t-2 Inv-loop μ-loop
 mul-t-2 c = omega arith

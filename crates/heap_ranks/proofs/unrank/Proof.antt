@@ -4,7 +4,8 @@ use mathlib.Core.Logic.{⊎-elim}
 use Prim.Native.Nat.{_-_, _≤_, _<_}
 use native.Mathlib.Omega.{arith}
 use Rattle.base_laws.proofs.ReplacedElement.{length-of-length-map}
-use Rattle.heap_ranks.proofs.RankingLaws.{RankedBelow, ranked-none, shiftedAhead, one-ahead, not-ahead, unranked-end, unranked-of-not-ranked, unranked-past-table}
+use Rattle.heap_ranks.proofs.RankingLaws.{RankedBelow, ranked-none, shiftedAhead, one-ahead, not-ahead, unranked-end, unranked-of-not-ranked}
+use Rattle.heap_ranks.proofs.RankingLaws.{unranked-past-table}
 use Rattle.heap_ranks.proofs.unrank.Statement.{statement}
 use Rattle.heap_ranks.proofs.unrank.Tie as tie
 

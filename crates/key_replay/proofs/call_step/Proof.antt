@@ -28,7 +28,9 @@ same-length-2 c = search needs
 returns : tie.Need-returns
 returns c =
     let z = c .before .before .before .before .before .before .before .before .before .before .before .before .before .before .before .before .before in
-    stepped-of-call _ _ _ _ (z .pre .0) (z .pre .1) _ _ _ (z .pre .2) _ _ (c .before .before .before .before .before .before .before .before .before .before .call-state .ensures .0) _ _ (c .before .before .before .before .before .before .call-line .ensures) _ (c .before .before .call-size .ensures .0) _ (c .next .ensures)
+    stepped-of-call _ _ _ _ (z .pre .0) (z .pre .1) _ _ _ (z .pre .2) _ _
+    (c .before .before .before .before .before .before .before .before .before .before .call-state .ensures .0) _ _
+    (c .before .before .before .before .before .before .call-line .ensures) _ (c .before .before .call-size .ensures .0) _ (c .next .ensures)
 
 pub call-step-spec : {M : Type 1} → statement M
 call-step-spec =

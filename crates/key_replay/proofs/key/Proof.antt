@@ -24,7 +24,12 @@ same-length-2 c = search needs
 
 returns-2 : tie.Need-returns-2
 returns-2 c =
-    let bytes : (i : ℕ) → byteAt (c .before .before .before .before .before .before .before .before .before .before .before .before .before .before .before .before .args .bytes .now) i < 256 = λ i. omega (arith, c .before .before .before .before .before .before .before .before .before .before .before .before .before .before .before .shared-slice-known .given i) in
+    let bytes : (i : ℕ) → byteAt
+    (c .before .before .before .before .before .before .before .before .before .before .before .before .before .before .before .before .args .bytes .now)
+    i < 256 = λ i. omega (
+      arith,
+      c .before .before .before .before .before .before .before .before .before .before .before .before .before .before .before .shared-slice-known .given i,
+    ) in
     search (key-written-of-finished, bytes)
 
 pub key-spec : {M : Type 1} → statement M

@@ -8,7 +8,8 @@ use Rattle.key_replay.proofs.replay_all.Statement.{statement}
 use Rattle.key_replay.proofs.replay_all.Tie as tie
 
 abbrev Inv-loop : tie.InvT-loop
-Inv-loop bytes order₀ out₀ x₀ order out x = InBounds x out × (textAndOrderAhead bytes x order out ≡ keyAndStorage bytes order₀ out₀) × (length order ≡ length order₀) × (length out ≡ length out₀)
+Inv-loop bytes order₀ out₀ x₀ order out x = InBounds x out × (textAndOrderAhead bytes x order out ≡ keyAndStorage bytes order₀ out₀)
+    × (length order ≡ length order₀) × (length out ≡ length out₀)
 
 abbrev μ-loop : tie.MeasureT-loop
 μ-loop bytes order₀ out₀ x₀ order out x = commandsLeft x

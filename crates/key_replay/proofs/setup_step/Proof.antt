@@ -38,7 +38,13 @@ same-length-4 : tie.Need-same-length-4
 same-length-4 c = search needs
 
 returns-2 : tie.Need-returns-2
-returns-2 c = search (stepped-of-setup, c .before .before .before .before .before .setup-line .ensures, c .before .before .before .before .before .before .before .before .number-of .ensures, c .before .before .before .before .before .before .before .before .before .before .before .setup .ensures, c .before .before .before .before .before .before .before .before .before .before .before .before .before .before .before .before .pre)
+returns-2 c = search (
+  stepped-of-setup,
+  c .before .before .before .before .before .setup-line .ensures,
+  c .before .before .before .before .before .before .before .before .number-of .ensures,
+  c .before .before .before .before .before .before .before .before .before .before .before .setup .ensures,
+  c .before .before .before .before .before .before .before .before .before .before .before .before .before .before .before .before .pre,
+)
 
 pub setup-step-spec : {M : Type 1} → statement M
 setup-step-spec =

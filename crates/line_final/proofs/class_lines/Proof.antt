@@ -1,4 +1,5 @@
--- `line_final::class_lines` meets its contract. The loop's invariant: the lines of the classes passed are put. The measure is the classes left. Assumes nothing.
+-- `line_final::class_lines` meets its contract. The loop's invariant: the lines of the classes passed are put. The measure is the classes left.
+-- Assumes nothing.
 use mathlib.Core.Path.{_≡_, refl, _∙_}
 use Prim.Native.Nat.{_≤_, _-_}
 use native.Mathlib.Omega.{arith}
@@ -13,7 +14,8 @@ use Rattle.line_final.proofs.class_lines.Statement.{statement}
 use Rattle.line_final.proofs.class_lines.Tie as tie
 
 abbrev Inv-loop : tie.InvT-loop
-Inv-loop out₀ at heap s end₀ class₀ out end class = (class ≤ classCount) × (record { end = end; buffer = out } ≡ pasted out₀ end₀ (classLines heap class s)) × (length out ≡ length out₀)
+Inv-loop out₀ at heap s end₀ class₀ out end class = (class ≤ classCount)
+    × (record { end = end; buffer = out } ≡ pasted out₀ end₀ (classLines heap class s)) × (length out ≡ length out₀)
 
 abbrev μ-loop : tie.MeasureT-loop
 μ-loop out₀ at heap s end₀ class₀ out end class = classCount - class

@@ -12,7 +12,8 @@ use Rattle.line_final.proofs.heap_lines.Statement.{statement}
 use Rattle.line_final.proofs.heap_lines.Tie as tie
 
 abbrev Inv-loop : tie.InvT-loop
-Inv-loop out₀ at heaps s end₀ heap₀ out end heap = (heap ≤ heaps) × (record { end = end; buffer = out } ≡ pasted out₀ end₀ (heapLines heap s)) × (length out ≡ length out₀)
+Inv-loop out₀ at heaps s end₀ heap₀ out end heap = (heap ≤ heaps) × (record { end = end; buffer = out } ≡ pasted out₀ end₀ (heapLines heap s))
+    × (length out ≡ length out₀)
 
 abbrev μ-loop : tie.MeasureT-loop
 μ-loop out₀ at heaps s end₀ heap₀ out end heap = heaps - heap
@@ -47,7 +48,8 @@ same-length c = search needs
 returns : tie.Need-returns Inv-loop μ-loop
 returns c =
     let l = c .before .loop in
-    paste-then-paste _ _ _ _ (c .before .before .before .before .put-nothing .ensures) (heap-lines-end _ _ _ (l .heap) _ (omega arith) (omega arith) (l .inv .1))
+    paste-then-paste _ _ _ _ (c .before .before .before .before .put-nothing .ensures)
+    (heap-lines-end _ _ _ (l .heap) _ (omega arith) (omega arith) (l .inv .1))
 
 pub heap-lines-spec : {M : Type 1} → statement M
 heap-lines-spec =

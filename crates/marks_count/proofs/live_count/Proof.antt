@@ -38,7 +38,10 @@ add-result-3 : tie.Need-add-result-3
 add-result-3 c = omega (arith, word-ones-le-64 c 0, word-ones-le-64 c 1, word-ones-le-64 c 2, word-ones-le-64 c 3)
 
 returns : tie.Need-returns
-returns c = (live-count-is-ones-of-words (c .args .t1) (λ i. word-fits c i .fits), omega (arith, word-ones-le-64 c 0, word-ones-le-64 c 1, word-ones-le-64 c 2, word-ones-le-64 c 3))
+returns c = (
+  live-count-is-ones-of-words (c .args .t1) (λ i. word-fits c i .fits),
+  omega (arith, word-ones-le-64 c 0, word-ones-le-64 c 1, word-ones-le-64 c 2, word-ones-le-64 c 3),
+)
 
 pub live-count-spec : {M : Type 1} → statement M
 live-count-spec =

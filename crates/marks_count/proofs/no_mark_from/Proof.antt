@@ -41,7 +41,8 @@ returns c =
     let c₂ = c₃ .before in
     let c₁ = c₂ .before in
     let s = c₁ .before in
-    no-mark-from-is-shifted-or-zero (s .args .t1) (s .args .n) (λ i. word-fits s i .fits) (c₁ .tail .result) (c₂ .tail2 .result) (c₃ .tail3 .result) (c .tail4 .result)
+    no-mark-from-is-shifted-or-zero (s .args .t1) (s .args .n) (λ i. word-fits s i .fits) (c₁ .tail .result) (c₂ .tail2 .result) (c₃ .tail3 .result)
+    (c .tail4 .result)
     (c₁ .tail .ensures) (c₂ .tail2 .ensures) (c₃ .tail3 .ensures) (c .tail4 .ensures)
 
 pub no-mark-from-spec : {M : Type 1} → statement M

@@ -1,8 +1,10 @@
--- `move_transfers::transfer_excess` meets its contract. The loop's invariant: the moves still to be made are those from the state so far. The measure is the number of the heap's superblocks. Assumes nothing.
+-- `move_transfers::transfer_excess` meets its contract. The loop's invariant: the moves still to be made are those from the state so far. The measure
+-- is the number of the heap's superblocks. Assumes nothing.
 use borrow.Author.Needs.{needs}
 use Rattle.base_laws.proofs.ReplacedElement.{length-of-length-map}
 use Rattle.heap_rules.specs.Counts.{superblocksOf}
-use Rattle.move_transfers.proofs.TransferLoopLaws.{TransferInvariant, transfer-invariant-start, transfer-count-fits-w8, excess-transferred-at-loop-end, superblocks-decrease, transfer-invariant-step, left-true-of-and}
+use Rattle.move_transfers.proofs.TransferLoopLaws.{TransferInvariant, transfer-invariant-start, transfer-count-fits-w8}
+use Rattle.move_transfers.proofs.TransferLoopLaws.{excess-transferred-at-loop-end, superblocks-decrease, transfer-invariant-step, left-true-of-and}
 use Rattle.move_transfers.proofs.transfer_excess.Statement.{statement}
 use Rattle.move_transfers.proofs.transfer_excess.Tie as tie
 

@@ -62,7 +62,8 @@ loop-again c =
     let l = c .before .loop in (
       simp length-set (l .inv .0),
       omega arith,
-      ap (λ (x : List ℕ). set x (a .s * 256 + l .j) (a .n - 1 - l .j)) (l .inv .2) ∙ renew-loop-step (a .order .now) (a .s * 256) (a .n) (l .j) (omega arith) (omega arith),
+      ap (λ (x : List ℕ). set x (a .s * 256 + l .j) (a .n - 1 - l .j)) (l .inv .2) ∙ renew-loop-step (a .order .now) (a .s * 256) (a .n) (l .j)
+          (omega arith) (omega arith),
     )
 
 same-length : tie.Need-same-length Inv-loop μ-loop

@@ -45,7 +45,12 @@ returns c = search needs
 add-done : tie.Need-add-done Inv-loop μ-loop
 add-done c =
     let buf : List ℕ = c .before .before .before .before .before .before .before .before .before .loop .buf in
-    omega (arith, read-bytes-within-buffer buf _ buf _ _ _ (c .before .before .before .before .before .before .read-some .ensures) (c .before .before .part .given .1) (c .before .before .before .before .before .before .before .before .loop-test .taken) (c .before .before .before .before .before .buf .given .0) refl)
+    omega (
+      arith,
+      read-bytes-within-buffer buf _ buf _ _ _ (c .before .before .before .before .before .before .read-some .ensures)
+          (c .before .before .part .given .1) (c .before .before .before .before .before .before .before .before .loop-test .taken)
+          (c .before .before .before .before .before .buf .given .0) refl,
+    )
 
 loop-less : tie.Need-loop-less Inv-loop μ-loop
 loop-less c = omega arith

@@ -1,6 +1,7 @@
 -- `record_decoder::command_at` meets its contract: each branch is one of the definition. Assumes nothing.
 use Rattle.record_laws.proofs.RefusalTable.{has-numbers-of-equal}
-use Rattle.record_decoder.proofs.CommandAtLaws.{command-at-of-too-long-record, command-at-is-command-by-first-byte, command-at-of-empty-record, command-at-past-end}
+use Rattle.record_decoder.proofs.CommandAtLaws.{command-at-of-too-long-record, command-at-is-command-by-first-byte, command-at-of-empty-record}
+use Rattle.record_decoder.proofs.CommandAtLaws.{command-at-past-end}
 use borrow.Author.Needs.{needs}
 use Rattle.record_decoder.proofs.command_at.Statement.{statement}
 use Rattle.record_decoder.proofs.command_at.Tie as tie

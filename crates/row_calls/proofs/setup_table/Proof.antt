@@ -1,5 +1,6 @@
 -- `row_calls::setup_table` meets its contract. Assumes nothing.
-use Rattle.row_calls.proofs.RowCallLaws.{refused-setup-is-setup-on, answered-setup-is-setup-on, table-call-clauses, accepted-flag-of-refused-call, accepted-flag-of-answered-call, refused-call-passes-if-accepted, answered-call-passes-if-accepted}
+use Rattle.row_calls.proofs.RowCallLaws.{refused-setup-is-setup-on, answered-setup-is-setup-on, table-call-clauses, accepted-flag-of-refused-call}
+use Rattle.row_calls.proofs.RowCallLaws.{accepted-flag-of-answered-call, refused-call-passes-if-accepted, answered-call-passes-if-accepted}
 use borrow.Author.Needs.{needs}
 use Rattle.row_calls.proofs.setup_table.Statement.{statement}
 use Rattle.row_calls.proofs.setup_table.Tie as tie
@@ -32,7 +33,8 @@ same-length-2 : tie.Need-same-length-2
 same-length-2 c = search needs
 
 returns-2 : tie.Need-returns-2
-returns-2 c = table-call-clauses _ _ _ (search answered-setup-is-setup-on) (search accepted-flag-of-answered-call) (answered-call-passes-if-accepted _ _ _ (c .before .before .before .setup .ensures .1 .1) (c .answered .ensures .0))
+returns-2 c = table-call-clauses _ _ _ (search answered-setup-is-setup-on) (search accepted-flag-of-answered-call)
+    (answered-call-passes-if-accepted _ _ _ (c .before .before .before .setup .ensures .1 .1) (c .answered .ensures .0))
 
 pub setup-table-spec : {M : Type 1} → statement M
 setup-table-spec =

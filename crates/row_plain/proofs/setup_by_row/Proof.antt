@@ -15,7 +15,14 @@ same-length : tie.Need-same-length
 same-length c = search needs
 
 returns : tie.Need-returns
-returns c = (search row-setup-of-min, (search row-setup-number-and-values, passes-if-accepted-of-min _ _ _ _ (c .before .before .borrow-setup .ensures .1) (c .before .before .before .before .at-most .ensures .0) (search length-of-length-map)))
+returns c = (
+  search row-setup-of-min,
+  (
+    search row-setup-number-and-values,
+    passes-if-accepted-of-min _ _ _ _ (c .before .before .borrow-setup .ensures .1)
+        (c .before .before .before .before .at-most .ensures .0) (search length-of-length-map),
+  ),
+)
 
 pub setup-by-row-spec : {M : Type 1} → statement M
 setup-by-row-spec = tie.close (tie.spec at-most-requires borrow-setup-requires same-length returns)

@@ -1,4 +1,5 @@
--- `text_writer::put_text` meets its contract. The loop's invariant: the first i bytes of the text are pasted. The measure is what is left of the text. Assumes nothing.
+-- `text_writer::put_text` meets its contract. The loop's invariant: the first i bytes of the text are pasted. The measure is what is left of the
+-- text. Assumes nothing.
 use mathlib.Core.Path.{_≡_, refl, _∙_}
 use Prim.Native.Nat.{_≤_, _-_}
 use lib.ListN.{length, take}
