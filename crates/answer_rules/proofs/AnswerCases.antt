@@ -142,8 +142,7 @@ nothing-told-case : answerText (Refused 1)
       setup = record { processors = 0; superblocks = 0; spare = 0; p = 0; q = 0 };
       table = unused ∷ [];
       names = notHeld ∷ [];
-      totals =
-          record { superblocks = 0 ∷ []; live = 0 ∷ [] };
+      totals = record { superblocks = 0 ∷ []; live = 0 ∷ [] };
     }) (5 ∷ []) (5 ∷ [])
     ≡ letters "refused 1\nsetup 0 0 0 0 0\nend\n"
 unfolding answerDefinitions

@@ -33,8 +33,7 @@ module _ (s : State) (a j : ℕ) (ej : j ≡ blockOf s a) where
         owner = superblockAt s (a / 4096) .owner;
         class = superblockAt s (a / 4096) .class;
         live = live;
-        rank =
-            superblockAt s (a / 4096) .rank;
+        rank = superblockAt s (a / 4096) .rank;
         run = superblockAt s (a / 4096) .run;
       }) → t ≡ markCleared s a
   unfolding markCleared

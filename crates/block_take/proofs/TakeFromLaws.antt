@@ -29,8 +29,7 @@ module _ (k : ℕ) (s : State) (order : List ℕ) (filled j address : ℕ) (take
       class = superblockAt s k .class;
       live = taken;
       rank = superblockAt s k .rank;
-      run =
-          superblockAt s k .run;
+      run = superblockAt s k .run;
     })) where
   pub taken-from-by-steps : _≡_ {A = After} (record { answer = record { outcome = Address address; state = t }; order = order }) (takenFrom k s order)
   unfolding takenFrom nextBlock

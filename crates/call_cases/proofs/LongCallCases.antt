@@ -61,8 +61,7 @@ long-calls =
       named-call = Drop 1 (12288 ∷ 4096 ∷ []);
       effect = run-and-block-dropped;
       names = naming ((4, 0) ∷ (9, 256) ∷ []);
-      names-after =
-          naming ((4, 0) ∷ []);
+      names-after = naming ((4, 0) ∷ []);
     }
     ∷ refused-with (Take 1 8193) 17 (run-of-two-taken .before) ((4, 0) ∷ []) ∷ refused-with (Free 1 8192) 6 (run-of-two-freed .before) ((9, 256) ∷ []) ∷ []
 

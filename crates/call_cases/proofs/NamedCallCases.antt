@@ -48,8 +48,7 @@ named-from-place-2 = record {
   named-call = NamedTake 2 9 1200;
   effect = from-place-2;
   names = naming ((4, 769) ∷ []);
-  names-after =
-      naming ((4, 769) ∷ (9, 770) ∷ []);
+  names-after = naming ((4, 769) ∷ (9, 770) ∷ []);
 }
 
 -- ---- a free by name that moves three superblocks; the name of a block in one of them stays, and a plain free does the same
@@ -68,8 +67,7 @@ abbrev pub refused-with : Call → ℕ → List SuperblockAndPlaces → List (�
 refused-with call r before l = record {
   named-call = call;
   effect = record { before = before; call = call; outcome = Refused r; after = before };
-  names =
-      naming l;
+  names = naming l;
   names-after = naming l;
 }
 

@@ -220,8 +220,7 @@ from-superblock-17 = record {
   before = eighteen-superblocks (owned-with 2 21 5 (1 ∷ 3 ∷ []));
   call = Take 2 896;
   outcome = Address 72320;
-  after =
-      eighteen-superblocks (owned-with 2 21 13 (1 ∷ 3 ∷ []));
+  after = eighteen-superblocks (owned-with 2 21 13 (1 ∷ 3 ∷ []));
 }
 
 -- ---- frees. Processor 1 frees block 2 of heap 2's superblock 3: it goes in place 2, and the superblock stays heap 2's. It was not
@@ -267,8 +266,7 @@ freed-in-superblock-17 = record {
   before = eighteen-superblocks (owned-with 2 21 13 (1 ∷ 58 ∷ []));
   call = Free 1 72320;
   outcome = Moves 0;
-  after =
-      eighteen-superblocks (ranked-with 2 21 5 1 (1 ∷ 3 ∷ []));
+  after = eighteen-superblocks (ranked-with 2 21 5 1 (1 ∷ 3 ∷ []));
 }
 
 -- ---- refused calls, each with the earlier of two refusals that it meets. Nothing is offered for class 26: heap 1's and heap 0's are full or of

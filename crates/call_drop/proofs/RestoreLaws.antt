@@ -79,8 +79,7 @@ module _ (touched : ℕ → ℕ → Bool) where
       record {
         heap-low = le-refl 1;
         restored-are = refl;
-        can-move =
-            record { length-is = long; totals = kept; moves-fit = omega (arith, outside-global-le-64 s) };
+        can-move = record { length-is = long; totals = kept; moves-fit = omega (arith, outside-global-le-64 s) };
       }
 
   module _ (before m : Moved) (h : ℕ) (so : HeapsRestored touched before h m) where

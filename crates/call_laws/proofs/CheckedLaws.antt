@@ -30,13 +30,10 @@ checked-by-tests s order next true true true e f g =
     inr (
       record {
         sound = sound-of-limits-and-rest s order (T-of-true (withinLimits (s .setup)) e) (T-of-true (restValid s order) g);
-        names =
-            names-valid-of-rest s order (T-of-true (restValid s order) g);
+        names = names-valid-of-rest s order (T-of-true (restValid s order) g);
         totals = totals-kept-of-rest s order (T-of-true (restValid s order) g);
-        ranks =
-            ranks-sound-of-valid s (ranks-valid-of-rest s order (T-of-true (restValid s order) g));
-        runs =
-            runs-valid-of-rest s order (T-of-true (restValid s order) g);
+        ranks = ranks-sound-of-valid s (ranks-valid-of-rest s order (T-of-true (restValid s order) g));
+        runs = runs-valid-of-rest s order (T-of-true (restValid s order) g);
         room = leb-true (s .setup .superblocks * 256) (length order) f;
       },
       refl,

@@ -211,8 +211,7 @@ same-places-of-free c k j moves s t e =
         unused = kept m (e .owners m l);
         class = e .classes m l;
         of-run = e .runs m l .0;
-        run =
-            e .runs m l .1;
+        run = e .runs m l .1;
       };
     }
   where

@@ -155,8 +155,7 @@ first-bad-address-map P Q s addresses f h = record {
   address = h .address;
   behind = h .behind;
   written = h .written;
-  none-before =
-      h .none-before;
+  none-before = h .none-before;
   bad = f _ _ (h .bad);
 }
 
@@ -192,8 +191,7 @@ module _ (r : ℕ) (some : r ≡ 0 → ⊥) where
         behind = addresses;
         written = refl;
         none-before = refl;
-        bad =
-            sym (first-refusal-at s a addresses f) ∙ e;
+        bad = sym (first-refusal-at s a addresses f) ∙ e;
       }
       go (yes ok) rest =
           let h = rest (sym (first-refusal-past s a addresses ok) ∙ e) in

@@ -142,8 +142,7 @@ module _ (touched : ℕ → ℕ → Bool) (freed : ℕ → ℕ → ℕ) (s : Sta
         shape = r .shape;
         passed = r .passed;
         left-le = r .left-le;
-        none-left =
-            λ i d w. r .none-left i d (f i d w);
+        none-left = λ i d w. r .none-left i d (f i d w);
         moves-bound = subst (λ (y : ℕ). m .moves ≤ s .setup .q * y) e (r .moves-bound);
       }
 
@@ -255,7 +254,6 @@ module _ (touched : ℕ → ℕ → Bool) (freed : ℕ → ℕ → ℕ) (s : Sta
           shape = shape;
           passed = passed;
           left-le = λ i d. le-refl (freed i d);
-          none-left =
-              λ i d w. absurd (let z : ⊥ = omega (arith, w .0, w .1) in z);
+          none-left = λ i d w. absurd (let z : ⊥ = omega (arith, w .0, w .1) in z);
           moves-bound = zero-le;
         })

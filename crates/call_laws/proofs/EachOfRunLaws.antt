@@ -38,8 +38,7 @@ module _ (Made : ℕ → Superblock → Type 0) (Kept : Superblock → Superbloc
   one-more-made : (k j : ℕ) (s t : State) → k + j < 64 → Asked t → EachMade Made Kept k j s t → EachMade Made Kept k (suc j) s (change (k + j) t)
   one-more-made k j s t l asked h = record {
     inside = λ m low high. inside m low (eq-or-lt-of-le (below m high));
-    outside =
-        λ m lm out. outside m lm (apart m out);
+    outside = λ m lm out. outside m lm (apart m out);
   }
     where
       below : (m : ℕ) → m < k + suc j → m ≤ k + j

@@ -69,8 +69,7 @@ free-refused-or-accepted s order i a = by-check (checked-refused-or-passed s ord
           passed = passed;
           processor = bounds-of-is-processor s i (T-of-true (isProcessor s i) ep);
           mapped = ew;
-          block-aligned =
-              eo;
+          block-aligned = eo;
           live = el;
         }) e (isInRun s a) refl)
 

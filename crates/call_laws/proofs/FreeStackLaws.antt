@@ -477,8 +477,7 @@ module _ (s : State) (order : List ℕ) (i size k : ℕ) (shape : Shape s) (acc 
           record {
             class = was-class (take-effect s order i size k shape acc .before);
             stays = ap (λ (x : After). x .order) e;
-            last =
-                ap (λ (x : After). x .answer .outcome) e;
+            last = ap (λ (x : After). x .answer .outcome) e;
           }
         where
           was-class : (liveIn (superblockAt s k) ≡ 0) ⊎ ((superblockAt s k .class ≡ classOf size) × (superblockAt s k .owner < runOwner))
@@ -527,8 +526,7 @@ module _ (s : State) (order : List ℕ) (i size k : ℕ) (shape : Shape s) (acc 
       record {
         answers = top-answered;
         popped = top-popped;
-        others =
-            stacks-keep (λ m p f l. ap (λ (x : List ℕ). place x m p) (taken-without-renewal not-renewed .stays));
+        others = stacks-keep (λ m p f l. ap (λ (x : List ℕ). place x m p) (taken-without-renewal not-renewed .stays));
       },
     )
 
@@ -663,8 +661,7 @@ free-keeps-stack k s order i a l shape apart = go (free-refused-or-accepted s or
     go (inr (inr acc)) = record {
       shape = long-free-shape s order i a shape acc;
       stack = long-free-keeps-stacks s order i a shape acc k;
-      class =
-          class-kept acc;
+      class = class-kept acc;
     }
     go (inr (inl acc)) = record {
       shape = free-shape s order i a shape acc;
@@ -695,8 +692,7 @@ named-take-keeps-stack k s order i m size shape apart = go (named-take-refused-o
         record {
           shape = named-shape;
           stack = ap₂ (λ (t : State) (x : List ℕ). stackOf t x k) state places ∙ kept .stack;
-          class =
-              ap (λ (t : State). superblockAt t k .class) state ∙ kept .class;
+          class = ap (λ (t : State). superblockAt t k .class) state ∙ kept .class;
         }
 
     go : ((r : ℕ) × (namedTakeOf s order i m size ≡ refused r s order))

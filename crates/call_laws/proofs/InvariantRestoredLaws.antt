@@ -38,8 +38,7 @@ invariant-restored-of-heap-0 h c freed s long e =
       from = transferred-from-self h c s long;
       moves-bound = zero-le;
       changed = owners-changed-self s;
-      invariant =
-          λ pos. absurd (let z : ⊥ = omega arith in z);
+      invariant = λ pos. absurd (let z : ⊥ = omega arith in z);
     }
 
 module _ (h c freed : ℕ) (s : State) (long : length (s .table) ≡ 64) (numbers : WithinLimits (s .setup)) (low : h < runOwner)

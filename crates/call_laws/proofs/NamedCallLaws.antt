@@ -446,8 +446,7 @@ module _ (s : State) (order : List ℕ) (k j : ℕ) (live : LiveBlock s order k 
           passed = passed;
           processor = bounds-of-is-processor s i (T-of-true _ p);
           mapped = live-block-mapped;
-          block-aligned =
-              live-block-aligned;
+          block-aligned = live-block-aligned;
           live = live-block-live;
         };
         outside-run = live-block-outside-run;
@@ -506,8 +505,7 @@ module _ (s : State) (order : List ℕ) (k : ℕ) (passed : Passed s order) (bel
           passed = passed;
           processor = bounds-of-is-processor s i (T-of-true _ p);
           mapped = start-mapped;
-          block-aligned =
-              start-aligned;
+          block-aligned = start-aligned;
           live = start-live;
         };
         in-run = start-in-run;

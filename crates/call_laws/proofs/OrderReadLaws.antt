@@ -126,11 +126,9 @@ module _ (s : State) (x y : List ℕ) (h : SameFirst (s .setup .superblocks * 25
       (λ l. agree-pick n (restValid s x)
       (λ g. f (record {
         sound = sound-of-limits-and-rest s x (T-of-true (withinLimits (s .setup)) l) (T-of-true (restValid s x) g);
-        names =
-            names-valid-of-rest s x (T-of-true (restValid s x) g);
+        names = names-valid-of-rest s x (T-of-true (restValid s x) g);
         totals = totals-kept-of-rest s x (T-of-true (restValid s x) g);
-        ranks =
-            ranks-sound-of-valid s (ranks-valid-of-rest s x (T-of-true (restValid s x) g));
+        ranks = ranks-sound-of-valid s (ranks-valid-of-rest s x (T-of-true (restValid s x) g));
         runs = runs-valid-of-rest s x (T-of-true (restValid s x) g);
         room = h .first-covers;
       })) (λ g. same-refusal 13))

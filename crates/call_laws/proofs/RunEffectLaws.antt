@@ -51,8 +51,7 @@ run-freed-keeps-rest k n s =
       setup = h .setup;
       names = h .names;
       length-is = λ long. length-set (t .table) m unused ∙ h .length-is long;
-      totals =
-          λ _. refl;
+      totals = λ _. refl;
     })
     (rest-kept-refl s)
 

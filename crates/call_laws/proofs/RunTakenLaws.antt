@@ -197,8 +197,7 @@ module _ (s : State) (order : List ℕ) (k n : ℕ) (shape : Shape s) (passed : 
         available = λ m low high. facts-of-is-available (superblockAt s m) (free .available m (omega arith) high);
         ranking = record {
           in-run = λ m h. absurd (let low = h .0 in let high = h .1 in let z : ⊥ = omega arith in z);
-          ranked-iff =
-              λ m l f. (λ z. z, λ z. z);
+          ranked-iff = λ m l f. (λ z. z, λ z. z);
           order-kept = λ m l lm ll f g pos h. h;
         };
       }

@@ -77,8 +77,7 @@ taken-from-other-is-taken-with i c k s order l long =
     ∙ ap (λ (x : List Superblock). record {
       answer = record {
         outcome = Address (addressOf k (b .class) (lastBlockOf places k b));
-        state =
-            record { setup = t .setup; table = x; names = t .names; totals = recounted x };
+        state = record { setup = t .setup; table = x; names = t .names; totals = recounted x };
       };
       order = places;
     })
@@ -196,8 +195,7 @@ module _ (s : State) (order : List ℕ) (shape : Shape s) (passed : Passed s ord
         below = global-below-superblocks k (best .below) (h .0);
         owner = inl (h .0);
         live = inl (h .1);
-        supply =
-            inr (none-in-global-of-fullest-nothing c none);
+        supply = inr (none-in-global-of-fullest-nothing c none);
       }
 
   offered-by-place-4 : (c k : ℕ) → fullest 0 c s ≡ Nothing → lowestUnused s ≡ At k → OfferedByOthers s c k

@@ -53,8 +53,7 @@ class-case size c last =
       outcome = Address 0;
       owner-after = 1;
       class-after = c;
-      run-after =
-          0;
+      run-after = 0;
       place-after = last;
     }
 
@@ -68,8 +67,7 @@ run-of-one-case size =
       outcome = Address 0;
       owner-after = 254;
       class-after = 0;
-      run-after =
-          1;
+      run-after = 1;
       place-after = 9;
     }
 
@@ -87,8 +85,7 @@ last-block-case =
       outcome = Moves 0;
       owner-after = 1;
       class-after = 1;
-      run-after =
-          0;
+      run-after = 0;
       place-after = 169;
     }
 
@@ -102,8 +99,7 @@ misaligned-case =
       outcome = Refused 6;
       owner-after = 1;
       class-after = 1;
-      run-after =
-          0;
+      run-after = 0;
       place-after = 0;
     }
 
@@ -128,8 +124,7 @@ two-moves-case address =
       call = Free 1 address;
       outcome = Moves 2;
       owner-after = 0;
-      class-after =
-          16;
+      class-after = 16;
       run-after = 0;
       place-after = 9;
     }

@@ -49,8 +49,7 @@ rowsOf classes s ledger (step ∷ steps) =
       changed = ownersChanged s t;
       passed = passedByFree outcome s t;
       live = map (λ c. entriesOf c new) classes;
-      owned =
-          map (λ c. superblocksOfClass c t) classes;
+      owned = map (λ c. superblocksOfClass c t) classes;
     }
     ∷ rowsOf classes t new steps
 

@@ -75,8 +75,7 @@ list-invariant-after-setup u order start e started =
         names = new-state-names-valid u;
         totals = new-state-totals-kept u;
         ranks = new-state-ranks-sound u;
-        runs =
-            runs-valid-of-sound (newState u) (h .3 .length-is) (new-state-runs-sound u);
+        runs = runs-valid-of-sound (newState u) (h .3 .length-is) (new-state-runs-sound u);
         room = room;
       };
       shape = h .3;

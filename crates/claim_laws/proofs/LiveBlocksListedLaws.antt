@@ -75,8 +75,7 @@ module _ (c k j : ℕ) (s t : State) (one-more-live : OneMoreLive c k j s t) (le
   listed-removed h = record {
     blocks = λ a d l. without a d l (ℕ-discrete (addressOf k c j) a);
     counted = one-live-less;
-    runs =
-        λ a. long-blocks a (ℕ-discrete (addressOf k c j) a);
+    runs = λ a. long-blocks a (ℕ-discrete (addressOf k c j) a);
   }
     where
       long-blocks : (a : ℕ) → Dec (addressOf k c j ≡ a) → entriesAt without-address a classCount ≡ longAt s a

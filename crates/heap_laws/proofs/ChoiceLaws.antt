@@ -162,8 +162,7 @@ module _ (meets : Superblock → Bool) (preferred : Superblock → Superblock �
     best-kept k h b = record {
       below = omega (arith, b .below);
       meets-criterion = b .meets-criterion;
-      none-preferred =
-          λ m l t. none m (eq-or-lt-of-le (le-of-suc-le-suc l)) t;
+      none-preferred = λ m l t. none m (eq-or-lt-of-le (le-of-suc-le-suc l)) t;
       preferred-to-earlier = b .preferred-to-earlier;
     }
       where

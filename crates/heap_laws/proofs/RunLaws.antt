@@ -80,8 +80,7 @@ module _ (b : Superblock) (table : List Superblock) where
               still-of-run = λ l. absurd (let z : ⊥ = omega arith in z);
               begins = λ _ _. low;
               at-most-16 = high;
-              outside-carries-0 =
-                  λ f. absurd (true-not-false (isOfRun b) e f);
+              outside-carries-0 = λ f. absurd (true-not-false (isOfRun b) e f);
             },
             whole-of-same-left table (b .run - 1) (0 + b .run - 1) (omega arith) (both-right (within 1 16 (b .run)) _ u),
           )
@@ -90,8 +89,7 @@ module _ (b : Superblock) (table : List Superblock) where
             record {
               still-of-run = λ l. absurd (let z : ⊥ = omega arith in z);
               begins = λ f _. absurd (true-not-false (isOfRun b) f e);
-              at-most-16 =
-                  omega arith;
+              at-most-16 = omega arith;
               outside-carries-0 = λ _. none;
             },
             whole-of-same-left table 0 (0 + b .run - 1) (omega arith) (both-right (eqb (b .run) 0) _ u),
@@ -104,8 +102,7 @@ module _ (b : Superblock) (table : List Superblock) where
           still-of-run = λ _. (of-run, none);
           begins = λ _ z. absurd (let y : ⊥ = omega arith in y);
           at-most-16 = omega arith;
-          outside-carries-0 =
-              λ _. none;
+          outside-carries-0 = λ _. none;
         },
         whole-of-same-left table left (suc left + b .run - 1) (omega arith) (both-right (eqb (b .run) 0) _ u),
       )
@@ -138,8 +135,7 @@ module _ (b : Superblock) (table : List Superblock) where
   next-of-whole-from k w = record {
     at-most-16 = w .at-most-16;
     in-table = omega (arith, w .in-table);
-    others =
-        λ m l h. w .others (suc m) (omega arith) (omega arith);
+    others = λ m l h. w .others (suc m) (omega arith) (omega arith);
   }
 
   -- ---- the facts of a list from those of its first superblock and of the others
@@ -183,8 +179,7 @@ module _ (b : Superblock) (table : List Superblock) where
       rest-in-table = omega (arith, g .rest-in-table);
       rest = rest-of-next;
       first-of-run = first-of-next;
-      inside-run =
-          inside-of-next;
+      inside-run = inside-of-next;
       outside-carries-0 = outside;
     }
       where
@@ -202,8 +197,7 @@ module _ (b : Superblock) (table : List Superblock) where
     fits-of-runs-from = record {
       still-of-run = h .rest 0;
       begins = λ e z. begins (b .run) refl e z;
-      at-most-16 =
-          at-most-16 (b .run) refl;
+      at-most-16 = at-most-16 (b .run) refl;
       outside-carries-0 = h .outside-carries-0 0 (omega arith);
     }
       where

@@ -347,8 +347,7 @@ shape-with-names s names h e = record {
   length-is = h .length-is;
   marks-length = h .marks-length;
   names-length = e;
-  superblock-totals-length =
-      h .superblock-totals-length;
+  superblock-totals-length = h .superblock-totals-length;
   live-totals-length = h .live-totals-length;
 }
 
@@ -363,8 +362,7 @@ sound-after-frees-with-names freed s names order h = record {
   numbers = h .numbers;
   each = h .each;
   past-unused = h .past-unused;
-  invariant =
-      h .invariant;
+  invariant = h .invariant;
   sparse = h .sparse;
 }
 

@@ -51,8 +51,7 @@ pub last-superblock-ranked-case :
       setup = small-setup;
       table = ranked 1 17 5 2 ∷ replicate 62 unused ++ ranked 2 16 3 1 ∷ [];
       names = 2 ∷ 16128 ∷ [];
-      totals =
-          unnamedState small-setup (ranked 1 17 5 1 ∷ replicate 62 unused ++ ranked 2 16 3 0 ∷ []) .totals;
+      totals = unnamedState small-setup (ranked 1 17 5 1 ∷ replicate 62 unused ++ ranked 2 16 3 0 ∷ []) .totals;
     }
 unfolding tableHolds rankedLatest listed rankAfterFree isMoreRecent isRanked
 last-superblock-ranked-case = refl

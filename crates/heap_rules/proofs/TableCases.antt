@@ -85,8 +85,7 @@ pub superblock-change-cases :
       owner = 1;
       class = 17;
       live = 13 ∷ 0 ∷ 0 ∷ 0 ∷ [];
-      rank =
-          6;
+      rank = 6;
       run = 0;
     } ∷ []
 unfolding withMark withoutMark

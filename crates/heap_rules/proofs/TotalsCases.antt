@@ -38,8 +38,7 @@ numbered-totals = record {
   setup = small-setup;
   table = [];
   names = [];
-  totals =
-      record { superblocks = listed (λ x. x) 243; live = listed (λ x. 500 + x) 243 };
+  totals = record { superblocks = listed (λ x. x) 243; live = listed (λ x. 500 + x) 243 };
 }
 
 abbrev counted-table : List Superblock
@@ -66,15 +65,13 @@ pub other-totals-not-kept :
       setup = small-setup;
       table = counted-table;
       names = [];
-      totals =
-          record { superblocks = recounted counted-table .superblocks; live = noTotals .live };
+      totals = record { superblocks = recounted counted-table .superblocks; live = noTotals .live };
     }) → ⊥)
     × (TotalsKept (record {
       setup = small-setup;
       table = counted-table;
       names = [];
-      totals =
-          record { superblocks = noTotals .superblocks; live = recounted counted-table .live };
+      totals = record { superblocks = noTotals .superblocks; live = recounted counted-table .live };
     }) → ⊥)
 unfolding othersHold recounted countedBelow withCounted isCounted increased liveCount sumBelow markBit bit
 other-totals-not-kept = (

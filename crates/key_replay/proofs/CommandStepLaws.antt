@@ -123,8 +123,7 @@ module _ (r : List ℕ) (x : Replay) (order out : List ℕ) (bounds : InBounds x
     next-replay-in-bounds : InBounds nextReplay text
     next-replay-in-bounds = record {
       position-bound = omega arith;
-      text-end-bound =
-          omega (arith, put-end-le out (x .end) line put, put-length out (x .end) line put);
+      text-end-bound = omega (arith, put-end-le out (x .end) line put, put-length out (x .end) line put);
       totals-readable = readable;
     }
 
@@ -175,10 +174,8 @@ module _ (r : List ℕ) (x : Replay) (order out : List ℕ) (bounds : InBounds x
       stays : InBounds (stopOf x (y .end)) text
       stays = record {
         position-bound = bounds .position-bound;
-        text-end-bound =
-            omega (arith, put-end-le out (x .end) line (s .line-written), put-length out (x .end) line (s .line-written));
-        totals-readable =
-            bounds .totals-readable;
+        text-end-bound = omega (arith, put-end-le out (x .end) line (s .line-written), put-length out (x .end) line (s .line-written));
+        totals-readable = bounds .totals-readable;
       }
 
       fewer : 0 < commandsLeft x

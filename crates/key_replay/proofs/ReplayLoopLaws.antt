@@ -31,8 +31,7 @@ pub in-bounds-at-start : (out : List ℕ) (s : State) → s ≡ noState → InBo
 in-bounds-at-start out s e = record {
   position-bound = omega arith;
   text-end-bound = omega arith;
-  totals-readable =
-      subst TotalsReadable (sym e) (new-state-totals-kept (noState .setup), omega arith);
+  totals-readable = subst TotalsReadable (sym e) (new-state-totals-kept (noState .setup), omega arith);
 }
 
 -- ---- after each command

@@ -47,8 +47,7 @@ marked-case = record {
   class = 16;
   table = map (superblock-with 1 16) (7 ∷ 7 ∷ 7 ∷ 7 ∷ 8 ∷ 8 ∷ []);
   moves = 2;
-  owners =
-      0 ∷ 0 ∷ 1 ∷ 1 ∷ 1 ∷ 1 ∷ [];
+  owners = 0 ∷ 0 ∷ 1 ∷ 1 ∷ 1 ∷ 1 ∷ [];
 }
 
 -- A full heap of a class whose superblocks have a tail, 2 blocks of 1536 bytes in 4096. In bytes it would look part empty:
@@ -61,8 +60,7 @@ full-with-tails = record {
   class = 24;
   table = map (superblock-with 1 24) (2 ∷ 2 ∷ 2 ∷ 2 ∷ 2 ∷ []);
   moves = 0;
-  owners =
-      1 ∷ 1 ∷ 1 ∷ 1 ∷ 1 ∷ [];
+  owners = 1 ∷ 1 ∷ 1 ∷ 1 ∷ 1 ∷ [];
 }
 
 -- 4 × 37 is below 3 × 50, where 37 is not below 3 × 50 / 4 rounded down; the lower number among the emptiest moves
@@ -74,8 +72,7 @@ division-rounds = record {
   class = 16;
   table = map (superblock-with 1 16) (8 ∷ 7 ∷ 8 ∷ 7 ∷ 7 ∷ []);
   moves = 1;
-  owners =
-      1 ∷ 0 ∷ 1 ∷ 1 ∷ 1 ∷ [];
+  owners = 1 ∷ 0 ∷ 1 ∷ 1 ∷ 1 ∷ [];
 }
 
 -- u + K × n is a, and q × u is (q - p) × a: neither moves
@@ -87,8 +84,7 @@ first-condition-equal = record {
   class = 16;
   table = map (superblock-with 1 16) (7 ∷ 7 ∷ 8 ∷ 8 ∷ []);
   moves = 0;
-  owners =
-      1 ∷ 1 ∷ 1 ∷ 1 ∷ [];
+  owners = 1 ∷ 1 ∷ 1 ∷ 1 ∷ [];
 }
 
 abbrev pub second-condition-equal : MoveCase
@@ -100,8 +96,7 @@ second-condition-equal =
       class = 16;
       table = map (superblock-with 1 16) (7 ∷ 7 ∷ 7 ∷ 7 ∷ 8 ∷ 8 ∷ 8 ∷ 8 ∷ []);
       moves = 0;
-      owners =
-          1 ∷ 1 ∷ 1 ∷ 1 ∷ 1 ∷ 1 ∷ 1 ∷ 1 ∷ [];
+      owners = 1 ∷ 1 ∷ 1 ∷ 1 ∷ 1 ∷ 1 ∷ 1 ∷ 1 ∷ [];
     }
 
 -- with K = 2, three nearly empty superblocks: one moves, and two may stay

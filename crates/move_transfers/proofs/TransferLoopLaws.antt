@@ -41,8 +41,7 @@ pub transferred-by-replacement : (k : ℕ) (s t : State)
       class = superblockAt s k .class;
       live = superblockAt s k .live;
       rank = superblockAt s k .rank;
-      run =
-          superblockAt s k .run;
+      run = superblockAt s k .run;
     }) → t ≡ transferred k s
 unfolding transferred
 transferred-by-replacement k s t e = e

@@ -99,8 +99,7 @@ module _ {M : Type 1} {𝓤 : URA M} {H : Heap 𝓤} {A : Atoms 𝓤} {K : Type 
       → Step K W Γ (prop P) Γ (prop (sep 𝓤 P (sep 𝓤 (fact 𝓤 φ) (sep 𝓤 (fact 𝓤 ψ) (fact 𝓤 χ)))))
   goal-with-three-facts t {φ} {ψ} {χ} {P} x y z =
       step (λ s. record {
-        prf =
-            via 𝓤 P (s .prf) (sep-with-entailed-by-emp 𝓤 P (sep 𝓤 (fact 𝓤 φ) (sep 𝓤 (fact 𝓤 ψ) (fact 𝓤 χ))) (three-facts-of-emp 𝓤 φ ψ χ x y z));
+        prf = via 𝓤 P (s .prf) (sep-with-entailed-by-emp 𝓤 P (sep 𝓤 (fact 𝓤 φ) (sep 𝓤 (fact 𝓤 ψ) (fact 𝓤 χ))) (three-facts-of-emp 𝓤 φ ψ χ x y z));
       })
 
   pub goal-with-four-facts : K → {φ ψ χ ω : Type 0} {P : SProp 𝓤} → φ → ψ → χ → ω

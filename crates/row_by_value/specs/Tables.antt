@@ -37,6 +37,5 @@ abbrev pub answeredCall : Answer → TableCall
 answeredCall a = record {
   table = a .state .table;
   answer = record { outcome = a .outcome; control = controlOf (a .state) };
-  accepted =
-      isAccepted (a .outcome);
+  accepted = isAccepted (a .outcome);
 }

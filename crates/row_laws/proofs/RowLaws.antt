@@ -215,8 +215,7 @@ module _ (u : Setup) (row : List Superblock) (order : List ℕ) where
                   sound = new-state-sound u places t;
                   names = new-state-names-valid u;
                   totals = new-state-totals-kept u;
-                  ranks =
-                      new-state-ranks-sound u;
+                  ranks = new-state-ranks-sound u;
                   runs = runs-valid-of-sound _ (new-state-shape u .length-is) (new-state-runs-sound u);
                   room = room;
                 }),

@@ -15,8 +15,7 @@ abbrev pub example-control : Control
 example-control = record {
   setup = record { processors = 2; superblocks = 1; spare = 3; p = 4; q = 5 };
   names = 10 ∷ 11 ∷ [];
-  totals =
-      record { superblocks = 14 ∷ []; live = 15 ∷ 16 ∷ [] };
+  totals = record { superblocks = 14 ∷ []; live = 15 ∷ 16 ∷ [] };
 }
 
 -- what the call left
@@ -27,8 +26,7 @@ pub first-two-records-replaced : recordsAfter 2 (numbered 1 ∷ numbered 2 ∷ n
     ≡ record {
       returned = record {
         records = numbered 6 ∷ numbered 7 ∷ numbered 3 ∷ [];
-        answer =
-            record { outcome = Address 2048; control = example-control };
+        answer = record { outcome = Address 2048; control = example-control };
       };
       order = 12 ∷ 13 ∷ [];
     }

@@ -104,15 +104,13 @@ row-setup-cases =
       setup = example-setup;
       row = replicate 64 invalid-superblock;
       order = storage-of-258;
-      after =
-          row-after Ready (control-with example-setup no-name-held zero-totals) (replicate 64 unused-superblock) (replicate 256 0 ++ 8 ∷ 9 ∷ []);
+      after = row-after Ready (control-with example-setup no-name-held zero-totals) (replicate 64 unused-superblock) (replicate 256 0 ++ 8 ∷ 9 ∷ []);
     }
     ∷ record {
       setup = example-setup;
       row = replicate 64 invalid-superblock;
       order = storage-of-256;
-      after =
-          row-after Ready (control-with example-setup no-name-held zero-totals) (replicate 64 unused-superblock) (replicate 256 0);
+      after = row-after Ready (control-with example-setup no-name-held zero-totals) (replicate 64 unused-superblock) (replicate 256 0);
     } ∷ []
 
 pub row-setup-cases-are-computed : map (λ (k : SetupCase). rowSetup (k .setup) (k .row) (k .order)) row-setup-cases

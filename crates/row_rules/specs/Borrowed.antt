@@ -20,8 +20,7 @@ pub record RecordsAfter : Type 0 where
 abbrev pub recordsWith : RowAfter → List Superblock → RecordsAfter
 recordsWith x others = record {
   returned = record { records = x .row ++ others; answer = record { outcome = x .outcome; control = x .control } };
-  order =
-      x .order;
+  order = x .order;
 }
 
 -- the same where the first n records were lent, or all where they are fewer
