@@ -1,5 +1,5 @@
 //! One call with the state and storage it is given, as bytes, and its answer as
-//! text. FORMATS.md describes both.
+//! text. docs/FORMATS.md describes both.
 
 use std::fmt::Write;
 

@@ -1,4 +1,4 @@
-//! One call on a lent row, as bytes, and its answer as text. FORMATS.md describes
+//! One call on a lent row, as bytes, and its answer as text. docs/FORMATS.md describes
 //! both.
 
 use hoard::{Command, RowAnswer, Superblock};
