@@ -1,4 +1,6 @@
 // A word and a number of 64 bits, written into a lent buffer, as far as they reach.
+#![tactic(auto)]
+
 ghost use Rattle.std.specs.Prelude.{◌≡◌, ◌++◌, ◌^◌, ◌≤◌, ◌<◌};
 ghost use Rattle.text_rules.specs.Text.{digits, pasted};
 ghost use Rattle.answer_rules.specs.AnswerLines.{wide_decimal};

@@ -1,4 +1,6 @@
 // The lines of the names that a call leaves held, written into a lent buffer, as far as they reach.
+#![tactic(auto)]
+
 ghost use Rattle.std.specs.Prelude.{◌≡◌};
 ghost use Rattle.text_rules.specs.Text.{pasted};
 ghost use Rattle.answer_rules.specs.AnswerLines.{name_line_if, name_lines};

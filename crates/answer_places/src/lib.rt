@@ -1,4 +1,6 @@
 // The lines of the order places that a call changed, written into a lent buffer, as far as they reach.
+#![tactic(auto)]
+
 ghost use Rattle.std.specs.Prelude.{◌≡◌, min};
 ghost use Rattle.text_rules.specs.Text.{pasted};
 ghost use Rattle.answer_rules.specs.AnswerLines.{place_line_if, place_lines};

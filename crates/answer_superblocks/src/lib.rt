@@ -1,4 +1,6 @@
 // The lines of the superblocks that a call leaves, written into a lent buffer, as far as they reach.
+#![tactic(auto)]
+
 ghost use Rattle.std.specs.Prelude.{◌≡◌, ◌≤◌, min, take};
 ghost use Rattle.row_rules.specs.Borrowed.{record_count};
 ghost use Rattle.text_rules.specs.Text.{pasted};

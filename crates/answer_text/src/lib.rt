@@ -1,4 +1,6 @@
 // The text of a call's answer, written into a lent buffer, as far as it reaches (docs/FORMATS.md, "One call").
+#![tactic(auto)]
+
 ghost use Rattle.std.specs.Prelude.{◌≡◌, take};
 ghost use Rattle.text_rules.specs.Text.{pasted};
 ghost use Rattle.row_rules.specs.Row.{state_of};

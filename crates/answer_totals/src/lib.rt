@@ -1,4 +1,6 @@
 // The lines of the totals that a call leaves, written into a lent buffer, as far as they reach.
+#![tactic(auto)]
+
 ghost use Rattle.std.specs.Prelude.{◌≡◌, eqb};
 ghost use Rattle.base_laws.specs.Sums.{both};
 ghost use Rattle.text_rules.specs.Text.{pasted};

@@ -11,7 +11,7 @@ use denote.Laws.{Is}
 use denote.Struct.Declared.{Declared, field, row as declared-row}
 
 declared_elements_of_field_elements : (T : Declared) (xs : List T.D) (us : List Val)
-    → shadow (each (field T).row.Denot (field T).row.own_val (map T.to xs) us) → shadow (each T.D (declared-row T).own xs us)
+    → shadow (each (field T).row.Denot (field T).row.own_val (map T.to xs) us) → shadow (each T.D (declared-row T).own_val xs us)
 declared_elements_of_field_elements T [] [] s = s
 declared_elements_of_field_elements T [] (u ∷ us) s = s
 declared_elements_of_field_elements T (x ∷ xs) [] s = s
@@ -22,7 +22,7 @@ pub declared_array_of_field_array : (T : Declared) (n : ℕ) (xs : List T.D) (vs
 declared_array_of_field_array T n xs vs p =
     (p.0, ((p.1.0.0, sym (length-map xs T.to) ∙ p.1.0.1), declared_elements_of_field_elements T xs p.0 p.1.1))
 
-field_elements_of_declared_elements : (T : Declared) (xs : List T.D) (us : List Val) → shadow (each T.D (declared-row T).own xs us)
+field_elements_of_declared_elements : (T : Declared) (xs : List T.D) (us : List Val) → shadow (each T.D (declared-row T).own_val xs us)
     → shadow (each (field T).row.Denot (field T).row.own_val (map T.to xs) us)
 field_elements_of_declared_elements T [] [] s = s
 field_elements_of_declared_elements T [] (u ∷ us) s = s

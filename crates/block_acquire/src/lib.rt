@@ -1,4 +1,6 @@
 // A heap acquires a superblock from place 2, 3 or 4 of a take, and a block is taken from it.
+#![tactic(auto)]
+
 ghost use Rattle.std.specs.Prelude.{◌≡◌, ◌<◌};
 ghost use Rattle.heap_rules.specs.Totals.{TotalsKept};
 ghost use Rattle.heap_rules.specs.Table.{table_length, superblock_at};

@@ -1,5 +1,7 @@
 // The block at an address. The functions are total, as the definitions are: past the table's 64 superblocks no block has a number, and a
 // class with no block size has no blocks.
+#![tactic(auto)]
+
 ghost use Rattle.std.specs.Prelude.{◌≡◌, ◌/◌};
 ghost use Rattle.class_rules.specs.Classes.{size_of};
 ghost use Rattle.call_rules.specs.Free.{offset_of, block_of, block_number_at};

@@ -43,4 +43,4 @@ unfolding held_address
 held_address_by_steps s m block class a eb ec ea = rw (← eb, ← ec) ea
 
 -- ---- how a proof finds which outcome it is at
-pub ruleset bound-by-outcomes = (bound_by_ready, bound_by_address, bound_by_moves, bound_by_refused)
+pub ruleset bound_by_outcomes = (bound_by_ready, bound_by_address, bound_by_moves, bound_by_refused)

@@ -1,4 +1,6 @@
 // The block that a name points at: the name bound to the block at an address, and the address of the block that it points at.
+#![tactic(auto)]
+
 ghost use Rattle.std.specs.Prelude.{◌≡◌};
 ghost use Rattle.call_rules.specs.Named.{name_bound, bound_by, held_address};
 

@@ -1,5 +1,7 @@
 // The tests of an address: unmapped, misaligned, live, and the refusal that they come to. The tests take the superblock that the address
 // lies in, and not the state: a state by value is a copy of six kilobytes.
+#![tactic(auto)]
+
 ghost use Rattle.std.specs.Prelude.{◌≡◌};
 ghost use Rattle.heap_rules.specs.Table.{blank};
 ghost use Rattle.call_rules.specs.Free.{is_unmapped, is_run_start, is_off_block, is_misaligned, is_live_at, address_refusal};

@@ -1,4 +1,6 @@
 // What freeing a block does to its superblock, or those of its run, to the names and to the order places.
+#![tactic(auto)]
+
 ghost use Rattle.std.specs.Prelude.{◌≡◌, ◌+◌, ◌≤◌, ◌<◌};
 ghost use Rattle.base_laws.specs.Sums.{pick};
 ghost use Rattle.heap_rules.specs.Table.{table_length};

@@ -1,4 +1,6 @@
 // A long block's run: its superblocks taken, and made unused again, one after another.
+#![tactic(auto)]
+
 ghost use Rattle.std.specs.Prelude.{◌≡◌, ◌+◌, ◌≤◌, ◌<◌};
 ghost use Rattle.heap_rules.specs.Table.{table_length};
 ghost use Rattle.heap_rules.specs.Totals.{TotalsKept};

@@ -1,4 +1,6 @@
 // A block taken from one superblock.
+#![tactic(auto)]
+
 ghost use Rattle.std.specs.Prelude.{◌≡◌, ◌<◌};
 ghost use Rattle.heap_rules.specs.Table.{table_length};
 ghost use Rattle.heap_rules.specs.Totals.{TotalsKept};

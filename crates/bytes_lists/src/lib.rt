@@ -1,4 +1,6 @@
 // Several numbers read from a slice one after another: the position of the next, and a list of numbers of four bytes.
+#![tactic(auto)]
+
 ghost use Rattle.std.specs.Prelude.{◌≡◌, ◌-◌, ◌^◌, ◌<◌, take, drop, replicate};
 ghost use Rattle.bytes_rules.specs.Bytes.{largest_byte, position_after, fours_at};
 

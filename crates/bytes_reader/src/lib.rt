@@ -1,5 +1,7 @@
 // Numbers of several bytes, the low byte first, read at a position of a slice. Each function answers for any position: past the
 // slice's end a byte reads as 0.
+#![tactic(auto)]
+
 ghost use Rattle.std.specs.Prelude.{◌≡◌};
 ghost use Rattle.bytes_rules.specs.Bytes.{byte_at, two_at, four_at, eight_at};
 

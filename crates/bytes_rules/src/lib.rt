@@ -2,4 +2,6 @@
 // bytes_lists.
 
 // The largest number of one byte.
+#![tactic(auto)]
+
 pub const LARGEST_BYTE: usize = 255;

@@ -1,5 +1,7 @@
 // One call of the engine on a state handed in, by value or as a lent row, read from standard input; the outcome, the next state and
 // the order places that changed go to standard output (docs/FORMATS.md, "One call").
+#![tactic(auto)]
+
 ghost use Rattle.std.specs.Prelude.{◌≤◌};
 ghost use Rattle.io.specs.Counts.{IsPrefixLen};
 

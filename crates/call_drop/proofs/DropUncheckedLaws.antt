@@ -105,7 +105,7 @@ dropped_all_by_steps s order addresses touched t new m few tells freed moved =
     rw (drop_moves_by_steps s addresses touched t m few tells freed.0 moved, freed.1)
 
 -- ---- how a proof finds which way out it is at
-pub ruleset drop-outcomes = (
+pub ruleset drop_outcomes = (
   drop_unchecked_refused_2,
   drop_unchecked_refused_16,
   drop_unchecked_refused_by_address,

@@ -1,4 +1,6 @@
 // Drop behind the check, on a state by value and lent order storage that pass it: the check is the caller's to make.
+#![tactic(auto)]
+
 ghost use Rattle.std.specs.Prelude.{◌≡◌, true, ◌≤◌, ◌<◌};
 ghost use Rattle.class_rules.specs.Classes.{class_count};
 ghost use Rattle.check_rules.specs.Check.{passes};

@@ -1,4 +1,6 @@
 // The addresses of a drop, tested one after another as its frees would be.
+#![tactic(auto)]
+
 ghost use Rattle.std.specs.Prelude.{◌≡◌, ◌+◌, ◌/◌, ◌≤◌};
 ghost use Rattle.class_rules.specs.Classes.{size_of};
 ghost use Rattle.heap_rules.specs.Table.{table_length, without_mark_at};

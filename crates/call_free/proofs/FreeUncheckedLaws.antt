@@ -120,4 +120,4 @@ module _ (s : State) (order new : List ℕ) (a owner class : ℕ) (t : State) (e
       rw (j, k, i, h, g, block_freed_outside_run s a outside, order_pushed_outside_run s a order outside, outside, e, f)
 
 -- ---- how a proof finds which way out it is at
-pub ruleset free-outcomes = (free_unchecked_refused_2, free_unchecked_refused_by_address, free_unchecked_is_freed_at, not-true, not-false)
+pub ruleset free_outcomes = (free_unchecked_refused_2, free_unchecked_refused_by_address, free_unchecked_is_freed_at, not-true, not-false)

@@ -1,4 +1,6 @@
 // Free behind the check, on a state by value and lent order storage that pass it: the check is the caller's to make.
+#![tactic(auto)]
+
 ghost use Rattle.std.specs.Prelude.{◌≡◌, true, false, ◌+◌, ◌≤◌, ◌<◌};
 ghost use Rattle.class_rules.specs.Classes.{class_count};
 ghost use Rattle.heap_rules.specs.Table.{table_length};

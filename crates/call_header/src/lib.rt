@@ -3,6 +3,8 @@
 
 // A call's kind and its numbers: a take or a free, plain or of a block called by name, or a drop of several blocks, whose addresses are lent
 // beside it.
+#![tactic(auto)]
+
 #[derive(Drop)]
 pub enum CallHeader {
     Take { processor: u8, size: u16 },

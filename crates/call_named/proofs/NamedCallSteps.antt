@@ -60,6 +60,6 @@ module _ (s : State) (order : List ℕ) (i m : ℕ) (t : Bool) (p : t ≡ is_pro
     named_free_is_free_of_held_address after a k e h = h ∙ sym (rw (← p, f, ← g, k, ← e))
 
 -- ---- how a proof finds which way out it is at
-pub ruleset named-take-outcomes = (named_take_refused_2, named_take_refused_14, named_take_is_plain_take_with_name_bound, not-true, not-false)
+pub ruleset named_take_outcomes = (named_take_refused_2, named_take_refused_14, named_take_is_plain_take_with_name_bound, not-true, not-false)
 
-pub ruleset named-free-outcomes = (named_free_refused_2, named_free_refused_15, named_free_is_free_of_held_address, not-true, not-false)
+pub ruleset named_free_outcomes = (named_free_refused_2, named_free_refused_15, named_free_is_free_of_held_address, not-true, not-false)

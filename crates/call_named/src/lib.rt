@@ -1,5 +1,7 @@
 // A take and a free of a block called by name, behind the check, on a state by value and lent order storage that pass it: what the plain
 // calls do, with the name bound to the block taken, or the held address freed.
+#![tactic(auto)]
+
 ghost use Rattle.std.specs.Prelude.{◌≡◌, true};
 ghost use Rattle.check_rules.specs.Check.{passes};
 ghost use Rattle.call_rules.specs.Answers.{After, HasNumberAndValuesOf};

@@ -23,4 +23,4 @@ module _ (o : Outcome) where
   number_refused n e = rw e
 
 -- how a proof finds its arm
-pub ruleset number-rules = (number_ready, number_address, number_moves, number_refused)
+pub ruleset number_rules = (number_ready, number_address, number_moves, number_refused)

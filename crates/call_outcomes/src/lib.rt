@@ -1,4 +1,6 @@
 // The number of an outcome, and the answer that is a refusal.
+#![tactic(auto)]
+
 ghost use Rattle.std.specs.Prelude.{◌≡◌};
 ghost use Rattle.call_rules.specs.declared.Outcome.TheVariants.{Refused};
 ghost use Rattle.call_rules.specs.Answers.{number_of, HasNumberAndValuesOf};

@@ -1,4 +1,6 @@
 // The calls on a state and what they answer. The rules are in specs/.
+#![tactic(auto)]
+
 use heap_rules::State;
 
 // What a call came to: an accepted setup, the address of a take, the moves of a free or a drop, or the number of a refusal alone.

@@ -1,4 +1,6 @@
 // Whole states, and the test of a processor.
+#![tactic(auto)]
+
 ghost use Rattle.std.specs.Prelude.{◌≡◌, replicate};
 ghost use Rattle.heap_rules.specs.Table.{table_length, unused};
 ghost use Rattle.heap_rules.specs.States.{no_state, new_state};

@@ -88,8 +88,8 @@ unfolding taken_at
 taken_at_of_nothing_offered h c s order other r e f g = ap (λ (x : Answer). record { answer = x; order = order }) g ∙ rw (← e, f)
 
 -- how a proof finds which of them it asks
-pub ruleset other-places-rules = (other_places_is_fullest_of_global, other_places_is_lowest_empty, other_places_is_lowest_unused)
+pub ruleset other_places_rules = (other_places_is_fullest_of_global, other_places_is_lowest_empty, other_places_is_lowest_unused)
 
-pub ruleset taken-at-own-rules = (taken_at_of_own, taken_at_of_no_own)
+pub ruleset taken_at_own_rules = (taken_at_of_own, taken_at_of_no_own)
 
-pub ruleset taken-at-other-rules = (taken_at_of_other, taken_at_of_nothing_offered)
+pub ruleset taken_at_other_rules = (taken_at_of_other, taken_at_of_nothing_offered)

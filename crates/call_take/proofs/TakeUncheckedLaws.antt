@@ -75,7 +75,7 @@ pub run_taken_answer : (s t : State) (k n : ℕ) → t ≡ run_taken k n s → �
     (record { outcome = Address (k * 4096); state = run_taken k n s })
 run_taken_answer s t k n e = rw e
 
-pub ruleset long-taken-rules = (long_taken_of_run, long_taken_of_nothing)
+pub ruleset long_taken_rules = (long_taken_of_run, long_taken_of_nothing)
 
 -- ---- how a proof finds which way out it is at
-pub ruleset take-outcomes = (take_unchecked_refused_2, take_unchecked_is_taken_at, not-true, not-false)
+pub ruleset take_outcomes = (take_unchecked_refused_2, take_unchecked_is_taken_at, not-true, not-false)

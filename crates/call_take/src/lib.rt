@@ -1,4 +1,6 @@
 // Take behind the check, on a state by value and lent order storage that pass it: the check is the caller's to make.
+#![tactic(auto)]
+
 ghost use Rattle.std.specs.Prelude.{◌≡◌, true, List, ℕ, ◌+◌, ◌*◌, ◌≤◌};
 ghost use Rattle.class_rules.specs.Classes.{superblock_bytes, is_long, run_length};
 ghost use Rattle.heap_rules.specs.declared.Found.TheVariants.{Nothing};

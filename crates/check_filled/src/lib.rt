@@ -1,4 +1,6 @@
 // The check of one superblock: its marks, and the order places that its free blocks fill.
+#![tactic(auto)]
+
 ghost use Rattle.std.specs.Prelude.{◌≡◌, true, ◌+◌, ◌-◌, ◌*◌, ◌≤◌, length};
 ghost use Rattle.class_rules.specs.Classes.{most_blocks, blocks_of};
 ghost use Rattle.marks_rules.specs.Marks.{live_count, no_mark_from};

@@ -1,4 +1,6 @@
 // The emptiness invariant of a state handed in: no processor heap and class meets both conditions of the move rule, by the totals of a recount.
+#![tactic(auto)]
+
 ghost use Rattle.std.specs.Prelude.{◌≡◌, ◌<◌};
 ghost use Rattle.heap_rules.specs.Totals.{heap_count};
 ghost use Rattle.check_invariant.specs.TotalsInvariant.{pair_invariant, heap_invariant, totals_invariant};

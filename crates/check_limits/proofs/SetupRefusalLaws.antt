@@ -23,4 +23,4 @@ module _ (numbers : ℕ) (u : Setup) (order : List ℕ) (t : Bool) (e : t ≡ wi
   setup_refusal_none f l = rw (← e, f, le-leb (u.superblocks * 256) (length order) l)
 
 -- how a proof finds which of them it asks
-pub ruleset setup-refusal-rules = (setup_refusal_of_limits, setup_refusal_12_of_storage, setup_refusal_none, not-true, not-false)
+pub ruleset setup_refusal_rules = (setup_refusal_of_limits, setup_refusal_12_of_storage, setup_refusal_none, not-true, not-false)

@@ -1,4 +1,6 @@
 // What a setup is tested for before anything else: its numbers, and the order places lent for them.
+#![tactic(auto)]
+
 ghost use Rattle.std.specs.Prelude.{◌≡◌};
 ghost use Rattle.check_rules.specs.Check.{within, within_limits};
 ghost use Rattle.check_limits.specs.SetupRefusal.{setup_refusal};

@@ -1,4 +1,6 @@
 // The live blocks of all superblocks of a state as marks in one list.
+#![tactic(auto)]
+
 ghost use Rattle.std.specs.Prelude.{◌≡◌, ℕ};
 ghost use Rattle.marks_rules.specs.Marks.{is_marked};
 ghost use Rattle.heap_rules.specs.Table.{live_blocks, is_live_block};

@@ -1,6 +1,8 @@
 // The check of a state's names: each held name points at a live block, no two at one.
 // One pass over the names serves both. It begins with the marks of all live blocks, and each held name takes its block's mark out: a block
 // that is not live, or that another name has taken, has no mark left.
+#![tactic(auto)]
+
 ghost use Rattle.std.specs.Prelude.{◌≡◌};
 ghost use Rattle.check_rules.specs.Check.{names_valid};
 ghost use Rattle.check_names.specs.NameScan.{held_count, each_has_aMark};

@@ -1,6 +1,8 @@
 // The check of a state's ranking: the ranked superblocks carry 1 upwards, each once without a gap, and none that is unused or
 // part of a run is ranked.
 // One pass and a bitmap of the ranks met serve: where no rank is met twice, and none is above the number of those ranked, there is no gap.
+#![tactic(auto)]
+
 ghost use Rattle.std.specs.Prelude.{◌≡◌};
 ghost use Rattle.check_rules.specs.Check.{ranks_valid};
 

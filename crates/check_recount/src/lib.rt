@@ -1,4 +1,6 @@
 // The recount of a table: the superblocks of each heap and class, and the live blocks in them, in one pass.
+#![tactic(auto)]
+
 ghost use Rattle.std.specs.Prelude.{◌≡◌};
 ghost use Rattle.heap_rules.specs.Totals.{recounted};
 

@@ -1,4 +1,6 @@
 // The check of a state's runs: each is whole and at most 16 long, its first superblock carries its length, and every other superblock carries 0.
+#![tactic(auto)]
+
 ghost use Rattle.std.specs.Prelude.{◌≡◌};
 ghost use Rattle.check_rules.specs.Check.{runs_whole};
 

@@ -39,4 +39,4 @@ module _ (s : State) (order : List ℕ) (r : ℕ) (e : r ≡ setup_refusal 13 s.
   first_refusal_none z g = rw (first_refusal_is_rest_check z, ← g)
 
 -- how a proof finds which of them it asks
-pub ruleset first-refusal-rules = (first_refusal_is_setup_refusal, first_refusal_13_of_rest, first_refusal_none)
+pub ruleset first_refusal_rules = (first_refusal_is_setup_refusal, first_refusal_13_of_rest, first_refusal_none)

@@ -124,7 +124,7 @@ module _ (s : State) (order : List ℕ) (first : ℕ) (lawful : first ≡ setup_
             rest_valid_of_parts m = sym (rest_valid_is_runs_whole ∙ not-false y m)
 
 -- how a proof finds which of them it asks
-pub ruleset rest-valid-rules = (
+pub ruleset rest_valid_rules = (
   rest_valid_false_of_each,
   rest_valid_false_of_totals,
   rest_valid_false_of_emptiness_invariant,

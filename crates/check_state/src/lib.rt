@@ -1,5 +1,7 @@
 // The check of a state handed in: the setup numbers, the order places lent, then the rest. The rest is what is asked of each
 // superblock alone, then, by one recount, the totals and the emptiness invariant, the names, the ranks, and the runs.
+#![tactic(auto)]
+
 ghost use Rattle.std.specs.Prelude.{◌≡◌};
 ghost use Rattle.check_state.specs.FirstRefusal.{first_refusal};
 

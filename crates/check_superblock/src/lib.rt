@@ -1,4 +1,6 @@
 // What the check of a state handed in asks of each superblock alone.
+#![tactic(auto)]
+
 ghost use Rattle.std.specs.Prelude.{◌≡◌};
 ghost use Rattle.check_rules.specs.Check.{is_part_of_run, sparse_if_global};
 ghost use Rattle.check_superblock.specs.Alone.{alone_valid, each_valid};

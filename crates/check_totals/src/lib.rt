@@ -1,4 +1,6 @@
 // The check of a state's totals: those kept are those counted. What is kept may be any number of its width, and is only compared.
+#![tactic(auto)]
+
 ghost use Rattle.std.specs.Prelude.{◌≡◌, length};
 ghost use Rattle.base_laws.specs.Lists.{same_numbers};
 ghost use Rattle.heap_rules.specs.Totals.{total_count};

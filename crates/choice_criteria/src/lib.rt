@@ -1,4 +1,6 @@
 // What a choice of a superblock looks for: the owner, the class and the live count of those that meet its criterion.
+#![tactic(auto)]
+
 ghost use Rattle.std.specs.Prelude.{◌≡◌};
 ghost use Rattle.choice_criteria.specs.Criteria.{owner_sought, class_fits, live_fits};
 

@@ -1,4 +1,6 @@
 // Which of two superblocks that meet its criterion a choice takes, by live count and rank.
+#![tactic(auto)]
+
 ghost use Rattle.std.specs.Prelude.{◌≡◌};
 ghost use Rattle.choice_preference.specs.Preference.{more_recent_rank, preferred_by_numbers};
 

@@ -1,4 +1,6 @@
 // The lowest-numbered run of neighbouring superblocks that a long block can take, in one pass over the table.
+#![tactic(auto)]
+
 ghost use Rattle.std.specs.Prelude.{◌≡◌};
 ghost use Rattle.choice_rules.specs.RunChoice.{is_available, lowest_run};
 

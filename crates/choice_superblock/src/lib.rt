@@ -1,5 +1,7 @@
 // The choice of a superblock: the four places of a take, and the emptiest of a heap and class. One scan of the table
 // serves them all.
+#![tactic(auto)]
+
 ghost use Rattle.std.specs.Prelude.{◌≡◌, ◌≤◌};
 ghost use Rattle.heap_rules.specs.Table.{table_length};
 ghost use Rattle.choice_rules.specs.Choice.{chosen_below, fullest as fullest_of, lowest_empty, lowest_unused, emptiest as emptiest_of};

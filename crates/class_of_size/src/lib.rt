@@ -1,5 +1,7 @@
 // The class of a size, from the table of specs/SizeTable.antt, and of a long size, which no class holds, the superblocks that it takes. The contracts
 // name the definitions of crate class_rules.
+#![tactic(auto)]
+
 ghost use Rattle.std.specs.Prelude.{◌≡◌};
 ghost use Rattle.class_rules.specs.Classes.{class_of, is_long, run_length};
 

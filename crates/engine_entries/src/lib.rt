@@ -1,5 +1,7 @@
 // The entries on a state: take and free, plain and of a block called by name, and drop, on a state by value and lent order storage of any
 // length. Each is the engine's one call, which checks the state handed in; none leaves a check to its caller. A setup is `engine_state`'s.
+#![tactic(auto)]
+
 ghost use Rattle.std.specs.Prelude.{◌≡◌, ◌*◌, length};
 ghost use Rattle.call_rules.specs.Answers.{After, HasNumberAndValuesOf, PassesIfAccepted, MovesAtMost};
 ghost use Rattle.call_rules.specs.Take.{take_of};

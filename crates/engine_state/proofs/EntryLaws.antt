@@ -148,9 +148,9 @@ module _ (s : State) (order : List ℕ) (c : CallHeader) (addresses : List ℕ) 
   unchecked_drop e h = rw e h
 
 -- ---- how a proof finds which way out it is at
-pub ruleset setup-outcomes = (setup_refused, setup_ready)
+pub ruleset setup_outcomes = (setup_refused, setup_ready)
 
-pub ruleset call-outcomes = (
+pub ruleset call_outcomes = (
   call_refused_by_check,
   call_is_call_unchecked,
   unchecked_take,

@@ -1,5 +1,7 @@
 // The engine: setup, and any call on a state by value, with lent order storage of any length. It checks the state handed in and leaves no
 // check to its caller. The calls one by one stand in `engine_entries`.
+#![tactic(auto)]
+
 ghost use Rattle.std.specs.Prelude.{◌≡◌};
 ghost use Rattle.call_rules.specs.Answers.{After, HasNumberAndValuesOf, PassesIfAccepted, MovesAtMost};
 ghost use Rattle.call_rules.specs.Setup.{setup_of};

@@ -1,5 +1,7 @@
 // The call and the setup numbers in the input of the program `call` (docs/FORMATS.md, "One call"). Each function answers for any bytes:
 // past their end a byte reads as 0.
+#![tactic(auto)]
+
 ghost use Rattle.std.specs.Prelude.{◌≡◌};
 ghost use Rattle.form_rules.specs.Form.{call_in, setup_in};
 

@@ -1,5 +1,7 @@
 // Where the parts of the input of the program `call` begin, and whether it is whole (docs/FORMATS.md, "One call"). Each function answers
 // for any bytes: past their end a byte reads as 0.
+#![tactic(auto)]
+
 ghost use Rattle.std.specs.Prelude.{◌≡◌, ◌^◌, ◌≤◌, ◌<◌};
 ghost use Rattle.form_rules.specs.Form.{table_offset, places_offset, place_count, well_formed};
 

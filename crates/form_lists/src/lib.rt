@@ -1,5 +1,7 @@
 // Reads the addresses and the order places that the input of the program `call` holds. Each function answers for any bytes: past their end
 // a byte reads as 0.
+#![tactic(auto)]
+
 ghost use Rattle.std.specs.Prelude.{◌≡◌, length, take};
 ghost use Rattle.bytes_rules.specs.Bytes.{two_at};
 ghost use Rattle.form_rules.specs.Form.{drop_addresses, places_in};

@@ -1,4 +1,6 @@
 // Reads the names that the input of the program `call` holds. It answers for any bytes: past their end a byte reads as 0.
+#![tactic(auto)]
+
 ghost use Rattle.std.specs.Prelude.{◌≡◌};
 ghost use Rattle.form_rules.specs.Form.{names_in};
 

@@ -1,4 +1,6 @@
 // The records that the program `call` lends a row of (docs/FORMATS.md, "On a lent row"), 65 of them.
+#![tactic(auto)]
+
 ghost use Rattle.std.specs.Prelude.{◌≡◌, replicate, [], ◌∷◌, ◌++◌};
 ghost use Rattle.row_rules.specs.Borrowed.{record_count};
 ghost use Rattle.form_row.specs.Records.{other_record};

@@ -1,4 +1,6 @@
 // The ranking of the superblocks, changed: one pass over the table each, in place on one copy of the state.
+#![tactic(auto)]
+
 ghost use Rattle.std.specs.Prelude.{◌≡◌, ◌<◌};
 ghost use Rattle.heap_rules.specs.Table.{table_length};
 ghost use Rattle.heap_rules.specs.Ranks.{ranked_latest, unranked, RanksFit};

@@ -1,5 +1,7 @@
 // The state of the allocator: five setup numbers, a table of superblocks, the names of blocks, and the totals of each heap and class. Its
 // table, the counts over it and the totals are defined in specs/; the rules on it have crates of their own (choice_rules, move_rules, check_rules).
+#![tactic(auto)]
+
 use class_rules::CLASS_COUNT;
 use names_rules::NAME_COUNT;
 

@@ -1,5 +1,7 @@
 // Superblock k of a state: read, and replaced with the totals kept.
 // Each function that reads is total, as the definitions are: past the table's 64 superblocks the owner and the class read as 0.
+#![tactic(auto)]
+
 ghost use Rattle.std.specs.Prelude.{◌≡◌, ◌-◌, ◌≤◌, ◌<◌};
 ghost use Rattle.class_rules.specs.Classes.{most_blocks, blocks_of};
 ghost use Rattle.heap_rules.specs.Table.{table_length, superblock_at, live_in};

@@ -1,4 +1,6 @@
 // The tests of one superblock, which the choices, the moves, the check of a state and the calls share. Each is total.
+#![tactic(auto)]
+
 ghost use Rattle.std.specs.Prelude.{◌≡◌, ◌≤◌, eqb};
 ghost use Rattle.base_laws.specs.Sums.{both};
 ghost use Rattle.marks_rules.specs.Marks.{mark_count};

@@ -1,4 +1,6 @@
 // The totals of a heap and class: where they stand, and one superblock counted in them or no longer.
+#![tactic(auto)]
+
 ghost use Rattle.std.specs.Prelude.{◌≡◌, ℕ, ◌-◌, ◌*◌, ◌≤◌, get_or};
 ghost use Rattle.class_rules.specs.Classes.{most_blocks};
 ghost use Rattle.heap_rules.specs.Table.{table_length};

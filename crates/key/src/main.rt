@@ -1,4 +1,6 @@
 // Reads one record from standard input and prints its key. A record that cannot be read whole has no key.
+#![tactic(auto)]
+
 ghost use Rattle.io.specs.Counts.{IsPrefixLen};
 
 use heap_rules::TABLE_LENGTH;

@@ -1,1 +1,3 @@
 // Keys of whole records with several calls, in computed cases.
+
+#![tactic(auto)]

@@ -1,4 +1,6 @@
 // The printed key of a record.
+#![tactic(auto)]
+
 ghost use Rattle.std.specs.Prelude.{◌≡◌, true, ◌≤◌};
 ghost use Rattle.record_rules.specs.Record.{command_at, call_size};
 ghost use Rattle.record_rules.specs.declared.Command.TheVariants as command;

@@ -1,4 +1,6 @@
 // The line of any call, written into a lent buffer, as far as it reaches.
+#![tactic(auto)]
+
 ghost use Rattle.std.specs.Prelude.{◌≡◌};
 ghost use Rattle.text_rules.specs.Text.{pasted};
 ghost use Rattle.line_rules.specs.Lines.{call_line};

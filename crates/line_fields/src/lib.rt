@@ -1,4 +1,6 @@
 // The fields of the key's lines, written into a lent buffer, as far as they reach.
+#![tactic(auto)]
+
 ghost use Rattle.std.specs.Prelude.{◌≡◌, ◌++◌};
 ghost use Rattle.text_rules.specs.Text.{letters, decimal, pasted};
 

@@ -1,4 +1,6 @@
 // The lines after the last command of a record, written into a lent buffer, as far as they reach.
+#![tactic(auto)]
+
 ghost use Rattle.std.specs.Prelude.{◌≡◌, ◌≤◌, ◌<◌};
 ghost use Rattle.class_rules.specs.Classes.{class_count};
 ghost use Rattle.heap_rules.specs.Totals.{most_processors, heap_count, TotalsKept};

@@ -1,4 +1,6 @@
 // The line of a heap and class at the end of a record, written into a lent buffer, as far as it reaches.
+#![tactic(auto)]
+
 ghost use Rattle.std.specs.Prelude.{◌≡◌, ◌<◌};
 ghost use Rattle.class_rules.specs.Classes.{class_count};
 ghost use Rattle.heap_rules.specs.Totals.{heap_count, TotalsKept};

@@ -1,4 +1,6 @@
 // The lines of a take and a free by name, written into a lent buffer, as far as they reach.
+#![tactic(auto)]
+
 ghost use Rattle.std.specs.Prelude.{◌≡◌};
 ghost use Rattle.text_rules.specs.Text.{pasted};
 ghost use Rattle.line_rules.specs.Lines.{processor_and_name, named_take_line, named_free_line};

@@ -1,4 +1,6 @@
 // The lines of a take, a free and a drop, written into a lent buffer, as far as they reach.
+#![tactic(auto)]
+
 ghost use Rattle.std.specs.Prelude.{◌≡◌};
 ghost use Rattle.text_rules.specs.Text.{pasted};
 ghost use Rattle.line_rules.specs.Lines.{take_line, free_line, drop_line};

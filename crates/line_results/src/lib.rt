@@ -1,4 +1,6 @@
 // The result of a call, the last field of its line, written into a lent buffer, as far as it reaches.
+#![tactic(auto)]
+
 ghost use Rattle.std.specs.Prelude.{◌≡◌, ◌++◌};
 ghost use Rattle.text_rules.specs.Text.{letters, pasted};
 ghost use Rattle.line_rules.specs.Lines.{result};

@@ -1,4 +1,6 @@
 // The lines of the long blocks' runs at the end of a record, written into a lent buffer, as far as they reach.
+#![tactic(auto)]
+
 ghost use Rattle.std.specs.Prelude.{◌≡◌, ◌<◌};
 ghost use Rattle.heap_rules.specs.Table.{table_length};
 ghost use Rattle.text_rules.specs.Text.{pasted};

@@ -1,5 +1,7 @@
 // The live marks of a superblock, one bit a block, in four 64-bit numbers: block j is bit j mod 64, counted from the lowest, of number j / 64.
 // Each function is total: no block has a number of 256 or above, so such a number is not live, and setting or clearing it changes nothing.
+#![tactic(auto)]
+
 ghost use Rattle.std.specs.Prelude.{◌≡◌};
 ghost use Rattle.marks_rules.specs.Marks.{is_marked, with_mark, without_mark};
 

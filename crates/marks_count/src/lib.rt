@@ -1,4 +1,6 @@
 // Live marks taken together: how many there are, and whether any stands at a block or after it.
+#![tactic(auto)]
+
 ghost use Rattle.std.specs.Prelude.{◌≡◌, ◌≤◌, ◌-◌, ◌/◌, ◌^◌};
 ghost use Rattle.marks_rules.specs.Marks.{mark_count, live_count, no_mark_from};
 

@@ -2,6 +2,8 @@
 // marks_bitmap and marks_count.
 
 // The bits of each of the four numbers that hold the marks.
+#![tactic(auto)]
+
 pub const BITS_OF_WORD: usize = 64;
 
 // How many marks they are.

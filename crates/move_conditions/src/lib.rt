@@ -1,4 +1,6 @@
 // The two conditions of the move rule. Each function is total: products and sums are taken in 64 bits, where none of them can overflow.
+#![tactic(auto)]
+
 ghost use Rattle.std.specs.Prelude.{◌≡◌, ◌-◌, ◌*◌, ltb};
 ghost use Rattle.move_rules.specs.Moves.{both_conditions};
 

@@ -1,5 +1,7 @@
 // The move rule: while a processor heap has too few live blocks of a class, its emptiest superblock of the class passes to
 // heap 0.
+#![tactic(auto)]
+
 ghost use Rattle.std.specs.Prelude.{◌≡◌, ◌<◌};
 ghost use Rattle.class_rules.specs.Classes.{class_count};
 ghost use Rattle.heap_rules.specs.Totals.{heap_count, TotalsKept};

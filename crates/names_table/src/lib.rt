@@ -1,5 +1,7 @@
 // The names of blocks, 0 to 1023: what each points at, in an array with a number for each name.
 // Each function is total: a number of 1024 or above is no name, so it is not held, and binding it changes nothing.
+#![tactic(auto)]
+
 ghost use Rattle.std.specs.Prelude.{◌≡◌, not};
 ghost use Rattle.base_laws.specs.Sums.{either};
 ghost use Rattle.names_rules.specs.Names.{is_name_lem, block_named, is_held, with_name, without_block};

@@ -1,5 +1,7 @@
 // The free lists, place by place. They stand in the order storage, which is document 01's term for the memory of all free lists: lent
 // 16-bit numbers, 256 places for each superblock. Renewal and clearing are in crate order_renewal.
+#![tactic(auto)]
+
 ghost use Rattle.std.specs.Prelude.{◌≡◌};
 ghost use Rattle.order_rules.specs.Order.{place, last_filled, with_place};
 

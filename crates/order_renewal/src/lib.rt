@@ -1,5 +1,7 @@
 // Free lists written whole, in the order storage, which is document 01's term for the memory of all free lists: a superblock's list
 // renewed, and the storage cleared for a new setup.
+#![tactic(auto)]
+
 ghost use Rattle.std.specs.Prelude.{◌≡◌, min};
 ghost use Rattle.order_rules.specs.Order.{renewed, cleared};
 

@@ -1,4 +1,6 @@
 // Standard input read whole and standard output written whole, for a program that says on standard error where either fails.
+#![tactic(auto)]
+
 ghost use Rattle.std.specs.Prelude.{◌≡◌, true, length};
 ghost use Rattle.io.specs.Counts.{IsPrefixLen};
 ghost use Rattle.program_stream.specs.Stream.{WithinBuffer, input_of};

@@ -1,4 +1,6 @@
 // Reads the commands of a record.
+#![tactic(auto)]
+
 ghost use Rattle.std.specs.Prelude.{◌≡◌, ◌+◌, ◌≤◌, ◌<◌, length};
 ghost use Rattle.record_rules.specs.declared.Command.TheVariants.{Refused};
 ghost use Rattle.record_rules.specs.Record.{

@@ -1,4 +1,6 @@
 // The commands of a record. What stands at a position of a record is in specs/.
+#![tactic(auto)]
+
 use call_header::CallHeader;
 
 // The bytes of the longest record.

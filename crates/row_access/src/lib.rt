@@ -1,4 +1,6 @@
 // The records of a lent row read as a table, and a table's records written to it.
+#![tactic(auto)]
+
 ghost use Rattle.std.specs.Prelude.{◌≡◌};
 ghost use Rattle.row_rules.specs.LoadStore.{load_of, store_of};
 

@@ -1,5 +1,7 @@
 // What a call on a lent row comes to, on a table by value: a refusal before any superblock is looked at, or the engine's answer taken
 // apart. The row's length is a number among the arguments.
+#![tactic(auto)]
+
 ghost use Rattle.std.specs.Prelude.{◌≡◌};
 ghost use Rattle.call_rules.specs.declared.Outcome.TheVariants.{Refused};
 ghost use Rattle.call_rules.specs.Answers.{HasNumberAndValuesOf};

@@ -1,5 +1,7 @@
 // The table of superblocks lent as a row of records and edited there. The functions on the row are thin: covered functions decide, on a table
 // by value, and these carry the records.
+#![tactic(auto)]
+
 ghost use Rattle.std.specs.Prelude.{◌≡◌};
 ghost use Rattle.call_rules.specs.Answers.{HasNumberAndValuesOf, PassesIfAccepted, MovesAtMost};
 ghost use Rattle.call_rules.specs.Calls.{call_with, most_moves};

@@ -1,4 +1,6 @@
 // Rows lent from the front of a local array, for callers with plain values: no reference to a record is needed to call these.
+#![tactic(auto)]
+
 ghost use Rattle.std.specs.Prelude.{◌≡◌, ◌≤◌, min, take};
 ghost use Rattle.call_rules.specs.Answers.{HasNumberAndValuesOf, PassesIfAccepted, MovesAtMost};
 ghost use Rattle.call_rules.specs.Calls.{call_with, most_moves};

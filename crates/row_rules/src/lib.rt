@@ -1,4 +1,6 @@
 // Calls on a table of superblocks that is lent as a row of records. The rules are in specs/, computed cases of them in proofs/.
+#![tactic(auto)]
+
 use call_rules::Outcome;
 use heap_rules::{Setup, Superblock, TABLE_LENGTH, Totals};
 use names_rules::NAME_COUNT;

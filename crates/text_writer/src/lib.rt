@@ -1,4 +1,6 @@
 // Text and numbers written into a lent buffer, as far as they reach.
+#![tactic(auto)]
+
 ghost use Rattle.std.specs.Prelude.{◌≡◌, [], ◌∷◌, ◌^◌, ◌≤◌, ◌<◌, min};
 ghost use Rattle.text_rules.specs.Text.{decimal, digits, pasted};
 

@@ -1,5 +1,5 @@
 -- `block_name::bound_by` meets its contract. Assumes nothing.
-use Rattle.block_name.proofs.NamedBlockSteps.{bound-by-outcomes}
+use Rattle.block_name.proofs.NamedBlockSteps.{bound_by_outcomes}
 use borrow.Author.Rules.{rules}
 use Rattle.block_name.proofs.bound_by.Statement.{statement}
 use Rattle.block_name.proofs.bound_by.Tie as tie
@@ -20,16 +20,16 @@ enum-known-outcome-3 : tie.Need-enum-known-outcome-3
 enum-known-outcome-3 c = search rules
 
 returns : tie.Need-returns
-returns c = search bound-by-outcomes
+returns c = search bound_by_outcomes
 
 returns_2 : tie.Need-returns-2
-returns_2 c = search bound-by-outcomes
+returns_2 c = search bound_by_outcomes
 
 returns_3 : tie.Need-returns-3
-returns_3 c = search bound-by-outcomes
+returns_3 c = search bound_by_outcomes
 
 returns-4 : tie.Need-returns-4
-returns-4 c = search bound-by-outcomes
+returns-4 c = search bound_by_outcomes
 
 pub bound_by_spec : {M : Type 1} → statement M
 bound_by_spec =

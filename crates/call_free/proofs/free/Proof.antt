@@ -1,5 +1,5 @@
 -- `call_free::free` meets its contract. Assumes nothing.
-use Rattle.call_free.proofs.FreeUncheckedLaws.{free_unchecked_clauses, free-outcomes, superblocks_in_table, freed_superblock}
+use Rattle.call_free.proofs.FreeUncheckedLaws.{free_unchecked_clauses, free_outcomes, superblocks_in_table, freed_superblock}
 use Rattle.heap_laws.proofs.ShapeLaws.{shape_of_state}
 use borrow.Author.Rules.{rules}
 use Rattle.call_free.proofs.free.Statement.{statement}
@@ -12,7 +12,7 @@ refuse-requires : tie.Need-refuse-requires
 refuse-requires c κs = search rules
 
 returns : tie.Need-returns
-returns c = free_unchecked_clauses _ _ _ _ (search free-outcomes)
+returns c = free_unchecked_clauses _ _ _ _ (search free_outcomes)
 
 refusal-requires : tie.Need-refusal-requires
 refusal-requires c κs = search superblocks_in_table
@@ -21,7 +21,7 @@ refuse-requires-2 : tie.Need-refuse-requires-2
 refuse-requires-2 c κs = search rules
 
 returns_2 : tie.Need-returns-2
-returns_2 c = free_unchecked_clauses _ _ _ _ (search free-outcomes)
+returns_2 c = free_unchecked_clauses _ _ _ _ (search free_outcomes)
 
 free-at-requires : tie.Need-free-at-requires
 free-at-requires c κs = freed_superblock _ _ _ c.before.before.before.before.before.before.requires _ c.before.before.refusal.ensures
@@ -31,7 +31,7 @@ same_length : tie.Need-same-length
 same_length c = search rules
 
 returns_3 : tie.Need-returns-3
-returns_3 c = free_unchecked_clauses _ _ _ _ (search free-outcomes)
+returns_3 c = free_unchecked_clauses _ _ _ _ (search free_outcomes)
 
 pub free_spec : {M : Type 1} → statement M
 free_spec =

@@ -3,8 +3,8 @@ use native.Mathlib.Omega.{arith}
 use borrow.Author.Tests.{not-false}
 use Rattle.base_laws.proofs.TestLaws.{T_of_true, true_of_equal}
 use Rattle.heap_laws.proofs.StateCheckLaws.{totals_kept_of_passes}
-use Rattle.call_take.proofs.TakeUncheckedLaws.{take_unchecked_clauses, take-outcomes, take_unchecked_is_long_taken, superblocks_in_table}
-use Rattle.call_take.proofs.OtherPlacesLaws.{fullest_lt_64, fullest_lt_256, taken-at-own-rules}
+use Rattle.call_take.proofs.TakeUncheckedLaws.{take_unchecked_clauses, take_outcomes, take_unchecked_is_long_taken, superblocks_in_table}
+use Rattle.call_take.proofs.OtherPlacesLaws.{fullest_lt_64, fullest_lt_256, taken_at_own_rules}
 use borrow.Author.Rules.{rules}
 use Rattle.call_take.proofs.take.Statement.{statement}
 use Rattle.call_take.proofs.take.Tie as tie
@@ -16,7 +16,7 @@ refuse-requires : tie.Need-refuse-requires
 refuse-requires c κs = search rules
 
 returns : tie.Need-returns
-returns c = take_unchecked_clauses _ _ _ _ (search take-outcomes)
+returns c = take_unchecked_clauses _ _ _ _ (search take_outcomes)
 
 is-long-requires : tie.Need-is-long-requires
 is-long-requires c κs = search rules
@@ -57,13 +57,13 @@ same_length : tie.Need-same-length
 same_length c = search rules
 
 returns_3 : tie.Need-returns-3
-returns_3 c = take_unchecked_clauses _ _ _ _ (search (take-outcomes, taken-at-own-rules))
+returns_3 c = take_unchecked_clauses _ _ _ _ (search (take_outcomes, taken_at_own_rules))
 
 same-length-2 : tie.Need-same-length-2
 same-length-2 c = search rules
 
 returns-4 : tie.Need-returns-4
-returns-4 c = take_unchecked_clauses _ _ _ _ (search (take-outcomes, taken-at-own-rules))
+returns-4 c = take_unchecked_clauses _ _ _ _ (search (take_outcomes, taken_at_own_rules))
 
 pub take_spec : {M : Type 1} → statement M
 take_spec =

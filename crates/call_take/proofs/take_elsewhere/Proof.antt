@@ -1,6 +1,6 @@
 -- `call_take::take_elsewhere` meets its contract. Assumes nothing.
 use Rattle.base_laws.proofs.ReplacedElement.{length_of_length_map}
-use Rattle.call_take.proofs.OtherPlacesLaws.{other_places_lt_64, other_places_lt_256, taken-at-other-rules}
+use Rattle.call_take.proofs.OtherPlacesLaws.{other_places_lt_64, other_places_lt_256, taken_at_other_rules}
 use borrow.Author.Rules.{rules}
 use Rattle.call_take.proofs.take_elsewhere.Statement.{statement}
 use Rattle.call_take.proofs.take_elsewhere.Tie as tie
@@ -27,10 +27,10 @@ same_length : tie.Need-same-length
 same_length c = search rules
 
 returns : tie.Need-returns
-returns c = search taken-at-other-rules
+returns c = search taken_at_other_rules
 
 returns_2 : tie.Need-returns-2
-returns_2 c = search taken-at-other-rules
+returns_2 c = search taken_at_other_rules
 
 pub take_elsewhere_spec : {M : Type 1} → statement M
 take_elsewhere_spec =

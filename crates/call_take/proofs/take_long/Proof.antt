@@ -1,5 +1,5 @@
 -- `call_take::take_long` meets its contract. Assumes nothing.
-use Rattle.call_take.proofs.TakeUncheckedLaws.{run_in_table, long-taken-rules}
+use Rattle.call_take.proofs.TakeUncheckedLaws.{run_in_table, long_taken_rules}
 use borrow.Author.Rules.{rules}
 use Rattle.call_take.proofs.take_long.Statement.{statement}
 use Rattle.call_take.proofs.take_long.Tie as tie
@@ -26,10 +26,10 @@ refuse-requires : tie.Need-refuse-requires
 refuse-requires c κs = search rules
 
 returns : tie.Need-returns
-returns c order = search long-taken-rules
+returns c order = search long_taken_rules
 
 returns_2 : tie.Need-returns-2
-returns_2 c order = search long-taken-rules
+returns_2 c order = search long_taken_rules
 
 pub take_long_spec : {M : Type 1} → statement M
 take_long_spec =

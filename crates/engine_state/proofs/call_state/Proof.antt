@@ -1,6 +1,6 @@
 -- `engine_state::call_state` meets its contract. Assumes nothing.
 use Rattle.heap_laws.proofs.ShapeLaws.{shape_of_state}
-use Rattle.engine_state.proofs.EntryLaws.{call_clauses, call-outcomes, passes_of_no_refusal}
+use Rattle.engine_state.proofs.EntryLaws.{call_clauses, call_outcomes, passes_of_no_refusal}
 use borrow.Author.Rules.{rules}
 use Rattle.engine_state.proofs.call_state.Statement.{statement}
 use Rattle.engine_state.proofs.call_state.Tie as tie
@@ -15,7 +15,7 @@ same_length : tie.Need-same-length
 same_length c = search rules
 
 returns : tie.Need-returns
-returns c = call_clauses _ _ _ (search shape_of_state) (search call-outcomes)
+returns c = call_clauses _ _ _ (search shape_of_state) (search call_outcomes)
 
 enum-known-c : tie.Need-enum-known-c
 enum-known-c c = search rules
@@ -51,31 +51,31 @@ same-length-2 : tie.Need-same-length-2
 same-length-2 c = search rules
 
 returns_2 : tie.Need-returns-2
-returns_2 c = call_clauses _ _ _ (search shape_of_state) (search call-outcomes)
+returns_2 c = call_clauses _ _ _ (search shape_of_state) (search call_outcomes)
 
 same-length-3 : tie.Need-same-length-3
 same-length-3 c = search rules
 
 returns_3 : tie.Need-returns-3
-returns_3 c = call_clauses _ _ _ (search shape_of_state) (search call-outcomes)
+returns_3 c = call_clauses _ _ _ (search shape_of_state) (search call_outcomes)
 
 same-length-4 : tie.Need-same-length-4
 same-length-4 c = search rules
 
 returns-4 : tie.Need-returns-4
-returns-4 c = call_clauses _ _ _ (search shape_of_state) (search call-outcomes)
+returns-4 c = call_clauses _ _ _ (search shape_of_state) (search call_outcomes)
 
 same-length-5 : tie.Need-same-length-5
 same-length-5 c = search rules
 
 returns-5 : tie.Need-returns-5
-returns-5 c = call_clauses _ _ _ (search shape_of_state) (search call-outcomes)
+returns-5 c = call_clauses _ _ _ (search shape_of_state) (search call_outcomes)
 
 same-length-6 : tie.Need-same-length-6
 same-length-6 c = search rules
 
 returns-6 : tie.Need-returns-6
-returns-6 c = call_clauses _ _ _ (search shape_of_state) (search call-outcomes)
+returns-6 c = call_clauses _ _ _ (search shape_of_state) (search call_outcomes)
 
 pub call_state_spec : {M : Type 1} → statement M
 call_state_spec =

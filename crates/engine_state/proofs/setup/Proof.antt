@@ -1,5 +1,5 @@
 -- `engine_state::setup` meets its contract. Assumes nothing.
-use Rattle.engine_state.proofs.EntryLaws.{setup_clauses, setup-outcomes}
+use Rattle.engine_state.proofs.EntryLaws.{setup_clauses, setup_outcomes}
 use borrow.Author.Rules.{rules}
 use Rattle.engine_state.proofs.setup.Statement.{statement}
 use Rattle.engine_state.proofs.setup.Tie as tie
@@ -17,7 +17,7 @@ same_length : tie.Need-same-length
 same_length c = search rules
 
 returns : tie.Need-returns
-returns c = setup_clauses _ _ (search setup-outcomes)
+returns c = setup_clauses _ _ (search setup_outcomes)
 
 cast-clear-order : tie.Need-overflow-cast-clear-order
 cast-clear-order c = search rules
@@ -35,7 +35,7 @@ same-length-2 : tie.Need-same-length-2
 same-length-2 c = search rules
 
 returns_2 : tie.Need-returns-2
-returns_2 c = setup_clauses _ _ (search setup-outcomes)
+returns_2 c = setup_clauses _ _ (search setup_outcomes)
 
 pub setup_spec : {M : Type 1} → statement M
 setup_spec =
