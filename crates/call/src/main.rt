@@ -13,7 +13,7 @@ use program_stream::Input;
 use row_rules::{RECORD_COUNT, RecordsAnswer};
 
 // What the call is made on: a state, or a lent row of so many records.
-#[derive(Drop)]
+#[derive(Clone, Copy)]
 enum Lent {
     State,
     Row(usize),

@@ -5,7 +5,7 @@
 // beside it.
 #![tactic(auto)]
 
-#[derive(Drop)]
+#[derive(Clone, Copy)]
 pub enum CallHeader {
     Take { processor: u8, size: u16 },
     Free { processor: u8, address: u32 },

@@ -40,6 +40,7 @@ use Rattle.call_laws.proofs.DropRefusalConditions.{no_refusal_iff_each_meets_non
 use Rattle.call_laws.proofs.AddressReadsLaws.{SameReads, same_reads_refl, outside_run_of_refused_7, refused_5_in_other, refused_7_of_cleared_mark}
 use Rattle.call_laws.proofs.AddressReadsLaws.{refusal_in_other}
 use Rattle.heap_rules.specs.Runs.{RunAt, InRun}
+use Rattle.call_laws.proofs.TransferredLaws.{one_more_freed}
 
 -- the block of a class that starts at an address
 block_lt_256_of_start : (mark : ℕ) (s : State) (a : ℕ) → BlockStarts mark s a → is_in_run s a ≡ false → block_of s a < 256
@@ -217,7 +218,7 @@ refused_5_stays_so freed s order [] a shape passed ok e = e
 refused_5_stays_so freed s order (b ∷ x) a shape passed ok e =
     let first = first_refusal_of_cons s b x ok in
     let here = address_freed freed s order b shape passed first.0 in
-    refused_5_stays_so _ (block_freed s b) (order_pushed s order b) x a here.shape here.passed first.1
+    refused_5_stays_so (one_more_freed (superblock_holding s b).owner (superblock_holding s b).class freed) (block_freed s b) (order_pushed s order b) x a here.shape here.passed first.1
     (refused_5_stays freed s order b shape passed first.0 a e)
 
 refused_7_stays_so : (freed : ℕ → ℕ → ℕ) (s : State) (order x : List ℕ) (a : ℕ) → Shape s → PassedAfterFrees freed s order → first_address_refusal s x ≡ 0
@@ -227,7 +228,7 @@ refused_7_stays_so freed s order [] a shape passed ok e = e
 refused_7_stays_so freed s order (b ∷ x) a shape passed ok e =
     let first = first_refusal_of_cons s b x ok in
     let here = address_freed freed s order b shape passed first.0 in
-    refused_7_stays_so _ (block_freed s b) (order_pushed s order b) x a here.shape here.passed first.1
+    refused_7_stays_so (one_more_freed (superblock_holding s b).owner (superblock_holding s b).class freed) (block_freed s b) (order_pushed s order b) x a here.shape here.passed first.1
     (refused_7_stays freed s order b shape passed first.0 a e)
 
 -- one that was freed meets 7, or 5 where it is a run's start
@@ -240,9 +241,9 @@ freed_among_refused_7 freed s order (b ∷ x) a shape passed ok outside among =
     let first = first_refusal_of_cons s b x ok in
     let here = address_freed freed s order b shape passed first.0 in
     ⊎_elim
-    (λ e. refused_7_stays_so _ (block_freed s b) (order_pushed s order b) x a here.shape here.passed first.1
+    (λ e. refused_7_stays_so (one_more_freed (superblock_holding s b).owner (superblock_holding s b).class freed) (block_freed s b) (order_pushed s order b) x a here.shape here.passed first.1
     (ap (address_refusal (block_freed s b)) e ∙ freed_refused_7 freed s order b shape passed first.0 (subst (λ (y : ℕ). is_in_run s y ≡ false) e outside)))
-    (λ m. freed_among_refused_7 _ (block_freed s b) (order_pushed s order b) x a here.shape here.passed first.1
+    (λ m. freed_among_refused_7 (one_more_freed (superblock_holding s b).owner (superblock_holding s b).class freed) (block_freed s b) (order_pushed s order b) x a here.shape here.passed first.1
     (outside_run_stays freed s order b shape passed first.0 a outside) m)
     (Memᴰ.cases_cons among)
 
@@ -254,10 +255,10 @@ freed_among_refused_5 freed s order [] a shape passed ok inside among = absurd (
 freed_among_refused_5 freed s order (b ∷ x) a shape passed ok inside among =
     let first = first_refusal_of_cons s b x ok in
     let here = address_freed freed s order b shape passed first.0 in
-    let stays = refused_5_stays_so _ (block_freed s b) (order_pushed s order b) x a here.shape here.passed first.1 in
+    let stays = refused_5_stays_so (one_more_freed (superblock_holding s b).owner (superblock_holding s b).class freed) (block_freed s b) (order_pushed s order b) x a here.shape here.passed first.1 in
     ⊎_elim (λ e. stays (ap (address_refusal (block_freed s b)) e ∙ freed_refused_5 freed s order b shape passed first.0
     (subst (λ (y : ℕ). is_in_run s y ≡ true) e inside)))
-    (λ m. ⊎_elim (λ still. freed_among_refused_5 _ (block_freed s b) (order_pushed s order b) x a here.shape here.passed first.1 still m) stays
+    (λ m. ⊎_elim (λ still. freed_among_refused_5 (one_more_freed (superblock_holding s b).owner (superblock_holding s b).class freed) (block_freed s b) (order_pushed s order b) x a here.shape here.passed first.1 still m) stays
     (in_run_stays_or_refused_5 freed s order b shape passed first.0 a inside))
     (Memᴰ.cases_cons among)
 
@@ -285,7 +286,7 @@ module _ (k n a : ℕ) (in_run : InRun k n (superblock_index a)) (inner : a ≡ 
   inner_by_list freed s order (b ∷ x) shape passed ok run =
       let first = first_refusal_of_cons s b x ok in
       let here = address_freed freed s order b shape passed first.0 in
-      go (ℕ_discrete b (k * 4096)) (inner_by_list _ (block_freed s b) (order_pushed s order b) x here.shape here.passed first.1)
+      go (ℕ_discrete b (k * 4096)) (inner_by_list (one_more_freed (superblock_holding s b).owner (superblock_holding s b).class freed) (block_freed s b) (order_pushed s order b) x here.shape here.passed first.1)
     where
       Then : Type 0
       Then = (Memᴰ (k * 4096) x → address_refusal (all_freed (block_freed s b) x) a ≡ 5)
@@ -303,7 +304,7 @@ module _ (k n a : ℕ) (in_run : InRun k n (superblock_index a)) (inner : a ≡ 
           let home : superblock_index b ≡ k = omega arith in
           let long : is_in_run s b ≡ true = ap (λ (m : ℕ). is_of_run (superblock_at s m)) home ∙ run.of_run k (omega arith) (omega (arith, run.some)) in
           let n_is : (superblock_holding s b).run ≡ n = ap (λ (m : ℕ). (superblock_at s m).run) home ∙ run.length_is in
-          refused_5_stays_so _ (block_freed s b) (order_pushed s order b) x a here.shape here.passed first.1
+          refused_5_stays_so (one_more_freed (superblock_holding s b).owner (superblock_holding s b).class freed) (block_freed s b) (order_pushed s order b) x a here.shape here.passed first.1
           (run_refused_5 freed s order b shape passed first.0 long a (let l = in_run.0 in let h = in_run.1 in (omega arith, omega arith)))
 
       -- .. or the run stays

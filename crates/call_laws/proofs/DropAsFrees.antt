@@ -396,7 +396,7 @@ one_by_one_beside : (i : ℕ) (freed : ℕ → ℕ → ℕ) (s : State) (order :
 unfolding one_by_one_refusal first_address_refusal number_of
 one_by_one_beside i freed s order t places [] b = refl
 one_by_one_beside i freed s order t places (a ∷ addresses) b =
-    go (ℕ_discrete (address_refusal s a) 0) (λ e. one_by_one_beside i _ (free_of s order i a).answer.state (free_of s order i a).order (block_freed t a)
+    go (ℕ_discrete (address_refusal s a) 0) (λ e. one_by_one_beside i (one_more_freed (superblock_holding t a).owner (superblock_holding t a).class freed) (free_of s order i a).answer.state (free_of s order i a).order (block_freed t a)
     (order_pushed t places a) addresses (next i freed s order t places b a e))
   where
     x : After

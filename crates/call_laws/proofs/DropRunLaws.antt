@@ -31,6 +31,7 @@ use Rattle.call_laws.proofs.AddressFreedLaws.{block_freed_outside_run, block_fre
 use Rattle.call_laws.proofs.AllFreedLaws.{first_refusal_of_cons}
 use Rattle.call_laws.proofs.DropTransfersLaws.{Transfers}
 use Rattle.call_laws.proofs.DropLaws.{DropAccepted, drop_frees, drop_transfers, drop_state_is, drop_shape}
+use Rattle.call_laws.proofs.TransferredLaws.{one_more_freed}
 
 -- the run that begins at superblock k is listed: "The block's address is the start of the run"
 abbrev pub ListsRun : List ℕ → ℕ → Type 0
@@ -131,7 +132,7 @@ frees_keep_unused m l freed s order [] shape passed ok is = is
 frees_keep_unused m l freed s order (b ∷ x) shape passed ok is =
     let first = first_refusal_of_cons s b x ok in
     let here = address_freed freed s order b shape passed first.0 in
-    frees_keep_unused m l _ (block_freed s b) (order_pushed s order b) x here.shape here.passed first.1
+    frees_keep_unused m l (one_more_freed (superblock_holding s b).owner (superblock_holding s b).class freed) (block_freed s b) (order_pushed s order b) x here.shape here.passed first.1
     (unused_is_kept freed s order b shape passed first.0 m l is)
 
 -- superblock m of a run is unused where the run is listed, and else as it was
@@ -144,7 +145,7 @@ module _ (k n m : ℕ) (inside : InRun k n m) where
   unfolding all_freed
   frees_of_run freed s order [] shape passed ok run = (λ listed. absurd (Memᴰ.not-nil listed), λ none. refl)
   frees_of_run freed s order (b ∷ x) shape passed ok run =
-      go (ℕ_discrete b (k * 4096)) (frees_of_run _ (block_freed s b) (order_pushed s order b) x here.shape here.passed first.1)
+      go (ℕ_discrete b (k * 4096)) (frees_of_run (one_more_freed (superblock_holding s b).owner (superblock_holding s b).class freed) (block_freed s b) (order_pushed s order b) x here.shape here.passed first.1)
     where
       first : (address_refusal s b ≡ 0) × (first_address_refusal (block_freed s b) x ≡ 0)
       first = first_refusal_of_cons s b x ok
@@ -155,7 +156,7 @@ module _ (k n m : ℕ) (inside : InRun k n m) where
       -- the run is freed now, and what is unused stays so ..
       freed_now : b ≡ k * 4096 → superblock_at (all_freed (block_freed s b) x) m ≡ unused
       freed_now e =
-          frees_keep_unused m (omega (arith, inside.1, run.in_table)) _ (block_freed s b) _ x here.shape here.passed first.1
+          frees_keep_unused m (omega (arith, inside.1, run.in_table)) (one_more_freed (superblock_holding s b).owner (superblock_holding s b).class freed) (block_freed s b) _ x here.shape here.passed first.1
           (freed_run_is_unused freed s order b shape passed first.0 k n m run e inside)
 
       -- .. or it is kept

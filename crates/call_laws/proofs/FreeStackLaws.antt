@@ -71,6 +71,7 @@ use Rattle.call_laws.proofs.DropMoveLaws.{heaps_restored_keep}
 use Rattle.call_laws.proofs.DropLaws.{DropAccepted, drop_refused_or_accepted, drop_effect, drop_shape}
 use Rattle.call_laws.proofs.OrderWriteLaws.{NoneIn, freed_superblock_below_superblocks, filled_lt_256}
 use Rattle.heap_rules.specs.Runs.{InRun}
+use Rattle.call_laws.proofs.TransferredLaws.{one_more_freed}
 
 -- ---- the stack of a superblock
 -- v (m - 1), v (m - 2), .., v 0
@@ -403,7 +404,7 @@ all_freed_push freed s t order [] since shape passed ok k = refl
 all_freed_push freed s t order (a ∷ addresses) since shape passed ok k =
     let accepted = first_refusal_of_cons t a addresses ok in
     let here = address_freed freed t order a shape passed accepted.0 in
-    all_freed_push _ s (block_freed t a) (order_pushed t order a) addresses (freed_since_then freed s t order a since shape passed accepted.0)
+    all_freed_push (one_more_freed (superblock_holding t a).owner (superblock_holding t a).class freed) s (block_freed t a) (order_pushed t order a) addresses (freed_since_then freed s t order a since shape passed accepted.0)
     here.shape here.passed accepted.1 k
     ∙ ap (dropped_onto s k addresses)
     (block_freed_by_test freed t order a shape passed accepted.0 k
@@ -809,7 +810,7 @@ dropped_address freed s t order a [] later since shape passed ok small =
 dropped_address freed s t order a (b ∷ earlier) later since shape passed ok small =
     let accepted = first_refusal_of_cons t b (earlier ++ (a ∷ later)) ok in
     let here = address_freed freed t order b shape passed accepted.0 in
-    dropped_address _ s (block_freed t b) (order_pushed t order b) a earlier later (freed_since_then freed s t order b since shape passed accepted.0)
+    dropped_address (one_more_freed (superblock_holding t b).owner (superblock_holding t b).class freed) s (block_freed t b) (order_pushed t order b) a earlier later (freed_since_then freed s t order b since shape passed accepted.0)
     here.shape here.passed accepted.1 small
 
 -- After an accepted drop, and any calls that neither are answered from a superblock nor take it into a run nor free into it, a take that is answered from that

@@ -83,7 +83,7 @@ module _ (m : ℕ) where
   frees_keep_other freed s order (a ∷ addresses) shape passed ok other =
       let first = first_refusal_of_cons s a addresses ok in
       let kept = first_keeps_other freed s order a shape passed first.0 (λ e. other (inl e)) in
-      frees_keep_other _ (block_freed s a) (order_pushed s order a) addresses (address_freed freed s order a shape passed first.0).shape
+      frees_keep_other (one_more_freed (superblock_holding s a).owner (superblock_holding s a).class freed) (block_freed s a) (order_pushed s order a) addresses (address_freed freed s order a shape passed first.0).shape
       (address_freed freed s order a shape passed first.0).passed first.1
       (λ h. other (inr (subst (ListsBlock s addresses) kept
       (listed_same s (block_freed s a) (address_freed_block freed s order a shape passed first.0) addresses _ h))))
@@ -96,7 +96,7 @@ module _ (m : ℕ) where
   frees_bind_none freed s order [] shape passed ok e = e
   frees_bind_none freed s order (a ∷ addresses) shape passed ok e =
       let first = first_refusal_of_cons s a addresses ok in
-      frees_bind_none _ (block_freed s a) (order_pushed s order a) addresses (address_freed freed s order a shape passed first.0).shape
+      frees_bind_none (one_more_freed (superblock_holding s a).owner (superblock_holding s a).class freed) (block_freed s a) (order_pushed s order a) addresses (address_freed freed s order a shape passed first.0).shape
       (address_freed freed s order a shape passed first.0).passed first.1
       (first_binds_none freed s order a shape passed first.0 e)
 
@@ -107,7 +107,7 @@ module _ (m : ℕ) where
   frees_let_go freed s order [] shape passed ok h = absurd h
   frees_let_go freed s order (a ∷ addresses) shape passed ok h =
       go (ℕ_discrete (block_named s.names m) (block_number (superblock_index a) (block_of s a))) h
-      (frees_let_go _ (block_freed s a) (order_pushed s order a) addresses shape_then passed_then first.1)
+      (frees_let_go (one_more_freed (superblock_holding s a).owner (superblock_holding s a).class freed) (block_freed s a) (order_pushed s order a) addresses shape_then passed_then first.1)
     where
       first : (address_refusal s a ≡ 0) × (first_address_refusal (block_freed s a) addresses ≡ 0)
       first = first_refusal_of_cons s a addresses ok
@@ -119,7 +119,7 @@ module _ (m : ℕ) where
       passed_then = (address_freed freed s order a shape passed first.0).passed
 
       by_first : block_named s.names m ≡ block_number (superblock_index a) (block_of s a) → block_named (all_freed (block_freed s a) addresses).names m ≡ not_held
-      by_first e = frees_bind_none _ (block_freed s a) (order_pushed s order a) addresses shape_then passed_then first.1
+      by_first e = frees_bind_none (one_more_freed (superblock_holding s a).owner (superblock_holding s a).class freed) (block_freed s a) (order_pushed s order a) addresses shape_then passed_then first.1
           (first_lets_go freed s order a shape passed first.0 e)
 
       go : Dec (block_named s.names m ≡ block_number (superblock_index a) (block_of s a)) → ListsBlock s (a ∷ addresses) (block_named s.names m)

@@ -4,7 +4,7 @@
 use heap_rules::State;
 
 // What a call came to: an accepted setup, the address of a take, the moves of a free or a drop, or the number of a refusal alone.
-#[derive(Drop)]
+#[derive(Clone, Copy)]
 pub enum Outcome {
     Ready,
     Address(u32),
@@ -13,7 +13,7 @@ pub enum Outcome {
 }
 
 // The outcome with the state after the call.
-#[derive(Drop)]
+#[derive(Clone, Copy)]
 pub struct Answer {
     pub outcome: Outcome,
     pub state: State,

@@ -8,7 +8,7 @@ use heap_rules::UNUSED_OWNER;
 
 // What a scan looks for. HasFree: of a heap and class, with a free block. Belongs: of a heap and class. Empty: of heap 0,
 // nothing live.
-#[derive(Drop)]
+#[derive(Clone, Copy)]
 pub enum Criterion {
     HasFree(u8, u8),
     Belongs(u8, u8),

@@ -8,7 +8,7 @@ use choice_criteria::Criterion;
 use heap_rules::Found;
 
 // The best superblock of a scan so far, if any, and of it what the choice compares: live count and rank.
-#[derive(Drop)]
+#[derive(Clone, Copy)]
 pub struct Best {
     pub found: Found,
     pub live: u32,

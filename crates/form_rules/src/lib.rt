@@ -5,7 +5,7 @@
 use call_header::CallHeader;
 
 // What is asked: a setup, or a call, with how many addresses a drop has, and 0 for any other call.
-#[derive(Drop)]
+#[derive(Clone, Copy)]
 pub enum Request {
     Setup,
     Call { call: CallHeader, count: u16 },

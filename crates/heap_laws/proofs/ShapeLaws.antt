@@ -9,8 +9,6 @@ use mir.Val.{Val}
 use denote.Array.{each}
 use denote.Laws.{Is}
 use denote.Shadow.{shadow}
-use Rattle.base_laws.proofs.ReplacedElement.{length_of_length_map}
-use Rattle.base_laws.proofs.FieldArrays.{declared_array_of_field_array}
 use Rattle.heap_rules.specs.declared.Superblock.{Superblock}
 use Rattle.heap_rules.specs.declared.State.{State}
 use Rattle.heap_rules.specs.Table.{blank}
@@ -21,7 +19,7 @@ use Rattle.heap_rules.specs.contracts.State as S
 
 -- of one superblock
 marks_length_of_superblock : (b : Superblock) (vals : List Val) → Is B.the_row b vals → length b.live ≡ 4
-marks_length_of_superblock b vals g = length_of_length_map (λ (x : ℕ). x) b.live 4 g.1.1.1.1.1.1.0.1.0.1
+marks_length_of_superblock b vals g = g.1.1.1.1.1.1.0.1.0.1
 
 -- of each superblock of a list
 marks_length_of_each : (table : List Superblock) (vals : List Val) → shadow (each Superblock (B.the_row).own_val table vals) → (k : ℕ) → k < length table
@@ -31,14 +29,14 @@ marks_length_of_each (b ∷ table) [] g k l = absurd g
 marks_length_of_each (b ∷ table) (v ∷ vals) g zero l = marks_length_of_superblock b (v ∷ []) g.0
 marks_length_of_each (b ∷ table) (v ∷ vals) g (suc k) l = marks_length_of_each table vals g.1 k (le_of_suc-le-suc l)
 
--- of a state, whose type has the superblocks of its table as tuples
+-- of a state
 pub shape_of_state : (s : State) (vals : List Val) → Is S.the_row s vals → Shape s
 shape_of_state s vals g =
-    let t = declared_array_of_field_array B.the_type 64 s.table _ g.1.1.1.0 in
+    let t = g.1.1.1.0 in
     record {
       length_is = t.1.0.1;
       marks_length = λ k l. marks_length_of_each s.table t.0 t.1.1 k (rw t.1.0.1 l);
-      names_length = length_of_length_map (λ (x : ℕ). x) s.names 1024 g.1.1.1.1.0.1.0.1;
-      superblock_totals_length = length_of_length_map (λ (x : ℕ). x) s.totals.superblocks total_count g.1.1.1.1.1.0.1.1.0.1.0.1;
-      live_totals_length = length_of_length_map (λ (x : ℕ). x) s.totals.live total_count g.1.1.1.1.1.0.1.1.1.0.1.0.1;
+      names_length = g.1.1.1.1.0.1.0.1;
+      superblock_totals_length = g.1.1.1.1.1.0.1.1.0.1.0.1;
+      live_totals_length = g.1.1.1.1.1.0.1.1.1.0.1.0.1;
     }

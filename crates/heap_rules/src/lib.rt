@@ -27,7 +27,7 @@ pub const HEAP_COUNT: usize = HEAPS as usize;
 pub const TOTAL_COUNT: usize = HEAP_COUNT * CLASS_COUNT;
 
 // The marks come last: behind them rank and length would make each superblock eight bytes longer.
-#[derive(Drop)]
+#[derive(Clone, Copy)]
 pub struct Superblock {
     // 0 the global heap, 1 to MOST_PROCESSORS a processor's heap, RUN_OWNER or UNUSED_OWNER
     pub owner: u8,
@@ -42,7 +42,7 @@ pub struct Superblock {
 }
 
 // Document 01's P, N, K, p and q.
-#[derive(Drop)]
+#[derive(Clone, Copy)]
 pub struct Setup {
     // P, the processors, each with a heap
     pub processors: u8,
@@ -56,7 +56,7 @@ pub struct Setup {
 }
 
 // The totals of each heap and class, those of heap h and class c at h × CLASS_COUNT + c.
-#[derive(Drop)]
+#[derive(Clone, Copy)]
 pub struct Totals {
     // its superblocks
     pub superblocks: [u8; TOTAL_COUNT],
@@ -65,7 +65,7 @@ pub struct Totals {
 }
 
 // All that a call is handed, but the order places, and hands back.
-#[derive(Drop)]
+#[derive(Clone, Copy)]
 pub struct State {
     pub setup: Setup,
     // the superblocks, by number
@@ -76,14 +76,14 @@ pub struct State {
 }
 
 // The number of a chosen superblock, or none.
-#[derive(Drop)]
+#[derive(Clone, Copy)]
 pub enum Found {
     At(usize),
     Nothing,
 }
 
 // What the move rule did.
-#[derive(Drop)]
+#[derive(Clone, Copy)]
 pub struct Moved {
     // how many superblocks it passed to heap 0
     pub moves: u8,

@@ -24,7 +24,7 @@ pub const ROOM: usize = 655360;
 
 // Where the replay of a record stands: the state, the position in the record, the end of the text, and whether it goes on, or has
 // printed its stop line.
-#[derive(Drop)]
+#[derive(Clone, Copy)]
 struct Replay {
     state: State,
     at: usize,

@@ -3,7 +3,7 @@
 // The number of bytes of the key, or that fewer bytes were lent than the longest key has.
 #![tactic(auto)]
 
-#[derive(Drop)]
+#[derive(Clone, Copy)]
 pub enum Printed {
     Text(usize),
     NoRoom,

@@ -8,7 +8,7 @@ pub const LONGEST_RECORD: usize = 60000;
 
 // A setup with its numbers, a call, or a refusal with its offset. Beside a call's header stands how many addresses a drop has and where the first
 // of them stands in the record; 0 and 0 beside the header of any other call.
-#[derive(Drop)]
+#[derive(Clone, Copy)]
 pub enum Command {
     Setup {
         processors: u8,

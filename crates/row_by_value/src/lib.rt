@@ -14,7 +14,7 @@ use refusal_rules::STATE_INVALID;
 use row_rules::{Control, RowAnswer};
 
 // What is to be stored in the row where the call was accepted, the answer, and whether it was.
-#[derive(Drop)]
+#[derive(Clone, Copy)]
 pub struct TableCall {
     pub table: [Superblock; TABLE_LENGTH],
     pub answer: RowAnswer,

@@ -9,7 +9,7 @@ use names_rules::NAME_COUNT;
 pub const RECORD_COUNT: usize = TABLE_LENGTH + 1;
 
 // What a call on a lent row is given and hands back by value: all of a state but its superblocks.
-#[derive(Drop)]
+#[derive(Clone, Copy)]
 pub struct Control {
     pub setup: Setup,
     pub names: [u16; NAME_COUNT],
@@ -17,14 +17,14 @@ pub struct Control {
 }
 
 // What a call on a lent row hands back: its outcome and the control after it. The superblocks are in the row.
-#[derive(Drop)]
+#[derive(Clone, Copy)]
 pub struct RowAnswer {
     pub outcome: Outcome,
     pub control: Control,
 }
 
 // The records that a row was lent from the front of, as the call left them, and its answer.
-#[derive(Drop)]
+#[derive(Clone, Copy)]
 pub struct RecordsAnswer {
     pub records: [Superblock; RECORD_COUNT],
     pub answer: RowAnswer,

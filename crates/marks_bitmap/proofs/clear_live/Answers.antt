@@ -1,0 +1,18 @@
+-- `marks_bitmap::clear_live` meets its contract: the code's mask is all ones but a power of two, and past block 255 nothing is written. Assumes nothing.
+use mathlib.Core.Path.{sym}
+use Prim.Native.Nat.{◌%◌}
+use native.Mathlib.Omega.{arith}
+use Rattle.marks_rules.specs.Marks.{without_mark}
+use Rattle.marks_laws.proofs.BitLaws.{shl_one}
+use Rattle.marks_laws.proofs.MarkLaws.{without_mark_past_256}
+use borrow.Author.Rules.{rules}
+use Rattle.marks_bitmap.proofs.clear_live.Goals as goal
+
+pub returns-then-j-ge-MARK_COUNT : goal.returns-then-j-ge-MARK_COUNT
+returns-then-j-ge-MARK_COUNT c =
+    let a = c.args in
+    sym (without_mark_past_256 a.live a.j (search rules) c.if-j-ge-MARK_COUNT.true)
+
+pub returns : goal.returns
+unfolding without_mark
+returns c = rw (shl_one (c.args.j % 64) (omega arith))
