@@ -2,8 +2,9 @@
 // Neither is buffered: each step is one call of the system, whose failure is seen at once.
 #![tactic(auto)]
 
-ghost use Rattle.std.specs.Prelude.{◌≡◌, true, length};
-ghost use Rattle.program_stream.specs.Stream.{IsPrefixLen, WithinBuffer, input_of};
+ghost use Rattle.std.specs.Prelude.{◌≡◌, true, length, take};
+ghost use Rattle.std.specs.Io.KnownBytes.{Appends};
+ghost use Rattle.program_stream.specs.Stream.{IsNextInput, IsPrefixLen, IsWholeInput, WithinBuffer, input_of};
 
 use std::io;
 use std::io::{Read, Write};
@@ -46,8 +47,9 @@ fn report_failure(rt: &HostRuntime, program: &[u8], line: &[u8]) {
 }
 
 // Reads until buf is full, the input ends or a read fails.
-fn read_whole(reader: &mut impl Read, buf: &mut [u8]) -> Input
-    ensures { WithinBuffer result buf.new }
+fn read_whole<R: Read>(reader: &mut R, buf: &mut [u8]) -> Input
+    ensures within_buffer { WithinBuffer result buf.new }
+    ensures whole { IsWholeInput (R.remaining reader.old) (R.remaining reader.new) result buf.new }
 {
     let mut done = 0;
     while done < buf.len() {
@@ -64,8 +66,9 @@ fn read_whole(reader: &mut impl Read, buf: &mut [u8]) -> Input
 }
 
 // One read; no bytes at the end of the input.
-fn read_some(reader: &mut impl Read, buf: &mut [u8]) -> Input
-    ensures { WithinBuffer result buf.new }
+fn read_some<R: Read>(reader: &mut R, buf: &mut [u8]) -> Input
+    ensures within_buffer { WithinBuffer result buf.new }
+    ensures next { IsNextInput (R.remaining reader.old) (R.remaining reader.new) result buf.new }
 {
     input_of(reader.read(buf), buf)
 }
@@ -82,8 +85,9 @@ fn input_of(got: io::Result<usize>, buf: &[u8]) -> Input
 }
 
 // Writes until all bytes are taken, or a write fails or takes none; how many of the first bytes were taken.
-fn write_whole(writer: &mut impl Write, bytes: &[u8]) -> usize
-    ensures { IsPrefixLen result bytes.now }
+fn write_whole<W: Write>(writer: &mut W, bytes: &[u8]) -> usize
+    ensures count { IsPrefixLen result bytes.now }
+    ensures bytes { Appends (W.contents writer.old) (W.contents writer.new) (take result bytes.now) }
 {
     let mut taken = 0;
     while taken < bytes.len() {
@@ -97,8 +101,9 @@ fn write_whole(writer: &mut impl Write, bytes: &[u8]) -> usize
 }
 
 // One write; none taken where it fails.
-fn write_some(writer: &mut impl Write, bytes: &[u8]) -> usize
-    ensures { IsPrefixLen result bytes.now }
+fn write_some<W: Write>(writer: &mut W, bytes: &[u8]) -> usize
+    ensures count { IsPrefixLen result bytes.now }
+    ensures bytes { Appends (W.contents writer.old) (W.contents writer.new) (take result bytes.now) }
 {
     match writer.write(bytes) {
         Ok(n) => n.min(bytes.len()),
