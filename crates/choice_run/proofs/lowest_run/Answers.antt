@@ -15,7 +15,10 @@ loop-k-init c = (
   no_row_at_start _ _ (omega arith),
   elim c.if-superblocks-lt-TABLE_LENGTH.branch [ then-superblocks-lt-TABLE_LENGTH w ↦ omega arith | else-superblocks-lt-TABLE_LENGTH w ↦ omega arith ],
   elim c.if-superblocks-lt-TABLE_LENGTH.branch [ then-superblocks-lt-TABLE_LENGTH w ↦ omega arith | else-superblocks-lt-TABLE_LENGTH w ↦ omega arith ],
-  elim c.if-superblocks-lt-TABLE_LENGTH.branch [ then-superblocks-lt-TABLE_LENGTH w ↦ inl (omega arith, omega arith) | else-superblocks-lt-TABLE_LENGTH w ↦ inr (omega arith, omega arith) ],
+  elim c.if-superblocks-lt-TABLE_LENGTH.branch [
+    | then-superblocks-lt-TABLE_LENGTH w ↦ inl (omega arith, omega arith)
+    | else-superblocks-lt-TABLE_LENGTH w ↦ inr (omega arith, omega arith)
+  ],
 )
 
 pub overflow_sub-first : goal.overflow_sub-first
