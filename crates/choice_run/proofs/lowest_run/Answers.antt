@@ -1,5 +1,4 @@
 use mathlib.Core.Logic.{inl, inr}
-use Prim.Native.Nat.{◌-◌}
 use native.Mathlib.Omega.{arith}
 use Rattle.base_laws.proofs.ReplacedElement.{length_of_length_map}
 use Rattle.choice_run.proofs.RunScanLaws.{run_of_none_is_first, no_row_at_start, row_step_available, row_step_other}
@@ -16,29 +15,31 @@ loop-k-init c = (
   no_row_at_start _ _ (omega arith),
   elim c.if-superblocks-lt-TABLE_LENGTH.branch [ then-superblocks-lt-TABLE_LENGTH w ↦ omega arith | else-superblocks-lt-TABLE_LENGTH w ↦ omega arith ],
   elim c.if-superblocks-lt-TABLE_LENGTH.branch [ then-superblocks-lt-TABLE_LENGTH w ↦ omega arith | else-superblocks-lt-TABLE_LENGTH w ↦ omega arith ],
-  elim c.if-superblocks-lt-TABLE_LENGTH.branch [ then-superblocks-lt-TABLE_LENGTH w ↦ inl (omega arith, omega arith) | else-superblocks-lt-TABLE_LENGTH w ↦ inr (omega arith, omega arith) ],
+  elim c.if-superblocks-lt-TABLE_LENGTH.branch [
+    | then-superblocks-lt-TABLE_LENGTH w ↦ inl (omega arith, omega arith)
+    | else-superblocks-lt-TABLE_LENGTH w ↦ inr (omega arith, omega arith)
+  ],
 )
-
-pub is_available-requires : goal.is_available-requires
-is_available-requires c = tt
 
 pub overflow_sub-first : goal.overflow_sub-first
 overflow_sub-first c = elim c.if-is_available.branch [ then-is_available w ↦ omega arith | else-is_available w ↦ omega arith ]
 
 pub returns-then-row-n : goal.returns-then-row-n
 returns-then-row-n c =
-    elim c.if-is_available.branch [ then-is_available w ↦ run_found _ _ _ _ c.loop-k.invariant.1 _ c.is_available.ensures _ w.0.taken w.1 c.if-row-n.true
-    (omega arith) (omega arith) | else-is_available w ↦ absurd (omega arith) ]
+    elim c.if-is_available.branch [
+      | then-is_available w ↦ run_found _ _ _ _ c.loop-k.invariant.1 _ c.is_available.ensures _ w.if-is_available.true w.row-is c.if-row-n.true
+          (omega arith) (omega arith)
+      | else-is_available w ↦ absurd (omega arith)
+    ]
 
 pub loop-k-preserved : goal.loop-k-preserved
-loop-k-preserved c =
-    (
-      omega arith,
-      elim c.if-is_available.branch [ then-is_available w ↦ search row_step_available | else-is_available w ↦ search row_step_other ],
-      c.loop-k.invariant.2,
-      c.loop-k.invariant.3,
-      c.loop-k.invariant.4,
-    )
+loop-k-preserved c = (
+  omega arith,
+  elim c.if-is_available.branch [ then-is_available w ↦ search row_step_available | else-is_available w ↦ search row_step_other ],
+  c.loop-k.invariant.2,
+  c.loop-k.invariant.3,
+  c.loop-k.invariant.4,
+)
 
 pub returns-then-row-eq0 : goal.returns-then-row-eq0
 returns-then-row-eq0 c =
