@@ -1,5 +1,4 @@
 use mathlib.Core.Path.{refl, ◌∙◌}
-use Prim.Native.Nat.{◌-◌}
 use native.Mathlib.Omega.{arith}
 use Rattle.text_rules.proofs.PasteLaws.{paste_first_0, paste_first_suc, paste_first_all}
 use Rattle.text_writer.proofs.put_text.Goals as goal
@@ -14,7 +13,7 @@ loop-i-preserved c =
     let p = c.put_byte-end in
     let l = c.loop-i in
     let a = c.args in
-    (omega arith, paste_first_suc a.out.now a.at a.text.now l.i _ (omega arith) (omega arith) l.invariant.1 p.ensures, p.auto.0 ∙ l.invariant.2)
+    (omega arith, paste_first_suc a.out.now a.at a.text.now l.i _ (omega arith) (omega arith) l.invariant.1 p.ensures, p.auto.out ∙ l.invariant.2)
 
 pub returns : goal.returns
 returns c =

@@ -7,7 +7,9 @@ use Rattle.text_rules.specs.Text.{pasted}
 use Rattle.text_writer.proofs.put_text.Given as goal
 
 abbrev pub invariant-loop-i : goal.invariant-loop-i
-invariant-loop-i l = (l.i ≤ length l.text) × (record { end = l.end; buffer = l.out } ≡ pasted l.initial.out l.at (take l.i l.text)) × (length l.out ≡ length l.initial.out)
+invariant-loop-i l =
+    (l.i ≤ length l.text) × (record { end = l.end; buffer = l.out } ≡ pasted l.initial.out l.at (take l.i l.text))
+    × (length l.out ≡ length l.initial.out)
 
 abbrev pub decreases-loop-i : goal.decreases-loop-i
 decreases-loop-i l = length l.text - l.i
