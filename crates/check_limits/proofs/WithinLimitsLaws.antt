@@ -3,7 +3,7 @@ use mathlib.Core.Path.{◌≡◌, sym, ◌∙◌}
 use mathlib.Core.Bool.{Bool, true, false, not}
 use Prim.Native.Nat.{ℕ, ◌≤◌, ◌<◌}
 use native.Mathlib.Omega.{arith}
-use borrow.Author.Tests.{not-true, not-false, le-leb, lt-leb, lt-ltb, le-ltb}
+use borrow.Author.Tests.{not-true, le-leb, lt-leb, lt-ltb, le-ltb}
 use lib.Dec.{T, leb, leb→le}
 use Rattle.base_laws.proofs.TestLaws.{T_of_true, not_T_of_false, false_of_not_T, both_left, both_right, both_make, both_false_right}
 use Rattle.heap_rules.specs.declared.Setup.{Setup}
@@ -39,9 +39,9 @@ pub within_limits_false_of_q : (u : Setup) → u.q ≤ u.p → false ≡ within_
 unfolding within_limits
 within_limits_false_of_q u h = sym (simp (le-ltb u.p u.q h, both_false_right))
 
-pub within_limits_is_q_test : (u : Setup) (a b d r : Bool) → a ≡ within 1 8 u.processors → not a ≡ false → b ≡ within 1 64 u.superblocks
-    → not b ≡ false → d ≡ within 1 16 u.spare → not d ≡ false
+pub within_limits_is_q_test : (u : Setup) (a b d r : Bool) → a ≡ within 1 8 u.processors → a ≡ true → b ≡ within 1 64 u.superblocks
+    → b ≡ true → d ≡ within 1 16 u.spare → d ≡ true
     → 1 ≤ u.p → u.p < u.q → r ≡ within 2 8 u.q → r ≡ within_limits u
 unfolding within_limits
 within_limits_is_q_test u a b d r e e' f f' g g' p q h =
-    h ∙ sym (simp (sym e ∙ not-false a e', sym f ∙ not-false b f', sym g ∙ not-false d g', le-leb 1 u.p p, lt-ltb u.p u.q q))
+    h ∙ sym (simp (sym e ∙ e', sym f ∙ f', sym g ∙ g', le-leb 1 u.p p, lt-ltb u.p u.q q))

@@ -35,6 +35,7 @@ use Rattle.claim_laws.proofs.LiveAtLaws.{live_for, live_at, live_at_same, live_a
 use Rattle.claim_laws.proofs.LiveAtLaws.{live_at_one_more, one_more_live_of_free}
 use Rattle.claim_laws.proofs.OneMoreLongLaws.{OneMoreLong, long_at_before_run_is_zero, long_at_one_more, one_more_long_of_free}
 use Rattle.claim_laws.proofs.LedgerNames.{EntryAgrees, block_let_go_of_free, block_let_go_of_long_free, agreement_after_free}
+use Rattle.call_laws.proofs.TransferredLaws.{one_more_freed}
 
 pub record Listed (s : State) (ledger : List Entry) : Type 0 where
   -- each block once, and nothing else
@@ -255,7 +256,7 @@ all_freed_each_removed freed s order [] ledger shape passed ok g = g
 all_freed_each_removed freed s order (a ∷ addresses) ledger shape passed ok g =
     let first = first_refusal_of_cons s a addresses ok in
     let one = address_freed freed s order a shape passed first.0 in
-    all_freed_each_removed _ (block_freed s a) (order_pushed s order a) addresses (removed (is_at a) ledger) one.shape one.passed first.1
+    all_freed_each_removed (one_more_freed (superblock_holding s a).owner (superblock_holding s a).class freed) (block_freed s a) (order_pushed s order a) addresses (removed (is_at a) ledger) one.shape one.passed first.1
     (block_freed_agreement freed s order a ledger shape passed first.0 g)
 
 -- all of a drop's

@@ -58,6 +58,7 @@ use Rattle.claim_laws.proofs.LedgerEventLaws.{SameEvents, same_events_removed, s
 use Rattle.claim_laws.proofs.LedgerEventLaws.{event_of_long_block, event_of_named_block}
 use Rattle.claim_laws.proofs.CallInvariantLaws.{ListInvariant, after_step}
 use Rattle.claim_laws.proofs.Demand3.{list_invariant_after_setup}
+use Rattle.call_laws.proofs.TransferredLaws.{one_more_freed}
 
 -- ---- the event of a call, by its outcome
 -- a take of a block of a class that answered block j of superblock k, of class c
@@ -136,7 +137,7 @@ after_frees freed ledger part same s order [] events m shape passed agrees ok be
 after_frees freed ledger part same s order (a ∷ addresses) events m shape passed agrees ok before =
     let first = first_refusal_of_cons s a addresses ok in
     let one = address_freed freed s order a shape passed first.0 in
-    after_frees _ ledger (removed (is_at a) part) (same_events_removed ledger part a same) (block_freed s a) (order_pushed s order a) addresses
+    after_frees (one_more_freed (superblock_holding s a).owner (superblock_holding s a).class freed) ledger (removed (is_at a) part) (same_events_removed ledger part a same) (block_freed s a) (order_pushed s order a) addresses
     (event_of_free (is_at a) ledger (Moves m) ∷ events) m one.shape one.passed
     (block_freed_agreement freed s order a part shape passed first.0 agrees) first.1
     (after_one_free freed ledger part same s order shape passed agrees a m events first.0 before)

@@ -1,7 +1,6 @@
 -- `check_filled::places_valid` meets its contract: each way out answers one clause of the check. Assumes nothing.
 use mathlib.Core.Path.{sym, ap, ◌∙◌}
 use Prim.Native.Nat.{ℕ, ◌-◌}
-use borrow.Author.Tests.{not-false}
 use native.Mathlib.Omega.{arith}
 use Rattle.filled_rules.proofs.PlacesCheckLaws.{places_invalid_of_marks, live_count_le_blocks, places_invalid_of_short_storage, places_valid_is_each_once}
 use Rattle.check_filled.proofs.places_valid.Goals as goal
@@ -23,7 +22,7 @@ each_once-requires c =
       n.ensures.1,
       ap (λ (k : ℕ). n.result - k) x.ensures.0,
       omega arith,
-      sym t.ensures ∙ not-false t.result c.if-not-no_mark_from.false,
+      sym t.ensures ∙ c.if-not-no_mark_from.false,
     )
 
 pub returns : goal.returns

@@ -1,4 +1,4 @@
-use Prim.Native.Nat.{◌-◌, ◌<◌}
+use Prim.Native.Nat.{◌<◌}
 use native.Mathlib.Omega.{arith}
 use Rattle.base_laws.proofs.ReplacedElement.{length_of_length_map}
 use Rattle.heap_ranks.proofs.RankingLaws.{ranked_none, one_ahead, not_ahead, unranked_end, unranked_of_not_ranked}
@@ -15,16 +15,10 @@ returns-then-was-eq0 c = search (unranked_of_not_ranked, length_of_length_map)
 pub loop-i-init : goal.loop-i-init
 loop-i-init c = (omega arith, search (ranked_none, length_of_length_map))
 
-pub bounds-t-i-then-was-x : goal.bounds-t-i-then-was-x
-bounds-t-i-then-was-x c = (omega arith, tt)
-
 pub loop-i-preserved : goal.loop-i-preserved
 loop-i-preserved c =
     let h : c.loop-i.i < 64 = omega arith in
     (omega arith, elim c.if-was-x.branch [ then-was-x w ↦ search one_ahead | else-was-x w ↦ search not_ahead ])
-
-pub bounds-t-k : goal.bounds-t-k
-bounds-t-k c = (omega arith, tt)
 
 pub returns : goal.returns
 returns c = search unranked_end
