@@ -88,7 +88,8 @@ module _ (s : State) (met : List ℕ) (ranked highest k : ℕ) (before : RanksMe
       rw (p, q, r)
       (record {
         long = before.long;
-        counted = let one_more = sum_below_suc (λ j. one (is_ranked (superblock_at s j))) k in omega (arith, before.counted, unranked_none (superblock_at s k) h);
+        counted = let one_more = sum_below_suc (λ j. one (is_ranked (superblock_at s j))) k in
+            omega (arith, before.counted, unranked_none (superblock_at s k) h);
         not_above = λ j l. not_above j l (ℕ_discrete j k);
         reached = reached before.reached;
         noted = λ j l n. before.noted j (below j l n) n;
@@ -138,7 +139,8 @@ module _ (s : State) (met : List ℕ) (ranked highest k : ℕ) (before : RanksMe
         rw (p, q)
         (record {
           long = length_with_mark met (rank_of s k) ∙ before.long;
-          counted = let one_more = sum_below_suc (λ j. one (is_ranked (superblock_at s j))) k in omega (arith, before.counted, ranked_one (superblock_at s k) is);
+          counted = let one_more = sum_below_suc (λ j. one (is_ranked (superblock_at s j))) k in
+              omega (arith, before.counted, ranked_one (superblock_at s k) is);
           not_above = λ j l. not_above j l (ℕ_discrete j k) higher;
           reached = reached higher before.reached;
           noted = λ j l n. noted j l n (ℕ_discrete (rank_of s j) (rank_of s k));
@@ -181,13 +183,15 @@ module _ (s : State) (met : List ℕ) (ranked highest k : ℕ) (before : RanksMe
         owned j l n (yes e) = ap (λ (i : ℕ). is_unowned (superblock_at s i)) e ∙ u
         owned j l n (no f) = before.owned j (omega arith) n
 
-    pub step_higher : (met' : List ℕ) (ranked' highest' : ℕ) → rank_of s k < 256 → (mark_bit met (rank_of s k) ≡ 1 → ⊥) → is_unowned (superblock_at s k) ≡ false
-        → highest < rank_of s k → met' ≡ noted_in_code met (rank_of s k) → ranked' ≡ ranked + 1 → highest' ≡ rank_of s k → RanksMet s met' ranked' highest' (k + 1)
+    pub step_higher : (met' : List ℕ) (ranked' highest' : ℕ) → rank_of s k < 256 → (mark_bit met (rank_of s k) ≡ 1 → ⊥)
+        → is_unowned (superblock_at s k) ≡ false → highest < rank_of s k → met' ≡ noted_in_code met (rank_of s k) → ranked' ≡ ranked + 1
+        → highest' ≡ rank_of s k → RanksMet s met' ranked' highest' (k + 1)
     step_higher met' ranked' highest' fits new u h p q r = step_ranked met' ranked' highest' fits new u (inl (h, r))
         (p ∙ noted_in_code_is_with_mark met (rank_of s k)) q
 
-    pub step_not_higher : (met' : List ℕ) (ranked' highest' : ℕ) → rank_of s k < 256 → (mark_bit met (rank_of s k) ≡ 1 → ⊥) → is_unowned (superblock_at s k) ≡ false
-        → rank_of s k ≤ highest → met' ≡ noted_in_code met (rank_of s k) → ranked' ≡ ranked + 1 → highest' ≡ highest → RanksMet s met' ranked' highest' (k + 1)
+    pub step_not_higher : (met' : List ℕ) (ranked' highest' : ℕ) → rank_of s k < 256 → (mark_bit met (rank_of s k) ≡ 1 → ⊥)
+        → is_unowned (superblock_at s k) ≡ false → rank_of s k ≤ highest → met' ≡ noted_in_code met (rank_of s k) → ranked' ≡ ranked + 1
+        → highest' ≡ highest → RanksMet s met' ranked' highest' (k + 1)
     step_not_higher met' ranked' highest' fits new u h p q r = step_ranked met' ranked' highest' fits new u (inr (h, r))
         (p ∙ noted_in_code_is_with_mark met (rank_of s k)) q
 

@@ -3,7 +3,7 @@
 
 ghost use Rattle.std.specs.Prelude.{◌≡◌, ◌++◌};
 ghost use Rattle.text_rules.specs.Text.{letters, pasted};
-ghost use Rattle.line_rules.specs.Lines.{result};
+ghost use Rattle.line_rules.specs.Lines.{result as result_text};
 
 use call_rules::Outcome;
 use line_fields::{put_byte, put_field};
@@ -12,7 +12,7 @@ use text_writer::put_text;
 
 // The address given, the moves or the refusal, without the end of the line.
 fn put_result(out: &mut [u8], at: usize, outcome: Outcome) -> usize
-    ensures* { λ r. ⌜ record { end = r; buffer = out.new } ≡ pasted out.old at (result outcome) ⌝ }
+    ensures { record { end = result; buffer = out.new } ≡ pasted out.old at (result_text outcome) }
 {
     match outcome {
         Outcome::Ready => put_nothing(out, at),
@@ -24,7 +24,7 @@ fn put_result(out: &mut [u8], at: usize, outcome: Outcome) -> usize
 
 // The address given, the moves or the refusal, and the end of the line.
 pub fn put_result_end(out: &mut [u8], at: usize, outcome: Outcome) -> usize
-    ensures* { λ r. ⌜ record { end = r; buffer = out.new } ≡ pasted out.old at (result outcome ++ letters "\n") ⌝ }
+    ensures { record { end = result; buffer = out.new } ≡ pasted out.old at (result_text outcome ++ letters "\n") }
 {
     let end = put_result(out, at, outcome);
     put_text(out, end, b"\n")

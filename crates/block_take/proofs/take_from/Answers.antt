@@ -3,4 +3,4 @@ use Rattle.block_take.proofs.TakeFromLaws.{taken_from_by_steps, taken_from_numbe
 use Rattle.block_take.proofs.take_from.Goals as goal
 
 pub returns : goal.returns
-returns c = (search taken_from_by_steps, search taken_from_number_and_values)
+returns c = record { order_value = search taken_from_by_steps; number_and_values = search taken_from_number_and_values }

@@ -1,7 +1,6 @@
 use mathlib.Core.Path.{◌≡◌, sym, ◌∙◌}
 use mathlib.Core.Bool.{false}
-use mathlib.Core.Logic.{⊎_elim}
-use Prim.Native.Nat.{◌-◌, ◌≤◌, ◌<◌}
+use Prim.Native.Nat.{◌≤◌, ◌<◌}
 use native.Mathlib.Omega.{arith}
 use Rattle.marks_rules.specs.Marks.{bit, mark_bit}
 use Rattle.heap_rules.specs.Table.{superblock_at}
@@ -9,7 +8,8 @@ use Rattle.check_rules.specs.Check.{is_unowned}
 use Rattle.check_ranks.proofs.RankScanLaws.{rank_of, not_unowned_of_owner, none_met, ranked_le, step_unranked, false_of_met_twice}
 use Rattle.check_ranks.proofs.RankScanLaws.{false_of_unowned, step_higher, step_not_higher, ranks_valid_of_highest}
 use Rattle.check_ranks.proofs.ranks_valid.Goals as goal
-use Rattle.check_ranks.proofs.ranks_valid.Goals.{then-x-gt0, else-x-gt0}
+use Rattle.check_ranks.proofs.ranks_valid.Goals.{then-x-gt0+else-word-i-eq1+else-highest-x, then-x-gt0+else-word-i-eq1+then-highest-x, else-x-gt0}
+use Rattle.check_ranks.proofs.ranks_valid.Goals.{then-b-ge-RUN_OWNER+else-is_unowned, else-b-ge-RUN_OWNER}
 
 pub loop-k-init : goal.loop-k-init
 loop-k-init c = (omega arith, none_met _)
@@ -38,18 +38,23 @@ loop-k-preserved c =
     let s = c.args.s in
     let fits : rank_of s l.k < 256 = omega arith in (
       omega arith,
-      ⊎_elim
-          (λ w.
-          let u : is_unowned (superblock_at s l.k) ≡ false =
-          ⊎_elim (λ v. sym v.1.ensures ∙ v.2.left) (λ v. not_unowned_of_owner (superblock_at s l.k) v.left) w.3.came in
-          step_higher s l.met l.ranked l.highest l.k l.invariant.1 low (omega arith) _ _ _ fits w.1.left u w.4.taken w.5 w.6 w.7)
-          (⊎_elim
-          (λ w.
-          let u : is_unowned (superblock_at s l.k) ≡ false =
-          ⊎_elim (λ v. sym v.1.ensures ∙ v.2.left) (λ v. not_unowned_of_owner (superblock_at s l.k) v.left) w.3.came in
-          step_not_higher s l.met l.ranked l.highest l.k l.invariant.1 low (omega arith) _ _ _ fits w.1.left u w.4.left w.5 w.6 w.7)
-          (λ w. let none : rank_of s l.k ≤ 0 = omega arith in search step_unranked))
-          c.if-x-gt0.branch,
+      elim c.if-x-gt0.branch [
+        | then-x-gt0+else-word-i-eq1+then-highest-x w ↦ (let u : is_unowned (superblock_at s l.k) ≡ false =
+            elim w.if-b-ge-RUN_OWNER.branch [
+              | then-b-ge-RUN_OWNER+else-is_unowned v ↦ sym v.is_unowned.ensures ∙ v.if-is_unowned.false
+              | else-b-ge-RUN_OWNER v ↦ not_unowned_of_owner (superblock_at s l.k) v.if-b-ge-RUN_OWNER.false
+            ] in
+            step_higher s l.met l.ranked l.highest l.k l.invariant.1 low w.if-x-gt0.true _ _ _ fits
+            w.if-word-i-eq1.false u w.if-highest-x.true w.met-is w.ranked-is w.highest-is)
+        | then-x-gt0+else-word-i-eq1+else-highest-x w ↦ (let u : is_unowned (superblock_at s l.k) ≡ false =
+            elim w.if-b-ge-RUN_OWNER.branch [
+              | then-b-ge-RUN_OWNER+else-is_unowned v ↦ sym v.is_unowned.ensures ∙ v.if-is_unowned.false
+              | else-b-ge-RUN_OWNER v ↦ not_unowned_of_owner (superblock_at s l.k) v.if-b-ge-RUN_OWNER.false
+            ] in
+            step_not_higher s l.met l.ranked l.highest l.k l.invariant.1 low w.if-x-gt0.true _ _ _ fits
+            w.if-word-i-eq1.false u w.if-highest-x.false w.met-is w.ranked-is w.highest-is)
+        | else-x-gt0 w ↦ (let none : rank_of s l.k ≤ 0 = omega arith in search step_unranked)
+      ],
     )
 
 pub returns : goal.returns

@@ -1,10 +1,12 @@
--- `program_stream::input_of` meets its contract: an answer that is not negative is a count, another a failure. Assumes nothing.
-use Rattle.program_stream.proofs.InputLaws.{input_of_nonnegative_answer, input_of_negative_answer}
-use borrow.Author.Rules.{rules}
+-- `program_stream::input_of` meets its contract: a count is held to the buffer, an error is a failure. Assumes nothing.
+use Rattle.std.proofs.Common.{rules}
+use Rattle.program_stream.specs.Stream.{input_of}
 use Rattle.program_stream.proofs.input_of.Goals as goal
 
-pub returns-then-got-ge0 : goal.returns-then-got-ge0
-returns-then-got-ge0 c = search (rules, input_of_nonnegative_answer)
+pub returns-in-Ok-clause-value : goal.returns-in-Ok-clause-value
+unfolding input_of
+returns-in-Ok-clause-value c = search rules
 
-pub returns : goal.returns
-returns c = search (rules, input_of_negative_answer)
+pub returns-in-Err-clause-value : goal.returns-in-Err-clause-value
+unfolding input_of
+returns-in-Err-clause-value c = search rules

@@ -1,10 +1,10 @@
-use Prim.Native.Nat.{◌-◌}
-use native.Mathlib.Omega.{arith}
-use Rattle.program_stream.proofs.InputLaws.{count_is_length_of_take}
+-- A further write keeps what the loop knows. Assumes nothing.
+use Rattle.std.proofs.Common.{rules}
+use Rattle.program_stream.proofs.StreamLaws.{appended_behind}
 use Rattle.program_stream.proofs.write_whole.Goals as goal
 
-pub returns-after-loop-taken : goal.returns-after-loop-taken
-returns-after-loop-taken c = (omega arith, count_is_length_of_take _ _ (omega arith))
-
-pub returns-then-put-eq0 : goal.returns-then-put-eq0
-returns-then-put-eq0 c = (omega arith, count_is_length_of_take _ _ (omega arith))
+pub loop-taken-preserved : goal.loop-taken-preserved
+loop-taken-preserved g c = record {
+  in_bytes = search rules;
+  written = appended_behind _ _ _ _ _ _ c.loop-taken.invariant.written c.write_some-put.ensures.bytes;
+}
