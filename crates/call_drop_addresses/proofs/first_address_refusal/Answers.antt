@@ -30,7 +30,8 @@ loop-i-preserved c =
     (
       omega arith,
       elim c.if-b.branch [ then-b w ↦ none_refused_past_run _ _ _ _ c.loop-i.invariant.1 c.loop-i-test.true _ c.refusal_in-bad.ensures
-          c.if-bad-ne0.false (omega arith) w.0.taken _ _ w.1.ensures w.2 | else-b w ↦ none_refused_past_block _ _ _ _ c.loop-i.invariant.1 c.loop-i-test.true _ c.refusal_in-bad.ensures
+          c.if-bad-ne0.false (omega arith) w.0.taken _ _ w.1.ensures w.2 | else-b w ↦ none_refused_past_block _ _ _ _ c.loop-i.invariant.1 c.loop-i-test.true _
+              c.refusal_in-bad.ensures
           c.if-bad-ne0.false (omega arith) w.0.left _ _ w.1.ensures w.2 ],
     )
 

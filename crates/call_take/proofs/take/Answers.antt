@@ -33,4 +33,5 @@ pub returns-in-At : goal.returns-in-At
 returns-in-At c = let t = take_unchecked_clauses _ _ _ _ (search (take_outcomes, taken_at_own_rules)) in record { order_after = t.0; number_and_values = t.1 }
 
 pub returns-in-Nothing : goal.returns-in-Nothing
-returns-in-Nothing c = let t = take_unchecked_clauses _ _ _ _ (search (take_outcomes, taken_at_own_rules)) in record { order_after = t.0; number_and_values = t.1 }
+returns-in-Nothing c = let t = take_unchecked_clauses _ _ _ _ (search (take_outcomes, taken_at_own_rules)) in
+    record { order_after = t.0; number_and_values = t.1 }
