@@ -22,17 +22,15 @@ without_run-t-requires c =
     c.if-bad-ne0.false (omega arith)
 
 pub loop-i-preserved : goal.loop-i-preserved
-loop-i-preserved c =
-    let none = c.loop-i.invariant.1 in
-    let here = c.loop-i-test.true in
-    let tested = c.refusal_in-bad.ensures in
-    let good = c.if-bad-ne0.false in (
-      omega arith,
-      elim c.if-b.branch [
-        | then-b w ↦ none_refused_past_run _ _ _ _ none here _ tested good (omega arith) w.if-b.true _ _ w.without_run-t.ensures w.t-is
-        | else-b w ↦ none_refused_past_block _ _ _ _ none here _ tested good (omega arith) w.if-b.false _ _ w.without_mark.ensures w.t-is
-      ],
-    )
+loop-i-preserved c = (
+  omega arith,
+  elim c.if-b.branch [
+    | then-b w ↦ none_refused_past_run _ _ _ _ c.loop-i.invariant.1 c.loop-i-test.true _ c.refusal_in-bad.ensures
+        c.if-bad-ne0.false (omega arith) w.if-b.true _ _ w.without_run-t.ensures w.t-is
+    | else-b w ↦ none_refused_past_block _ _ _ _ c.loop-i.invariant.1 c.loop-i-test.true _ c.refusal_in-bad.ensures
+        c.if-bad-ne0.false (omega arith) w.if-b.false _ _ w.without_mark.ensures w.t-is
+  ],
+)
 
 pub returns : goal.returns
 returns c = search none_refused_at_end
