@@ -1,5 +1,4 @@
 use mathlib.Core.Path.{refl, ◌∙◌}
-use Prim.Native.Nat.{◌-◌}
 use native.Mathlib.Omega.{arith}
 use Rattle.text_rules.proofs.PasteLaws.{paste_then_paste, paste_nothing_after}
 use Rattle.line_runs.proofs.RunLinesLaws.{run_lines_start, run_lines_step, run_lines_end}
@@ -12,7 +11,7 @@ pub loop-k-preserved : goal.loop-k-preserved
 loop-k-preserved c =
     let k = c.run_line_if-end in
     let l = c.loop-k in
-    (omega arith, run_lines_step _ _ _ _ l.invariant.1 k.ensures, k.auto.0 ∙ l.invariant.2)
+    (omega arith, run_lines_step _ _ _ _ l.invariant.1 k.ensures, k.auto.out ∙ l.invariant.2)
 
 pub returns : goal.returns
 returns c =
