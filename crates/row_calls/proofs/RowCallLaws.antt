@@ -93,7 +93,8 @@ module _ (n first : ℕ) (u : Setup) (table : List Superblock) (order : List ℕ
       → r ≡ answered_call a → row_after_call r after ≡ setup_on n u table order
   unfolding setup_on row_first_refusal setup_refusal setup_of
   answered_setup_is_setup_on z a after r g h =
-      ap (λ (x : TableCall). row_after_call x after) h ∙ ap as_row_after g ∙ go (within_limits u) (leb (u.superblocks * 256) (length order)) (eqb n 64) (sym z ∙ e)
+      ap (λ (x : TableCall). row_after_call x after) h ∙ ap as_row_after g
+          ∙ go (within_limits u) (leb (u.superblocks * 256) (length order)) (eqb n 64) (sym z ∙ e)
     where
       go : (a b c : Bool) → ◌≡◌ {A = ℕ} 0 (pick (eqb (pick a (pick b 0 12) 1) 0) (pick c 0 13) (pick a (pick b 0 12) 1))
           → as_row_after (pick a (pick b (accepted_setup u order) (refused 12 no_state order)) (refused 1 no_state order))

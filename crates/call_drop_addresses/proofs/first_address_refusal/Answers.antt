@@ -1,5 +1,4 @@
 use borrow.Author.Rules.{rules}
-use Prim.Native.Nat.{◌-◌}
 use native.Mathlib.Omega.{arith}
 use Rattle.base_laws.proofs.ReplacedElement.{length_of_length_map}
 use Rattle.call_drop_addresses.proofs.FirstAddressRefusalLaws.{none_refused_yet, past_table_refused, first_bad_refused}
@@ -10,9 +9,6 @@ use Rattle.call_drop_addresses.proofs.first_address_refusal.Goals.{then-b, else-
 
 pub loop-i-init : goal.loop-i-init
 loop-i-init c = (omega arith, search (none_refused_yet, length_of_length_map))
-
-pub overflow_cast-k : goal.overflow_cast-k
-overflow_cast-k c = omega (arith, c.shared_slice_known-in-loop-i-1.given c.loop-i.i)
 
 pub returns-then-k-ge-TABLE_LENGTH : goal.returns-then-k-ge-TABLE_LENGTH
 returns-then-k-ge-TABLE_LENGTH c = search (past_table_refused, rules)
@@ -26,13 +22,15 @@ without_run-t-requires c =
     c.if-bad-ne0.false (omega arith)
 
 pub loop-i-preserved : goal.loop-i-preserved
-loop-i-preserved c =
-    (
-      omega arith,
-      elim c.if-b.branch [ then-b w ↦ none_refused_past_run _ _ _ _ c.loop-i.invariant.1 c.loop-i-test.true _ c.refusal_in-bad.ensures
-          c.if-bad-ne0.false (omega arith) w.0.taken _ _ w.1.ensures w.2 | else-b w ↦ none_refused_past_block _ _ _ _ c.loop-i.invariant.1 c.loop-i-test.true _ c.refusal_in-bad.ensures
-          c.if-bad-ne0.false (omega arith) w.0.left _ _ w.1.ensures w.2 ],
-    )
+loop-i-preserved c = (
+  omega arith,
+  elim c.if-b.branch [
+    | then-b w ↦ none_refused_past_run _ _ _ _ c.loop-i.invariant.1 c.loop-i-test.true _ c.refusal_in-bad.ensures
+        c.if-bad-ne0.false (omega arith) w.if-b.true _ _ w.without_run-t.ensures w.t-is
+    | else-b w ↦ none_refused_past_block _ _ _ _ c.loop-i.invariant.1 c.loop-i-test.true _ c.refusal_in-bad.ensures
+        c.if-bad-ne0.false (omega arith) w.if-b.false _ _ w.without_mark.ensures w.t-is
+  ],
+)
 
 pub returns : goal.returns
 returns c = search none_refused_at_end

@@ -1,4 +1,3 @@
-use Prim.Native.Nat.{◌-◌}
 use native.Mathlib.Omega.{arith}
 use Rattle.call_drop_addresses.proofs.FirstAddressRefusalLaws.{none_left_yet, one_more_left, all_left}
 use Rattle.call_drop_addresses.proofs.without_run.Goals as goal

@@ -8,7 +8,7 @@ pub overflow_cast-k : goal.overflow_cast-k
 overflow_cast-k c = search (rules, length_of_length_map, other_places_lt_256)
 
 pub take_from_other-requires : goal.take_from_other-requires
-take_from_other-requires c = (search (length_of_length_map, other_places_lt_64), search rules)
+take_from_other-requires c = (search other_places_lt_64, search rules)
 
 pub returns-in-At : goal.returns-in-At
 returns-in-At c = search taken_at_other_rules
