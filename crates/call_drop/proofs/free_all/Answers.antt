@@ -1,5 +1,4 @@
 use mathlib.Core.Path.{refl}
-use Prim.Native.Nat.{◌-◌}
 use native.Mathlib.Omega.{arith}
 use Rattle.call_drop.proofs.FreesLaws.{no_frees_made, free_can_be_made, free_made, all_frees_made}
 use borrow.Author.Rules.{rules}

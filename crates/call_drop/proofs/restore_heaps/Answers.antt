@@ -1,4 +1,3 @@
-use Prim.Native.Nat.{◌-◌}
 use native.Mathlib.Omega.{arith}
 use Rattle.base_laws.proofs.ReplacedElement.{length_of_length_map}
 use Rattle.call_drop.proofs.RestoreLaws.{no_heap_restored, heap_restored, all_heaps_restored}

@@ -1,7 +1,7 @@
 use mathlib.Core.Path.{refl, sym, subst}
 use mathlib.Core.Bool.{Bool}
 use mathlib.Core.List.{List}
-use Prim.Native.Nat.{◌+◌, ◌-◌}
+use Prim.Native.Nat.{◌+◌}
 use native.Mathlib.Omega.{arith}
 use Rattle.call_drop.proofs.TouchedArrayLaws.{ToldBelow, none_told, pair_in_array, told_past_run, told_at_next, told_at_end}
 use Rattle.call_drop.proofs.touched_pairs.Goals as goal
@@ -33,13 +33,14 @@ bounds-touched-at c = pair_in_array _ _ _ c.requires
 pub loop-i-preserved : goal.loop-i-preserved
 loop-i-preserved c = (
   omega arith,
-  elim c.if-b-lt-HEAPS.branch [ then-b-lt-HEAPS w ↦ subst (λ (l : List Bool). ToldBelow l c.args.s
-      c.args.addresses.now (c.loop-i.i + 1)) (sym w.3)
-      (told_at_next _ _ _ c.requires c.loop-i-test.true _ _ refl refl
-      w.0.taken _ c.loop-i.invariant.1) | else-b-lt-HEAPS w ↦ subst (λ (l : List Bool). ToldBelow l c.args.s
-      c.args.addresses.now (c.loop-i.i + 1)) (sym w.1)
-      (told_past_run _ _ _ c.requires c.loop-i-test.true _ _ refl
-      refl w.0.left _ c.loop-i.invariant.1) ],
+  elim c.if-b-lt-HEAPS.branch [
+    | then-b-lt-HEAPS w ↦
+        subst (λ (l : List Bool). ToldBelow l c.args.s c.args.addresses.now (c.loop-i.i + 1)) (sym w.touched-is)
+        (told_at_next _ _ _ c.requires c.loop-i-test.true _ _ refl refl w.if-b-lt-HEAPS.true _ c.loop-i.invariant.1)
+    | else-b-lt-HEAPS w ↦
+        subst (λ (l : List Bool). ToldBelow l c.args.s c.args.addresses.now (c.loop-i.i + 1)) (sym w.touched-is)
+        (told_past_run _ _ _ c.requires c.loop-i-test.true _ _ refl refl w.if-b-lt-HEAPS.false _ c.loop-i.invariant.1)
+  ],
 )
 
 pub returns : goal.returns
