@@ -37,7 +37,7 @@ setup_on_other_length_ignores_row n u t row order f = go (within_limits u) (leb 
         → with_row (pick a (pick b (pick c (row_accepted_setup u order) (row_refused 13 (control_of no_state) t order))
         (row_refused 12 (control_of no_state) t order)) (row_refused 1 (control_of no_state) t order)) row
         ≡ pick a (pick b (pick c (row_accepted_setup u order) (row_refused 13 (control_of no_state) row order))
-            (row_refused 12 (control_of no_state) row order))
+        (row_refused 12 (control_of no_state) row order))
         (row_refused 1 (control_of no_state) row order)
     go true true true e = absurd (true_not_false true refl e)
     go true true false e = refl
