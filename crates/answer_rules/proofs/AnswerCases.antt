@@ -14,7 +14,8 @@ use Rattle.heap_rules.specs.Table.{unused}
 use Rattle.heap_rules.specs.Totals.{no_totals}
 use Rattle.call_rules.specs.declared.Outcome.TheVariants.{Ready, Address, Moves, Refused}
 use Rattle.answer_rules.specs.AnswerLines.{wide_decimal, texts_below, outcome_line, superblock_line, superblock_line_if, superblock_lines, name_line}
-use Rattle.answer_rules.specs.AnswerLines.{name_line_if, name_lines, total_line, total_line_if, total_lines, place_line, place_line_if, place_lines, answer_text}
+use Rattle.answer_rules.specs.AnswerLines.{name_line_if, name_lines, total_line, total_line_if, total_lines, place_line, place_line_if, place_lines}
+use Rattle.answer_rules.specs.AnswerLines.{answer_text}
 use Rattle.answer_rules.specs.AnswerLines.{bad_input_text, answer_room}
 use Rattle.answer_rules.proofs.AnswerDefinitions.{answer_definitions}
 

@@ -11,7 +11,8 @@ use Rattle.answer_rules.specs.AnswerLines.{superblock_lines, name_line, name_lin
 use Rattle.answer_rules.specs.AnswerLines.{place_line_if, place_lines, answer_text, bad_input_text}
 
 unfoldable pub answer_definitions : Unit {0}
-unfolding wide_decimal texts_below outcome_line is_as_new marks_fields superblock_line superblock_line_if superblock_lines name_line name_line_if name_lines total_line
+unfolding wide_decimal texts_below outcome_line is_as_new marks_fields superblock_line superblock_line_if superblock_lines name_line name_line_if name_lines
+    total_line
     total_line_if total_lines place_line place_line_if place_lines answer_text bad_input_text
     setup_line decimal digits block_named is_unused live_count mark_bit bit sum_below
 answer_definitions = tt

@@ -140,7 +140,8 @@ module _ (t u : State) (same : SameBlocks t u) (a : ℕ) where
 
 -- ---- the refusals at the addresses from i on
 module _ (u : State) (addresses : List ℕ) (i : ℕ) (l : i < length addresses) where
-  first_refusal_at_bad : (address_refusal u (get_or addresses i 0) ≡ 0 → ⊥) → first_address_refusal u (drop i addresses) ≡ address_refusal u (get_or addresses i 0)
+  first_refusal_at_bad : (address_refusal u (get_or addresses i 0) ≡ 0 → ⊥)
+      → first_address_refusal u (drop i addresses) ≡ address_refusal u (get_or addresses i 0)
   unfolding first_address_refusal
   first_refusal_at_bad n = rw (drop-cons addresses i 0 l, ne_eqb (address_refusal u (get_or addresses i 0)) 0 n)
 

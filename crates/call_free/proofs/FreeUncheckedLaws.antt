@@ -43,7 +43,8 @@ module _ (s : State) (order : List ℕ) (i n : ℕ) {r : Answer} {out : List ℕ
 
 -- ---- its ways out
 module _ (s : State) (order : List ℕ) (i a : ℕ) (t : Bool) (p : t ≡ is_processor s i) where
-  pub free_unchecked_refused_2 : (r : Answer) → t ≡ false → r ≡ record { outcome = Refused 2; state = s } → answer_and_order r order ≡ free_unchecked s order i a
+  pub free_unchecked_refused_2 : (r : Answer) → t ≡ false → r ≡ record { outcome = Refused 2; state = s }
+      → answer_and_order r order ≡ free_unchecked s order i a
   unfolding free_unchecked
   free_unchecked_refused_2 r f h = refused_of_answer s order 2 r h ∙ sym (rw (← p, f))
 

@@ -48,7 +48,8 @@ unfolding block_of
 block_of_offset_0 s a e = rw e (zero-div (size_of (superblock_holding s a).class))
 
 -- an address that is mapped, in a state that passes, lies in a superblock that a heap owns, or in a run
-module _ {Invariant : ℕ → ℕ → State → Type 0} (s : State) (order : List ℕ) (a : ℕ) (sound : SoundWith Invariant s order) (mapped : is_unmapped s a ≡ false) where
+module _ {Invariant : ℕ → ℕ → State → Type 0} (s : State) (order : List ℕ) (a : ℕ) (sound : SoundWith Invariant s order) (mapped : is_unmapped s a ≡ false)
+    where
   pub mapped_below_superblocks : superblock_index a < s.setup.superblocks
   unfolding is_unmapped
   mapped_below_superblocks =

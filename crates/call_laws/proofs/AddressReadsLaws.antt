@@ -77,7 +77,8 @@ is_unused_by_owner s order sound k l = go (sound.each k l)
     owned : ((superblock_at s k).owner ≡ unused_owner → ⊥) → is_unused (superblock_at s k) ≡ eqb (superblock_at s k).owner unused_owner
     owned f = not_unused_of_owner (superblock_at s k) f ∙ sym (ne_eqb (superblock_at s k).owner unused_owner f)
 
-    by_owner : Unowned (superblock_at s k) → ((superblock_at s k).owner ≡ unused_owner) ⊎ ((superblock_at s k).owner ≡ run_owner) → is_unused (superblock_at s k)
+    by_owner : Unowned (superblock_at s k) → ((superblock_at s k).owner ≡ unused_owner) ⊎ ((superblock_at s k).owner ≡ run_owner)
+        → is_unused (superblock_at s k)
         ≡ eqb (superblock_at s k).owner unused_owner
     by_owner u (inl e) = true_of_T _ (is_unused_of_facts (superblock_at s k) (unused_of_unowned (superblock_at s k) u e))
         ∙ sym (eq-eqb (superblock_at s k).owner unused_owner e)
@@ -163,7 +164,8 @@ module _ {I J : ℕ → ℕ → State → Type 0} (s t : State) (order places : 
     unfolding is_live_at is_marked starts_run
     live_same l (on_block_of_class f e in_class) =
         let outside = outside_run_of_owner (superblock_holding s a) f in
-        rw (live_blocks_outside_run (superblock_holding t a) ((reads l).of_run ∙ outside), live_blocks_outside_run (superblock_holding s a) outside, block_same l)
+        rw (live_blocks_outside_run (superblock_holding t a) ((reads l).of_run ∙ outside), live_blocks_outside_run (superblock_holding s a) outside,
+            block_same l)
         (ap (λ (m : ℕ). eqb m 1) (marks (omega (arith, blocks_of_le_256 (superblock_holding s a).class))))
     live_same l (on_run_start home first offset) =
         let starts : starts_run (superblock_holding s a) ≡ true =

@@ -36,7 +36,8 @@ use Rattle.heap_laws.proofs.RerankedLaws.{reranked_superblocks_of_class, reranke
 use Rattle.heap_laws.proofs.RerankedLaws.{reranked_shape, reranked_sound_after_frees, reranked_names_valid}
 use Rattle.heap_laws.proofs.RunsKeptLaws.{runs_valid_of_kept, reranked_runs_valid, live_blocks_outside_run}
 use Rattle.call_rules.specs.Take.{address_of}
-use Rattle.call_rules.specs.Free.{superblock_index, offset_of, superblock_holding, block_of, is_in_run, is_off_block, is_misaligned, is_live_at, address_refusal}
+use Rattle.call_rules.specs.Free.{superblock_index, offset_of, superblock_holding, block_of, is_in_run, is_off_block, is_misaligned, is_live_at}
+use Rattle.call_rules.specs.Free.{address_refusal}
 use Rattle.call_rules.specs.Free.{mark_cleared, block_pushed, block_number_at, small_block_freed}
 use Rattle.call_rules.proofs.AddressRefusalLaws.{mapped_of_no_refusal, aligned_of_no_refusal, live_of_no_refusal}
 use Rattle.call_laws.proofs.CallEffects.{PassedAfterFrees, FreeEffect, RankedLatest}

@@ -27,7 +27,8 @@ use Rattle.heap_laws.proofs.RunLaws.{Outside, side_of_range, outside_not_inside}
 use Rattle.heap_laws.proofs.RunsKeptLaws.{owner_of_run}
 use Rattle.call_rules.specs.declared.Outcome.TheVariants.{Moves}
 use Rattle.call_rules.specs.Answers.{After, number_of, refused, checked, is_processor}
-use Rattle.call_rules.specs.Free.{superblock_index, superblock_holding, block_of, is_in_run, address_refusal, order_pushed, block_freed, small_freed_at, long_freed_at}
+use Rattle.call_rules.specs.Free.{superblock_index, superblock_holding, block_of, is_in_run, address_refusal, order_pushed, block_freed, small_freed_at}
+use Rattle.call_rules.specs.Free.{long_freed_at}
 use Rattle.call_rules.specs.Free.{freed_at, free_unchecked, free_of}
 use Rattle.call_rules.specs.DropLoops.{classes_restored, heaps_restored}
 use Rattle.call_rules.proofs.TouchedPairLaws.{drop_moves_by_heaps}
@@ -259,7 +260,8 @@ module _ (k n : ℕ) (s t s' t' : State) (f : LongFreeEffect k n s s') (g : Long
 unfoldable pub one_by_one_refusal : State → List ℕ → ℕ → List ℕ → ℕ
 one_by_one_refusal s order i [] = 0
 one_by_one_refusal s order i (a ∷ addresses) =
-    pick (eqb (number_of (free_of s order i a).answer.outcome) 0) (one_by_one_refusal (free_of s order i a).answer.state (free_of s order i a).order i addresses)
+    pick (eqb (number_of (free_of s order i a).answer.outcome) 0)
+        (one_by_one_refusal (free_of s order i a).answer.state (free_of s order i a).order i addresses)
     (number_of (free_of s order i a).answer.outcome)
 
 -- a free for a processor in range is accepted, or refused with the refusal of its address
@@ -396,7 +398,8 @@ one_by_one_beside : (i : ℕ) (freed : ℕ → ℕ → ℕ) (s : State) (order :
 unfolding one_by_one_refusal first_address_refusal number_of
 one_by_one_beside i freed s order t places [] b = refl
 one_by_one_beside i freed s order t places (a ∷ addresses) b =
-    go (ℕ_discrete (address_refusal s a) 0) (λ e. one_by_one_beside i (one_more_freed (superblock_holding t a).owner (superblock_holding t a).class freed) (free_of s order i a).answer.state (free_of s order i a).order (block_freed t a)
+    go (ℕ_discrete (address_refusal s a) 0) (λ e. one_by_one_beside i (one_more_freed (superblock_holding t a).owner (superblock_holding t a).class freed)
+        (free_of s order i a).answer.state (free_of s order i a).order (block_freed t a)
     (order_pushed t places a) addresses (next i freed s order t places b a e))
   where
     x : After

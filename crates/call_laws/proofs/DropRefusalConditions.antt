@@ -170,7 +170,8 @@ unfolding first_address_refusal
 first_refusal_at s a addresses f = pick_false (eqb (address_refusal s a) 0) _ _ (ne_eqb (address_refusal s a) 0 f)
 
 -- addresses that meet no refusal, and then others
-pub first_refusal_of_append : (s : State) (x y : List ℕ) → first_address_refusal s x ≡ 0 → first_address_refusal s (x ++ y) ≡ first_address_refusal (all_freed s x) y
+pub first_refusal_of_append : (s : State) (x y : List ℕ) → first_address_refusal s x ≡ 0
+    → first_address_refusal s (x ++ y) ≡ first_address_refusal (all_freed s x) y
 unfolding all_freed
 first_refusal_of_append s [] y ok = refl
 first_refusal_of_append s (a ∷ x) y ok =
@@ -281,7 +282,8 @@ module _ (s : State) (order : List ℕ) (i : ℕ) (addresses : List ℕ) where
       (λ t a. (address_refusal_iff_condition t a r).0)
       ((first_refusal_is_of_first_bad_address s addresses r some).0 e)
 
-  refusal_by_condition : (r : ℕ) → (r ≡ 0 → ⊥) → FirstBadAddress (λ t a. ConditionOf (address_refusals t a) r) s addresses → first_address_refusal s addresses ≡ r
+  refusal_by_condition : (r : ℕ) → (r ≡ 0 → ⊥) → FirstBadAddress (λ t a. ConditionOf (address_refusals t a) r) s addresses
+      → first_address_refusal s addresses ≡ r
   refusal_by_condition r some h =
       (first_refusal_is_of_first_bad_address s addresses r some).1
       (first_bad_address_map (λ t a. ConditionOf (address_refusals t a) r) (λ t a. address_refusal t a ≡ r) s addresses

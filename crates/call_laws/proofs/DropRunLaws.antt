@@ -21,7 +21,8 @@ use Rattle.heap_laws.proofs.ChoiceLaws.{MoreRecent}
 use Rattle.heap_laws.proofs.RankLaws.{rank_after_free_behind}
 use Rattle.heap_laws.proofs.RunLaws.{Outside, side_of_range, outside_not_inside, runs_sound_of_valid, run_of_superblock, runs_apart, run_at_of_same}
 use Rattle.heap_laws.proofs.RunsKeptLaws.{owner_of_run, of_run_of_owner}
-use Rattle.call_rules.specs.Free.{superblock_index, superblock_holding, is_in_run, address_refusal, order_pushed, small_block_freed, long_block_freed, block_freed}
+use Rattle.call_rules.specs.Free.{superblock_index, superblock_holding, is_in_run, address_refusal, order_pushed, small_block_freed, long_block_freed}
+use Rattle.call_rules.specs.Free.{block_freed}
 use Rattle.call_rules.specs.Drop.{all_freed, first_address_refusal, is_touched, drop_moves, drop_of}
 use Rattle.call_laws.proofs.CallEffects.{PassedAfterFrees, LongFreeEffect}
 use Rattle.call_laws.proofs.TransferredLaws.{passed_after_no_frees}
@@ -132,7 +133,8 @@ frees_keep_unused m l freed s order [] shape passed ok is = is
 frees_keep_unused m l freed s order (b ∷ x) shape passed ok is =
     let first = first_refusal_of_cons s b x ok in
     let here = address_freed freed s order b shape passed first.0 in
-    frees_keep_unused m l (one_more_freed (superblock_holding s b).owner (superblock_holding s b).class freed) (block_freed s b) (order_pushed s order b) x here.shape here.passed first.1
+    frees_keep_unused m l (one_more_freed (superblock_holding s b).owner (superblock_holding s b).class freed) (block_freed s b) (order_pushed s order b) x
+        here.shape here.passed first.1
     (unused_is_kept freed s order b shape passed first.0 m l is)
 
 -- superblock m of a run is unused where the run is listed, and else as it was
@@ -145,7 +147,8 @@ module _ (k n m : ℕ) (inside : InRun k n m) where
   unfolding all_freed
   frees_of_run freed s order [] shape passed ok run = (λ listed. absurd (Memᴰ.not-nil listed), λ none. refl)
   frees_of_run freed s order (b ∷ x) shape passed ok run =
-      go (ℕ_discrete b (k * 4096)) (frees_of_run (one_more_freed (superblock_holding s b).owner (superblock_holding s b).class freed) (block_freed s b) (order_pushed s order b) x here.shape here.passed first.1)
+      go (ℕ_discrete b (k * 4096)) (frees_of_run (one_more_freed (superblock_holding s b).owner (superblock_holding s b).class freed) (block_freed s b)
+          (order_pushed s order b) x here.shape here.passed first.1)
     where
       first : (address_refusal s b ≡ 0) × (first_address_refusal (block_freed s b) x ≡ 0)
       first = first_refusal_of_cons s b x ok
@@ -156,7 +159,8 @@ module _ (k n m : ℕ) (inside : InRun k n m) where
       -- the run is freed now, and what is unused stays so ..
       freed_now : b ≡ k * 4096 → superblock_at (all_freed (block_freed s b) x) m ≡ unused
       freed_now e =
-          frees_keep_unused m (omega (arith, inside.1, run.in_table)) (one_more_freed (superblock_holding s b).owner (superblock_holding s b).class freed) (block_freed s b) _ x here.shape here.passed first.1
+          frees_keep_unused m (omega (arith, inside.1, run.in_table)) (one_more_freed (superblock_holding s b).owner (superblock_holding s b).class freed)
+              (block_freed s b) _ x here.shape here.passed first.1
           (freed_run_is_unused freed s order b shape passed first.0 k n m run e inside)
 
       -- .. or it is kept

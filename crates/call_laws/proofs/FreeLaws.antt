@@ -23,7 +23,8 @@ use Rattle.heap_laws.proofs.PassedBetweenHeapsLaws.{passed_between_heaps_is_owne
 use Rattle.call_rules.specs.declared.Outcome.TheVariants.{Moves}
 use Rattle.call_rules.specs.Answers.{After, refused, is_processor}
 use Rattle.call_rules.specs.Take.{address_of}
-use Rattle.call_rules.specs.Free.{superblock_index, superblock_holding, block_of, is_unmapped, is_in_run, is_misaligned, is_live_at, address_refusal, block_pushed}
+use Rattle.call_rules.specs.Free.{superblock_index, superblock_holding, block_of, is_unmapped, is_in_run, is_misaligned, is_live_at, address_refusal}
+use Rattle.call_rules.specs.Free.{block_pushed}
 use Rattle.call_rules.specs.Free.{small_block_freed, long_block_freed, small_freed_at, long_freed_at, freed_at, free_unchecked, free_of}
 use Rattle.call_rules.proofs.AddressRefusalLaws.{no_refusal_of_live_block}
 use Rattle.call_laws.proofs.CheckedLaws.{checked_refused_or_passed, bounds_of_is_processor}

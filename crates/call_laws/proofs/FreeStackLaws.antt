@@ -44,7 +44,8 @@ use Rattle.heap_laws.proofs.CountLaws.{superblock_at_replaced, superblock_at_oth
 use Rattle.call_rules.specs.declared.Outcome.TheVariants.{Address}
 use Rattle.call_rules.specs.Answers.{After, refused}
 use Rattle.call_rules.specs.Take.{other_places, renewed_for, acquired, acquired_order, unranked_if_empty, address_of, taken_from, taken_from_other, take_of}
-use Rattle.call_rules.specs.Free.{superblock_index, offset_of, superblock_holding, block_of, is_in_run, address_refusal, mark_cleared, block_pushed, order_pushed}
+use Rattle.call_rules.specs.Free.{superblock_index, offset_of, superblock_holding, block_of, is_in_run, address_refusal, mark_cleared, block_pushed}
+use Rattle.call_rules.specs.Free.{order_pushed}
 use Rattle.call_rules.specs.Free.{small_block_freed, long_block_freed, block_freed, small_freed_at, long_freed_at, free_of}
 use Rattle.call_rules.proofs.TouchedPairLaws.{drop_moves_by_heaps}
 use Rattle.call_rules.specs.Drop.{all_freed, all_pushed, first_address_refusal, is_touched, then_restored, drop_moves, dropped_all, drop_of}
@@ -299,7 +300,8 @@ module _ (s : State) (order : List ℕ) (i a : ℕ) (shape : Shape s) (acc : Fre
       (no_refusal_of_accepted_address s order i a acc.address) acc.outside_run
 
   -- the stacks after the free, by the state before the moves
-  stack_after : (m : ℕ) → stack_of (free_of s order i a).answer.state (free_of s order i a).order m ≡ stack_of (small_block_freed s a) (block_pushed s order a) m
+  stack_after : (m : ℕ) → stack_of (free_of s order i a).answer.state (free_of s order i a).order m
+      ≡ stack_of (small_block_freed s a) (block_pushed s order a) m
   unfolding small_freed_at
   stack_after m =
       ap (λ (x : After). stack_of x.answer.state x.order m) acc.result_is
@@ -404,7 +406,8 @@ all_freed_push freed s t order [] since shape passed ok k = refl
 all_freed_push freed s t order (a ∷ addresses) since shape passed ok k =
     let accepted = first_refusal_of_cons t a addresses ok in
     let here = address_freed freed t order a shape passed accepted.0 in
-    all_freed_push (one_more_freed (superblock_holding t a).owner (superblock_holding t a).class freed) s (block_freed t a) (order_pushed t order a) addresses (freed_since_then freed s t order a since shape passed accepted.0)
+    all_freed_push (one_more_freed (superblock_holding t a).owner (superblock_holding t a).class freed) s (block_freed t a) (order_pushed t order a) addresses
+        (freed_since_then freed s t order a since shape passed accepted.0)
     here.shape here.passed accepted.1 k
     ∙ ap (dropped_onto s k addresses)
     (block_freed_by_test freed t order a shape passed accepted.0 k
@@ -810,7 +813,8 @@ dropped_address freed s t order a [] later since shape passed ok small =
 dropped_address freed s t order a (b ∷ earlier) later since shape passed ok small =
     let accepted = first_refusal_of_cons t b (earlier ++ (a ∷ later)) ok in
     let here = address_freed freed t order b shape passed accepted.0 in
-    dropped_address (one_more_freed (superblock_holding t b).owner (superblock_holding t b).class freed) s (block_freed t b) (order_pushed t order b) a earlier later (freed_since_then freed s t order b since shape passed accepted.0)
+    dropped_address (one_more_freed (superblock_holding t b).owner (superblock_holding t b).class freed) s (block_freed t b) (order_pushed t order b) a earlier
+        later (freed_since_then freed s t order b since shape passed accepted.0)
     here.shape here.passed accepted.1 small
 
 -- After an accepted drop, and any calls that neither are answered from a superblock nor take it into a run nor free into it, a take that is answered from that

@@ -17,7 +17,8 @@ use Rattle.heap_rules.specs.declared.Setup.{Setup}
 use Rattle.heap_rules.specs.declared.State.{State}
 use Rattle.heap_rules.specs.Table.{run_owner, superblock_at, live_in}
 use Rattle.heap_rules.specs.States.{with_superblock}
-use Rattle.heap_rules.specs.Counts.{total, belongs, is_owned_of_class, one_if_belongs, live_if_belongs, superblocks_of, blocks_in, live_of, superblocks_of_class}
+use Rattle.heap_rules.specs.Counts.{total, belongs, is_owned_of_class, one_if_belongs, live_if_belongs, superblocks_of, blocks_in, live_of}
+use Rattle.heap_rules.specs.Counts.{superblocks_of_class}
 use Rattle.heap_rules.specs.Counts.{live_of_class}
 use Rattle.heap_rules.specs.Ranks.{is_ranked}
 use Rattle.move_rules.specs.Moves.{both_conditions, must_move}
@@ -62,7 +63,8 @@ module _ (s : State) (k : ℕ) (b : Superblock) (becomes : BecomesUnowned s k b)
   owner_after = ⊎_elim (λ e. omega arith) (λ e. omega arith) becomes.unowned.owner
 
   -- what holds of b and of each other superblock holds of each
-  each_after : (P : ℕ → Superblock → Type 0) → P k b → ((m : ℕ) → m < 64 → (m ≡ k → ⊥) → P m (superblock_at s m)) → (m : ℕ) → m < 64 → P m (superblock_at after m)
+  each_after : (P : ℕ → Superblock → Type 0) → P k b → ((m : ℕ) → m < 64 → (m ≡ k → ⊥) → P m (superblock_at s m)) → (m : ℕ) → m < 64
+      → P m (superblock_at after m)
   each_after P this other m l = go (ℕ_discrete m k)
     where
       go : Dec (m ≡ k) → P m (superblock_at after m)

@@ -23,7 +23,8 @@ use Rattle.heap_rules.specs.declared.Superblock.{Superblock}
 use Rattle.heap_rules.specs.declared.State.{State}
 use Rattle.heap_rules.specs.Table.{run_owner, blank, superblock_at, live_in, is_of_run, is_of_heap, without_mark_at}
 use Rattle.heap_rules.specs.States.{with_superblock}
-use Rattle.heap_rules.specs.Counts.{total, belongs, is_owned_of_class, one_if_belongs, live_if_belongs, superblocks_of, blocks_in, live_of, superblocks_of_class}
+use Rattle.heap_rules.specs.Counts.{total, belongs, is_owned_of_class, one_if_belongs, live_if_belongs, superblocks_of, blocks_in, live_of}
+use Rattle.heap_rules.specs.Counts.{superblocks_of_class}
 use Rattle.heap_rules.specs.Counts.{live_of_class, owners_changed}
 use Rattle.heap_laws.proofs.StateFacts.{Shape, Unused, Unowned, Owned, Sparse, RunsKept, InvariantBeforeFrees, SoundAfterFrees}
 use Rattle.heap_laws.proofs.CountLaws.{total_with_superblock, live_if_belongs_is_live_in, live_if_belongs_other_owner, live_if_belongs_other_class}

@@ -76,27 +76,31 @@ module _ (m : ℕ) where
     first_binds_none e = named_then _ (none_without_block s.names block m e)
 
   -- of all of them: a name whose block is not listed keeps it ..
-  frees_keep_other : (freed : ℕ → ℕ → ℕ) (s : State) (order addresses : List ℕ) → Shape s → PassedAfterFrees freed s order → first_address_refusal s addresses ≡ 0
+  frees_keep_other : (freed : ℕ → ℕ → ℕ) (s : State) (order addresses : List ℕ) → Shape s → PassedAfterFrees freed s order
+      → first_address_refusal s addresses ≡ 0
       → (ListsBlock s addresses (block_named s.names m) → ⊥) → block_named (all_freed s addresses).names m ≡ block_named s.names m
   unfolding all_freed
   frees_keep_other freed s order [] shape passed ok other = refl
   frees_keep_other freed s order (a ∷ addresses) shape passed ok other =
       let first = first_refusal_of_cons s a addresses ok in
       let kept = first_keeps_other freed s order a shape passed first.0 (λ e. other (inl e)) in
-      frees_keep_other (one_more_freed (superblock_holding s a).owner (superblock_holding s a).class freed) (block_freed s a) (order_pushed s order a) addresses (address_freed freed s order a shape passed first.0).shape
+      frees_keep_other (one_more_freed (superblock_holding s a).owner (superblock_holding s a).class freed) (block_freed s a) (order_pushed s order a) addresses
+          (address_freed freed s order a shape passed first.0).shape
       (address_freed freed s order a shape passed first.0).passed first.1
       (λ h. other (inr (subst (ListsBlock s addresses) kept
       (listed_same s (block_freed s a) (address_freed_block freed s order a shape passed first.0) addresses _ h))))
       ∙ kept
 
   -- .. one that is let go stays so ..
-  frees_bind_none : (freed : ℕ → ℕ → ℕ) (s : State) (order addresses : List ℕ) → Shape s → PassedAfterFrees freed s order → first_address_refusal s addresses ≡ 0
+  frees_bind_none : (freed : ℕ → ℕ → ℕ) (s : State) (order addresses : List ℕ) → Shape s → PassedAfterFrees freed s order
+      → first_address_refusal s addresses ≡ 0
       → block_named s.names m ≡ not_held → block_named (all_freed s addresses).names m ≡ not_held
   unfolding all_freed
   frees_bind_none freed s order [] shape passed ok e = e
   frees_bind_none freed s order (a ∷ addresses) shape passed ok e =
       let first = first_refusal_of_cons s a addresses ok in
-      frees_bind_none (one_more_freed (superblock_holding s a).owner (superblock_holding s a).class freed) (block_freed s a) (order_pushed s order a) addresses (address_freed freed s order a shape passed first.0).shape
+      frees_bind_none (one_more_freed (superblock_holding s a).owner (superblock_holding s a).class freed) (block_freed s a) (order_pushed s order a) addresses
+          (address_freed freed s order a shape passed first.0).shape
       (address_freed freed s order a shape passed first.0).passed first.1
       (first_binds_none freed s order a shape passed first.0 e)
 
@@ -107,7 +111,8 @@ module _ (m : ℕ) where
   frees_let_go freed s order [] shape passed ok h = absurd h
   frees_let_go freed s order (a ∷ addresses) shape passed ok h =
       go (ℕ_discrete (block_named s.names m) (block_number (superblock_index a) (block_of s a))) h
-      (frees_let_go (one_more_freed (superblock_holding s a).owner (superblock_holding s a).class freed) (block_freed s a) (order_pushed s order a) addresses shape_then passed_then first.1)
+      (frees_let_go (one_more_freed (superblock_holding s a).owner (superblock_holding s a).class freed) (block_freed s a) (order_pushed s order a) addresses
+          shape_then passed_then first.1)
     where
       first : (address_refusal s a ≡ 0) × (first_address_refusal (block_freed s a) addresses ≡ 0)
       first = first_refusal_of_cons s a addresses ok
@@ -115,15 +120,19 @@ module _ (m : ℕ) where
       shape_then : Shape (block_freed s a)
       shape_then = (address_freed freed s order a shape passed first.0).shape
 
-      passed_then : PassedAfterFrees (one_more_freed (superblock_holding s a).owner (superblock_holding s a).class freed) (block_freed s a) (order_pushed s order a)
+      passed_then : PassedAfterFrees (one_more_freed (superblock_holding s a).owner (superblock_holding s a).class freed) (block_freed s a)
+          (order_pushed s order a)
       passed_then = (address_freed freed s order a shape passed first.0).passed
 
-      by_first : block_named s.names m ≡ block_number (superblock_index a) (block_of s a) → block_named (all_freed (block_freed s a) addresses).names m ≡ not_held
-      by_first e = frees_bind_none (one_more_freed (superblock_holding s a).owner (superblock_holding s a).class freed) (block_freed s a) (order_pushed s order a) addresses shape_then passed_then first.1
+      by_first : block_named s.names m ≡ block_number (superblock_index a) (block_of s a)
+          → block_named (all_freed (block_freed s a) addresses).names m ≡ not_held
+      by_first e = frees_bind_none (one_more_freed (superblock_holding s a).owner (superblock_holding s a).class freed) (block_freed s a)
+          (order_pushed s order a) addresses shape_then passed_then first.1
           (first_lets_go freed s order a shape passed first.0 e)
 
       go : Dec (block_named s.names m ≡ block_number (superblock_index a) (block_of s a)) → ListsBlock s (a ∷ addresses) (block_named s.names m)
-          → (ListsBlock (block_freed s a) addresses (block_named (block_freed s a).names m) → block_named (all_freed (block_freed s a) addresses).names m ≡ not_held)
+          → (ListsBlock (block_freed s a) addresses (block_named (block_freed s a).names m)
+              → block_named (all_freed (block_freed s a) addresses).names m ≡ not_held)
           → block_named (all_freed (block_freed s a) addresses).names m ≡ not_held
       go (yes e) q rest = by_first e
       go (no f) (inl e) rest = by_first e

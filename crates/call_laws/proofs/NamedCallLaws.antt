@@ -36,7 +36,8 @@ use Rattle.call_rules.specs.Answers.{After, refused, is_processor}
 use Rattle.call_rules.specs.Take.{address_of, take_unchecked, take_of}
 use Rattle.call_rules.specs.Free.{superblock_index, offset_of, superblock_holding, block_of, is_unmapped, is_in_run, is_run_start, is_off_block, is_misaligned}
 use Rattle.call_rules.specs.Free.{is_live_at, block_number_at, small_freed_at, long_freed_at, freed_at, free_unchecked, free_of}
-use Rattle.call_rules.specs.Named.{is_unavailable, name_bound, bound_by, with_name_bound, named_take_unchecked, named_take_of, held_address, named_free_unchecked}
+use Rattle.call_rules.specs.Named.{is_unavailable, name_bound, bound_by, with_name_bound, named_take_unchecked, named_take_of, held_address}
+use Rattle.call_rules.specs.Named.{named_free_unchecked}
 use Rattle.call_rules.specs.Named.{named_free_of}
 use Rattle.heap_laws.proofs.RankLaws.{ranks_sound_of_same_ranks}
 use Rattle.call_laws.proofs.CallEffects.{Passed, TakeAccepted, LongTakeAccepted, FreeAccepted, LongFreeAccepted, NamedTakeAccepted}
@@ -384,10 +385,12 @@ module _ (s : State) (order : List ℕ) (shape : Shape s) (passed : Passed s ord
           first : Dec (j ≡ 0) → j ≡ 0
           first (yes z) = z
           first (no f) =
-              let mark : mark_bit (with_mark no_marks 0) j ≡ 1 = ap (λ (x : List ℕ). mark_bit x j) (sym (live_blocks_of_first (superblock_at s k) e)) ∙ live_mark in
+              let mark : mark_bit (with_mark no_marks 0) j ≡ 1 = ap (λ (x : List ℕ). mark_bit x j) (sym (live_blocks_of_first (superblock_at s k) e))
+                  ∙ live_mark in
               absurd (let z : ⊥ = omega (arith, with_mark_other no_marks 0 j f, mark_bit_of_no_marks j) in z)
       go false e =
-          let mark : mark_bit (superblock_at s k).live j ≡ 1 = ap (λ (x : List ℕ). mark_bit x j) (sym (live_blocks_not_first (superblock_at s k) e)) ∙ live_mark in
+          let mark : mark_bit (superblock_at s k).live j ≡ 1 = ap (λ (x : List ℕ). mark_bit x j) (sym (live_blocks_not_first (superblock_at s k) e))
+              ∙ live_mark in
           absurd (let z : ⊥ = omega (arith, unmarked_of_unowned no_heap) in z)
 
 -- ---- every live block can be freed by its address

@@ -82,12 +82,14 @@ module _ (s : State) (order : List ℕ) (i m : ℕ) where
   -- ---- a named take
   module _ (size : ℕ) where
     -- what refuses the plain take refuses the named one, where its name is free
-    condition_of_plain_refusal : NameAvailable s m → (r : ℕ) → ConditionOf (take_refusals s order i size) r → ConditionOf (named_take_refusals s order i m size) r
+    condition_of_plain_refusal : NameAvailable s m → (r : ℕ) → ConditionOf (take_refusals s order i size) r
+        → ConditionOf (named_take_refusals s order i m size) r
     condition_of_plain_refusal free =
         condition_by_number (ConditionOf (named_take_refusals s order i m size)) (take_refusals s order i size) (λ h. h) (λ h. h) (λ h. h) (λ h. (free, h))
         (λ h. (free, h)) (λ h. (free, h))
 
-    condition_of_named_take_refused : (r : ℕ) → (named_take_of s order i m size).answer.outcome ≡ Refused r → ConditionOf (named_take_refusals s order i m size) r
+    condition_of_named_take_refused : (r : ℕ) → (named_take_of s order i m size).answer.outcome ≡ Refused r
+        → ConditionOf (named_take_refusals s order i m size) r
     unfolding named_take_of named_take_unchecked with_name_bound
     condition_of_named_take_refused r = checked_refused s order i (named_take_unchecked s order i m size)
         (named_take_refusals s order i m size) r (λ h. h) (λ h. h)
@@ -172,7 +174,8 @@ module _ (s : State) (order : List ℕ) (i m : ℕ) where
     -- a named free is refused with number r exactly if r's condition holds: so never with 5, 6 or 7
     pub named_free_refused_iff_condition : (r : ℕ) → ((named_free_of s order i m).answer.outcome ≡ Refused r) ↔ ConditionOf (named_free_refusals s order i m) r
     unfolding named_free_of named_free_unchecked
-    named_free_refused_iff_condition = refused_iff_condition (named_free_of s order i m) s order (named_free_refusals s order i m) condition_of_named_free_refused
+    named_free_refused_iff_condition = refused_iff_condition (named_free_of s order i m) s order (named_free_refusals s order i m)
+        condition_of_named_free_refused
         (check_fails_refused_13 s order i _) (storage_short_refused_12 s order i _)
         (λ h. named_free_is_unchecked s order i m h.passed ∙ rw (false_of_decides (decides_processor s order i) h.out))
         (λ h. named_free_is_unchecked s order i m h.passed

@@ -76,7 +76,8 @@ last_filled_agrees n x y h k m l = go (leb 1 m) (leb m 256) refl
 taken_from_agrees : (n k : ℕ) (s : State) (x y : List ℕ) → SameFirst n x y → k * 256 + 256 ≤ n → Agree n (taken_from k s x) (taken_from k s y)
 unfolding taken_from next_block
 taken_from_agrees n k s x y h l = record {
-  answer = ap (λ (j : ℕ). record { outcome = Address (address_of k (superblock_at s k).class j); state = with_superblock s k (with_mark_at (superblock_at s k) j) })
+  answer = ap (λ (j : ℕ). record { outcome = Address (address_of k (superblock_at s k).class j); state =
+      with_superblock s k (with_mark_at (superblock_at s k) j) })
       (last_filled_agrees n x y h k (blocks_of (superblock_at s k).class - live_in (superblock_at s k)) l);
   order = h;
 }
@@ -108,7 +109,8 @@ pushed_agrees n s a x y h = go (is_in_run s a)
 all_pushed_agree : (n : ℕ) (s : State) (addresses x y : List ℕ) → SameFirst n x y → SameFirst n (all_pushed s x addresses) (all_pushed s y addresses)
 unfolding all_pushed
 all_pushed_agree n s [] x y h = h
-all_pushed_agree n s (a ∷ addresses) x y h = all_pushed_agree n (block_freed s a) addresses (order_pushed s x a) (order_pushed s y a) (pushed_agrees n s a x y h)
+all_pushed_agree n s (a ∷ addresses) x y h = all_pushed_agree n (block_freed s a) addresses (order_pushed s x a) (order_pushed s y a)
+    (pushed_agrees n s a x y h)
 
 module _ (s : State) (x y : List ℕ) (h : SameFirst (s.setup.superblocks * 256) x y) where
   abbrev n : ℕ

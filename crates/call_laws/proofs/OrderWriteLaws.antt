@@ -170,7 +170,8 @@ module _ (s : State) (order : List ℕ) (i size : ℕ) where
       by_place k acc (inl (f, e)) = inl (ap (λ (x : After). x.order) e)
       by_place k acc (inr (f, g, e)) = renewal k acc f g (eqb (live_in (superblock_at s k)) 0) refl (ap (λ (x : After). x.order) e)
 
-      go : ((r : ℕ) × (take_of s order i size ≡ refused r s order)) ⊎ (((k : ℕ) × TakeAccepted s order i size k) ⊎ ((k : ℕ) × LongTakeAccepted s order i size k))
+      go : ((r : ℕ) × (take_of s order i size ≡ refused r s order))
+          ⊎ (((k : ℕ) × TakeAccepted s order i size k) ⊎ ((k : ℕ) × LongTakeAccepted s order i size k))
           → ((take_of s order i size).order ≡ order) ⊎ ((k : ℕ) × Renewal s order i size k)
       go (inl (r, e)) = inl (ap (λ (x : After). x.order) e)
       go (inr (inl (k, acc))) = by_place k acc acc.place

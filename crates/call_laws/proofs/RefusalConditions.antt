@@ -39,7 +39,8 @@ use Rattle.call_rules.specs.Answers.{After, refused, checked, is_processor}
 use Rattle.call_rules.specs.Setup.{accepted_setup, setup_of}
 use Rattle.call_rules.specs.LongBlocks.{long_taken_from, long_taken_at}
 use Rattle.call_rules.specs.Take.{other_places, taken_from, taken_from_other, taken_at, take_unchecked, take_of}
-use Rattle.call_rules.specs.Free.{offset_of, superblock_holding, block_of, is_unmapped, is_in_run, is_run_start, is_off_block, is_misaligned, is_live_at, small_freed_at}
+use Rattle.call_rules.specs.Free.{offset_of, superblock_holding, block_of, is_unmapped, is_in_run, is_run_start, is_off_block, is_misaligned, is_live_at}
+use Rattle.call_rules.specs.Free.{small_freed_at}
 use Rattle.call_rules.specs.Free.{long_freed_at, freed_at, free_unchecked, free_of}
 use Rattle.call_laws.proofs.CallEffects.{Passed}
 use Rattle.call_laws.proofs.CheckedLaws.{checked_refuses_13_of_limits, checked_refuses_12_of_storage, checked_refuses_13_of_rest}
@@ -286,7 +287,8 @@ module _ (s : State) (order : List ℕ) (i : ℕ) where
     unfolding take_of take_unchecked taken_at taken_from_other taken_from long_taken_at long_taken_from
     condition_of_take_refused r = checked_refused (take_unchecked s order i size)
         (take_refusals s order i size) r (λ h. h) (λ h. h)
-        (go (is_processor s i) (is_too_large size) (is_long size) (lowest_run (run_length size) s) (fullest i (class_of size) s) (other_places (class_of size) s)
+        (go (is_processor s i) (is_too_large size) (is_long size) (lowest_run (run_length size) s) (fullest i (class_of size) s)
+            (other_places (class_of size) s)
         decides_processor (decides_too_large size) (decides_long size) refl refl refl)
       where
         go : (processor large long : Bool) (run own other : Found) → Decides processor (IsProcessor s i) ((i ≡ 0) ⊎ (s.setup.processors < i))
@@ -503,7 +505,8 @@ module _ (s : State) (order : List ℕ) (i : ℕ) where
         go h (on_block_of_class f q l) = f o
         go h (on_run_start p l q) =
             let first : block_of s a ≡ 0 = block_of_offset_0 s a q in
-            let starts : starts_run (superblock_holding s a) ≡ true = rw (of_run_of_owner (superblock_holding s a) o, lt-ltb 0 (superblock_holding s a).run l) in
+            let starts : starts_run (superblock_holding s a) ≡ true =
+                rw (of_run_of_owner (superblock_holding s a) o, lt-ltb 0 (superblock_holding s a).run l) in
             let marked : mark_bit (live_blocks (superblock_holding s a)) 0 ≡ 1 =
             ap (λ (x : List ℕ). mark_bit x 0) (live_blocks_of_first (superblock_holding s a) starts) ∙ with_mark_same no_marks 0 refl (omega arith) in
             omega (arith, h.clear, ap (mark_bit (live_blocks (superblock_holding s a))) first)

@@ -25,7 +25,8 @@ use Rattle.heap_rules.specs.declared.Setup.{Setup}
 use Rattle.heap_rules.specs.declared.Totals.{Totals}
 use Rattle.heap_rules.specs.declared.State.{State}
 use Rattle.heap_rules.specs.Table.{run_owner, unused_owner, blank, unused, superblock_at, live_in, is_of_run, starts_run, live_blocks, is_live_block}
-use Rattle.heap_rules.specs.Counts.{total, belongs, is_owned_of_class, one_if_belongs, live_if_belongs, superblocks_of, live_of, superblocks_of_class, live_of_class}
+use Rattle.heap_rules.specs.Counts.{total, belongs, is_owned_of_class, one_if_belongs, live_if_belongs, superblocks_of, live_of, superblocks_of_class}
+use Rattle.heap_rules.specs.Counts.{live_of_class}
 use Rattle.heap_rules.specs.Totals.{TotalsKept}
 use Rattle.check_rules.specs.Check.{names_valid, runs_valid}
 use Rattle.heap_laws.proofs.StateFacts.{Shape, WithinLimits, Unused, Unowned, Owned, Sparse, RanksSound, RunsSound, InvariantBeforeFrees, SoundAfterFrees}
@@ -37,7 +38,8 @@ use Rattle.heap_laws.proofs.RunLaws.{Outside, side_of_range, outside_not_inside,
 use Rattle.heap_laws.proofs.RunsKeptLaws.{owner_of_run, live_blocks_outside_run, live_blocks_of_first, live_blocks_not_first}
 use Rattle.heap_laws.proofs.PassedBetweenHeapsLaws.{none_passed_between_heaps}
 use Rattle.call_rules.specs.LongBlocks.{run_freed}
-use Rattle.call_rules.specs.Free.{superblock_index, offset_of, superblock_holding, block_of, is_in_run, is_run_start, is_misaligned, address_refusal, block_number_at}
+use Rattle.call_rules.specs.Free.{superblock_index, offset_of, superblock_holding, block_of, is_in_run, is_run_start, is_misaligned, address_refusal}
+use Rattle.call_rules.specs.Free.{block_number_at}
 use Rattle.call_rules.specs.Free.{long_block_freed}
 use Rattle.call_rules.proofs.AddressRefusalLaws.{mapped_of_no_refusal, aligned_of_no_refusal}
 use Rattle.call_laws.proofs.CallEffects.{PassedAfterFrees, LongFreeEffect, RanksKept}

@@ -23,7 +23,8 @@ use Rattle.heap_rules.specs.declared.Superblock.{Superblock}
 use Rattle.heap_rules.specs.declared.State.{State}
 use Rattle.heap_rules.specs.Table.{run_owner, unused_owner, blank, superblock_at, live_in, is_of_run, with_mark_at, with_rank}
 use Rattle.heap_rules.specs.States.{with_superblock}
-use Rattle.heap_rules.specs.Counts.{total, one_if_belongs, live_if_belongs, is_owned_of_class, superblocks_of, blocks_in, live_of, superblocks_of_class, live_of_class}
+use Rattle.heap_rules.specs.Counts.{total, one_if_belongs, live_if_belongs, is_owned_of_class, superblocks_of, blocks_in, live_of, superblocks_of_class}
+use Rattle.heap_rules.specs.Counts.{live_of_class}
 use Rattle.move_rules.specs.Moves.{both_conditions, must_move}
 use Rattle.heap_laws.proofs.StateFacts.{Shape, Unused, Unowned, Owned, Sparse, Sound, RanksSound, RunsKept}
 use Rattle.heap_laws.proofs.CountLaws.{total_with_superblock, one_if_belongs_is_1, one_if_belongs_other_owner, one_if_belongs_other_class}
@@ -287,7 +288,8 @@ module _ (s : State) (order : List ℕ) (i c k : ℕ) (b : Superblock) (places :
 
       go : Dec (m ≡ k) → (is_of_run (superblock_at after m) ≡ is_of_run (superblock_at s m)) × ((superblock_at after m).run ≡ (superblock_at s m).run)
       go (yes e) =
-          subst (λ (x : ℕ). (is_of_run (superblock_at after x) ≡ is_of_run (superblock_at s x)) × ((superblock_at after x).run ≡ (superblock_at s x).run)) (sym e)
+          subst (λ (x : ℕ). (is_of_run (superblock_at after x) ≡ is_of_run (superblock_at s x)) × ((superblock_at after x).run ≡ (superblock_at s x).run))
+              (sym e)
           (ap is_of_run after_at_superblock ∙ new_outside_run ∙ sym gives.outside_run, ap (λ (x : Superblock). x.run) after_at_superblock ∙ gives.run)
       go (no f) = (ap is_of_run (after_at_others m f), ap (λ (x : Superblock). x.run) (after_at_others m f))
 

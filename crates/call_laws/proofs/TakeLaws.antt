@@ -29,7 +29,8 @@ use Rattle.heap_laws.proofs.RerankedLaws.{reranked_shape}
 use Rattle.call_rules.specs.declared.Outcome.TheVariants.{Address}
 use Rattle.call_rules.specs.Answers.{After, number_of, refused, checked, is_processor}
 use Rattle.call_rules.specs.LongBlocks.{long_taken_from, long_taken_at}
-use Rattle.call_rules.specs.Take.{other_places, acquired, acquired_order, unranked_if_empty, address_of, taken_from, taken_from_other, taken_at, take_unchecked, take_of}
+use Rattle.call_rules.specs.Take.{other_places, acquired, acquired_order, unranked_if_empty, address_of, taken_from, taken_from_other, taken_at, take_unchecked}
+use Rattle.call_rules.specs.Take.{take_of}
 use Rattle.call_laws.proofs.CheckedLaws.{checked_refused_or_passed, checked_is_next_of_passed, bounds_of_is_processor}
 use Rattle.call_laws.proofs.CallEffects.{Passed, TakeAccepted, LongTakeAccepted, TakeEffect, Renews, RenewsNot, TakeRanks}
 use Rattle.call_laws.proofs.TakeSourceLaws.{last_block_of, taken_with, taken_from_is_taken_with, taken_from_other_is_taken_with, TakeSource}
@@ -59,7 +60,8 @@ taken_by_tests s order i size processor large long run own other =
 module _ (s : State) (order : List ℕ) (i size k : ℕ) (passed : Passed s order) (known : is_processor s i ≡ true) where
   take_accepted : is_long size ≡ false
       → ((fullest i (class_of size) s ≡ At k) × (take_of s order i size ≡ taken_from k s order))
-      ⊎ ((fullest i (class_of size) s ≡ Nothing) × (other_places (class_of size) s ≡ At k) × (take_of s order i size ≡ taken_from_other i (class_of size) k s order))
+      ⊎ ((fullest i (class_of size) s ≡ Nothing) × (other_places (class_of size) s ≡ At k)
+          × (take_of s order i size ≡ taken_from_other i (class_of size) k s order))
       → TakeAccepted s order i size k
   take_accepted l place = record {
     passed = passed;
@@ -85,7 +87,8 @@ pub take_refused_or_accepted : (s : State) (order : List ℕ) (i size : ℕ)
 unfolding take_of take_unchecked taken_at long_taken_at
 take_refused_or_accepted s order i size =
     ⊎_elim inl
-    (λ h. go (is_processor s i) (is_too_large size) (is_long size) (lowest_run (run_length size) s) (fullest i (class_of size) s) (other_places (class_of size) s)
+    (λ h. go (is_processor s i) (is_too_large size) (is_long size) (lowest_run (run_length size) s) (fullest i (class_of size) s)
+        (other_places (class_of size) s)
     refl refl refl refl refl refl h.0 h.1)
     (checked_refused_or_passed s order (take_unchecked s order i size))
   where
@@ -130,7 +133,8 @@ module _ (s : State) (order : List ℕ) (i size : ℕ) where
   unfolding taken_at taken_from_other taken_from long_taken_at long_taken_from number_of
   nothing_found_of_refused_4 false large long run own other e = absurd (let z : ⊥ = omega (arith, number 4 (refused 2 s order) e) in z)
   nothing_found_of_refused_4 true true long run own other e = absurd (let z : ⊥ = omega (arith, number 4 (refused 3 s order) e) in z)
-  nothing_found_of_refused_4 true false true (At k) own other e = absurd (let z : ⊥ = omega (arith, number 4 (long_taken_from k (run_length size) s order) e) in z)
+  nothing_found_of_refused_4 true false true (At k) own other e =
+      absurd (let z : ⊥ = omega (arith, number 4 (long_taken_from k (run_length size) s order) e) in z)
   nothing_found_of_refused_4 true false true Nothing own other e = absurd (let z : ⊥ = omega (arith, number 4 (refused 17 s order) e) in z)
   nothing_found_of_refused_4 true false false run (At k) other e = absurd (let z : ⊥ = omega (arith, number 4 (taken_from k s order) e) in z)
   nothing_found_of_refused_4 true false false run Nothing (At k) e =
@@ -163,7 +167,8 @@ places_2_to_4_find_nothing c s = go (fullest 0 c s) (lowest_empty s) (lowest_unu
 
 -- refusal 4: given exactly if the size is one of a class and all four places offer nothing, to a call that no refusal before it meets
 pub nothing_offered_of_refused_4 : (s : State) (order : List ℕ) (i size : ℕ) → take_of s order i size ≡ refused 4 s order
-    → (size ≤ 2048) × (fullest i (class_of size) s ≡ Nothing) × (fullest 0 (class_of size) s ≡ Nothing) × (lowest_empty s ≡ Nothing) × (lowest_unused s ≡ Nothing)
+    → (size ≤ 2048) × (fullest i (class_of size) s ≡ Nothing) × (fullest 0 (class_of size) s ≡ Nothing) × (lowest_empty s ≡ Nothing)
+        × (lowest_unused s ≡ Nothing)
 unfolding take_of take_unchecked
 nothing_offered_of_refused_4 s order i size e =
     let c = class_of size in

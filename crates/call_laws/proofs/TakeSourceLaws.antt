@@ -54,7 +54,8 @@ last_block_of order k b = last_filled order k (blocks_of b.class - live_in b)
 abbrev pub taken_with : ℕ → State → Superblock → List ℕ → After
 taken_with k s b order =
     record {
-      answer = record { outcome = Address (address_of k b.class (last_block_of order k b)); state = with_superblock s k (with_mark_at b (last_block_of order k b)) };
+      answer = record { outcome = Address (address_of k b.class (last_block_of order k b)); state =
+          with_superblock s k (with_mark_at b (last_block_of order k b)) };
       order = order;
     }
 
@@ -279,7 +280,8 @@ module _ (s : State) (order : List ℕ) (shape : Shape s) (passed : Passed s ord
         somebody : (superblock_at s k).owner < run_owner
         somebody = omega (arith, h.0)
 
-    pub source_of_other_places : TakeSource (unranked_if_empty k s) order i c k (acquired i c (superblock_at s k)) (acquired_order c k (superblock_at s k) order)
+    pub source_of_other_places : TakeSource (unranked_if_empty k s) order i c k (acquired i c (superblock_at s k))
+        (acquired_order c k (superblock_at s k) order)
     unfolding acquired acquired_order unranked_if_empty
     source_of_other_places = go (eqb (live_in (superblock_at s k)) 0) refl offered.live
       where

@@ -230,7 +230,8 @@ pub setup_state_is_new : (u : Setup) (order : List ℕ) → (v : Setup) × ((set
 unfolding setup_of
 setup_state_is_new u order = go (within_limits u) (leb (u.superblocks * 256) (length order))
   where
-    go : (a b : Bool) → (v : Setup) × ((pick a (pick b (accepted_setup u order) (refused 12 no_state order)) (refused 1 no_state order)).answer.state ≡ new_state v)
+    go : (a b : Bool) → (v : Setup) × ((pick a (pick b (accepted_setup u order) (refused 12 no_state order)) (refused 1 no_state order)).answer.state
+        ≡ new_state v)
     go true true = (u, refl)
     go true false = (no_state.setup, refl)
     go false b = (no_state.setup, refl)

@@ -44,7 +44,8 @@ module _ (s : State) (order : List ℕ) (i m size : ℕ) (t : Bool) (p : t ≡ i
 
 -- ---- a free: its ways out
 module _ (s : State) (order : List ℕ) (i m : ℕ) (t : Bool) (p : t ≡ is_processor s i) where
-  pub named_free_refused_2 : (r : Answer) → t ≡ false → r ≡ record { outcome = Refused 2; state = s } → answer_and_order r order ≡ named_free_unchecked s order i m
+  pub named_free_refused_2 : (r : Answer) → t ≡ false → r ≡ record { outcome = Refused 2; state = s }
+      → answer_and_order r order ≡ named_free_unchecked s order i m
   unfolding named_free_unchecked
   named_free_refused_2 r f h = refused_of_answer s order 2 r h ∙ sym (rw (← p, f))
 

@@ -36,7 +36,8 @@ unfolding rules_hold unchecked_call_definitions
 held_address_cases = (refl, refl)
 
 -- name 7 points at block 2 of superblock 3; the other names and the superblocks are as they were
-pub name_bound_case : name_bound 7 13824 (with_names refusal_state (with_name no_names 8 768)) ≡ with_names refusal_state (with_name (with_name no_names 8 768) 7 770)
+pub name_bound_case : name_bound 7 13824 (with_names refusal_state (with_name no_names 8 768))
+    ≡ with_names refusal_state (with_name (with_name no_names 8 768) 7 770)
 unfolding rules_hold unchecked_call_definitions
 name_bound_case = refl
 

@@ -180,7 +180,8 @@ state_with_3 marks =
     unnamed_state (setup_with 2 5 1 3 7) (ranked 1 26 3 2 ∷ unused ∷ ranked 2 26 1 3 ∷ of 2 20 marks
     ∷ record { owner = 1; class = 1; live = 0 ∷ 0 ∷ 2199023255552 ∷ 0 ∷ []; rank = 1; run = 0 } ∷ replicate 59 unused)
 
-pub taken_from_case : taken_from 3 refusal_state order_of_3 ≡ record { answer = record { outcome = Address 13056; state = state_with_3 15 }; order = order_of_3 }
+pub taken_from_case : taken_from 3 refusal_state order_of_3 ≡ record
+    { answer = record { outcome = Address 13056; state = state_with_3 15 }; order = order_of_3 }
 unfolding unchecked_call_definitions
 taken_from_case = refl
 

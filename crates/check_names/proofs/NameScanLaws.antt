@@ -179,7 +179,8 @@ pub scan_end : (marks left names : List ℕ) (n i : ℕ) → n ≡ 0 → Scanned
 scan_end marks left names n i z t = sym (t.same ∙ each_has_a_mark_of_none_held left (drop i names) (sym t.to_find ∙ z))
 
 -- the code's mask is all ones but a power of two
-code_takes_mark_out : (left : List ℕ) (x : ℕ) → set left (x / 64) (bit_and (get_or left (x / 64) 0) (2 ^ 64 - 1 - 1 * 2 ^ (x % 64) % 2 ^ 64)) ≡ without_mark left x
+code_takes_mark_out : (left : List ℕ) (x : ℕ)
+    → set left (x / 64) (bit_and (get_or left (x / 64) 0) (2 ^ 64 - 1 - 1 * 2 ^ (x % 64) % 2 ^ 64)) ≡ without_mark left x
 unfolding without_mark
 code_takes_mark_out left x = rw (shl_one (x % 64) (omega arith))
 

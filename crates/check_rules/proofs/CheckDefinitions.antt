@@ -15,7 +15,8 @@ use Rattle.check_rules.specs.Check.{within_limits, is_part_of_run, is_unowned, i
 use Rattle.check_rules.specs.Check.{names_valid, same_totals, totals_valid, ranked_count, carrying, ranks_valid, runs_whole, runs_valid, rest_valid, passes}
 
 unfoldable pub check_definitions : Unit {0}
-unfolding passes within_limits rest_valid superblock_valid is_owned is_unowned is_part_of_run runs_valid runs_whole unused_from emptiness_invariant sparse_if_global
+unfolding passes within_limits rest_valid superblock_valid is_owned is_unowned is_part_of_run runs_valid runs_whole unused_from emptiness_invariant
+    sparse_if_global
     names_valid totals_valid ranks_valid ranked_count carrying is_ranked is_unused is_of_run starts_run
     is_live_block live_blocks with_mark
     same_totals recounted counted_below with_counted is_counted increased same_numbers

@@ -25,7 +25,8 @@ with_ranks_lem a b c d = unnamed_state small_setup (ranked 1 17 1 a ∷ ranked 0
 pub ranks_not_valid_cases :
     ranks_valid (with_ranks_lem 0 2 0 0) ∷ ranks_valid (with_ranks_lem 1 0 0 3) ∷ ranks_valid (with_ranks_lem 1 1 0 0) ∷ ranks_valid (with_ranks_lem 1 1 0 2)
     ∷ ranks_valid (with_ranks_lem 2 2 0 1)
-    ∷ ranks_valid (with_ranks_lem 0 0 1 0) ∷ ranks_valid (with_ranks_lem 1 2 3 0) ∷ ranks_valid (with_ranks_lem 0 0 0 65) ∷ ranks_valid (with_ranks_lem 1 2 0 255) ∷ []
+    ∷ ranks_valid (with_ranks_lem 0 0 1 0) ∷ ranks_valid (with_ranks_lem 1 2 3 0) ∷ ranks_valid (with_ranks_lem 0 0 0 65) ∷ ranks_valid
+        (with_ranks_lem 1 2 0 255) ∷ []
     ≡ replicate 9 false
 unfolding run_checks_hold check_definitions
 ranks_not_valid_cases = refl

@@ -37,6 +37,3 @@ module _ (s : State) (order : List ℕ) (r : ℕ) (e : r ≡ setup_refusal 13 s.
 
   pub first_refusal_none : r ≡ 0 → true ≡ rest_valid s order → 0 ≡ first_refusal s order
   first_refusal_none z g = rw (first_refusal_is_rest_check z, ← g)
-
--- how a proof finds which of them it asks
-pub ruleset first_refusal_rules = (first_refusal_is_setup_refusal, first_refusal_13_of_rest, first_refusal_none)

@@ -122,14 +122,3 @@ module _ (s : State) (order : List ℕ) (first : ℕ) (lawful : first ≡ setup_
 
             pub rest_valid_of_parts : not y ≡ false → true ≡ rest_valid s order
             rest_valid_of_parts m = sym (rest_valid_is_runs_whole ∙ not-false y m)
-
--- how a proof finds which of them it asks
-pub ruleset rest_valid_rules = (
-  rest_valid_false_of_each,
-  rest_valid_false_of_totals,
-  rest_valid_false_of_emptiness_invariant,
-  rest_valid_false_of_names,
-  rest_valid_false_of_ranks,
-  rest_valid_false_of_runs,
-  rest_valid_of_parts,
-)

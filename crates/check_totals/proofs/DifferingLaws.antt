@@ -52,7 +52,8 @@ module _ (a b : List ℕ) (n : ℕ) (long_a : length a ≡ n) (long_b : length b
       equal_of_0 x y false e l = absurd (let w : ⊥ = omega arith in w)
 
       at : (k : ℕ) → k < n → get_or a k 0 ≡ get_or b k 0
-      at k l = equal_of_0 (get_or a k 0) (get_or b k 0) (eqb (get_or a k 0) (get_or b k 0)) refl (subst (λ (m : ℕ). differs k ≤ m) z (term_le_sum differs n k l))
+      at k l = equal_of_0 (get_or a k 0) (get_or b k 0) (eqb (get_or a k 0) (get_or b k 0)) refl
+          (subst (λ (m : ℕ). differs k ≤ m) z (term_le_sum differs n k l))
 
   none_differing_of_same_numbers : T (same_numbers a b) → differing a b n ≡ 0
   unfolding differing

@@ -90,7 +90,8 @@ ranked_choice_state =
 -- freed into since then follow, lower number first."
 pub fullest_of_equals_cases : fullest 1 16 ranked_choice_state ∷ fullest 2 16 ranked_choice_state ∷ fullest 0 16 ranked_choice_state ∷ [] ≡ At 2 ∷ At 6
     ∷ At 9 ∷ []
-unfolding quick_choices_hold fullest chosen_below prefer fuller_or_more_recent more_live is_more_recent is_ranked has_free belongs blocks_of counts live_count sum_below
+unfolding quick_choices_hold fullest chosen_below prefer fuller_or_more_recent more_live is_more_recent is_ranked has_free belongs blocks_of counts live_count
+    sum_below
     mark_bit bit
 fullest_of_equals_cases = refl
 
@@ -100,7 +101,8 @@ pub fullest_cases :
     fullest 1 16 (choice_state 64) ∷ fullest 2 16 (choice_state 64) ∷ fullest 0 16 (choice_state 64) ∷ fullest 0 17 (choice_state 64)
     ∷ fullest 1 17 (choice_state 64) ∷ fullest 2 17 (choice_state 64) ∷ fullest 1 18 (choice_state 64) ∷ fullest 0 0 (choice_state 64) ∷ []
     ≡ At 4 ∷ Nothing ∷ At 8 ∷ At 7 ∷ At 6 ∷ At 63 ∷ Nothing ∷ Nothing ∷ []
-unfolding fullest chosen_below prefer fuller_or_more_recent more_live is_more_recent is_ranked has_free belongs blocks_of counts live_count sum_below mark_bit bit
+unfolding fullest chosen_below prefer fuller_or_more_recent more_live is_more_recent is_ranked has_free belongs blocks_of counts live_count sum_below mark_bit
+    bit
 fullest_cases = let before = fullest_of_equals_cases in refl
 
 unfoldable pub choices_hold : Unit {0}

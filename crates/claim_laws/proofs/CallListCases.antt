@@ -190,7 +190,8 @@ each_ready = refl
 
 -- the rows, by the calls behind the check
 each_answered : map rows_answered_of list_cases ≡ map (λ (k : ListCase). k.expected) list_cases
-unfolding rows_answered rows_of ledger_definitions steps_by call_definitions superblocks_of_class is_owned_of_class is_of_heap owners_changed passed_between_heaps
+unfolding rows_answered rows_of ledger_definitions steps_by call_definitions superblocks_of_class is_owned_of_class is_of_heap owners_changed
+    passed_between_heaps
     passed_by_free reported
 each_answered = refl
 

@@ -117,7 +117,8 @@ pub record OneMoreLive (c k j : ℕ) (s t : State) : Type 0 where
   pub outside_run : is_of_run (superblock_at s k) ≡ false
   pub long_same : (a : ℕ) → long_at t a ≡ long_at s a
 
-pub live_at_of_address : (s : State) (c k j : ℕ) → c < class_count → k < 64 → j < blocks_of c → live_at s (address_of k c j) c ≡ live_for c (superblock_at s k) j
+pub live_at_of_address : (s : State) (c k j : ℕ) → c < class_count → k < 64 → j < blocks_of c
+    → live_at s (address_of k c j) c ≡ live_for c (superblock_at s k) j
 unfolding live_at
 live_at_of_address s c k j known below block =
     rw (address_superblock c k j known block, address_offset c k j known block, block_of_offset c known j, offset_mod_size c known j, lt-ltb k 64 below)
@@ -195,7 +196,8 @@ module _ (i c k j : ℕ) (s t : State) (below : k < 64) (owner : i < run_owner) 
   live_for_other_class_before_take : (d b : ℕ) → b < 256 → (d ≡ c → ⊥) → live_for d (superblock_at s k) b ≡ 0
   live_for_other_class_before_take d b l f = go e.before
     where
-      go : (live_in (superblock_at s k) ≡ 0) ⊎ (((superblock_at s k).class ≡ c) × ((superblock_at s k).owner < run_owner)) → live_for d (superblock_at s k) b ≡ 0
+      go : (live_in (superblock_at s k) ≡ 0) ⊎ (((superblock_at s k).class ≡ c) × ((superblock_at s k).owner < run_owner))
+          → live_for d (superblock_at s k) b ≡ 0
       go (inl z) = live_for_clear d (superblock_at s k) b (marks_clear_of_live_count_zero (superblock_at s k).live z b l)
       go (inr h) = live_for_other d (superblock_at s k) b (λ q. f (sym q ∙ h.0))
 
@@ -253,7 +255,8 @@ module _ (c k j moves : ℕ) (s t : State) (below : k < 64) (e : FreeEffect c k 
       go (inr h) = ap (λ (x : ℕ). ltb x run_owner) h.1
           ∙ sym (lt-ltb (superblock_at s m).owner run_owner (subst (λ (x : ℕ). x < run_owner) (sym h.0) e.owned_before))
 
-  live_for_others_of_free : (d m b : ℕ) → m < 64 → b < 256 → ((d ≡ c) × (m ≡ k) × (b ≡ j) → ⊥) → live_for d (superblock_at s m) b ≡ live_for d (superblock_at t m) b
+  live_for_others_of_free : (d m b : ℕ) → m < 64 → b < 256 → ((d ≡ c) × (m ≡ k) × (b ≡ j) → ⊥)
+      → live_for d (superblock_at s m) b ≡ live_for d (superblock_at t m) b
   unfolding live_for
   live_for_others_of_free d m b l h f = go (ℕ_discrete d c) (ℕ_discrete m k)
     where
@@ -280,7 +283,8 @@ module _ (c k j moves : ℕ) (s t : State) (below : k < 64) (e : FreeEffect c k 
         no_other_class = λ d b h f. live_for_other d (superblock_at t k) b (λ q. f (sym q ∙ class_after));
         others_same = live_for_others_of_free;
         live = live_of_class_one_more c t s e.live_of_class_lem (λ d f. sym (e.live_of_others d f));
-        outside_run = (e.runs k below).0 ∙ outside_run_of_owner (superblock_at s k) (λ (q : (superblock_at s k).owner ≡ run_owner). omega (arith, e.owned_before));
+        outside_run = (e.runs k below).0 ∙ outside_run_of_owner (superblock_at s k)
+            (λ (q : (superblock_at s k).owner ≡ run_owner). omega (arith, e.owned_before));
         long_same = λ a. sym (long_at_of_kept s t e.runs a);
       }
 

@@ -195,7 +195,8 @@ unfolding removed is_at_one_of
 removed_first a addresses [] = refl
 removed_first a addresses (e ∷ ledger) = go (is_at a e) (is_at_one_of addresses e) refl (removed_first a addresses ledger)
   where
-    go : (x y : Bool) → is_at_one_of addresses e ≡ y → removed (is_at_one_of addresses) (removed (is_at a) ledger) ≡ removed (is_at_one_of (a ∷ addresses)) ledger
+    go : (x y : Bool) → is_at_one_of addresses e ≡ y → removed (is_at_one_of addresses) (removed (is_at a) ledger)
+        ≡ removed (is_at_one_of (a ∷ addresses)) ledger
         → removed (is_at_one_of addresses) (pick x (removed (is_at a) ledger) (e ∷ removed (is_at a) ledger)) ≡ pick (either x (is_at_one_of addresses e))
         (removed (is_at_one_of (a ∷ addresses)) ledger) (e ∷ removed (is_at_one_of (a ∷ addresses)) ledger)
     go true y q ih = ih
@@ -256,7 +257,8 @@ all_freed_each_removed freed s order [] ledger shape passed ok g = g
 all_freed_each_removed freed s order (a ∷ addresses) ledger shape passed ok g =
     let first = first_refusal_of_cons s a addresses ok in
     let one = address_freed freed s order a shape passed first.0 in
-    all_freed_each_removed (one_more_freed (superblock_holding s a).owner (superblock_holding s a).class freed) (block_freed s a) (order_pushed s order a) addresses (removed (is_at a) ledger) one.shape one.passed first.1
+    all_freed_each_removed (one_more_freed (superblock_holding s a).owner (superblock_holding s a).class freed) (block_freed s a) (order_pushed s order a)
+        addresses (removed (is_at a) ledger) one.shape one.passed first.1
     (block_freed_agreement freed s order a ledger shape passed first.0 g)
 
 -- all of a drop's

@@ -23,7 +23,8 @@ use Rattle.call_rules.specs.declared.Outcome.TheVariants.{Ready, Address, Moves,
 use Rattle.call_rules.specs.Answers.{After, refused}
 use Rattle.call_rules.specs.Setup.{setup_of}
 use Rattle.call_rules.specs.Take.{address_of, take_of}
-use Rattle.call_rules.specs.Free.{superblock_index, superblock_holding, is_in_run, address_refusal, order_pushed, small_block_freed, long_block_freed, block_freed, free_of}
+use Rattle.call_rules.specs.Free.{superblock_index, superblock_holding, is_in_run, address_refusal, order_pushed, small_block_freed, long_block_freed}
+use Rattle.call_rules.specs.Free.{block_freed, free_of}
 use Rattle.call_rules.specs.Named.{named_take_of, held_address, named_free_of}
 use Rattle.call_rules.specs.Drop.{all_freed, first_address_refusal, is_touched, drop_moves, drop_of}
 use Rattle.call_rules.specs.Calls.{Call, Take, Free, NamedTake, NamedFree, Drop, call_of}
@@ -49,7 +50,8 @@ use Rattle.call_laws.proofs.DropLaws.{DropAccepted, drop_refused_or_accepted, dr
 use Rattle.call_laws.proofs.CallRankLaws.{named_take_ranks, named_free_ranks, named_long_free_ranks}
 use Rattle.claim_rules.specs.Claim.{Step, Linked, peak_with}
 use Rattle.claim_rules.specs.Ledger.{Entry, is_at, has_name, removed, ledger_after}
-use Rattle.claim_rules.specs.History.{Event, freed_into, renewed, joined_run, neither, event_of_block, event_of_free, event_of_taken, event_of_take, events_after_drop}
+use Rattle.claim_rules.specs.History.{Event, freed_into, renewed, joined_run, neither, event_of_block, event_of_free, event_of_taken, event_of_take}
+use Rattle.claim_rules.specs.History.{events_after_drop}
 use Rattle.claim_rules.specs.History.{events_after, RankedByLastFree, OffersLastFreed, AlongHistory, RankedByLastFreeOver, OffersLastFreedOver}
 use Rattle.claim_laws.proofs.EventLaws.{ranked_by_last_free_after_free, ranked_by_last_free_after_renewal, ranked_by_last_free_after_run}
 use Rattle.claim_laws.proofs.EventLaws.{ranked_by_last_free_after_neither, ranked_by_last_free_of_new_state, offers_last_freed_of_ranked}
@@ -110,7 +112,8 @@ module _ (freed : ℕ → ℕ → ℕ) (ledger part : List Entry) (same : SameEv
       → RankedByLastFree (block_freed s a) (event_of_free (is_at a) ledger (Moves m) ∷ events)
   unfolding block_freed event_of_free
   after_one_free a m events ok before =
-      pick_elim (λ (t : State). RankedByLastFree t (event_of_block (is_at a) ledger ∷ events)) (is_in_run s a) (long_block_freed s a) (small_block_freed s a) long small
+      pick_elim (λ (t : State). RankedByLastFree t (event_of_block (is_at a) ledger ∷ events)) (is_in_run s a) (long_block_freed s a) (small_block_freed s a)
+          long small
     where
       small : is_in_run s a ≡ false → RankedByLastFree (small_block_freed s a) (event_of_block (is_at a) ledger ∷ events)
       small outside =
@@ -137,7 +140,8 @@ after_frees freed ledger part same s order [] events m shape passed agrees ok be
 after_frees freed ledger part same s order (a ∷ addresses) events m shape passed agrees ok before =
     let first = first_refusal_of_cons s a addresses ok in
     let one = address_freed freed s order a shape passed first.0 in
-    after_frees (one_more_freed (superblock_holding s a).owner (superblock_holding s a).class freed) ledger (removed (is_at a) part) (same_events_removed ledger part a same) (block_freed s a) (order_pushed s order a) addresses
+    after_frees (one_more_freed (superblock_holding s a).owner (superblock_holding s a).class freed) ledger (removed (is_at a) part)
+        (same_events_removed ledger part a same) (block_freed s a) (order_pushed s order a) addresses
     (event_of_free (is_at a) ledger (Moves m) ∷ events) m one.shape one.passed
     (block_freed_agreement freed s order a part shape passed first.0 agrees) first.1
     (after_one_free freed ledger part same s order shape passed agrees a m events first.0 before)
@@ -151,7 +155,8 @@ ranked_by_last_free_of_same_ranks s t events same ranked =
       later_first = λ k m x y lk lm e f h. rw (same k lk, same m lm) (ranked.later_first k m x y lk lm e f h);
     }
 
-transfers_rank : (touched : ℕ → ℕ → Bool) (s t : State) (n : ℕ) → Transfers touched s t n → (k : ℕ) → k < 64 → (superblock_at t k).rank ≡ (superblock_at s k).rank
+transfers_rank : (touched : ℕ → ℕ → Bool) (s t : State) (n : ℕ) → Transfers touched s t n → (k : ℕ) → k < 64
+    → (superblock_at t k).rank ≡ (superblock_at s k).rank
 transfers_rank touched s t n moved k l = ⊎_elim (ap (λ (b : Superblock). b.rank)) (λ w. ap (λ (b : Superblock). b.rank) w.3) (moved.each k l)
 
 module _ (s : State) (order : List ℕ) (ledger : List Entry) (events : List Event) (shape : Shape s) (passed : Passed s order) (agrees : Agreement s ledger)
@@ -169,7 +174,8 @@ module _ (s : State) (order : List ℕ) (ledger : List Entry) (events : List Eve
   ranked_after_event event after o e answered told h =
       subst (λ (x : Event). RankedByLastFree after.answer.state (x ∷ events)) (sym (ap event answered ∙ told)) h
 
-  after_take_lem : (i size k c j : ℕ) (after : After) → size ≤ 2048 → k < 64 → c < class_count → j < blocks_of c → after.answer.outcome ≡ Address (address_of k c j)
+  after_take_lem : (i size k c j : ℕ) (after : After) → size ≤ 2048 → k < 64 → c < class_count → j < blocks_of c
+      → after.answer.outcome ≡ Address (address_of k c j)
       → TakeRanks i k s after.answer.state → RankedAfterEvent (event_of_take s i size) after
   after_take_lem i size k c j after small l known block e ranks = go ranks
     where

@@ -392,7 +392,8 @@ bound_holds_at_limit = each_class_le_by_test _ _ refl
 
 -- a free that passes seven superblocks to heap 0
 pub claim_holds_of_seven_moves : Claims u (after_with Ready (all_in_heap_2 7)) [] (λ c. 0) (step_with (Free 1 16) (Moves 7) (all_in_heap_0 7) ∷ [])
-unfolding Claims OwnerChanges Bounded owners_changed passed_between_heaps superblocks_of_class total is_owned_of_class is_of_heap sum_below all_below blocks_of counts
+unfolding Claims OwnerChanges Bounded owners_changed passed_between_heaps superblocks_of_class total is_owned_of_class is_of_heap sum_below all_below blocks_of
+    counts
     ledger_definitions
 claim_holds_of_seven_moves = let before = bound_holds_at_limit in (
   each_class_le_by_test _ _ refl,
@@ -402,7 +403,8 @@ claim_holds_of_seven_moves = let before = bound_holds_at_limit in (
 
 -- a take that makes a twelfth block live, and so comes to seventeen superblocks; when that block is freed M is 12 still
 pub claim_holds_of_take_and_free : Claims u (after_with Ready (state_of_class 23 5)) eleven_entries (λ c. 11) take_and_free
-unfolding Claims OwnerChanges Bounded owners_changed passed_between_heaps superblocks_of_class total is_owned_of_class is_of_heap sum_below all_below blocks_of counts
+unfolding Claims OwnerChanges Bounded owners_changed passed_between_heaps superblocks_of_class total is_owned_of_class is_of_heap sum_below all_below blocks_of
+    counts
     ledger_definitions
 claim_holds_of_take_and_free = let before = claim_holds_of_seven_moves in (
   each_class_le_by_test _ _ refl,
@@ -419,7 +421,8 @@ claim_holds_of_take_and_free = let before = claim_holds_of_seven_moves in (
 
 -- the free of the run that reports none
 pub claim_holds_of_run_freed : Claims u (after_with Ready run_in_state) run_entry (λ c. 0) (step_with (Free 1 4096) (Moves 0) run_freed_state ∷ [])
-unfolding Claims OwnerChanges Bounded owners_changed passed_between_heaps superblocks_of_class total is_owned_of_class is_of_heap sum_below all_below blocks_of counts
+unfolding Claims OwnerChanges Bounded owners_changed passed_between_heaps superblocks_of_class total is_owned_of_class is_of_heap sum_below all_below blocks_of
+    counts
     frees_run ledger_definitions
 claim_holds_of_run_freed = let before = claim_holds_of_take_and_free in (
   each_class_le_by_test _ _ refl,

@@ -23,7 +23,8 @@ use Rattle.claim_rules.proofs.LedgerDefinitions.{entry, ledger_definitions}
 
 -- what a case of a history unfolds, listed once
 unfoldable pub history_definitions : Unit {0}
-unfolding AlongHistory events_after events_after_drop event_of_take event_of_taken event_of_free event_of_block last_free last_free_after one_event_more FreedLater
+unfolding AlongHistory events_after events_after_drop event_of_take event_of_taken event_of_free event_of_block last_free last_free_after one_event_more
+    FreedLater
 history_definitions = tt
 
 -- Superblocks 0 to 4: heap 1's, empty; heap 0's, empty; heap 0's, with a block live; an unused one; and heap 2's, empty.

@@ -60,7 +60,8 @@ is_lower_if_later not_since_renewal other a b = true
 
 -- of superblock k, of which this is the last free
 unfoldable is_ranked_by : State → List Event → ℕ → LastFree → Bool
-is_ranked_by s events k (events_ago x) = both (ltb 0 (rank_in s k)) (all_below (λ m. is_lower_if_later (events_ago x) (last_free m events) (rank_in s k) (rank_in s m)) 64)
+is_ranked_by s events k (events_ago x) = both (ltb 0 (rank_in s k))
+    (all_below (λ m. is_lower_if_later (events_ago x) (last_free m events) (rank_in s k) (rank_in s m)) 64)
 is_ranked_by s events k not_since_renewal = eqb (rank_in s k) 0
 
 unfoldable is_ranked_rightly : State → List Event → ℕ → Bool

@@ -19,7 +19,8 @@ pub record LongBlocksAgree (s : State) (ledger : List Entry) : Type 0 where
   -- each run of the state is in the ledger, and once: of no class, which is 27
   pub runs : (k n : ℕ) → RunAt s k n → entries_at ledger (k * superblock_bytes) class_count ≡ 1
   -- and each superblock with owner 254 is part of one
-  pub parts : (m : ℕ) → m < table_length → is_of_run (superblock_at s m) ≡ true → (k : ℕ) × RunAt s k (superblock_at s k).run × InRun k (superblock_at s k).run m
+  pub parts : (m : ℕ) → m < table_length → is_of_run (superblock_at s m) ≡ true → (k : ℕ) × RunAt s k (superblock_at s k).run
+      × InRun k (superblock_at s k).run m
 
 abbrev pub LongBlocksAgreeOver : After → List Entry → List Step → Type 0
 LongBlocksAgreeOver before ledger steps = Along LongBlocksAgree before ledger steps

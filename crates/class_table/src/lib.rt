@@ -1,5 +1,6 @@
 // The table of size classes: block size and blocks in a superblock of 4096 bytes. The code for the class of a size is in crate class_of_size.
 #![tactic(auto)]
+
 ghost use Rattle.std.specs.Prelude.{◌≡◌, ◌≤◌};
 ghost use Rattle.class_rules.specs.Classes.{most_blocks, size_of, blocks_of};
 

@@ -118,7 +118,8 @@ passes_of_no_refusal s order first e z = go (within_limits s.setup) (leb (s.setu
 
 -- ---- a call: refused by the check, or what it is behind it
 module _ (s : State) (order : List ℕ) (call : Call) (first : ℕ) (e : first ≡ first_refusal s order) where
-  pub call_refused_by_check : (r : Answer) → (first ≡ 0 → ⊥) → r ≡ record { outcome = Refused first; state = s } → answer_and_order r order ≡ call_of s order call
+  pub call_refused_by_check : (r : Answer) → (first ≡ 0 → ⊥) → r ≡ record { outcome = Refused first; state = s }
+      → answer_and_order r order ≡ call_of s order call
   call_refused_by_check r f h = refused_of_answer s order first r h ∙ sym (call_of_checks_first s order call ∙ checked_is_first_refusal s order first _ e f)
 
   pub call_is_call_unchecked : (after : After) → first ≡ 0 → after ≡ call_unchecked s order call → after ≡ call_of s order call
@@ -139,7 +140,8 @@ module _ (s : State) (order : List ℕ) (c : CallHeader) (addresses : List ℕ) 
   unfolding call_unchecked call_with
   unchecked_named_take m size e h = rw e h
 
-  pub unchecked_named_free : (m : ℕ) → c ≡ header.NamedFree i m → after ≡ named_free_unchecked s order i m → after ≡ call_unchecked s order (call_with c addresses)
+  pub unchecked_named_free : (m : ℕ) → c ≡ header.NamedFree i m → after ≡ named_free_unchecked s order i m
+      → after ≡ call_unchecked s order (call_with c addresses)
   unfolding call_unchecked call_with
   unchecked_named_free m e h = rw e h
 

@@ -39,7 +39,8 @@ module _ (order live : List ℕ) (s n : ℕ) where
   pub each_once_of_places_valid : T (places_valid order live s n) → T (each_once order live s n)
   each_once_of_places_valid t = both_right (places_in_storage order live s n) (each_once order live s n) (places_valid_rest t)
 
-  pub block_once_of_places_valid : T (places_valid order live s n) → (j : ℕ) → j < n → occurrences (place order s) (filled_places live n) j + mark_bit live j ≡ 1
+  pub block_once_of_places_valid : T (places_valid order live s n) → (j : ℕ) → j < n
+      → occurrences (place order s) (filled_places live n) j + mark_bit live j ≡ 1
   block_once_of_places_valid t = block_once_of_each_once order live s n (each_once_of_places_valid t)
 
   pub places_valid_of_clauses : T (no_mark_from live n) → s * 256 + filled_places live n ≤ length order

@@ -49,6 +49,7 @@ module _ (b : List ℕ) (first : ℕ) (is : first ≡ byte_at b 0) where
   unfolding well_formed
   well_formed_false_of_unknown h = rw (← is, lt-leb _ _ h)
 
-  pub well_formed_is_length_test : (from lent : ℕ) → first ≤ 5 → from ≡ places_offset b → lent ≡ place_count b → eqb (length b) (from + 2 * lent) ≡ well_formed b
+  pub well_formed_is_length_test : (from lent : ℕ) → first ≤ 5 → from ≡ places_offset b → lent ≡ place_count b
+      → eqb (length b) (from + 2 * lent) ≡ well_formed b
   unfolding well_formed
   well_formed_is_length_test from lent h f l = rw (← is, le-leb _ _ h, ← f, ← l)

@@ -139,7 +139,8 @@ unfolding fewer_live
 fewer_live_is_strict_weak_order = record {
   is_irreflexive = λ b. ltb_irreflexive (live_in b);
   is_transitive = λ a b d. ltb_transitive (live_in a) (live_in b) (live_in d);
-  is_negatively_transitive = λ a b d t f. lt→ltb (live_in a) (live_in b) (omega (arith, ltb→lt (live_in a) (live_in d) t, le_of_not_ltb (live_in b) (live_in d) f));
+  is_negatively_transitive = λ a b d t f. lt→ltb (live_in a) (live_in b)
+      (omega (arith, ltb→lt (live_in a) (live_in d) t, le_of_not_ltb (live_in b) (live_in d) f));
 }
 
 pub never_preferred_is_strict_weak_order : StrictWeakOrder never_preferred
@@ -172,8 +173,10 @@ module _ (meets : Superblock → Bool) (preferred : Superblock → Superblock �
         none m (inr q) t u = b.none_preferred m q t u
 
     -- it meets the criterion, and is preferred to each below it that meets the criterion
-    best_new : T (meets (get_or table n blank)) → ((m : ℕ) → m < n → T (meets (get_or table m blank)) → T (preferred (get_or table m blank) (get_or table n blank)) → ⊥)
-        → ((m : ℕ) → m < n → T (meets (get_or table m blank)) → T (preferred (get_or table n blank) (get_or table m blank))) → IsBest meets preferred table (suc n) n
+    best_new : T (meets (get_or table n blank)) → ((m : ℕ) → m < n → T (meets (get_or table m blank))
+        → T (preferred (get_or table m blank) (get_or table n blank)) → ⊥)
+        → ((m : ℕ) → m < n → T (meets (get_or table m blank)) → T (preferred (get_or table n blank) (get_or table m blank)))
+            → IsBest meets preferred table (suc n) n
     best_new w h first = record {
       below = lt-suc_self n;
       meets_criterion_lem = w;

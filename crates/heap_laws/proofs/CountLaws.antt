@@ -19,7 +19,8 @@ use Rattle.heap_rules.specs.declared.State.{State}
 use Rattle.heap_rules.specs.declared.Setup.{Setup}
 use Rattle.heap_rules.specs.Table.{run_owner, unused_owner, blank, unused, superblock_at, live_in, is_of_heap}
 use Rattle.heap_rules.specs.States.{with_superblock, new_state}
-use Rattle.heap_rules.specs.Counts.{total, belongs, is_owned_of_class, one_if_belongs, live_if_belongs, superblocks_of, live_of, superblocks_of_class, live_of_class}
+use Rattle.heap_rules.specs.Counts.{total, belongs, is_owned_of_class, one_if_belongs, live_if_belongs, superblocks_of, live_of, superblocks_of_class}
+use Rattle.heap_rules.specs.Counts.{live_of_class}
 
 -- ---- one superblock replaced
 pub superblock_at_replaced : (s : State) (k : ℕ) (b : Superblock) → length s.table ≡ 64 → k < 64 → superblock_at (with_superblock s k b) k ≡ b
@@ -184,7 +185,8 @@ heaps_of_owned_of_class p c b h t =
     both_make (leb b.owner p) (eqb b.class c) (T_of_true _ (le-leb b.owner p (h o.0))) (T_of_true _ (eq-eqb b.class c o.1))
 
 -- over any n heaps a superblock's live blocks are counted as often as the superblock itself
-live_over_heaps : (h : ℕ → ℕ) (n c : ℕ) (b : Superblock) → sum_below (λ i. live_if_belongs (h i) c b) n ≡ live_in b * sum_below (λ i. one_if_belongs (h i) c b) n
+live_over_heaps : (h : ℕ → ℕ) (n c : ℕ) (b : Superblock) → sum_below (λ i. live_if_belongs (h i) c b) n
+    ≡ live_in b * sum_below (λ i. one_if_belongs (h i) c b) n
 live_over_heaps h n c b =
     sum_cong (λ i. live_if_belongs (h i) c b) (λ i. live_in b * one_if_belongs (h i) c b) n (λ i l. live_if_belongs_as_product (h i) c b)
     ∙ sum_scale (live_in b) (λ i. one_if_belongs (h i) c b) n

@@ -23,7 +23,8 @@ use Rattle.heap_rules.specs.declared.Found.{Found}
 use Rattle.heap_rules.specs.declared.Found.TheVariants.{At, Nothing}
 use Rattle.heap_rules.specs.declared.Moved.{Moved}
 use Rattle.heap_rules.specs.Table.{run_owner, blank, superblock_at, live_in, is_of_heap, with_owner}
-use Rattle.heap_rules.specs.Counts.{total, belongs, is_owned_of_class, one_if_belongs, live_if_belongs, superblocks_of, blocks_in, live_of, superblocks_of_class}
+use Rattle.heap_rules.specs.Counts.{total, belongs, is_owned_of_class, one_if_belongs, live_if_belongs, superblocks_of, blocks_in, live_of}
+use Rattle.heap_rules.specs.Counts.{superblocks_of_class}
 use Rattle.heap_rules.specs.Counts.{live_of_class, owners_changed}
 use Rattle.choice_rules.specs.Choice.{emptiest}
 use Rattle.move_rules.specs.Moves.{both_conditions, must_move, transferred, found_transferred, transfers_up_to, excess_transferred}
@@ -409,7 +410,8 @@ module _ (h c freed : ℕ) (s : State) (numbers : WithinLimits s.setup) (pos : 0
             (let l = numbers.q_low in omega arith) met.0 met.1 r.bounded;
       }
 
-  after_one_move : (m : ℕ) (t : State) → AfterMoves h c freed s m t → T (must_move h c t) → AfterMoves h c freed s (m + 1) (found_transferred (emptiest h c t) t)
+  after_one_move : (m : ℕ) (t : State) → AfterMoves h c freed s m t → T (must_move h c t)
+      → AfterMoves h c freed s (m + 1) (found_transferred (emptiest h c t) t)
   unfolding found_transferred
   after_one_move m t r must = let w = emptiest_found_of_must_move h c t must in rw w.1 (after_transfer m w.0 t r must w.1)
 
@@ -423,7 +425,8 @@ module _ (h c freed : ℕ) (s : State) (numbers : WithinLimits s.setup) (pos : 0
       fewer : T (must_move h c t) → superblocks_of h c (found_transferred (emptiest h c t) t) ≤ k
       fewer must = let e = superblocks_after_transfer h c t r.from.length_is pos must in omega arith
 
-      go : (T (must_move h c t) → MovesEnded h c freed s (transfers_up_to k h c (m + 1) (found_transferred (emptiest h c t) t))) → (b : Bool) → must_move h c t ≡ b
+      go : (T (must_move h c t) → MovesEnded h c freed s (transfers_up_to k h c (m + 1) (found_transferred (emptiest h c t) t))) → (b : Bool)
+          → must_move h c t ≡ b
           → MovesEnded h c freed s (pick b (transfers_up_to k h c (m + 1) (found_transferred (emptiest h c t) t)) (record { moves = m; state = t }))
       go next true e = next (T_of_true (must_move h c t) e)
       go next false e = record { after = r; invariant = not_T_of_false (must_move h c t) e }

@@ -189,7 +189,8 @@ module _ (k : ℕ) (table : List Superblock) where
     unfolding rank_after_free
     rank_after_free_of_other = pick_false _ _ _ (ne_eqb m k other)
 
-    rank_after_renewal_of_other : rank_after_renewal k table m ≡ (get_or table m blank).rank - one (is_more_recent (get_or table k blank) (get_or table m blank))
+    rank_after_renewal_of_other : rank_after_renewal k table m
+        ≡ (get_or table m blank).rank - one (is_more_recent (get_or table k blank) (get_or table m blank))
     unfolding rank_after_renewal
     rank_after_renewal_of_other = pick_false _ _ _ (ne_eqb m k other)
 
@@ -216,11 +217,13 @@ module _ (k : ℕ) (table : List Superblock) where
           ap one (true_of_T (is_more_recent (get_or table k blank) (get_or table m blank)) (more_recent_of_facts _ _ (h, inr l))),
         )
 
-    pub rank_after_renewal_ahead : (0 < (get_or table k blank).rank → (get_or table k blank).rank < (get_or table m blank).rank → ⊥) → rank_after_renewal k table m
+    pub rank_after_renewal_ahead : (0 < (get_or table k blank).rank → (get_or table k blank).rank < (get_or table m blank).rank → ⊥)
+        → rank_after_renewal k table m
         ≡ (get_or table m blank).rank
     rank_after_renewal_ahead n = go (is_more_recent (get_or table k blank) (get_or table m blank)) refl (get_or table m blank).rank refl
       where
-        go : (t : Bool) → is_more_recent (get_or table k blank) (get_or table m blank) ≡ t → (r : ℕ) → (get_or table m blank).rank ≡ r → rank_after_renewal k table m
+        go : (t : Bool) → is_more_recent (get_or table k blank) (get_or table m blank) ≡ t → (r : ℕ) → (get_or table m blank).rank ≡ r
+            → rank_after_renewal k table m
             ≡ (get_or table m blank).rank
         go t e zero q = omega (arith, rank_after_renewal_of_other)
         go true e (suc r) q =
@@ -327,7 +330,8 @@ module _ (k : ℕ) (s : State) (below : k < 64) (sound : RanksSound s) where
       first : after k ≡ 1
       first = rank_after_free_of_superblock k s.table
 
-      others : (r : ℕ) → rank_at s k ≡ r → (t : Bool) → is_more_recent (superblock_at s m) (superblock_at s k) ≡ t → rank_at s m + one t ≤ count_above after 64 0
+      others : (r : ℕ) → rank_at s k ≡ r → (t : Bool) → is_more_recent (superblock_at s m) (superblock_at s k) ≡ t
+          → rank_at s m + one t ≤ count_above after 64 0
       others zero e t f = omega (arith, one_le_one t, sound.bounded m l, count_one_more (rank_at s) after 64 k still below e (omega (arith, first)))
       others (suc r) e t f =
           let kept = count_kept (rank_at s) after 64 k still (same_test_of_positive (after k) (rank_at s k) (λ p. omega arith) (λ p. omega (arith, first))) in
@@ -366,7 +370,8 @@ module _ (k : ℕ) (s : State) (below : k < 64) (sound : RanksSound s) where
           count : ranked_count s ≡ suc (count_above after 64 0)
           count = count_one_less (rank_at s) after 64 k still below (omega arith) none
 
-          fewer : (t : Bool) → is_more_recent (superblock_at s k) (superblock_at s m) ≡ t → (x : ℕ) → rank_at s m ≡ x → rank_at s m - one t ≤ count_above after 64 0
+          fewer : (t : Bool) → is_more_recent (superblock_at s k) (superblock_at s m) ≡ t → (x : ℕ) → rank_at s m ≡ x
+              → rank_at s m - one t ≤ count_above after 64 0
           fewer true f x q = omega (arith, sound.bounded m l, count)
           fewer false f zero q = omega arith
           fewer false f (suc x) q =

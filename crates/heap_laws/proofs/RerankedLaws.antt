@@ -21,7 +21,8 @@ use Rattle.names_laws.proofs.NameLaws.{each_held_of_tests}
 use Rattle.heap_rules.specs.declared.Superblock.{Superblock}
 use Rattle.heap_rules.specs.declared.State.{State}
 use Rattle.heap_rules.specs.Table.{blank, superblock_at, live_in, is_of_run, starts_run, is_of_heap, live_blocks, with_rank, is_live_block}
-use Rattle.heap_rules.specs.Counts.{total, belongs, one_if_belongs, live_if_belongs, is_owned_of_class, superblocks_of, blocks_in, live_of, superblocks_of_class}
+use Rattle.heap_rules.specs.Counts.{total, belongs, one_if_belongs, live_if_belongs, is_owned_of_class, superblocks_of, blocks_in, live_of}
+use Rattle.heap_rules.specs.Counts.{superblocks_of_class}
 use Rattle.heap_rules.specs.Counts.{live_of_class, owners_changed}
 use Rattle.heap_rules.specs.Totals.{total_index, is_counted, with_counted, counted_below, recounted, TotalsKept}
 use Rattle.heap_rules.specs.Ranks.{reranked}

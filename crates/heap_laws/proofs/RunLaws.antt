@@ -144,7 +144,8 @@ module _ (b : Superblock) (table : List Superblock) where
     rest_of_next zero l = f.still_of_run l
     rest_of_next (suc m) l = g.rest m (omega arith)
 
-    first_of_next : (k : ℕ) → k < length (b ∷ table) → is_of_run (get_or (b ∷ table) k blank) ≡ true → 0 < (get_or (b ∷ table) k blank).run → WholeFrom (b ∷ table) k
+    first_of_next : (k : ℕ) → k < length (b ∷ table) → is_of_run (get_or (b ∷ table) k blank) ≡ true → 0 < (get_or (b ∷ table) k blank).run
+        → WholeFrom (b ∷ table) k
     first_of_next zero l e h = record { at_most_16 = f.at_most_16; in_table = omega (arith, g.rest_in_table); others = go }
       where
         go : (m : ℕ) → 0 < m → m < 0 + b.run → FollowsIn (b ∷ table) m

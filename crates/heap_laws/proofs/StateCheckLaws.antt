@@ -27,7 +27,8 @@ use Rattle.heap_rules.specs.Table.{run_owner, unused_owner, blank, unused, super
 use Rattle.heap_rules.specs.States.{with_superblock, with_names, new_state}
 use Rattle.heap_rules.specs.Counts.{superblocks_of, live_of, blocks_in}
 use Rattle.move_rules.specs.Moves.{both_conditions, must_move}
-use Rattle.check_rules.specs.Check.{within, within_limits, is_part_of_run, is_unowned, is_owned, superblock_valid, unused_from, emptiness_invariant, sparse_if_global}
+use Rattle.check_rules.specs.Check.{within, within_limits, is_part_of_run, is_unowned, is_owned, superblock_valid, unused_from, emptiness_invariant}
+use Rattle.check_rules.specs.Check.{sparse_if_global}
 use Rattle.check_rules.specs.Check.{names_valid, ranks_valid, runs_valid, rest_valid, passes}
 use Rattle.check_rules.proofs.ClauseLaws.{clauses_of_rest, rest_of_clauses, limits_of_passes, rest_of_passes, passes_of_limits_and_rest}
 use Rattle.heap_laws.proofs.StateFacts.{Shape, WithinLimits, Unused, Unowned, Owned, Sparse, Sound, NamesSound, SoundWith, SoundAfterFrees}
@@ -272,7 +273,8 @@ sound_of_passes s order t = sound_of_limits_and_rest s order (limits_of_passes s
 pub totals_kept_of_passes : (s : State) (order : List ℕ) → T (passes s order) → TotalsKept s
 totals_kept_of_passes s order t = totals_kept_of_rest s order (rest_of_passes s order t)
 
-pub passes_of_sound : (s : State) (order : List ℕ) → Sound s order → T (names_valid s) → TotalsKept s → T (ranks_valid s) → T (runs_valid s) → T (passes s order)
+pub passes_of_sound : (s : State) (order : List ℕ) → Sound s order → T (names_valid s) → TotalsKept s → T (ranks_valid s) → T (runs_valid s)
+    → T (passes s order)
 passes_of_sound s order h names totals ranks runs =
     passes_of_limits_and_rest s order (within_limits_of_facts s.setup h.numbers) (rest_valid_of_sound s order h names totals ranks runs)
 

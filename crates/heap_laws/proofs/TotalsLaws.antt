@@ -23,7 +23,8 @@ use Rattle.heap_rules.specs.declared.Totals.{Totals}
 use Rattle.heap_rules.specs.declared.State.{State}
 use Rattle.heap_rules.specs.Table.{blank, superblock_at, live_in}
 use Rattle.heap_rules.specs.Counts.{total, belongs, one_if_belongs, live_if_belongs, superblocks_of, live_of}
-use Rattle.heap_rules.specs.Totals.{heap_count, total_count, total_index, superblocks_kept, live_kept, is_counted, with_counted, counted_below, recounted, TotalsKept}
+use Rattle.heap_rules.specs.Totals.{heap_count, total_count, total_index, superblocks_kept, live_kept, is_counted, with_counted, counted_below, recounted}
+use Rattle.heap_rules.specs.Totals.{TotalsKept}
 use Rattle.heap_rules.specs.States.{with_superblock, new_state}
 use Rattle.check_rules.specs.Check.{same_totals, totals_valid}
 use Rattle.heap_laws.proofs.StateFacts.{Unowned, Owned, Sound}

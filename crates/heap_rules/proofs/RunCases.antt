@@ -9,7 +9,8 @@ use Rattle.base_laws.specs.Sums.{sum_below}
 use Rattle.marks_rules.specs.Marks.{bit, mark_bit, is_marked, with_mark, no_marks}
 use Rattle.heap_rules.specs.declared.Superblock.{Superblock}
 use Rattle.heap_rules.specs.declared.State.{State}
-use Rattle.heap_rules.specs.Table.{unused, is_of_run, starts_run, run_part, is_of_heap, live_blocks, with_owner, with_mark_at, without_mark_at, with_rank, is_live_block}
+use Rattle.heap_rules.specs.Table.{unused, is_of_run, starts_run, run_part, is_of_heap, live_blocks, with_owner, with_mark_at, without_mark_at, with_rank}
+use Rattle.heap_rules.specs.Table.{is_live_block}
 use Rattle.heap_rules.specs.States.{with_superblock}
 use Rattle.heap_rules.specs.Counts.{total, is_owned_of_class, superblocks_of_class, owners_changed, passed_between_heaps}
 use Rattle.heap_rules.proofs.CaseStates.{unnamed_state}
@@ -53,7 +54,8 @@ live_blocks_cases = refl
 
 -- one superblock changed keeps the length that it carries
 pub length_kept_cases :
-    map (λ (b : Superblock). b.run) (with_owner 3 (run_part 5) ∷ with_mark_at (run_part 5) 70 ∷ without_mark_at (run_part 5) 2 ∷ with_rank 6 (run_part 5) ∷ []) ≡ 5
+    map (λ (b : Superblock). b.run) (with_owner 3 (run_part 5) ∷ with_mark_at (run_part 5) 70 ∷ without_mark_at (run_part 5) 2 ∷ with_rank 6 (run_part 5) ∷ [])
+        ≡ 5
     ∷ 5 ∷ 5 ∷ 5 ∷ []
 unfolding table_holds
 length_kept_cases = refl
@@ -63,7 +65,8 @@ abbrev pub state_with_run : State
 state_with_run = unnamed_state small_setup (of 1 16 5 ∷ of 0 0 0 ∷ run_part 3 ∷ run_part 0 ∷ run_part 0 ∷ replicate 58 unused ++ of 2 0 1 ∷ [])
 
 -- the long block is block 0 of superblock 2; its other blocks are not live, and those of superblocks 3 and 4 are not; block 0 of superblock 63 is
-pub is_live_block_of_run_cases : map (is_live_block state_with_run) (512 ∷ 513 ∷ 767 ∷ 768 ∷ 1024 ∷ 16128 ∷ []) ≡ true ∷ false ∷ false ∷ false ∷ false ∷ true ∷ []
+pub is_live_block_of_run_cases : map (is_live_block state_with_run) (512 ∷ 513 ∷ 767 ∷ 768 ∷ 1024 ∷ 16128 ∷ [])
+    ≡ true ∷ false ∷ false ∷ false ∷ false ∷ true ∷ []
 unfolding table_holds is_live_block live_blocks starts_run is_of_run is_marked with_mark mark_bit bit
 is_live_block_of_run_cases = refl
 

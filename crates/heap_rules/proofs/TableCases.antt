@@ -15,7 +15,8 @@ use Rattle.heap_rules.specs.Table.{unused, is_unused, is_of_run, starts_run, is_
 use Rattle.heap_rules.specs.Table.{is_live_block}
 use Rattle.heap_rules.specs.Totals.{recounted}
 use Rattle.heap_rules.specs.States.{with_superblock, with_names, no_state, new_state}
-use Rattle.heap_rules.specs.Counts.{total, belongs, is_owned_of_class, one_if_belongs, live_if_belongs, superblocks_of, blocks_in, live_of, superblocks_of_class}
+use Rattle.heap_rules.specs.Counts.{total, belongs, is_owned_of_class, one_if_belongs, live_if_belongs, superblocks_of, blocks_in, live_of}
+use Rattle.heap_rules.specs.Counts.{superblocks_of_class}
 use Rattle.heap_rules.specs.Counts.{live_of_class, owners_changed}
 use Rattle.heap_rules.proofs.CaseStates.{unnamed_state}
 

@@ -28,7 +28,8 @@ use Rattle.call_rules.specs.Answers.{After, number_of, refused, checked, is_proc
 use Rattle.call_rules.specs.Setup.{setup_of}
 use Rattle.call_rules.specs.LongBlocks.{long_taken_from, long_taken_at}
 use Rattle.call_rules.specs.Take.{other_places, taken_from, taken_from_other, taken_at, take_unchecked, take_of}
-use Rattle.call_rules.specs.Free.{superblock_holding, is_unmapped, is_in_run, is_misaligned, is_live_at, address_refusal, small_block_freed, block_freed, small_freed_at}
+use Rattle.call_rules.specs.Free.{superblock_holding, is_unmapped, is_in_run, is_misaligned, is_live_at, address_refusal, small_block_freed, block_freed}
+use Rattle.call_rules.specs.Free.{small_freed_at}
 use Rattle.call_rules.specs.Free.{long_freed_at, freed_at, free_unchecked, free_of}
 use Rattle.call_rules.specs.Named.{named_take_of, held_address, named_free_unchecked, named_free_of}
 use Rattle.call_rules.specs.Drop.{all_freed, first_address_refusal, is_touched, then_restored, Pair, touched_classes, touched_pairs, each_restored, drop_moves}

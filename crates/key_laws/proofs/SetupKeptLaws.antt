@@ -33,7 +33,8 @@ use Rattle.call_rules.specs.LongBlocks.{long_taken_from, long_taken_at}
 use Rattle.call_rules.specs.Take.{other_places, unranked_if_empty, taken_from, taken_from_other, taken_at, take_unchecked, take_of}
 use Rattle.call_rules.specs.Free.{superblock_index, superblock_holding, is_unmapped, is_in_run, is_misaligned, is_live_at, mark_cleared, small_block_freed}
 use Rattle.call_rules.specs.Free.{long_block_freed, block_freed, small_freed_at, long_freed_at, freed_at, free_unchecked, free_of}
-use Rattle.call_rules.specs.Named.{is_unavailable, name_bound, bound_by, with_name_bound, named_take_unchecked, named_take_of, held_address, named_free_unchecked}
+use Rattle.call_rules.specs.Named.{is_unavailable, name_bound, bound_by, with_name_bound, named_take_unchecked, named_take_of, held_address}
+use Rattle.call_rules.specs.Named.{named_free_unchecked}
 use Rattle.call_rules.specs.Named.{named_free_of}
 use Rattle.call_rules.specs.Drop.{all_freed, first_address_refusal, then_restored, Pair, each_restored, drop_moves, dropped_all, drop_unchecked, drop_of}
 use Rattle.call_rules.specs.Calls as call

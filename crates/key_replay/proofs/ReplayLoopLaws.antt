@@ -23,7 +23,8 @@ abbrev first_replay : State → Replay
 first_replay s = record { state = s; at = 0; end = 0; going = true; stopped = false }
 
 -- ---- before the first command
-pub text_and_order_ahead_at_start : (r order out : List ℕ) (s : State) → s ≡ no_state → text_and_order_ahead r (first_replay s) order out ≡ key_and_storage r order out
+pub text_and_order_ahead_at_start : (r order out : List ℕ) (s : State) → s ≡ no_state
+    → text_and_order_ahead r (first_replay s) order out ≡ key_and_storage r order out
 unfolding text_and_order_ahead text_ahead order_ahead key_and_storage key_of storage_of commands_of
 text_and_order_ahead_at_start r order out s e = rw e
 

@@ -8,7 +8,8 @@ use Rattle.line_rules.specs.Lines.{setup_line, result, take_line, free_line, nam
 use Rattle.line_rules.specs.Lines.{heap_line_if, class_lines, heap_lines, run_line, run_line_if, run_lines, final_lines, closing_lines}
 
 unfoldable pub line_definitions : Unit {0}
-unfolding setup_line take_line free_line named_take_line named_free_line drop_line call_line result stop_line final_lines heap_lines class_lines heap_line_if heap_line
+unfolding setup_line take_line free_line named_take_line named_free_line drop_line call_line result stop_line final_lines heap_lines class_lines heap_line_if
+    heap_line
     run_lines run_line_if run_line closing_lines decimal digits
     is_of_run starts_run superblocks_of live_of total belongs one_if_belongs live_if_belongs live_count mark_bit bit sum_below
 line_definitions = tt

@@ -183,7 +183,8 @@ bit_of_word_is_mark_bit l i k h = ap₂ (λ (a b : ℕ). bit (get_or l a 0) b) (
     mod_is i k h = omega arith
 
 word_sum : (l : List ℕ) (i : ℕ) → get_or l i 0 < 2 ^ 64 → ones (get_or l i 0) ≡ sum_below (λ k. mark_bit l (i * 64 + k)) 64
-word_sum l i h = ones_is_sum_of_bits 64 (get_or l i 0) h ∙ sum_cong (bit (get_or l i 0)) (λ k. mark_bit l (i * 64 + k)) 64 (λ k lk. bit_of_word_is_mark_bit l i k lk)
+word_sum l i h = ones_is_sum_of_bits 64 (get_or l i 0) h ∙ sum_cong (bit (get_or l i 0)) (λ k. mark_bit l (i * 64 + k)) 64
+    (λ k lk. bit_of_word_is_mark_bit l i k lk)
 
 pub live_count_is_ones_of_words : (l : List ℕ) → ((i : ℕ) → get_or l i 0 < 2 ^ 64) → ones (get_or l 0 0) + ones (get_or l 1 0) + ones (get_or l 2 0) + ones
     (get_or l 3 0) ≡ live_count l

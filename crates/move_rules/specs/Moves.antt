@@ -31,7 +31,8 @@ found_transferred Nothing s = s
 -- the moves while both conditions are met, at most as many as the first number, after m moves
 unfoldable pub transfers_up_to : ℕ → ℕ → ℕ → ℕ → State → Moved
 transfers_up_to zero h c m s = record { moves = m; state = s }
-transfers_up_to (suc k) h c m s = pick (must_move h c s) (transfers_up_to k h c (m + 1) (found_transferred (emptiest h c s) s)) (record { moves = m; state = s })
+transfers_up_to (suc k) h c m s = pick (must_move h c s) (transfers_up_to k h c (m + 1) (found_transferred (emptiest h c s) s))
+    (record { moves = m; state = s })
 
 -- "While u + K × n < a and q × u < (q - p) × a, heap i's class-c superblock with the fewest live .. passes to heap 0."
 -- 64 turns are enough, since a heap has no more superblocks.

@@ -23,7 +23,8 @@ unfolding last_filled place
 last_filled_cases = refl
 
 -- place 3 of superblock 1 gets 9, and no other place is written; a place that is not lent is none
-pub with_place_case : with_place storage 1 3 9 ≡ replicate 256 70 ++ (11 ∷ 12 ∷ 13 ∷ 9 ∷ 15 ∷ replicate 251 71) ++ (21 ∷ 22 ∷ replicate 254 72) ++ replicate 7 73
+pub with_place_case : with_place storage 1 3 9 ≡ replicate 256 70 ++ (11 ∷ 12 ∷ 13 ∷ 9 ∷ 15 ∷ replicate 251 71) ++ (21 ∷ 22 ∷ replicate 254 72) ++ replicate 7
+    73
 unfolding with_place
 with_place_case = refl
 

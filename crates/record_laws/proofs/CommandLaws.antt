@@ -151,7 +151,8 @@ pub commands_refused : (r : List ℕ) (at : ℕ) (c : Command) (number offset : 
 unfolding commands_from is_refused
 commands_refused r at c number offset e k = rw (← e, k)
 
-pub commands_next : (r : List ℕ) (at : ℕ) (c : Command) → c ≡ command_at r at → is_refused c ≡ false → commands_at r at ≡ c ∷ remaining r (at + size_of_command c)
+pub commands_next : (r : List ℕ) (at : ℕ) (c : Command) → c ≡ command_at r at → is_refused c ≡ false
+    → commands_at r at ≡ c ∷ remaining r (at + size_of_command c)
 unfolding commands_from remaining
 commands_next r at c e f = rw (← e, f) (ap (λ (l : List Command). c ∷ l) (go (leb (length r) (at + size_of_command c)) refl))
   where

@@ -102,7 +102,8 @@ module _ (r : List ℕ) (at : ℕ) where
   abbrev pub SetupAt : ℕ → ℕ → ℕ → ℕ → ℕ → Type 0
   SetupAt processors superblocks spare p q =
       (length r ≤ 60000) × (at ≡ 0) × (byte_at r at ≡ 0) × (at + 6 ≤ length r)
-      × (processors ≡ byte_at r (at + 1)) × (superblocks ≡ byte_at r (at + 2)) × (spare ≡ byte_at r (at + 3)) × (p ≡ byte_at r (at + 4)) × (q ≡ byte_at r (at + 5))
+      × (processors ≡ byte_at r (at + 1)) × (superblocks ≡ byte_at r (at + 2)) × (spare ≡ byte_at r (at + 3)) × (p ≡ byte_at r (at + 4))
+          × (q ≡ byte_at r (at + 5))
 
   abbrev pub TakeAt : ℕ → ℕ → Type 0
   TakeAt processor size =
@@ -162,7 +163,8 @@ module _ (r : List ℕ) (at : ℕ) where
     later : 1 ≤ byte_at r at → 0 < at
     whole : at + bytes_of (byte_at r at) (byte_at r (at + 2)) ≤ length r
 
-  size_by_first_byte : (call : CallHeader) (count first : ℕ) → NumbersAt call count first → bytes_of (call_byte call) (byte_at r (at + 2)) ≡ call_size call count
+  size_by_first_byte : (call : CallHeader) (count first : ℕ) → NumbersAt call count first
+      → bytes_of (call_byte call) (byte_at r (at + 2)) ≡ call_size call count
   unfolding NumbersAt bytes_of call_byte call_size
   size_by_first_byte (header.Take processor size) count first h = refl
   size_by_first_byte (header.Free processor address) count first h = refl

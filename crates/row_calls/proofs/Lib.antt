@@ -1,3 +1,2 @@
 pub mod LoadStoreLaws
-pub mod LoadStoreContracts
 pub mod RowCallLaws

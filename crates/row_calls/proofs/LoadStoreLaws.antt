@@ -16,7 +16,8 @@ use Rattle.check_rules.specs.Check.{within_limits, passes}
 use Rattle.call_rules.specs.Answers.{number_of, PassesIfAccepted}
 use Rattle.call_rules.specs.Calls.{Call, call_of}
 use Rattle.row_rules.specs.declared.Control.{Control}
-use Rattle.row_rules.specs.Row.{RowAfter, row_after, state_of, control_of, as_row_after, row_refused, row_accepted_setup, setup_on, call_on, row_setup, row_call}
+use Rattle.row_rules.specs.Row.{RowAfter, row_after, state_of, control_of, as_row_after, row_refused, row_accepted_setup, setup_on, call_on, row_setup}
+use Rattle.row_rules.specs.Row.{row_call}
 use Rattle.row_by_value.specs.declared.TableCall.{TableCall}
 use Rattle.row_by_value.specs.Tables.{is_accepted, row_after_call}
 use Rattle.row_laws.proofs.RowLaws.{setup_on_other_length_not_accepted, call_on_other_length_not_accepted, row_setup_row_if_accepted, row_call_row_if_accepted}
@@ -35,7 +36,8 @@ setup_on_other_length_ignores_row n u t row order f = go (within_limits u) (leb 
     go : (a b c : Bool) → c ≡ false
         → with_row (pick a (pick b (pick c (row_accepted_setup u order) (row_refused 13 (control_of no_state) t order))
         (row_refused 12 (control_of no_state) t order)) (row_refused 1 (control_of no_state) t order)) row
-        ≡ pick a (pick b (pick c (row_accepted_setup u order) (row_refused 13 (control_of no_state) row order)) (row_refused 12 (control_of no_state) row order))
+        ≡ pick a (pick b (pick c (row_accepted_setup u order) (row_refused 13 (control_of no_state) row order))
+        (row_refused 12 (control_of no_state) row order))
         (row_refused 1 (control_of no_state) row order)
     go true true true e = absurd (true_not_false true refl e)
     go true true false e = refl

@@ -1,5 +1,5 @@
 -- The ways out of a call on a table by value, in the forms that its proofs ask. Assumes nothing.
-use mathlib.Core.Path.{◌≡◌, refl, sym, ap, ◌∙◌, subst}
+use mathlib.Core.Path.{◌≡◌, refl, sym, ap, ◌∙◌}
 use mathlib.Core.Bool.{Bool, true, false}
 use mathlib.Core.List.{List}
 use Prim.Native.Nat.{ℕ, ◌*◌}
@@ -13,63 +13,24 @@ use Rattle.heap_rules.specs.declared.State.{State}
 use Rattle.heap_rules.specs.States.{no_state}
 use Rattle.check_rules.specs.Check.{within_limits}
 use Rattle.call_rules.specs.declared.Answer.{Answer}
-use Rattle.call_rules.specs.Answers.{refused, number_of, HasNumberAndValuesOf, PassesIfAccepted, MovesAtMost}
+use Rattle.call_rules.specs.Answers.{refused, number_of, PassesIfAccepted}
 use Rattle.call_rules.specs.Setup.{accepted_setup, setup_of}
-use Rattle.call_rules.specs.Calls.{Call, most_moves, call_of}
+use Rattle.call_rules.specs.Calls.{Call, call_of}
 use Rattle.check_limits.specs.SetupRefusal.{setup_refusal}
-use Rattle.call_rules.proofs.AnswerLaws.{has_number_and_values_of_equal, moves_at_most_of_refusal}
 use Rattle.row_rules.specs.declared.Control.{Control}
-use Rattle.row_rules.specs.Row.{RowAfter, state_of, control_of, as_row_after, row_refused, row_accepted_setup, setup_on, call_on}
+use Rattle.row_rules.specs.Row.{state_of, control_of, as_row_after, row_refused, row_accepted_setup, setup_on, call_on}
 use Rattle.row_by_value.specs.declared.TableCall.{TableCall}
-use Rattle.row_by_value.specs.Tables.{is_accepted, row_after_call, row_first_refusal, refused_call, answered_call}
+use Rattle.row_by_value.specs.Tables.{row_after_call, row_first_refusal, refused_call, answered_call}
 
 -- ---- what a result says of what the rules leave
 abbrev TablePassesIfAccepted : TableCall → List ℕ → Type 0
 TablePassesIfAccepted r after = PassesIfAccepted r.answer.outcome (state_of r.answer.control r.table) after
-
-abbrev TableCallClauses : TableCall → List ℕ → RowAfter → Type 0
-TableCallClauses r after x = (row_after_call r after ≡ x)
-    × ((r.accepted ≡ is_accepted r.answer.outcome) × (HasNumberAndValuesOf r.answer.outcome x.outcome × TablePassesIfAccepted r after))
-
-pub table_call_clauses : (r : TableCall) (after : List ℕ) (x : RowAfter) → row_after_call r after ≡ x → r.accepted ≡ is_accepted r.answer.outcome
-    → TablePassesIfAccepted r after → TableCallClauses r after x
-table_call_clauses r after x e b p = (e, (b, (has_number_and_values_of_equal r.answer.outcome x.outcome (ap (λ (y : RowAfter). y.outcome) e), p)))
-
--- and of a call, with its moves
-pub table_call_clauses_with_moves : (most : ℕ) (r : TableCall) (after : List ℕ) (x : RowAfter)
-    → row_after_call r after ≡ x → r.accepted ≡ is_accepted r.answer.outcome → TablePassesIfAccepted r after → MovesAtMost most r.answer.outcome
-    → (row_after_call r after ≡ x) × ((r.accepted ≡ is_accepted r.answer.outcome)
-    × (HasNumberAndValuesOf r.answer.outcome x.outcome × (TablePassesIfAccepted r after × MovesAtMost most r.answer.outcome)))
-table_call_clauses_with_moves most r after x e b p m = let all = table_call_clauses r after x e b p in (all.0, (all.1.0, (all.1.1.0, (all.1.1.1, m))))
-
-pub accepted_flag_of_refused_call : (n : ℕ) (control : Control) (table : List Superblock) (r : TableCall) → r ≡ refused_call n control table
-    → r.accepted ≡ is_accepted r.answer.outcome
-accepted_flag_of_refused_call n control table r e = rw e
-
-pub accepted_flag_of_answered_call : (a : Answer) (r : TableCall) → r ≡ answered_call a → r.accepted ≡ is_accepted r.answer.outcome
-accepted_flag_of_answered_call a r e = rw e
 
 -- "An accepted call yields a state that passes": no refusal has the number 0, and the engine's state passes
 pub refused_call_passes_if_accepted : (n : ℕ) (control : Control) (table : List Superblock) (r : TableCall) (order : List ℕ) → (n ≡ 0 → ⊥)
     → r ≡ refused_call n control table → TablePassesIfAccepted r order
 unfolding number_of
 refused_call_passes_if_accepted n control table r order f e z = absurd (f (sym (ap (λ (x : TableCall). number_of x.answer.outcome) e) ∙ z))
-
-pub answered_call_passes_if_accepted : (a : Answer) (r : TableCall) (after : List ℕ) → PassesIfAccepted a.outcome a.state after → r ≡ answered_call a
-    → TablePassesIfAccepted r after
-answered_call_passes_if_accepted a r after y e = subst (λ (x : TableCall). TablePassesIfAccepted x after) (sym e) y
-
--- "at most q": a refusal reports no moves, and the engine's answer no more than the call may make
-pub refused_call_moves_at_most : (most n : ℕ) (control : Control) (table : List Superblock) (r : TableCall) → r ≡ refused_call n control table
-    → MovesAtMost most r.answer.outcome
-refused_call_moves_at_most most n control table r e = moves_at_most_of_refusal most n r.answer.outcome (ap (λ (x : TableCall). x.answer.outcome) e)
-
-pub answered_call_moves_at_most : (s : State) (control : Control) (table : List Superblock) (call : Call) (a : Answer) (r : TableCall)
-    → s ≡ state_of control table → MovesAtMost (most_moves s.setup.q call) a.outcome → r ≡ answered_call a
-    → MovesAtMost (most_moves control.setup.q call) r.answer.outcome
-answered_call_moves_at_most s control table call a r k y e =
-    subst (λ (x : TableCall). MovesAtMost (most_moves control.setup.q call) x.answer.outcome) (sym e)
-    (subst (λ (x : State). MovesAtMost (most_moves x.setup.q call) a.outcome) k y)
 
 -- ---- a setup
 module _ (n first : ℕ) (u : Setup) (table : List Superblock) (order : List ℕ) (e : first ≡ row_first_refusal 1 n order u) where
@@ -93,7 +54,8 @@ module _ (n first : ℕ) (u : Setup) (table : List Superblock) (order : List ℕ
       → r ≡ answered_call a → row_after_call r after ≡ setup_on n u table order
   unfolding setup_on row_first_refusal setup_refusal setup_of
   answered_setup_is_setup_on z a after r g h =
-      ap (λ (x : TableCall). row_after_call x after) h ∙ ap as_row_after g ∙ go (within_limits u) (leb (u.superblocks * 256) (length order)) (eqb n 64) (sym z ∙ e)
+      ap (λ (x : TableCall). row_after_call x after) h ∙ ap as_row_after g
+      ∙ go (within_limits u) (leb (u.superblocks * 256) (length order)) (eqb n 64) (sym z ∙ e)
     where
       go : (a b c : Bool) → ◌≡◌ {A = ℕ} 0 (pick (eqb (pick a (pick b 0 12) 1) 0) (pick c 0 13) (pick a (pick b 0 12) 1))
           → as_row_after (pick a (pick b (accepted_setup u order) (refused 12 no_state order)) (refused 1 no_state order))

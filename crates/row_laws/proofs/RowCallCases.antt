@@ -157,7 +157,8 @@ abbrev pub run_part_lem : ℕ → Superblock
 run_part_lem n = record { owner = 254; class = 0; live = 0 ∷ 0 ∷ 0 ∷ 0 ∷ []; rank = 0; run = n }
 
 abbrev pub row_after_long_take : List ℕ → RowAfter
-row_after_long_take names = row_after_lem (Address 0) (control_with example_setup names zero_totals) (run_part_lem 1 ∷ replicate 63 unused_superblock) storage_of_258
+row_after_long_take names = row_after_lem (Address 0) (control_with example_setup names zero_totals) (run_part_lem 1 ∷ replicate 63 unused_superblock)
+    storage_of_258
 
 abbrev pub row_after_long_free : RowAfter
 row_after_long_free = row_after_lem (Moves 0) unnamed_control unused_row storage_of_258

@@ -1,0 +1,21 @@
+use mathlib.Core.Path.{refl, ◌∙◌}
+use Prim.Native.Nat.{◌-◌}
+use native.Mathlib.Omega.{arith}
+use Rattle.text_rules.proofs.PasteLaws.{paste_then_paste, paste_nothing_after}
+use Rattle.answer_rules.proofs.AnswerLineLaws.{texts_start, texts_step}
+use Rattle.answer_totals.proofs.TotalLinesLaws.{total_lines_end}
+use Rattle.answer_totals.proofs.total_lines.Goals as goal
+
+pub loop-x-init : goal.loop-x-init
+loop-x-init c = (omega arith, texts_start _ _ _ (paste_nothing_after _ _ _ c.put_nothing-end.ensures), refl)
+
+pub loop-x-preserved : goal.loop-x-preserved
+loop-x-preserved c =
+    let k = c.total_line_if-end in
+    let l = c.loop-x in
+    (omega arith, texts_step _ _ _ _ l.invariant.1 k.ensures, k.auto.out ∙ l.invariant.2)
+
+pub returns : goal.returns
+returns c =
+    let l = c.loop-x in
+    paste_then_paste _ _ _ _ c.put_nothing-end.ensures (total_lines_end _ _ _ _ (omega arith) (omega arith) l.invariant.1)

@@ -1,3 +1,0 @@
-pub mod SplitCells
-pub mod RecordsAnswerLaws
-pub mod AtMostLaws
