@@ -4,4 +4,6 @@ use Rattle.engine_entries.proofs.drop.Goals as goal
 
 pub returns : goal.returns
 unfolding call_of call_with most_moves
-returns c = let t = c.call_state.ensures in record { order_after = t.0; number_and_values = t.1; passes = t.2; moves = t.3 }
+returns c =
+    let all = c.call_state.ensures in
+    record { order_after = all.order_after; number_and_values = all.number_and_values; passes = all.passes; moves = all.moves }

@@ -4,4 +4,6 @@ use Rattle.engine_entries.proofs.take.Goals as goal
 
 pub returns : goal.returns
 unfolding call_of call_with
-returns c = let all = c.call_state.ensures in  let t = (all.0, (all.1.0, all.1.1.0)) in record { order_after = t.0; number_and_values = t.1; passes = t.2 }
+returns c =
+    let all = c.call_state.ensures in
+    record { order_after = all.order_after; number_and_values = all.number_and_values; passes = all.passes }
