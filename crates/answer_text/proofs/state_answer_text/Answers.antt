@@ -5,11 +5,8 @@ use Rattle.base_laws.proofs.ReplacedElement.{length_of_length_map}
 use Rattle.answer_text.proofs.AnswerTextLaws.{state_answer_of_row_answer}
 use borrow.Author.Rules.{rules}
 use Rattle.answer_text.proofs.state_answer_text.Goals as goal
-use Rattle.answer_text.proofs.state_answer_text.Goals.{Start}
-
-table_length_lem : (c : Start) → length c.args.a.state.table ≡ 64
-table_length_lem c = search (length_of_length_map, rules)
 
 pub returns : goal.returns
 returns c =
-    state_answer_of_row_answer _ _ _ _ _ _ _ _ (table_length_lem c) c.control_of-control.ensures c.records_of-records.ensures c.row_answer_text.ensures
+    let records : length c.args.a.state.table ≡ 64 = search (length_of_length_map, rules) in
+    state_answer_of_row_answer _ _ _ _ _ _ _ _ records c.control_of-control.ensures c.records_of-records.ensures c.row_answer_text.ensures
