@@ -10,7 +10,7 @@ use borrow.Author.Tests.{lt-ltb, eq-eqb}
 use lib.Dec.{T, eqb}
 use Rattle.base_laws.specs.Sums.{pick}
 use Rattle.base_laws.proofs.TestLaws.{not_T_of_false, false_of_not_T, pick_true}
-use Rattle.names_rules.specs.Names.{not_held, block_number, is_name_lem, block_named, is_held, without_block}
+use Rattle.names_rules.specs.Names.{not_held, block_number, is_name, block_named, is_held, without_block}
 use Rattle.names_laws.proofs.NameLaws.{held_facts, block_named_without_block, block_named_without_other_block}
 use Rattle.heap_rules.specs.declared.State.{State}
 use Rattle.heap_laws.proofs.StateFacts.{Shape}
@@ -202,5 +202,5 @@ module _ (s : State) (order : List ℕ) (shape : Shape s) (m : ℕ) where
 
 -- "then may be used again": a name of 0 to 1023 that is not held is free
 pub name_available_of_not_held : (s : State) (m : ℕ) → m < 1024 → is_held s.names m ≡ false → is_unavailable s m ≡ false
-unfolding is_unavailable is_name_lem
+unfolding is_unavailable is_name
 name_available_of_not_held s m l e = rw (lt-ltb m 1024 l, e)
