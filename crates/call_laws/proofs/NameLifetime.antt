@@ -85,7 +85,7 @@ module _ (m : ℕ) where
       let first = first_refusal_of_cons s a addresses ok in
       let kept = first_keeps_other freed s order a shape passed first.0 (λ e. other (inl e)) in
       frees_keep_other (one_more_freed (superblock_holding s a).owner (superblock_holding s a).class freed) (block_freed s a) (order_pushed s order a) addresses
-          (address_freed freed s order a shape passed first.0).shape
+      (address_freed freed s order a shape passed first.0).shape
       (address_freed freed s order a shape passed first.0).passed first.1
       (λ h. other (inr (subst (ListsBlock s addresses) kept
       (listed_same s (block_freed s a) (address_freed_block freed s order a shape passed first.0) addresses _ h))))
@@ -100,7 +100,7 @@ module _ (m : ℕ) where
   frees_bind_none freed s order (a ∷ addresses) shape passed ok e =
       let first = first_refusal_of_cons s a addresses ok in
       frees_bind_none (one_more_freed (superblock_holding s a).owner (superblock_holding s a).class freed) (block_freed s a) (order_pushed s order a) addresses
-          (address_freed freed s order a shape passed first.0).shape
+      (address_freed freed s order a shape passed first.0).shape
       (address_freed freed s order a shape passed first.0).passed first.1
       (first_binds_none freed s order a shape passed first.0 e)
 
@@ -112,7 +112,7 @@ module _ (m : ℕ) where
   frees_let_go freed s order (a ∷ addresses) shape passed ok h =
       go (ℕ_discrete (block_named s.names m) (block_number (superblock_index a) (block_of s a))) h
       (frees_let_go (one_more_freed (superblock_holding s a).owner (superblock_holding s a).class freed) (block_freed s a) (order_pushed s order a) addresses
-          shape_then passed_then first.1)
+      shape_then passed_then first.1)
     where
       first : (address_refusal s a ≡ 0) × (first_address_refusal (block_freed s a) addresses ≡ 0)
       first = first_refusal_of_cons s a addresses ok
@@ -132,7 +132,7 @@ module _ (m : ℕ) where
 
       go : Dec (block_named s.names m ≡ block_number (superblock_index a) (block_of s a)) → ListsBlock s (a ∷ addresses) (block_named s.names m)
           → (ListsBlock (block_freed s a) addresses (block_named (block_freed s a).names m)
-              → block_named (all_freed (block_freed s a) addresses).names m ≡ not_held)
+          → block_named (all_freed (block_freed s a) addresses).names m ≡ not_held)
           → block_named (all_freed (block_freed s a) addresses).names m ≡ not_held
       go (yes e) q rest = by_first e
       go (no f) (inl e) rest = by_first e

@@ -386,11 +386,11 @@ module _ (s : State) (order : List ℕ) (shape : Shape s) (passed : Passed s ord
           first (yes z) = z
           first (no f) =
               let mark : mark_bit (with_mark no_marks 0) j ≡ 1 = ap (λ (x : List ℕ). mark_bit x j) (sym (live_blocks_of_first (superblock_at s k) e))
-                  ∙ live_mark in
+              ∙ live_mark in
               absurd (let z : ⊥ = omega (arith, with_mark_other no_marks 0 j f, mark_bit_of_no_marks j) in z)
       go false e =
           let mark : mark_bit (superblock_at s k).live j ≡ 1 = ap (λ (x : List ℕ). mark_bit x j) (sym (live_blocks_not_first (superblock_at s k) e))
-              ∙ live_mark in
+          ∙ live_mark in
           absurd (let z : ⊥ = omega (arith, unmarked_of_unowned no_heap) in z)
 
 -- ---- every live block can be freed by its address
