@@ -29,7 +29,7 @@ module _ (l₀ : List ℕ) {l : List ℕ} (at : ℕ) {r : ℕ} where
   -- one name more, read where the array has it; all
   pub name_lines_step : {l₂ : List ℕ} {r₂ : ℕ} (names : List ℕ) (m : ℕ) → length names ≡ 1024 → m < 1024
       → record { end = r; buffer = l } ≡ pasted l₀ at (lines_of_names names m)
-          → record { end = r₂; buffer = l₂ } ≡ pasted l r (name_line_if m (get_or names m 0))
+      → record { end = r₂; buffer = l₂ } ≡ pasted l r (name_line_if m (get_or names m 0))
       → record { end = r₂; buffer = l₂ } ≡ pasted l₀ at (lines_of_names names (m + 1))
   name_lines_step names m long h p q = texts_step l₀ at _ m p (rw (← block_named_is_read names m long h) q)
 

@@ -27,6 +27,6 @@ module _ (l₀ : List ℕ) {l : List ℕ} (at : ℕ) {r : ℕ} where
 
   pub place_lines_end : (before after : List ℕ) (i n : ℕ) → n ≡ min (length before) (length after) → i ≤ n → n ≤ i
       → record { end = r; buffer = l } ≡ pasted l₀ at (lines_of_places before after i)
-          → record { end = r; buffer = l } ≡ pasted l₀ at (place_lines before after)
+      → record { end = r; buffer = l } ≡ pasted l₀ at (place_lines before after)
   unfolding place_lines
   place_lines_end before after i n e a b p = texts_end l₀ at _ i (min (length before) (length after)) (omega arith) (omega arith) p

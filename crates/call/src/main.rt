@@ -3,7 +3,7 @@
 #![tactic(auto)]
 
 ghost use Rattle.std.specs.Prelude.{◌≤◌};
-ghost use Rattle.io.specs.Counts.{IsPrefixLen};
+ghost use Rattle.program_stream.specs.Stream.{IsPrefixLen};
 
 use call_header::CallHeader;
 use call_rules::Answer;
@@ -35,50 +35,50 @@ const MOST_ADDRESSES: usize = 512;
 const LONGEST_INPUT: usize = 41144;
 
 // The buffer has one byte more than the longest input, so that an input that it truncates is bad in any case.
-fn main() {
+fn main(rt: HostRuntime) {
     let mut input = [0u8; LONGEST_INPUT + 1];
-    let read = program_stream::read_input(b"call", &mut input);
+    let read = program_stream::read_input(&rt, b"call", &mut input);
     let Input::Bytes(n) = read else {
         return;
     };
-    reply_any(&input[..n]);
+    reply_any(&rt, &input[..n]);
 }
 
 // Byte 255 and a length come before a call on a lent row.
-fn reply_any(bytes: &[u8]) {
+fn reply_any(rt: &HostRuntime, bytes: &[u8]) {
     if bytes.len() < 2 {
-        return reply(Lent::State, bytes);
+        return reply(rt, Lent::State, bytes);
     }
     if bytes[0] != LENT_ROW {
-        return reply(Lent::State, bytes);
+        return reply(rt, Lent::State, bytes);
     }
     let length = bytes[1];
     if length > LONGEST_ROW {
-        return reply_bad_input();
+        return reply_bad_input(rt);
     }
-    reply(Lent::Row(length as usize), &bytes[2..]);
+    reply(rt, Lent::Row(length as usize), &bytes[2..]);
 }
 
 // Input that is not of the form, or that lends more places or addresses than the program has, calls nothing.
-fn reply(on: Lent, bytes: &[u8]) {
+fn reply(rt: &HostRuntime, on: Lent, bytes: &[u8]) {
     if !form_layout::well_formed(bytes) {
-        return reply_bad_input();
+        return reply_bad_input(rt);
     }
     let lent = form_layout::place_count(bytes);
     if lent > MOST_PLACES {
-        return reply_bad_input();
+        return reply_bad_input(rt);
     }
     let count = address_count(bytes);
     if count > MOST_ADDRESSES {
-        return reply_bad_input();
+        return reply_bad_input(rt);
     }
-    make_call(on, bytes, lent, count);
+    make_call(rt, on, bytes, lent, count);
 }
 
-fn reply_bad_input() {
+fn reply_bad_input(rt: &HostRuntime) {
     let mut text = [0u8; 16];
     let end = answer_text::bad_input_text(&mut text);
-    write(&text, end);
+    write(rt, &text, end);
 }
 
 // How many addresses are lent: none where the call is no drop.
@@ -91,13 +91,14 @@ fn address_count(bytes: &[u8]) -> usize {
 }
 
 // The program's own storage, and as much for a copy, of which as many places are lent as the input asks, and so with the addresses.
-fn make_call(on: Lent, bytes: &[u8], lent: usize, count: usize)
+fn make_call(rt: &HostRuntime, on: Lent, bytes: &[u8], lent: usize, count: usize)
     requires { (lent ≤ 17000) × (count ≤ 512) }
 {
     let mut storage = [0u16; MOST_PLACES];
     let mut copy = [0u16; MOST_PLACES];
     let addresses = form_lists::load_addresses(bytes);
     load_and_call(
+        rt,
         on,
         bytes,
         &mut storage[0..lent],
@@ -107,17 +108,31 @@ fn make_call(on: Lent, bytes: &[u8], lent: usize, count: usize)
 }
 
 // The order places as the input has them; a copy of these shows which of them changed.
-fn load_and_call(on: Lent, bytes: &[u8], order: &mut [u16], before: &mut [u16], addresses: &[u32]) {
+fn load_and_call(
+    rt: &HostRuntime,
+    on: Lent,
+    bytes: &[u8],
+    order: &mut [u16],
+    before: &mut [u16],
+    addresses: &[u32],
+) {
     let from = form_layout::places_offset(bytes);
     form_lists::load_places(bytes, from, order);
     form_lists::load_places(bytes, from, before);
-    call_on(on, bytes, order, before, addresses);
+    call_on(rt, on, bytes, order, before, addresses);
 }
 
 // The call, and its answer as text.
-fn call_on(on: Lent, bytes: &[u8], order: &mut [u16], before: &[u16], addresses: &[u32]) {
+fn call_on(
+    rt: &HostRuntime,
+    on: Lent,
+    bytes: &[u8],
+    order: &mut [u16],
+    before: &[u16],
+    addresses: &[u32],
+) {
     let mut text = room();
-    print_answer(&mut text, on, bytes, order, before, addresses);
+    print_answer(rt, &mut text, on, bytes, order, before, addresses);
 }
 
 // Room for the text of any answer. A caller that made the array itself would have the prover write out its bytes.
@@ -126,6 +141,7 @@ fn room() -> [u8; 524288] {
 }
 
 fn print_answer(
+    rt: &HostRuntime,
     text: &mut [u8],
     on: Lent,
     bytes: &[u8],
@@ -137,20 +153,20 @@ fn print_answer(
         Lent::State => {
             let a = answer_to(bytes, order, addresses);
             let end = answer_text::state_answer_text(text, a, before, order);
-            write(text, end);
+            write(rt, text, end);
         }
         Lent::Row(n) => {
             let a = row_answer_to(n, bytes, order, addresses);
             let end = answer_text::row_answer_text(text, n, a, before, order);
-            write(text, end);
+            write(rt, text, end);
         }
     }
 }
 
-fn write(text: &[u8], end: usize)
+fn write(rt: &HostRuntime, text: &[u8], end: usize)
     requires { IsPrefixLen end text.now }
 {
-    program_stream::write_output(b"call", &text[..end]);
+    program_stream::write_output(rt, b"call", &text[..end]);
 }
 
 fn state_in(bytes: &[u8]) -> State {

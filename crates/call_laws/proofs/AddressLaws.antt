@@ -49,31 +49,31 @@ block_of_offset_0 s a e = rw e (zero-div (size_of (superblock_holding s a).class
 
 -- an address that is mapped, in a state that passes, lies in a superblock that a heap owns, or in a run
 module _ {Invariant : ℕ → ℕ → State → Type 0} (s : State) (order : List ℕ) (a : ℕ) (sound : SoundWith Invariant s order) (mapped : is_unmapped s a ≡ false)
-    where
-  pub mapped_below_superblocks : superblock_index a < s.setup.superblocks
-  unfolding is_unmapped
-  mapped_below_superblocks =
-      let l = leb-false (s.setup.superblocks * 4096) a (neither_left (leb (s.setup.superblocks * 4096) a) (is_unused (superblock_holding s a)) mapped) in
-      omega arith
+  where
+    pub mapped_below_superblocks : superblock_index a < s.setup.superblocks
+    unfolding is_unmapped
+    mapped_below_superblocks =
+        let l = leb-false (s.setup.superblocks * 4096) a (neither_left (leb (s.setup.superblocks * 4096) a) (is_unused (superblock_holding s a)) mapped) in
+        omega arith
 
-  pub mapped_below_64 : superblock_index a < 64
-  mapped_below_64 = omega (arith, mapped_below_superblocks, sound.numbers.superblocks_high)
+    pub mapped_below_64 : superblock_index a < 64
+    mapped_below_64 = omega (arith, mapped_below_superblocks, sound.numbers.superblocks_high)
 
-  mapped_not_unused : Unused (superblock_holding s a) → ⊥
-  unfolding is_unmapped
-  mapped_not_unused u =
-      not_T_of_false (is_unused (superblock_holding s a)) (neither_right (leb (s.setup.superblocks * 4096) a) (is_unused (superblock_holding s a)) mapped)
-      (is_unused_of_facts (superblock_holding s a) u)
+    mapped_not_unused : Unused (superblock_holding s a) → ⊥
+    unfolding is_unmapped
+    mapped_not_unused u =
+        not_T_of_false (is_unused (superblock_holding s a)) (neither_right (leb (s.setup.superblocks * 4096) a) (is_unused (superblock_holding s a)) mapped)
+        (is_unused_of_facts (superblock_holding s a) u)
 
-  pub mapped_is_owned : is_in_run s a ≡ false → Owned s.setup order (superblock_index a) (superblock_holding s a)
-  unfolding is_of_run
-  mapped_is_owned outside = go (sound.each (superblock_index a) mapped_below_64)
-    where
-      go : Unowned (superblock_holding s a) ⊎ Owned s.setup order (superblock_index a) (superblock_holding s a)
-          → Owned s.setup order (superblock_index a) (superblock_holding s a)
-      go (inl u) = absurd (⊎_elim (λ e. mapped_not_unused (unused_of_unowned (superblock_holding s a) u e))
-          (λ e. eqb-false (superblock_holding s a).owner run_owner outside e) u.owner)
-      go (inr o) = o
+    pub mapped_is_owned : is_in_run s a ≡ false → Owned s.setup order (superblock_index a) (superblock_holding s a)
+    unfolding is_of_run
+    mapped_is_owned outside = go (sound.each (superblock_index a) mapped_below_64)
+      where
+        go : Unowned (superblock_holding s a) ⊎ Owned s.setup order (superblock_index a) (superblock_holding s a)
+            → Owned s.setup order (superblock_index a) (superblock_holding s a)
+        go (inl u) = absurd (⊎_elim (λ e. mapped_not_unused (unused_of_unowned (superblock_holding s a) u e))
+            (λ e. eqb-false (superblock_holding s a).owner run_owner outside e) u.owner)
+        go (inr o) = o
 
 -- an address is of the same class, and so of the same block, in states whose superblocks have the same classes
 module _ (s t : State) (long : length s.table ≡ 64) (long_after : length t.table ≡ 64)

@@ -164,8 +164,11 @@ module _ {I J : ℕ → ℕ → State → Type 0} (s t : State) (order places : 
     unfolding is_live_at is_marked starts_run
     live_same l (on_block_of_class f e in_class) =
         let outside = outside_run_of_owner (superblock_holding s a) f in
-        rw (live_blocks_outside_run (superblock_holding t a) ((reads l).of_run ∙ outside), live_blocks_outside_run (superblock_holding s a) outside,
-            block_same l)
+        rw (
+          live_blocks_outside_run (superblock_holding t a) ((reads l).of_run ∙ outside),
+          live_blocks_outside_run (superblock_holding s a) outside,
+          block_same l,
+        )
         (ap (λ (m : ℕ). eqb m 1) (marks (omega (arith, blocks_of_le_256 (superblock_holding s a).class))))
     live_same l (on_run_start home first offset) =
         let starts : starts_run (superblock_holding s a) ≡ true =

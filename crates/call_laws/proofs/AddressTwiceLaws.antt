@@ -105,7 +105,7 @@ module _ (freed : ℕ → ℕ → ℕ) (s : State) (order : List ℕ) (b : ℕ) 
             effect.marks (superblock_index a) (block_of s a) (omega (arith, h.mapped.inside, passed.sound.numbers.superblocks_high)) apart
             (block_lt_256_of_start 0 s a h (outside_run_of_refused_7 s a e))
             ∙ ap (λ (l : List ℕ). mark_bit l (block_of s a)) (sym (live_blocks_outside_run (superblock_holding s a) (outside_run_of_refused_7 s a e)))
-                ∙ h.mark_is
+            ∙ h.mark_is
 
         go : Dec (superblock_index a ≡ superblock_index b) → Dec (block_of s a ≡ block_of s b)
             → mark_bit (superblock_holding small_after a).live (block_of s a) ≡ 0
@@ -222,7 +222,7 @@ refused_5_stays_so freed s order (b ∷ x) a shape passed ok e =
     let first = first_refusal_of_cons s b x ok in
     let here = address_freed freed s order b shape passed first.0 in
     refused_5_stays_so (one_more_freed (superblock_holding s b).owner (superblock_holding s b).class freed) (block_freed s b) (order_pushed s order b) x a
-        here.shape here.passed first.1
+    here.shape here.passed first.1
     (refused_5_stays freed s order b shape passed first.0 a e)
 
 refused_7_stays_so : (freed : ℕ → ℕ → ℕ) (s : State) (order x : List ℕ) (a : ℕ) → Shape s → PassedAfterFrees freed s order → first_address_refusal s x ≡ 0
@@ -233,7 +233,7 @@ refused_7_stays_so freed s order (b ∷ x) a shape passed ok e =
     let first = first_refusal_of_cons s b x ok in
     let here = address_freed freed s order b shape passed first.0 in
     refused_7_stays_so (one_more_freed (superblock_holding s b).owner (superblock_holding s b).class freed) (block_freed s b) (order_pushed s order b) x a
-        here.shape here.passed first.1
+    here.shape here.passed first.1
     (refused_7_stays freed s order b shape passed first.0 a e)
 
 -- one that was freed meets 7, or 5 where it is a run's start
@@ -247,10 +247,10 @@ freed_among_refused_7 freed s order (b ∷ x) a shape passed ok outside among =
     let here = address_freed freed s order b shape passed first.0 in
     ⊎_elim
     (λ e. refused_7_stays_so (one_more_freed (superblock_holding s b).owner (superblock_holding s b).class freed) (block_freed s b) (order_pushed s order b) x a
-        here.shape here.passed first.1
+    here.shape here.passed first.1
     (ap (address_refusal (block_freed s b)) e ∙ freed_refused_7 freed s order b shape passed first.0 (subst (λ (y : ℕ). is_in_run s y ≡ false) e outside)))
     (λ m. freed_among_refused_7 (one_more_freed (superblock_holding s b).owner (superblock_holding s b).class freed) (block_freed s b) (order_pushed s order b)
-        x a here.shape here.passed first.1
+    x a here.shape here.passed first.1
     (outside_run_stays freed s order b shape passed first.0 a outside) m)
     (Memᴰ.cases_cons among)
 
@@ -263,11 +263,11 @@ freed_among_refused_5 freed s order (b ∷ x) a shape passed ok inside among =
     let first = first_refusal_of_cons s b x ok in
     let here = address_freed freed s order b shape passed first.0 in
     let stays = refused_5_stays_so (one_more_freed (superblock_holding s b).owner (superblock_holding s b).class freed) (block_freed s b)
-        (order_pushed s order b) x a here.shape here.passed first.1 in
+    (order_pushed s order b) x a here.shape here.passed first.1 in
     ⊎_elim (λ e. stays (ap (address_refusal (block_freed s b)) e ∙ freed_refused_5 freed s order b shape passed first.0
     (subst (λ (y : ℕ). is_in_run s y ≡ true) e inside)))
     (λ m. ⊎_elim (λ still. freed_among_refused_5 (one_more_freed (superblock_holding s b).owner (superblock_holding s b).class freed) (block_freed s b)
-        (order_pushed s order b) x a here.shape here.passed first.1 still m) stays
+    (order_pushed s order b) x a here.shape here.passed first.1 still m) stays
     (in_run_stays_or_refused_5 freed s order b shape passed first.0 a inside))
     (Memᴰ.cases_cons among)
 
@@ -296,7 +296,7 @@ module _ (k n a : ℕ) (in_run : InRun k n (superblock_index a)) (inner : a ≡ 
       let first = first_refusal_of_cons s b x ok in
       let here = address_freed freed s order b shape passed first.0 in
       go (ℕ_discrete b (k * 4096)) (inner_by_list (one_more_freed (superblock_holding s b).owner (superblock_holding s b).class freed) (block_freed s b)
-          (order_pushed s order b) x here.shape here.passed first.1)
+      (order_pushed s order b) x here.shape here.passed first.1)
     where
       Then : Type 0
       Then = (Memᴰ (k * 4096) x → address_refusal (all_freed (block_freed s b) x) a ≡ 5)
@@ -315,7 +315,7 @@ module _ (k n a : ℕ) (in_run : InRun k n (superblock_index a)) (inner : a ≡ 
           let long : is_in_run s b ≡ true = ap (λ (m : ℕ). is_of_run (superblock_at s m)) home ∙ run.of_run k (omega arith) (omega (arith, run.some)) in
           let n_is : (superblock_holding s b).run ≡ n = ap (λ (m : ℕ). (superblock_at s m).run) home ∙ run.length_is in
           refused_5_stays_so (one_more_freed (superblock_holding s b).owner (superblock_holding s b).class freed) (block_freed s b) (order_pushed s order b) x a
-              here.shape here.passed first.1
+          here.shape here.passed first.1
           (run_refused_5 freed s order b shape passed first.0 long a (let l = in_run.0 in let h = in_run.1 in (omega arith, omega arith)))
 
       -- .. or the run stays

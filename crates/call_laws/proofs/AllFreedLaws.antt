@@ -86,7 +86,7 @@ freed_of_heaps_le_length s p (a ∷ addresses) = let l = freed_of_heaps_le_lengt
         (λ i. sum_below (λ c. one (belongs (suc i) c (superblock_holding s a))) class_count + sum_below (freed_of s addresses (suc i)) class_count) p
         (λ i l. sum_add (λ c. one (belongs (suc i) c (superblock_holding s a))) (freed_of s addresses (suc i)) class_count)
         ∙ sum_add (λ i. sum_below (λ c. one (belongs (suc i) c (superblock_holding s a))) class_count)
-            (λ i. sum_below (freed_of s addresses (suc i)) class_count) p
+        (λ i. sum_below (freed_of s addresses (suc i)) class_count) p
 
     first : sum_below (λ i. sum_below (λ c. one (belongs (suc i) c (superblock_holding s a))) class_count) p ≤ 1
     first =
@@ -230,7 +230,7 @@ frees_in_table freed s order (a ∷ addresses) shape passed ok (suc i) l =
     let first = first_refusal_of_cons s a addresses ok in
     let here = address_freed freed s order a shape passed first.0 in
     let rest = frees_in_table (one_more_freed (superblock_holding s a).owner (superblock_holding s a).class freed) (block_freed s a) (order_pushed s order a)
-        addresses here.shape here.passed first.1 i (omega arith) in (
+    addresses here.shape here.passed first.1 i (omega arith) in (
       rest.0,
       of_heap_and_class_before s (block_freed s a) (get_or addresses i 0) rest.0 here.owners here.classes rest.1,
       rest.2,

@@ -55,7 +55,7 @@ pub record TakeAccepted (s : State) (order : List ℕ) (i size k : ℕ) : Type 0
   pub size_le_2048 : size ≤ 2048
   pub place : ((fullest i (class_of size) s ≡ At k) × (take_of s order i size ≡ taken_from k s order))
       ⊎ ((fullest i (class_of size) s ≡ Nothing) × (other_places (class_of size) s ≡ At k)
-          × (take_of s order i size ≡ taken_from_other i (class_of size) k s order))
+      × (take_of s order i size ≡ taken_from_other i (class_of size) k s order))
 
 -- an accepted take of a long block (document 02, item 7): the size is 2049 to 65535, and the lowest-numbered run begins at superblock k
 pub record LongTakeAccepted (s : State) (order : List ℕ) (i size k : ℕ) : Type 0 where

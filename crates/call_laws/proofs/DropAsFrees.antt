@@ -261,7 +261,7 @@ unfoldable pub one_by_one_refusal : State → List ℕ → ℕ → List ℕ → 
 one_by_one_refusal s order i [] = 0
 one_by_one_refusal s order i (a ∷ addresses) =
     pick (eqb (number_of (free_of s order i a).answer.outcome) 0)
-        (one_by_one_refusal (free_of s order i a).answer.state (free_of s order i a).order i addresses)
+    (one_by_one_refusal (free_of s order i a).answer.state (free_of s order i a).order i addresses)
     (number_of (free_of s order i a).answer.outcome)
 
 -- a free for a processor in range is accepted, or refused with the refusal of its address
@@ -399,7 +399,7 @@ unfolding one_by_one_refusal first_address_refusal number_of
 one_by_one_beside i freed s order t places [] b = refl
 one_by_one_beside i freed s order t places (a ∷ addresses) b =
     go (ℕ_discrete (address_refusal s a) 0) (λ e. one_by_one_beside i (one_more_freed (superblock_holding t a).owner (superblock_holding t a).class freed)
-        (free_of s order i a).answer.state (free_of s order i a).order (block_freed t a)
+    (free_of s order i a).answer.state (free_of s order i a).order (block_freed t a)
     (order_pushed t places a) addresses (next i freed s order t places b a e))
   where
     x : After

@@ -77,7 +77,7 @@ module _ (of : Superblock → List ℕ) (one_block : ClearsItsBlock of) (m b : �
   frees_keep_other_marks freed s order (a ∷ addresses) shape passed ok other =
       let first = first_refusal_of_cons s a addresses ok in
       frees_keep_other_marks (one_more_freed (superblock_holding s a).owner (superblock_holding s a).class freed) (block_freed s a) (order_pushed s order a)
-          addresses (address_freed freed s order a shape passed first.0).shape
+      addresses (address_freed freed s order a shape passed first.0).shape
       (address_freed freed s order a shape passed first.0).passed first.1
       (λ h. other (inr (listed_same s (block_freed s a) (address_freed_block freed s order a shape passed first.0) addresses _ h)))
       ∙ first_keeps_other freed s order a shape passed first.0 (λ e. other (inl e))
@@ -91,7 +91,7 @@ module _ (of : Superblock → List ℕ) (one_block : ClearsItsBlock of) (m b : �
   frees_set_no_mark freed s order (a ∷ addresses) shape passed ok e =
       let first = first_refusal_of_cons s a addresses ok in
       frees_set_no_mark (one_more_freed (superblock_holding s a).owner (superblock_holding s a).class freed) (block_freed s a) (order_pushed s order a)
-          addresses (address_freed freed s order a shape passed first.0).shape
+      addresses (address_freed freed s order a shape passed first.0).shape
       (address_freed freed s order a shape passed first.0).passed first.1
       (first_sets_none freed s order a shape passed first.0 e)
 
@@ -104,13 +104,13 @@ module _ (of : Superblock → List ℕ) (one_block : ClearsItsBlock of) (m b : �
   frees_clear_marks freed s order (a ∷ addresses) shape passed ok (inl e) =
       let first = first_refusal_of_cons s a addresses ok in
       frees_set_no_mark (one_more_freed (superblock_holding s a).owner (superblock_holding s a).class freed) (block_freed s a) (order_pushed s order a)
-          addresses (address_freed freed s order a shape passed first.0).shape
+      addresses (address_freed freed s order a shape passed first.0).shape
       (address_freed freed s order a shape passed first.0).passed first.1
       (first_clears freed s order a shape passed first.0 e)
   frees_clear_marks freed s order (a ∷ addresses) shape passed ok (inr h) =
       let first = first_refusal_of_cons s a addresses ok in
       frees_clear_marks (one_more_freed (superblock_holding s a).owner (superblock_holding s a).class freed) (block_freed s a) (order_pushed s order a)
-          addresses (address_freed freed s order a shape passed first.0).shape
+      addresses (address_freed freed s order a shape passed first.0).shape
       (address_freed freed s order a shape passed first.0).passed first.1
       (listed_same (block_freed s a) s (λ x. sym (address_freed_block freed s order a shape passed first.0 x)) addresses _ h)
 
@@ -131,7 +131,7 @@ last_freed_ranked_1 freed s order (x ∷ earlier) a shape passed outside ok =
     let first = first_refusal_of_cons s x (earlier ++ (a ∷ [])) ok in
     let here = address_freed freed s order x shape passed first.0 in
     last_freed_ranked_1 (one_more_freed (superblock_holding s x).owner (superblock_holding s x).class freed) (block_freed s x) (order_pushed s order x) earlier
-        a here.shape here.passed
+    a here.shape here.passed
     (outside_run_kept s (block_freed s x) here.owners here.shape.length_is a outside) first.1
 
 -- ---- the moves: what does not depend on which heap the owner is stays

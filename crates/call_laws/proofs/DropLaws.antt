@@ -157,7 +157,7 @@ module _ (s : State) (order addresses : List ℕ) (shape : Shape s) (start : Pas
       same_heap : (k : ℕ) → ((superblock_at before k).owner ≡ (superblock_at s k).owner)
           ⊎ (((superblock_at s k).owner ≡ run_owner) × ((superblock_at before k).owner ≡ unused_owner))
           → ((superblock_at s k).owner ≡ (superblock_at before k).owner)
-              ⊎ ((run_owner ≤ (superblock_at s k).owner) × (run_owner ≤ (superblock_at before k).owner))
+          ⊎ ((run_owner ≤ (superblock_at s k).owner) × (run_owner ≤ (superblock_at before k).owner))
       same_heap k (inl e) = inl (sym e)
       same_heap k (inr (was, now)) = inr (omega arith, omega arith)
 

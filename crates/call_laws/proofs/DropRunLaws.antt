@@ -134,7 +134,7 @@ frees_keep_unused m l freed s order (b ∷ x) shape passed ok is =
     let first = first_refusal_of_cons s b x ok in
     let here = address_freed freed s order b shape passed first.0 in
     frees_keep_unused m l (one_more_freed (superblock_holding s b).owner (superblock_holding s b).class freed) (block_freed s b) (order_pushed s order b) x
-        here.shape here.passed first.1
+    here.shape here.passed first.1
     (unused_is_kept freed s order b shape passed first.0 m l is)
 
 -- superblock m of a run is unused where the run is listed, and else as it was
@@ -148,7 +148,7 @@ module _ (k n m : ℕ) (inside : InRun k n m) where
   frees_of_run freed s order [] shape passed ok run = (λ listed. absurd (Memᴰ.not-nil listed), λ none. refl)
   frees_of_run freed s order (b ∷ x) shape passed ok run =
       go (ℕ_discrete b (k * 4096)) (frees_of_run (one_more_freed (superblock_holding s b).owner (superblock_holding s b).class freed) (block_freed s b)
-          (order_pushed s order b) x here.shape here.passed first.1)
+      (order_pushed s order b) x here.shape here.passed first.1)
     where
       first : (address_refusal s b ≡ 0) × (first_address_refusal (block_freed s b) x ≡ 0)
       first = first_refusal_of_cons s b x ok
@@ -160,7 +160,7 @@ module _ (k n m : ℕ) (inside : InRun k n m) where
       freed_now : b ≡ k * 4096 → superblock_at (all_freed (block_freed s b) x) m ≡ unused
       freed_now e =
           frees_keep_unused m (omega (arith, inside.1, run.in_table)) (one_more_freed (superblock_holding s b).owner (superblock_holding s b).class freed)
-              (block_freed s b) _ x here.shape here.passed first.1
+          (block_freed s b) _ x here.shape here.passed first.1
           (freed_run_is_unused freed s order b shape passed first.0 k n m run e inside)
 
       -- .. or it is kept

@@ -407,7 +407,7 @@ all_freed_push freed s t order (a ∷ addresses) since shape passed ok k =
     let accepted = first_refusal_of_cons t a addresses ok in
     let here = address_freed freed t order a shape passed accepted.0 in
     all_freed_push (one_more_freed (superblock_holding t a).owner (superblock_holding t a).class freed) s (block_freed t a) (order_pushed t order a) addresses
-        (freed_since_then freed s t order a since shape passed accepted.0)
+    (freed_since_then freed s t order a since shape passed accepted.0)
     here.shape here.passed accepted.1 k
     ∙ ap (dropped_onto s k addresses)
     (block_freed_by_test freed t order a shape passed accepted.0 k
@@ -814,7 +814,7 @@ dropped_address freed s t order a (b ∷ earlier) later since shape passed ok sm
     let accepted = first_refusal_of_cons t b (earlier ++ (a ∷ later)) ok in
     let here = address_freed freed t order b shape passed accepted.0 in
     dropped_address (one_more_freed (superblock_holding t b).owner (superblock_holding t b).class freed) s (block_freed t b) (order_pushed t order b) a earlier
-        later (freed_since_then freed s t order b since shape passed accepted.0)
+    later (freed_since_then freed s t order b since shape passed accepted.0)
     here.shape here.passed accepted.1 small
 
 -- After an accepted drop, and any calls that neither are answered from a superblock nor take it into a run nor free into it, a take that is answered from that

@@ -10,7 +10,7 @@ use borrow.Author.Tests.{lt-ltb, eq-eqb}
 use lib.Dec.{T, eqb}
 use Rattle.base_laws.specs.Sums.{pick}
 use Rattle.base_laws.proofs.TestLaws.{not_T_of_false, false_of_not_T, pick_true}
-use Rattle.names_rules.specs.Names.{not_held, block_number, is_name_lem, block_named, is_held, without_block}
+use Rattle.names_rules.specs.Names.{not_held, block_number, is_name, block_named, is_held, without_block}
 use Rattle.names_laws.proofs.NameLaws.{held_facts, block_named_without_block, block_named_without_other_block}
 use Rattle.heap_rules.specs.declared.State.{State}
 use Rattle.heap_laws.proofs.StateFacts.{Shape}
@@ -85,7 +85,7 @@ module _ (m : ℕ) where
       let first = first_refusal_of_cons s a addresses ok in
       let kept = first_keeps_other freed s order a shape passed first.0 (λ e. other (inl e)) in
       frees_keep_other (one_more_freed (superblock_holding s a).owner (superblock_holding s a).class freed) (block_freed s a) (order_pushed s order a) addresses
-          (address_freed freed s order a shape passed first.0).shape
+      (address_freed freed s order a shape passed first.0).shape
       (address_freed freed s order a shape passed first.0).passed first.1
       (λ h. other (inr (subst (ListsBlock s addresses) kept
       (listed_same s (block_freed s a) (address_freed_block freed s order a shape passed first.0) addresses _ h))))
@@ -100,7 +100,7 @@ module _ (m : ℕ) where
   frees_bind_none freed s order (a ∷ addresses) shape passed ok e =
       let first = first_refusal_of_cons s a addresses ok in
       frees_bind_none (one_more_freed (superblock_holding s a).owner (superblock_holding s a).class freed) (block_freed s a) (order_pushed s order a) addresses
-          (address_freed freed s order a shape passed first.0).shape
+      (address_freed freed s order a shape passed first.0).shape
       (address_freed freed s order a shape passed first.0).passed first.1
       (first_binds_none freed s order a shape passed first.0 e)
 
@@ -112,7 +112,7 @@ module _ (m : ℕ) where
   frees_let_go freed s order (a ∷ addresses) shape passed ok h =
       go (ℕ_discrete (block_named s.names m) (block_number (superblock_index a) (block_of s a))) h
       (frees_let_go (one_more_freed (superblock_holding s a).owner (superblock_holding s a).class freed) (block_freed s a) (order_pushed s order a) addresses
-          shape_then passed_then first.1)
+      shape_then passed_then first.1)
     where
       first : (address_refusal s a ≡ 0) × (first_address_refusal (block_freed s a) addresses ≡ 0)
       first = first_refusal_of_cons s a addresses ok
@@ -132,7 +132,7 @@ module _ (m : ℕ) where
 
       go : Dec (block_named s.names m ≡ block_number (superblock_index a) (block_of s a)) → ListsBlock s (a ∷ addresses) (block_named s.names m)
           → (ListsBlock (block_freed s a) addresses (block_named (block_freed s a).names m)
-              → block_named (all_freed (block_freed s a) addresses).names m ≡ not_held)
+          → block_named (all_freed (block_freed s a) addresses).names m ≡ not_held)
           → block_named (all_freed (block_freed s a) addresses).names m ≡ not_held
       go (yes e) q rest = by_first e
       go (no f) (inl e) rest = by_first e
@@ -202,5 +202,5 @@ module _ (s : State) (order : List ℕ) (shape : Shape s) (m : ℕ) where
 
 -- "then may be used again": a name of 0 to 1023 that is not held is free
 pub name_available_of_not_held : (s : State) (m : ℕ) → m < 1024 → is_held s.names m ≡ false → is_unavailable s m ≡ false
-unfolding is_unavailable is_name_lem
+unfolding is_unavailable is_name
 name_available_of_not_held s m l e = rw (lt-ltb m 1024 l, e)

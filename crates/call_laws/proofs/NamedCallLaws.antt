@@ -16,7 +16,7 @@ use Rattle.class_rules.proofs.OffsetLaws.{offset_lt_4096, offset_mod_size}
 use Rattle.marks_rules.specs.Marks.{mark_bit, no_marks, with_mark}
 use Rattle.marks_laws.proofs.MarkLaws.{mark_of_mark_bit_one, mark_bit_of_no_marks, marks_clear_of_live_count_zero, with_mark_same, with_mark_other}
 use Rattle.marks_laws.proofs.NoMarkFromLaws.{mark_clear_of_no_mark_from}
-use Rattle.names_rules.specs.Names.{block_number, is_name_lem, block_named, is_held, with_name, without_block}
+use Rattle.names_rules.specs.Names.{block_number, is_name, block_named, is_held, with_name, without_block}
 use Rattle.names_laws.proofs.NameLaws.{held_facts, block_named_with_name, block_named_with_other_name, length_with_name, not_held_without_block}
 use Rattle.names_laws.proofs.NameLaws.{block_named_without_other_block}
 use Rattle.filled_rules.proofs.PlacesValidLaws.{no_mark_from_of_places_valid}
@@ -62,7 +62,7 @@ start_block_is_0 s k e =
 -- ---- a named take
 -- a name that is free is one of 0 to 1023 and not held
 pub facts_of_available : (s : State) (m : ℕ) → is_unavailable s m ≡ false → (m < 1024) × (is_held s.names m ≡ false)
-unfolding is_unavailable is_name_lem
+unfolding is_unavailable is_name
 facts_of_available s m e = (
   ltb-true m 1024 (not-false (ltb m 1024) (neither_left (not (ltb m 1024)) (is_held s.names m) e)),
   neither_right (not (ltb m 1024))
@@ -386,11 +386,11 @@ module _ (s : State) (order : List ℕ) (shape : Shape s) (passed : Passed s ord
           first (yes z) = z
           first (no f) =
               let mark : mark_bit (with_mark no_marks 0) j ≡ 1 = ap (λ (x : List ℕ). mark_bit x j) (sym (live_blocks_of_first (superblock_at s k) e))
-                  ∙ live_mark in
+              ∙ live_mark in
               absurd (let z : ⊥ = omega (arith, with_mark_other no_marks 0 j f, mark_bit_of_no_marks j) in z)
       go false e =
           let mark : mark_bit (superblock_at s k).live j ≡ 1 = ap (λ (x : List ℕ). mark_bit x j) (sym (live_blocks_not_first (superblock_at s k) e))
-              ∙ live_mark in
+          ∙ live_mark in
           absurd (let z : ⊥ = omega (arith, unmarked_of_unowned no_heap) in z)
 
 -- ---- every live block can be freed by its address

@@ -11,7 +11,7 @@ use lib.Dec.{ltb}
 use Rattle.base_laws.proofs.TestLaws.{T_of_true}
 use Rattle.base_laws.proofs.Decides.{Decides, true_of_decides, false_of_decides, decides, decides_fact, decides_either}
 use Rattle.class_rules.proofs.ClassLaws.{decides_too_large}
-use Rattle.names_rules.specs.Names.{not_held, is_name_lem, block_named, is_held}
+use Rattle.names_rules.specs.Names.{not_held, is_name, block_named, is_held}
 use Rattle.names_laws.proofs.NameLaws.{held_facts, held_of_facts}
 use Rattle.heap_rules.specs.declared.State.{State}
 use Rattle.heap_laws.proofs.StateFacts.{Shape}
@@ -73,7 +73,7 @@ module _ (s : State) (m : ℕ) where
       (λ h. held_of_facts s.names m h.is_name_lem h.points)
 
   decides_unavailable : Decides (is_unavailable s m) ((1024 ≤ m) ⊎ Held s m) ((m < 1024) × (Held s m → ⊥))
-  unfolding is_unavailable is_name_lem
+  unfolding is_unavailable is_name
   decides_unavailable = decides_either (not (ltb m 1024)) (is_held s.names m)
       (decides (not (ltb m 1024)) (λ e. ltb-false m 1024 (not-true (ltb m 1024) e)) (λ e. ltb-true m 1024 (not-false (ltb m 1024) e)) (λ a b. omega arith))
       decides_held

@@ -76,8 +76,11 @@ last_filled_agrees n x y h k m l = go (leb 1 m) (leb m 256) refl
 taken_from_agrees : (n k : ℕ) (s : State) (x y : List ℕ) → SameFirst n x y → k * 256 + 256 ≤ n → Agree n (taken_from k s x) (taken_from k s y)
 unfolding taken_from next_block
 taken_from_agrees n k s x y h l = record {
-  answer = ap (λ (j : ℕ). record { outcome = Address (address_of k (superblock_at s k).class j); state =
-      with_superblock s k (with_mark_at (superblock_at s k) j) })
+  answer = ap (λ (j : ℕ). record {
+    outcome = Address (address_of k (superblock_at s k).class j);
+    state =
+        with_superblock s k (with_mark_at (superblock_at s k) j);
+  })
       (last_filled_agrees n x y h k (blocks_of (superblock_at s k).class - live_in (superblock_at s k)) l);
   order = h;
 }

@@ -288,7 +288,7 @@ module _ (s : State) (order : List ℕ) (i : ℕ) where
     condition_of_take_refused r = checked_refused (take_unchecked s order i size)
         (take_refusals s order i size) r (λ h. h) (λ h. h)
         (go (is_processor s i) (is_too_large size) (is_long size) (lowest_run (run_length size) s) (fullest i (class_of size) s)
-            (other_places (class_of size) s)
+        (other_places (class_of size) s)
         decides_processor (decides_too_large size) (decides_long size) refl refl refl)
       where
         go : (processor large long : Bool) (run own other : Found) → Decides processor (IsProcessor s i) ((i ≡ 0) ⊎ (s.setup.processors < i))
@@ -506,7 +506,7 @@ module _ (s : State) (order : List ℕ) (i : ℕ) where
         go h (on_run_start p l q) =
             let first : block_of s a ≡ 0 = block_of_offset_0 s a q in
             let starts : starts_run (superblock_holding s a) ≡ true =
-                rw (of_run_of_owner (superblock_holding s a) o, lt-ltb 0 (superblock_holding s a).run l) in
+            rw (of_run_of_owner (superblock_holding s a) o, lt-ltb 0 (superblock_holding s a).run l) in
             let marked : mark_bit (live_blocks (superblock_holding s a)) 0 ≡ 1 =
             ap (λ (x : List ℕ). mark_bit x 0) (live_blocks_of_first (superblock_holding s a) starts) ∙ with_mark_same no_marks 0 refl (omega arith) in
             omega (arith, h.clear, ap (mark_bit (live_blocks (superblock_holding s a))) first)

@@ -289,7 +289,7 @@ module _ (s : State) (order : List ℕ) (i c k : ℕ) (b : Superblock) (places :
       go : Dec (m ≡ k) → (is_of_run (superblock_at after m) ≡ is_of_run (superblock_at s m)) × ((superblock_at after m).run ≡ (superblock_at s m).run)
       go (yes e) =
           subst (λ (x : ℕ). (is_of_run (superblock_at after x) ≡ is_of_run (superblock_at s x)) × ((superblock_at after x).run ≡ (superblock_at s x).run))
-              (sym e)
+          (sym e)
           (ap is_of_run after_at_superblock ∙ new_outside_run ∙ sym gives.outside_run, ap (λ (x : Superblock). x.run) after_at_superblock ∙ gives.run)
       go (no f) = (ap is_of_run (after_at_others m f), ap (λ (x : Superblock). x.run) (after_at_others m f))
 

@@ -61,7 +61,7 @@ module _ (s : State) (order : List ℕ) (i size k : ℕ) (passed : Passed s orde
   take_accepted : is_long size ≡ false
       → ((fullest i (class_of size) s ≡ At k) × (take_of s order i size ≡ taken_from k s order))
       ⊎ ((fullest i (class_of size) s ≡ Nothing) × (other_places (class_of size) s ≡ At k)
-          × (take_of s order i size ≡ taken_from_other i (class_of size) k s order))
+      × (take_of s order i size ≡ taken_from_other i (class_of size) k s order))
       → TakeAccepted s order i size k
   take_accepted l place = record {
     passed = passed;
@@ -88,7 +88,7 @@ unfolding take_of take_unchecked taken_at long_taken_at
 take_refused_or_accepted s order i size =
     ⊎_elim inl
     (λ h. go (is_processor s i) (is_too_large size) (is_long size) (lowest_run (run_length size) s) (fullest i (class_of size) s)
-        (other_places (class_of size) s)
+    (other_places (class_of size) s)
     refl refl refl refl refl refl h.0 h.1)
     (checked_refused_or_passed s order (take_unchecked s order i size))
   where
@@ -168,7 +168,7 @@ places_2_to_4_find_nothing c s = go (fullest 0 c s) (lowest_empty s) (lowest_unu
 -- refusal 4: given exactly if the size is one of a class and all four places offer nothing, to a call that no refusal before it meets
 pub nothing_offered_of_refused_4 : (s : State) (order : List ℕ) (i size : ℕ) → take_of s order i size ≡ refused 4 s order
     → (size ≤ 2048) × (fullest i (class_of size) s ≡ Nothing) × (fullest 0 (class_of size) s ≡ Nothing) × (lowest_empty s ≡ Nothing)
-        × (lowest_unused s ≡ Nothing)
+    × (lowest_unused s ≡ Nothing)
 unfolding take_of take_unchecked
 nothing_offered_of_refused_4 s order i size e =
     let c = class_of size in

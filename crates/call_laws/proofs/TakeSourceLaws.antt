@@ -54,8 +54,11 @@ last_block_of order k b = last_filled order k (blocks_of b.class - live_in b)
 abbrev pub taken_with : ℕ → State → Superblock → List ℕ → After
 taken_with k s b order =
     record {
-      answer = record { outcome = Address (address_of k b.class (last_block_of order k b)); state =
-          with_superblock s k (with_mark_at b (last_block_of order k b)) };
+      answer = record {
+        outcome = Address (address_of k b.class (last_block_of order k b));
+        state =
+            with_superblock s k (with_mark_at b (last_block_of order k b));
+      };
       order = order;
     }
 

@@ -173,7 +173,7 @@ module _ (touched : ℕ → ℕ → Bool) where
   touched_pairs_rising zero = tt
   touched_pairs_rising (suc n) =
       rising_append (touched_pairs touched n) (touched_classes touched (suc n) class_count) (touched_pairs_rising n)
-          (touched_classes_rising (suc n) class_count)
+      (touched_classes_rising (suc n) class_count)
       (λ p q m k.
       let high = (touched_of_pair_listed touched n p m).1 in
       let heap_is : q.heap ≡ suc n = (touched_of_class_listed touched (suc n) class_count q k).0 in

@@ -182,7 +182,7 @@ transferred_shape h c s t m kept shape =
 module _ (h c : ℕ) (s t : State) (m : TransferredFrom h c s t) where
   transferred_keeps_each : (P : ℕ → Superblock → Type 0) → ((k : ℕ) → k < 64 → P k (superblock_at s k))
       → ((k : ℕ) → k < 64 → (superblock_at s k).owner ≡ h → Sparse s.setup (superblock_at s k) → P k (superblock_at s k)
-          → P k (with_owner 0 (superblock_at s k)))
+      → P k (with_owner 0 (superblock_at s k)))
       → (k : ℕ) → k < 64 → P k (superblock_at t k)
   transferred_keeps_each P before pass k l = go (m.each k l)
     where

@@ -5,7 +5,7 @@ use mathlib.Core.List.{List}
 use Prim.Native.Nat.{ℕ}
 use borrow.Author.Tests.{not-true, not-false}
 use Rattle.base_laws.specs.Sums.{either}
-use Rattle.names_rules.specs.Names.{is_name_lem, is_held}
+use Rattle.names_rules.specs.Names.{is_name, is_held}
 use Rattle.heap_rules.specs.declared.State.{State}
 use Rattle.call_rules.specs.declared.Answer.{Answer}
 use Rattle.call_rules.specs.declared.Outcome.TheVariants.{Refused}
@@ -30,7 +30,7 @@ module _ (s : State) (order : List ℕ) (i m size : ℕ) (t : Bool) (p : t ≡ i
   unfolding named_take_unchecked
   named_take_refused_2 r f h = refused_of_answer s order 2 r h ∙ sym (rw (← p, f))
 
-  module _ (f : t ≡ true) (x : Bool) (g : x ≡ either (not (is_name_lem m)) (is_held s.names m)) where
+  module _ (f : t ≡ true) (x : Bool) (g : x ≡ either (not (is_name m)) (is_held s.names m)) where
     pub named_take_refused_14 : (r : Answer) → x ≡ true → r ≡ record { outcome = Refused 14; state = s } → answer_and_order r order
         ≡ named_take_unchecked s order i m size
     unfolding named_take_unchecked is_unavailable

@@ -29,12 +29,12 @@ unfoldable pub unchecked_call_definitions : Unit {0}
 unfolding call_unchecked take_unchecked taken_at taken_from_other taken_from address_of next_block acquired_order acquired unranked_if_empty other_places
     long_taken_at long_taken_from run_taken joined_to_run each_of_run lowest_run lowest_below is_free_run is_available is_long run_length
     free_unchecked freed_at small_freed_at long_freed_at order_pushed block_pushed block_freed small_block_freed long_block_freed run_freed made_unused
-        mark_cleared
+    mark_cleared
     block_number_at
     is_live_at is_misaligned is_off_block is_run_start is_unmapped block_of is_processor
     named_take_unchecked with_name_bound bound_by name_bound is_unavailable named_free_unchecked held_address
     drop_unchecked dropped_all drop_moves each_restored touched_pairs touched_classes then_restored is_touched first_address_refusal all_pushed all_freed
-        address_refusal
+    address_refusal
     invariant_restored excess_transferred transfers_up_to transferred found_transferred
     fullest lowest_empty lowest_unused emptiest prefer chosen_below more_live fuller_or_more_recent fewer_live never_preferred has_free empty_in_global
     ranked_latest unranked rank_after_free rank_after_renewal is_more_recent listed

@@ -2,7 +2,7 @@
 -- held address".
 use Rattle.std.specs.Prelude.{ℕ, ◌/◌, ◌%◌, Bool, not, List}
 use Rattle.base_laws.specs.Sums.{pick, either}
-use Rattle.names_rules.specs.Names.{numbers_each, is_name_lem, block_named, is_held, with_name}
+use Rattle.names_rules.specs.Names.{numbers_each, is_name, block_named, is_held, with_name}
 use Rattle.refusal_rules.specs.Refusals.{no_such_processor, name_unavailable, name_not_held}
 use Rattle.heap_rules.specs.declared.State.{State}
 use Rattle.heap_rules.specs.Table.{superblock_at}
@@ -15,7 +15,7 @@ use Rattle.call_rules.specs.Free.{block_number_at, free_unchecked}
 
 -- refusal 14: "taken name or one above 1023"
 unfoldable pub is_unavailable : State → ℕ → Bool
-is_unavailable s m = either (not (is_name_lem m)) (is_held s.names m)
+is_unavailable s m = either (not (is_name m)) (is_held s.names m)
 
 -- name m points at the block at an address
 unfoldable pub name_bound : ℕ → ℕ → State → State

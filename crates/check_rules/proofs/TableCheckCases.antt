@@ -26,7 +26,7 @@ pub ranks_not_valid_cases :
     ranks_valid (with_ranks_lem 0 2 0 0) ∷ ranks_valid (with_ranks_lem 1 0 0 3) ∷ ranks_valid (with_ranks_lem 1 1 0 0) ∷ ranks_valid (with_ranks_lem 1 1 0 2)
     ∷ ranks_valid (with_ranks_lem 2 2 0 1)
     ∷ ranks_valid (with_ranks_lem 0 0 1 0) ∷ ranks_valid (with_ranks_lem 1 2 3 0) ∷ ranks_valid (with_ranks_lem 0 0 0 65) ∷ ranks_valid
-        (with_ranks_lem 1 2 0 255) ∷ []
+    (with_ranks_lem 1 2 0 255) ∷ []
     ≡ replicate 9 false
 unfolding run_checks_hold check_definitions
 ranks_not_valid_cases = refl

@@ -30,7 +30,7 @@ use Rattle.call_rules.specs.Drop.{all_freed, is_touched, drop_moves, drop_of}
 use Rattle.call_rules.specs.Calls.{Call, Take, Free, NamedTake, NamedFree, Drop, call_of}
 use Rattle.call_laws.proofs.CallEffects.{Passed, TakeAccepted, LongTakeAccepted, FreeAccepted, LongFreeAccepted, NamedTakeAccepted, NamedLongTakeAccepted}
 use Rattle.call_laws.proofs.CallEffects.{NamedFreeAccepted, NamedLongFreeAccepted, TakeEffect, FreeEffect, LongTakeEffect, LongFreeEffect}
-use Rattle.claim_rules.specs.Ledger.{Name, named, unnamed, Entry, is_at, is_at_one_of, has_name, removed, after_take, after_free_lem, ledger_after, entries_of}
+use Rattle.claim_rules.specs.Ledger.{Name, named, unnamed, Entry, is_at, is_at_one_of, has_name, removed, after_take, after_free, ledger_after, entries_of}
 use Rattle.claim_rules.specs.Ledger.{some_entry, EachEntry, entries_at}
 use Rattle.claim_rules.specs.Claim.{Step, Bounded, frees_run, RefusedOwnerChanges, FreeOwnerChanges, OwnerChanges, CallOwnerChanges, peak_with}
 use Rattle.call_laws.proofs.TakeLaws.{take_refused_or_accepted, taken_block, take_address, take_effect, take_names, take_shape, take_passed}
@@ -176,7 +176,7 @@ module _ (u : Setup) (s : State) (order : List ℕ) (ledger : List Entry) (peak 
       )
 
   after_refused_call : (r : ℕ) (call : Call) → AfterCall u s ledger peak call (refused r s order)
-  unfolding OwnerChanges ledger_after after_take after_free_lem
+  unfolding OwnerChanges ledger_after after_take after_free
   after_refused_call r (Take i size) = record { owner_changes = refused_changes_no_owner r; invariant = list_invariant_after_refusal }
   after_refused_call r (Free i a) = record { owner_changes = refused_free_changes_no_owner u.q r _; invariant = list_invariant_after_refusal }
   after_refused_call r (NamedTake i m size) = record { owner_changes = refused_changes_no_owner r; invariant = list_invariant_after_refusal }
@@ -413,12 +413,12 @@ module _ (u : Setup) (s : State) (order : List ℕ) (ledger : List Entry) (peak 
         freed.listed freed.names (λ c l. inl (le_of_eq (freed.owned c)))
 
     after_plain_free : (i : ℕ) → AfterCall u s ledger peak (Free i a) after
-    unfolding OwnerChanges frees_run ledger_after after_free_lem
+    unfolding OwnerChanges frees_run ledger_after after_free
     after_plain_free i = record { owner_changes = freed_changes_owners _ (λ e. e); invariant = rw freed.outcome list_invariant_after_free }
 
     -- by a name that holds the address
     after_named_free : (i m : ℕ) → T (is_held s.names m) → held_address s m ≡ a → AfterCall u s ledger peak (NamedFree i m) after
-    unfolding OwnerChanges frees_run ledger_after after_free_lem
+    unfolding OwnerChanges frees_run ledger_after after_free
     after_named_free i m held e =
         let same : removed (has_name m) ledger ≡ without_freed = removed_by_name_is_removed_by_address s ledger m g.names held
         ∙ ap (λ (b : ℕ). removed (is_at b) ledger) e in
@@ -498,7 +498,7 @@ module _ (u : Setup) (s : State) (order : List ℕ) (ledger : List Entry) (peak 
         })
 
     after_accepted_drop : AfterCall u s ledger peak (Drop i addresses) dropped
-    unfolding OwnerChanges ledger_after after_free_lem
+    unfolding OwnerChanges ledger_after after_free
     after_accepted_drop =
         record {
           owner_changes = drop_changes_owners;

@@ -96,7 +96,7 @@ owners_kept_by_frees freed s order (a ∷ addresses) ledger shape passed ok g no
     let first = first_refusal_of_cons s a addresses ok in
     let one = address_freed freed s order a shape passed first.0 in
     owners_kept_by_frees (one_more_freed (superblock_holding s a).owner (superblock_holding s a).class freed) (block_freed s a) (order_pushed s order a)
-        addresses (removed (is_at a) ledger) one.shape one.passed first.1
+    addresses (removed (is_at a) ledger) one.shape one.passed first.1
     (block_freed_agreement freed s order a ledger shape passed first.0 g)
     (none_of_removed (long_where (is_at_one_of addresses)) (is_at a) ledger
     (none_of_more_asked (is_at_one_of (a ∷ addresses)) (is_at_one_of addresses) (λ e t. either_right (is_at a e) (is_at_one_of addresses e) t) ledger none)) m l

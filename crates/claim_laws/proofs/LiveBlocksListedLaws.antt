@@ -258,7 +258,7 @@ all_freed_each_removed freed s order (a ∷ addresses) ledger shape passed ok g 
     let first = first_refusal_of_cons s a addresses ok in
     let one = address_freed freed s order a shape passed first.0 in
     all_freed_each_removed (one_more_freed (superblock_holding s a).owner (superblock_holding s a).class freed) (block_freed s a) (order_pushed s order a)
-        addresses (removed (is_at a) ledger) one.shape one.passed first.1
+    addresses (removed (is_at a) ledger) one.shape one.passed first.1
     (block_freed_agreement freed s order a ledger shape passed first.0 g)
 
 -- all of a drop's

@@ -81,7 +81,7 @@ module _ (u : Setup) (s : State) (order : List ℕ) (ledger : List Entry) (peak 
     none_of_class : (d : ℕ) → d < class_count → ((b : ℕ) → live_for d (superblock_at s home) b ≡ 0) → entries_at ledger (held_address s m) d ≡ 0
     none_of_class d l none =
         g.listed.blocks (held_address s m) d l ∙ live_at_none s (held_address s m) d l
-            (λ b h. ap (λ (k : ℕ). live_for d (superblock_at s k) b) at_home ∙ none b)
+        (λ b h. ap (λ (k : ℕ). live_for d (superblock_at s k) b) at_home ∙ none b)
 
     in_run : is_of_run (superblock_at s home) ≡ true → AtHeldAddress s ledger m
     in_run e =

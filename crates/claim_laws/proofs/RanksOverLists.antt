@@ -113,7 +113,7 @@ module _ (freed : ℕ → ℕ → ℕ) (ledger part : List Entry) (same : SameEv
   unfolding block_freed event_of_free
   after_one_free a m events ok before =
       pick_elim (λ (t : State). RankedByLastFree t (event_of_block (is_at a) ledger ∷ events)) (is_in_run s a) (long_block_freed s a) (small_block_freed s a)
-          long small
+      long small
     where
       small : is_in_run s a ≡ false → RankedByLastFree (small_block_freed s a) (event_of_block (is_at a) ledger ∷ events)
       small outside =
@@ -141,7 +141,7 @@ after_frees freed ledger part same s order (a ∷ addresses) events m shape pass
     let first = first_refusal_of_cons s a addresses ok in
     let one = address_freed freed s order a shape passed first.0 in
     after_frees (one_more_freed (superblock_holding s a).owner (superblock_holding s a).class freed) ledger (removed (is_at a) part)
-        (same_events_removed ledger part a same) (block_freed s a) (order_pushed s order a) addresses
+    (same_events_removed ledger part a same) (block_freed s a) (order_pushed s order a) addresses
     (event_of_free (is_at a) ledger (Moves m) ∷ events) m one.shape one.passed
     (block_freed_agreement freed s order a part shape passed first.0 agrees) first.1
     (after_one_free freed ledger part same s order shape passed agrees a m events first.0 before)

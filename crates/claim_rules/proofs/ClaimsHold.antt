@@ -12,7 +12,7 @@ use Rattle.base_laws.specs.Sums.{both, either, sum_below, all_below}
 use Rattle.base_laws.proofs.TestLaws.{T_of_true, not_T_of_false, true_not_false, both_false_right, either_right_of_left_false}
 use Rattle.base_laws.proofs.SumLaws.{all_at}
 use Rattle.class_rules.specs.Classes.{run_length}
-use Rattle.names_rules.specs.Names.{is_name_lem, is_held}
+use Rattle.names_rules.specs.Names.{is_name, is_held}
 use Rattle.heap_rules.specs.declared.Setup.{Setup}
 use Rattle.heap_rules.specs.declared.State.{State}
 use Rattle.heap_rules.specs.Table.{superblock_at, unused, is_of_run, run_part}
@@ -84,7 +84,7 @@ live_totals_agree_holds =
 -- ---- names: beside the block of name 1 one without a name
 name_1_alone_is_held : (m : ℕ) → is_held (65535 ∷ 257 ∷ []) (suc (suc m)) ≡ false
 unfolding others_hold names_definitions
-name_1_alone_is_held m = both_false_right (is_name_lem (suc (suc m)))
+name_1_alone_is_held m = both_false_right (is_name (suc (suc m)))
 
 no_address_of_others : (m a : ℕ) → holds_address name_1 (suc (suc m)) a ≡ false
 unfolding names_definitions
@@ -111,7 +111,7 @@ held_names_in_ledger (suc (suc m)) t = absurd (not_T_of_false _ (name_1_alone_is
 
 names_of_unnamed : (m : ℕ) → has_name m (entry 4096 1800 unnamed) ≡ holds_address no_name m 4096
 unfolding others_hold names_definitions
-names_of_unnamed m = sym (ap (λ (b : Bool). both b (eqb 4096 (held_address no_name m))) (both_false_right (is_name_lem m)))
+names_of_unnamed m = sym (ap (λ (b : Bool). both b (eqb 4096 (held_address no_name m))) (both_false_right (is_name m)))
 
 one_name_agrees : NamesAgree name_1 (entry 6144 2048 (named 1) ∷ entry 4096 1800 unnamed ∷ [])
 unfolding names_definitions
@@ -119,7 +119,7 @@ one_name_agrees = record { entries = (names_of_block_1, (names_of_other_block, t
 
 no_name_agrees : NamesAgree no_name (entry 4096 1800 unnamed ∷ [])
 unfolding names_definitions
-no_name_agrees = record { entries = (names_of_unnamed, tt); held = λ m t. absurd (not_T_of_false _ (both_false_right (is_name_lem m)) t) }
+no_name_agrees = record { entries = (names_of_unnamed, tt); held = λ m t. absurd (not_T_of_false _ (both_false_right (is_name m)) t) }
 
 pub names_agree_over_holds : NamesOver no_name name_1 name_1 no_name
 unfolding Along names_definitions

@@ -6,7 +6,7 @@ use Prim.Native.Nat.{ℕ}
 use Rattle.base_laws.proofs.Stages.{◌also◌}
 use Rattle.base_laws.proofs.TestLaws.{true_not_false}
 use Rattle.class_rules.specs.Classes.{sizes, size_of}
-use Rattle.names_rules.specs.Names.{is_name_lem, block_named, is_held}
+use Rattle.names_rules.specs.Names.{is_name, block_named, is_held}
 use Rattle.heap_rules.specs.declared.State.{State}
 use Rattle.heap_rules.specs.Table.{unused}
 use Rattle.heap_rules.specs.States.{with_names}
@@ -36,7 +36,7 @@ no_name = state_named []
 
 -- what a case of them unfolds
 unfoldable pub names_definitions : Unit {0}
-unfolding along_holds holds_address is_held is_name_lem block_named held_address address_of size_of sizes ledger_definitions
+unfolding along_holds holds_address is_held is_name block_named held_address address_of size_of sizes ledger_definitions
 names_definitions = tt
 
 -- the address that the name holds, and no other; none where the name is not held, and not that of the number that says so

@@ -6,7 +6,7 @@ use Prim.Native.Nat.{ℕ, ◌<◌}
 use native.Mathlib.Omega.{arith}
 use lib.ListN.{replicate}
 use Rattle.base_laws.proofs.Stages.{◌also◌}
-use Rattle.names_rules.specs.Names.{is_name_lem, block_named, is_held}
+use Rattle.names_rules.specs.Names.{is_name, block_named, is_held}
 use Rattle.heap_rules.specs.declared.Setup.{Setup}
 use Rattle.heap_rules.specs.declared.State.{State}
 use Rattle.heap_rules.specs.Table.{unused}
@@ -44,7 +44,7 @@ entries_named_cases = refl
 -- a held name that the ledger does not have, one of the ledger that is not held, and one of two blocks
 pub names_hold_fails :
     (NamesHold name_7_held (entry 1536 700 unnamed ∷ []) → ⊥) × (NamesHold not_named (name_7 ∷ []) → ⊥) × (NamesHold name_7_held (name_7 ∷ name_7 ∷ []) → ⊥)
-unfolding entries_named is_held is_name_lem block_named ledger_definitions
+unfolding entries_named is_held is_name block_named ledger_definitions
 names_hold_fails = (λ h. let z = h 7 in omega arith, λ h. let z = h 7 in omega arith, λ h. let z = h 7 in omega arith)
 
 -- ---- lists
@@ -55,7 +55,7 @@ pub names_hold_over_fails :
     × (NamesHoldOver (after_with Ready name_7_held) (name_7 ∷ []) (step_with (Free 1 1536) (Moves 0) name_7_held ∷ []) → ⊥)
     × (NamesHoldOver (after_with Ready not_named) []
     (step_with (NamedTake 1 7 700) (Address 1536) name_7_held ∷ step_with (NamedFree 1 7) (Moves 0) name_7_held ∷ []) → ⊥)
-unfolding Along entries_named is_held is_name_lem block_named ledger_definitions
+unfolding Along entries_named is_held is_name block_named ledger_definitions
 names_hold_over_fails = (
   λ h. let z = h.0 7 in omega arith,
   λ h. let z = h.1 7 in omega arith,

@@ -51,20 +51,20 @@ after_take size name ledger (Moves m) = ledger
 after_take size name ledger (Refused r) = ledger
 
 -- after a free of the blocks that pass the test: an accepted one removes them
-unfoldable pub after_free_lem : (Entry → Bool) → List Entry → Outcome → List Entry
-after_free_lem test ledger Ready = ledger
-after_free_lem test ledger (Address b) = ledger
-after_free_lem test ledger (Moves m) = removed test ledger
-after_free_lem test ledger (Refused r) = ledger
+unfoldable pub after_free : (Entry → Bool) → List Entry → Outcome → List Entry
+after_free test ledger Ready = ledger
+after_free test ledger (Address b) = ledger
+after_free test ledger (Moves m) = removed test ledger
+after_free test ledger (Refused r) = ledger
 
 -- "A block is live when an accepted take answered its address and no accepted call has freed that address since." A named free frees the
 -- address that the take by its name answered (document 02, item 2), a drop all of its addresses (item 5).
 unfoldable pub ledger_after : List Entry → Call → Outcome → List Entry
 ledger_after ledger (Take processor size) outcome = after_take size unnamed ledger outcome
-ledger_after ledger (Free processor address) outcome = after_free_lem (is_at address) ledger outcome
+ledger_after ledger (Free processor address) outcome = after_free (is_at address) ledger outcome
 ledger_after ledger (NamedTake processor name size) outcome = after_take size (named name) ledger outcome
-ledger_after ledger (NamedFree processor name) outcome = after_free_lem (has_name name) ledger outcome
-ledger_after ledger (Drop processor addresses) outcome = after_free_lem (is_at_one_of addresses) ledger outcome
+ledger_after ledger (NamedFree processor name) outcome = after_free (has_name name) ledger outcome
+ledger_after ledger (Drop processor addresses) outcome = after_free (is_at_one_of addresses) ledger outcome
 
 -- the live blocks of class c
 unfoldable pub entries_of : ℕ → List Entry → ℕ

@@ -88,7 +88,7 @@ names_of_two_bytes b at = (length_listed (λ m. two_at b (at + 2 * m)) 1024, λ 
 -- ---- the parts of a state that begins at byte 3, of any bytes: the setup numbers, superblocks 0 and 63, the names, the totals; there are 64 superblocks
 state_parts_in_order : (b : List ℕ)
     → ((state_in b 3).setup ≡ setup_in b) × (get_or (state_in b 3).table 0 blank ≡ superblock_in b 3)
-        × (get_or (state_in b 3).table 63 blank ≡ superblock_in b 2271)
+    × (get_or (state_in b 3).table 63 blank ≡ superblock_in b 2271)
     × ((state_in b 3).names ≡ names_in b 2307) × ((state_in b 3).totals ≡ totals_in b 4355)
 unfolding state_in listed
 state_parts_in_order b = (refl, refl, refl, refl, refl)

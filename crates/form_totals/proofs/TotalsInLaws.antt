@@ -23,7 +23,7 @@ totals_in_past_end b j past =
     ap₂ (λ (superblocks live : List ℕ). record { superblocks = superblocks; live = live })
     (listed_of_equal_elements (λ x. 0) (λ x. byte_at b (j + x)) total_count (λ x. byte_at_past_end b (j + x) (omega arith)))
     (listed_of_equal_elements (λ x. 0) (λ x. two_at b (j + (total_count + 2 * x))) total_count
-        (λ x. two_at_past_end b (j + (total_count + 2 * x)) (omega arith)))
+    (λ x. two_at_past_end b (j + (total_count + 2 * x)) (omega arith)))
 
 pub totals_in_position_after : (b : List ℕ) (at i position : ℕ) (totals : Totals) → position ≡ position_after b at i → totals ≡ totals_in b position
     → totals ≡ totals_in b (at + i)

@@ -176,7 +176,7 @@ module _ (meets : Superblock → Bool) (preferred : Superblock → Superblock �
     best_new : T (meets (get_or table n blank)) → ((m : ℕ) → m < n → T (meets (get_or table m blank))
         → T (preferred (get_or table m blank) (get_or table n blank)) → ⊥)
         → ((m : ℕ) → m < n → T (meets (get_or table m blank)) → T (preferred (get_or table n blank) (get_or table m blank)))
-            → IsBest meets preferred table (suc n) n
+        → IsBest meets preferred table (suc n) n
     best_new w h first = record {
       below = lt-suc_self n;
       meets_criterion_lem = w;

@@ -48,7 +48,7 @@ module _ (b d : Superblock) where
 -- they are those whose owners differ, where each such owner was a heap's and is a heap's
 pub passed_between_heaps_is_owners_changed : (s t : State)
     → ((k : ℕ) → k < 64 → ((superblock_at t k).owner ≡ (superblock_at s k).owner)
-        ⊎ (((superblock_at s k).owner < run_owner) × ((superblock_at t k).owner < run_owner)))
+    ⊎ (((superblock_at s k).owner < run_owner) × ((superblock_at t k).owner < run_owner)))
     → passed_between_heaps s t ≡ owners_changed s t
 unfolding passed_between_heaps owners_changed
 passed_between_heaps_is_owners_changed s t each =

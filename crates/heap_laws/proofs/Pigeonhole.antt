@@ -89,7 +89,7 @@ module _ (f : ℕ → ℕ) (n : ℕ) where
   le_count_of_each_once once k l =
       le_of_not_below
       (λ h. let z : ⊥ = omega (arith, none_above, term_le_sum (λ i. one (ltb (count_above f n 0) (f i))) n k l, ap one (lt-ltb (count_above f n 0) (f k) h)) in
-          z)
+      z)
     where
       none_above : count_above f n (count_above f n 0) ≡ 0
       none_above = omega (arith, count_above_zero_splits (count_above f n 0), sum_of_ones (λ r. count_at f n (suc r)) (count_above f n 0) once)

@@ -55,7 +55,7 @@ live_blocks_cases = refl
 -- one superblock changed keeps the length that it carries
 pub length_kept_cases :
     map (λ (b : Superblock). b.run) (with_owner 3 (run_part 5) ∷ with_mark_at (run_part 5) 70 ∷ without_mark_at (run_part 5) 2 ∷ with_rank 6 (run_part 5) ∷ [])
-        ≡ 5
+    ≡ 5
     ∷ 5 ∷ 5 ∷ 5 ∷ []
 unfolding table_holds
 length_kept_cases = refl

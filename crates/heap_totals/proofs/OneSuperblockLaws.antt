@@ -137,7 +137,7 @@ without_counted_at f b l h c long lh lc = go (is_counted b) refl (belongs h c b)
         let o = owner_and_class_of_belongs h c b (T_of_true _ g) in
         let at : total_index h c ≡ x = omega (arith, o.0, o.1) in
         ap (λ (i : ℕ). get_or (set l x (get_or l x 0 - f b)) i 0) at ∙ get_or-set_same l x _ 0 (omega (arith, o.0, o.1))
-            ∙ ap (λ (i : ℕ). get_or l i 0 - f b) (sym at)
+        ∙ ap (λ (i : ℕ). get_or l i 0 - f b) (sym at)
     go true e false g =
         let w = counted_heap_and_class b e in
         let other : total_index h c ≡ x → ⊥ = λ q. not_T_of_false _ g (T_of_true _ (belongs_true h c b (omega (arith, w.1)) (omega (arith, w.1)))) in

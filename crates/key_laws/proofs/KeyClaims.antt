@@ -178,7 +178,7 @@ setup_ready_or_refused u order = go (within_limits u) (leb (u.superblocks * 256)
   where
     go : (a b : Bool) → ((pick a (pick b (accepted_setup u order) (refused 12 no_state order)) (refused 1 no_state order)).answer.outcome ≡ Ready)
         ⊎ ((number : ℕ) × (pick a (pick b (accepted_setup u order) (refused 12 no_state order)) (refused 1 no_state order)
-            ≡ refused (suc number) no_state order))
+        ≡ refused (suc number) no_state order))
     go true true = inl refl
     go true false = inr (11, refl)
     go false b = inr (0, refl)

@@ -177,7 +177,7 @@ storage_of_call : (r order : List ℕ) (s : State) (i a m size count first : ℕ
     × (order_after r (state_and_storage s order) (Call (header.NamedTake i m size) 0 0 ∷ rest) ≡ order_after r (named_take_of s order i m size) rest)
     × (order_after r (state_and_storage s order) (Call (header.NamedFree i m) 0 0 ∷ rest) ≡ order_after r (named_free_of s order i m) rest)
     × (order_after r (state_and_storage s order) (Call (header.Drop i) count first ∷ rest)
-        ≡ order_after r (drop_of s order i (addresses_in r first count)) rest)
+    ≡ order_after r (drop_of s order i (addresses_in r first count)) rest)
 unfolding order_after call_of call_with call_byte
 storage_of_call r order s i a m size count first rest = (refl, refl, refl, refl, refl)
 

@@ -13,11 +13,11 @@ use lib.Dec.{T, eqb, ltb, T_not, not_T, eqb→eq, ltb→lt, lt→ltb}
 use Rattle.base_laws.specs.Sums.{pick, both, either}
 use Rattle.base_laws.proofs.TestLaws.{T_of_true, false_of_not_T, both_left, both_right, both_make, either_left, either_right, either_right_of_left_false}
 use Rattle.base_laws.proofs.TestLaws.{pick_true, pick_false}
-use Rattle.names_rules.specs.Names.{not_held, is_name_lem, block_named, is_held, no_names, with_name, without_block, each_held, is_named, no_two_at_one}
+use Rattle.names_rules.specs.Names.{not_held, is_name, block_named, is_held, no_names, with_name, without_block, each_held, is_named, no_two_at_one}
 
 -- ---- a name is held
 pub held_facts : (names : List ℕ) (m : ℕ) → T (is_held names m) → (m < 1024) × (block_named names m ≡ not_held → ⊥)
-unfolding is_held is_name_lem
+unfolding is_held is_name
 held_facts names m t = (
   ltb→lt m 1024 (both_left (ltb m 1024) _ t),
   λ e. T_not (eqb (block_named names m) not_held) (both_right (ltb m 1024) _ t)
@@ -25,7 +25,7 @@ held_facts names m t = (
 )
 
 pub held_of_facts : (names : List ℕ) (m : ℕ) → m < 1024 → (block_named names m ≡ not_held → ⊥) → T (is_held names m)
-unfolding is_held is_name_lem
+unfolding is_held is_name
 held_of_facts names m l f =
     both_make (ltb m 1024) _ (lt→ltb m 1024 l) (not_T (eqb (block_named names m) not_held) (λ t. f (eqb→eq (block_named names m) not_held t)))
 
@@ -80,7 +80,7 @@ block_named_without_other_block names b m f = block_named_without_block names b 
 -- what a name points at decides whether it is held
 pub held_cong : (x y : List ℕ) (m : ℕ) → block_named x m ≡ block_named y m → is_held x m ≡ is_held y m
 unfolding is_held
-held_cong x y m e = ap (λ (b : ℕ). both (is_name_lem m) (not (eqb b not_held))) e
+held_cong x y m e = ap (λ (b : ℕ). both (is_name m) (not (eqb b not_held))) e
 
 -- ---- "each held name points at a live block"
 -- what the test says of one entry

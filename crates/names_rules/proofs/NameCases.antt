@@ -5,7 +5,7 @@ use mathlib.Core.List.{List, [], ◌∷◌, ◌++◌, map}
 use Prim.Native.Nat.{ℕ}
 use lib.ListN.{replicate}
 use lib.Dec.{ltb}
-use Rattle.names_rules.specs.Names.{block_number, is_name_lem, block_named, is_held, no_names, with_name, without_block, each_held, is_named, no_two_at_one}
+use Rattle.names_rules.specs.Names.{block_number, is_name, block_named, is_held, no_names, with_name, without_block, each_held, is_named, no_two_at_one}
 use Rattle.names_rules.proofs.NameDefinitions.{name_definitions}
 
 -- names 0, 2 and 1023 are held: they point at block 5 of superblock 1, block 0 of superblock 0 and block 255 of superblock 63
@@ -13,7 +13,7 @@ abbrev pub three_names : List ℕ
 three_names = 261 ∷ 65535 ∷ 0 ∷ replicate 1020 65535 ++ 16383 ∷ []
 
 -- "Names are 0 to 1023."
-pub is_name_cases : map is_name_lem (0 ∷ 1023 ∷ 1024 ∷ 65535 ∷ []) ≡ true ∷ true ∷ false ∷ false ∷ []
+pub is_name_cases : map is_name (0 ∷ 1023 ∷ 1024 ∷ 65535 ∷ []) ≡ true ∷ true ∷ false ∷ false ∷ []
 unfolding name_definitions
 is_name_cases = refl
 

@@ -20,8 +20,8 @@ abbrev pub block_number : ℕ → ℕ → ℕ
 block_number k j = k * numbers_each + j
 
 -- m is a name
-unfoldable pub is_name_lem : ℕ → Bool
-is_name_lem m = ltb m name_count
+unfoldable pub is_name : ℕ → Bool
+is_name m = ltb m name_count
 
 -- the number of the block that name m points at
 unfoldable pub block_named : List ℕ → ℕ → ℕ
@@ -29,7 +29,7 @@ block_named names m = get_or names m not_held
 
 -- name m is held
 unfoldable pub is_held : List ℕ → ℕ → Bool
-is_held names m = both (is_name_lem m) (not (eqb (block_named names m) not_held))
+is_held names m = both (is_name m) (not (eqb (block_named names m) not_held))
 
 -- "A new or refused setup holds no names"
 abbrev pub no_names : List ℕ

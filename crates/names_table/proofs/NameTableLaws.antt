@@ -11,7 +11,7 @@ use lib.ListN.{length, get_or, set, take, drop, get_or-eq_default, drop_of_lengt
 use lib.Seq.{set_out, take_all}
 use lib.Dec.{eqb}
 use Rattle.base_laws.specs.Sums.{pick, either}
-use Rattle.names_rules.specs.Names.{not_held, is_name_lem, block_named, is_held, with_name, without_block}
+use Rattle.names_rules.specs.Names.{not_held, is_name, block_named, is_held, with_name, without_block}
 
 -- what is read inside a list goes by no default
 get_or_inside : (l : List ℕ) (i d e : ℕ) → i < length l → get_or l i d ≡ get_or l i e
@@ -30,19 +30,19 @@ module _ (names : List ℕ) (m : ℕ) where
   block_named_is_read long h = get_or_inside names m 0 not_held (omega arith)
 
   pub not_held_past_1023 : 1024 ≤ m → false ≡ is_held names m
-  unfolding is_held is_name_lem
+  unfolding is_held is_name
   not_held_past_1023 h = rw (le-ltb m 1024 h)
 
   pub held_is_test_of_block_named : length names ≡ 1024 → m < 1024 → not (eqb (get_or names m 0) not_held) ≡ is_held names m
-  unfolding is_held is_name_lem
+  unfolding is_held is_name
   held_is_test_of_block_named long h = rw (lt-ltb m 1024 h, block_named_is_read long h)
 
-  pub unavailable_past_1023 : 1024 ≤ m → true ≡ either (not (is_name_lem m)) (is_held names m)
-  unfolding is_name_lem
+  pub unavailable_past_1023 : 1024 ≤ m → true ≡ either (not (is_name m)) (is_held names m)
+  unfolding is_name
   unavailable_past_1023 h = rw (le-ltb m 1024 h)
 
-  pub unavailable_is_held : (r : Bool) → r ≡ is_held names m → m < 1024 → r ≡ either (not (is_name_lem m)) (is_held names m)
-  unfolding is_name_lem
+  pub unavailable_is_held : (r : Bool) → r ≡ is_held names m → m < 1024 → r ≡ either (not (is_name m)) (is_held names m)
+  unfolding is_name
   unavailable_is_held r e h = rw (lt-ltb m 1024 h) e
 
   pub with_name_past_1023 : (b : ℕ) → length names ≡ 1024 → 1024 ≤ m → names ≡ with_name names m b

@@ -4,7 +4,7 @@
 
 ghost use Rattle.std.specs.Prelude.{◌≡◌, not};
 ghost use Rattle.base_laws.specs.Sums.{either};
-ghost use Rattle.names_rules.specs.Names.{is_name_lem, block_named, is_held, with_name, without_block};
+ghost use Rattle.names_rules.specs.Names.{is_name, block_named, is_held, with_name, without_block};
 
 use names_rules::{NAME_COUNT, NOT_HELD};
 
@@ -35,7 +35,7 @@ pub fn is_held(names: [u16; NAME_COUNT], name: u16) -> bool
 
 // A take cannot have this name: it is held, or is no name.
 pub fn is_unavailable(names: [u16; NAME_COUNT], name: u16) -> bool
-    ensures { result ≡ either (not (is_name_lem name)) (is_held names name) }
+    ensures { result ≡ either (not (is_name name)) (is_held names name) }
 {
     if NAMES <= name {
         return true;

@@ -103,7 +103,7 @@ module _ (r : List ℕ) (at : ℕ) where
   SetupAt processors superblocks spare p q =
       (length r ≤ 60000) × (at ≡ 0) × (byte_at r at ≡ 0) × (at + 6 ≤ length r)
       × (processors ≡ byte_at r (at + 1)) × (superblocks ≡ byte_at r (at + 2)) × (spare ≡ byte_at r (at + 3)) × (p ≡ byte_at r (at + 4))
-          × (q ≡ byte_at r (at + 5))
+      × (q ≡ byte_at r (at + 5))
 
   abbrev pub TakeAt : ℕ → ℕ → Type 0
   TakeAt processor size =

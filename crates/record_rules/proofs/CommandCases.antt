@@ -201,7 +201,7 @@ values : List Command → List Values
 values [] = []
 values (c ∷ commands) =
     record { number = command_number_of c; offset = refusal_offset_of c; byte = command_byte c; numbers = numbers_of c; beside = beside_header c } ∷ values
-        commands
+    commands
 
 values_of_all_kinds : values (commands_of (distinct_bytes ++ (6 ∷ [])))
     ≡ record { number = 0; offset = 0; byte = 0 ∷ []; numbers = 3 ∷ 4 ∷ 5 ∷ 6 ∷ 7 ∷ []; beside = [] }

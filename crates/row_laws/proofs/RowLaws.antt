@@ -200,7 +200,7 @@ module _ (u : Setup) (row : List Superblock) (order : List ℕ) where
       go : ((n : ℕ) × (row_setup u row order ≡ row_refused n (control_of no_state) row order))
           ⊎ (T (within_limits u) × (u.superblocks * 256 ≤ length order) × (row_setup u row order ≡ row_accepted_setup u order))
           → (row_setup u row order ≡ row_accepted_setup u order) × (as_after (row_setup u row order) ≡ setup_of u order)
-              × (length (row_setup u row order).row ≡ 64)
+          × (length (row_setup u row order).row ≡ 64)
           × Passed (state_of (row_setup u row order).control (row_setup u row order).row) (row_setup u row order).order
           × Shape (state_of (row_setup u row order).control (row_setup u row order).row)
       go (inl h) = absurd (let z : ◌≡◌ {A = ℕ} 0 1 = sym (ap (λ (x : RowAfter). is_ready x.outcome) h.1) ∙ ap is_ready e in omega arith)

@@ -54,7 +54,7 @@ step_of_case = refl
 abbrev pub ends_with : Outcome → Control → List Superblock → List ℕ → List RowStep
 ends_with outcome control row order =
     refused_step (Take 2 2048) example_control (replicate 63 ranked_superblock) ∷ record { call = Free 1 0; after = row_after_lem outcome control row order } ∷
-        []
+    []
 
 abbrev pub other_control : Control
 other_control = control_with (record { processors = 2; superblocks = 1; spare = 6; p = 4; q = 5 }) name_6_held example_totals

@@ -10,7 +10,7 @@ use Rattle.bytes_lists.proofs.fours_at.Given as goal
 abbrev pub invariant-loop-i : goal.invariant-loop-i
 invariant-loop-i l =
     (l.i ≤ l.count) × (length l.numbers ≡ 255) × (take l.i l.numbers ≡ listed (λ k. four_at l.bytes (l.at + 4 * k)) l.i)
-        × (drop l.i l.numbers ≡ replicate (255 - l.i) 0)
+    × (drop l.i l.numbers ≡ replicate (255 - l.i) 0)
 
 abbrev pub decreases-loop-i : goal.decreases-loop-i
 decreases-loop-i l = l.count - l.i

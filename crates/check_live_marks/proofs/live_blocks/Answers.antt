@@ -7,5 +7,8 @@ pub returns-then-b-gt0 : goal.returns-then-b-gt0
 returns-then-b-gt0 c = search live_blocks_of_first_of_run
 
 pub returns : goal.returns
-returns c = elim c.if-b-eq-RUN_OWNER.branch [ then-b-eq-RUN_OWNER+else-b-gt0 w ↦ search live_blocks_of_no_length | else-b-eq-RUN_OWNER w ↦ search
-    live_blocks_of_owner ]
+returns c = elim c.if-b-eq-RUN_OWNER.branch [
+  | then-b-eq-RUN_OWNER+else-b-gt0 w ↦ search live_blocks_of_no_length
+  | else-b-eq-RUN_OWNER w ↦ search
+      live_blocks_of_owner
+]

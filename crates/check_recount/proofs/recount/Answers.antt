@@ -16,8 +16,11 @@ pub overflow_add-live : goal.overflow_add-live
 overflow_add-live c = search live_fit_w16
 
 pub loop-k-preserved : goal.loop-k-preserved
-loop-k-preserved c = (omega arith, elim c.if-at-lt-TOTAL_COUNT.branch
-    [ then-at-lt-TOTAL_COUNT w ↦ search recounted_below_counted | else-at-lt-TOTAL_COUNT w ↦ search recounted_below_not_counted ])
+loop-k-preserved c = (
+  omega arith,
+  elim c.if-at-lt-TOTAL_COUNT.branch
+      [ then-at-lt-TOTAL_COUNT w ↦ search recounted_below_counted | else-at-lt-TOTAL_COUNT w ↦ search recounted_below_not_counted ],
+)
 
 pub returns : goal.returns
 returns c = search recounted_below_64

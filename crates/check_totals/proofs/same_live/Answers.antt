@@ -11,8 +11,11 @@ pub loop-j-preserved : goal.loop-j-preserved
 loop-j-preserved c = (
   omega arith,
   elim c.if-a-j.branch [ then-a-j w ↦ omega arith | else-a-j w ↦ omega arith ],
-  elim c.if-a-j.branch [ then-a-j w ↦ one_more_differs _ _ _ _ _ c.loop-j.invariant.2 (λ q. omega arith) (omega arith) | else-a-j w ↦ search
-      one_more_is_the_same ],
+  elim c.if-a-j.branch [
+    | then-a-j w ↦ one_more_differs _ _ _ _ _ c.loop-j.invariant.2 (λ q. omega arith) (omega arith)
+    | else-a-j w ↦ search
+        one_more_is_the_same
+  ],
 )
 
 pub returns : goal.returns

@@ -11,8 +11,11 @@ pub loop-i-preserved : goal.loop-i-preserved
 loop-i-preserved c = (
   omega arith,
   elim c.if-a-i.branch [ then-a-i w ↦ omega arith | else-a-i w ↦ omega arith ],
-  elim c.if-a-i.branch [ then-a-i w ↦ one_more_differs _ _ _ _ _ c.loop-i.invariant.2 (λ q. omega arith) (omega arith) | else-a-i w ↦ search
-      one_more_is_the_same ],
+  elim c.if-a-i.branch [
+    | then-a-i w ↦ one_more_differs _ _ _ _ _ c.loop-i.invariant.2 (λ q. omega arith) (omega arith)
+    | else-a-i w ↦ search
+        one_more_is_the_same
+  ],
 )
 
 pub returns : goal.returns

@@ -8,8 +8,14 @@ pub loop-k-init : goal.loop-k-init
 loop-k-init c = search (rules, best_below_start)
 
 pub loop-k-preserved : goal.loop-k-preserved
-loop-k-preserved c = (search rules, elim c.if-table-k.branch [ then-table-k u ↦ search best_below_of_owner_sought | else-table-k u ↦ search
-    best_below_of_other_owner ])
+loop-k-preserved c = (
+  search rules,
+  elim c.if-table-k.branch [
+    | then-table-k u ↦ search best_below_of_owner_sought
+    | else-table-k u ↦ search
+        best_below_of_other_owner
+  ],
+)
 
 pub returns : goal.returns
 returns c = search best_below_end

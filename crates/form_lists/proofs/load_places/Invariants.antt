@@ -8,7 +8,8 @@ use Rattle.base_laws.specs.Lists.{listed}
 use Rattle.form_lists.proofs.load_places.Given as goal
 
 abbrev pub invariant-loop-i : goal.invariant-loop-i
-invariant-loop-i l = (l.i ≤ length l.initial.order) × (length l.order ≡ length l.initial.order) × (take l.i l.order ≡ listed (λ k. two_at l.bytes (l.at + 2 * k)) l.i)
+invariant-loop-i l = (l.i ≤ length l.initial.order) × (length l.order ≡ length l.initial.order)
+    × (take l.i l.order ≡ listed (λ k. two_at l.bytes (l.at + 2 * k)) l.i)
 
 abbrev pub decreases-loop-i : goal.decreases-loop-i
 decreases-loop-i l = length l.initial.order - l.i

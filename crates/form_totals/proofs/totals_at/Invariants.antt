@@ -10,7 +10,8 @@ use Rattle.form_totals.proofs.totals_at.Given as goal
 
 abbrev pub invariant-loop-x : goal.invariant-loop-x
 invariant-loop-x l = (l.x ≤ total_count) × (length l.superblocks ≡ total_count) × (length l.live ≡ total_count)
-    × (take l.x l.superblocks ≡ listed (λ i. byte_at l.bytes (l.at + i)) l.x) × (take l.x l.live ≡ listed (λ i. two_at l.bytes (l.at + (total_count + 2 * i))) l.x)
+    × (take l.x l.superblocks ≡ listed (λ i. byte_at l.bytes (l.at + i)) l.x)
+    × (take l.x l.live ≡ listed (λ i. two_at l.bytes (l.at + (total_count + 2 * i))) l.x)
 
 abbrev pub decreases-loop-x : goal.decreases-loop-x
 decreases-loop-x l = total_count - l.x

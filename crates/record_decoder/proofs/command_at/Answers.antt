@@ -5,16 +5,25 @@ use Rattle.record_decoder.proofs.CommandAtLaws.{command_at_past_end}
 use Rattle.record_decoder.proofs.command_at.Goals as goal
 
 pub returns-then-bytes-gt-LONGEST_RECORD : goal.returns-then-bytes-gt-LONGEST_RECORD
-returns-then-bytes-gt-LONGEST_RECORD c = record { value = search (command_at_of_too_long_record, has_numbers_of_equal); numbers =
-    search (command_at_of_too_long_record, has_numbers_of_equal) }
+returns-then-bytes-gt-LONGEST_RECORD c = record {
+  value = search (command_at_of_too_long_record, has_numbers_of_equal);
+  numbers =
+      search (command_at_of_too_long_record, has_numbers_of_equal);
+}
 
 pub returns-then-at-bytes : goal.returns-then-at-bytes
-returns-then-at-bytes c = record { value = search (command_at_is_command_by_first_byte, has_numbers_of_equal); numbers =
-    search (command_at_is_command_by_first_byte, has_numbers_of_equal) }
+returns-then-at-bytes c = record {
+  value = search (command_at_is_command_by_first_byte, has_numbers_of_equal);
+  numbers =
+      search (command_at_is_command_by_first_byte, has_numbers_of_equal);
+}
 
 pub returns-then-at-eq0 : goal.returns-then-at-eq0
-returns-then-at-eq0 c = record { value = search (command_at_of_empty_record, has_numbers_of_equal); numbers =
-    search (command_at_of_empty_record, has_numbers_of_equal) }
+returns-then-at-eq0 c = record {
+  value = search (command_at_of_empty_record, has_numbers_of_equal);
+  numbers =
+      search (command_at_of_empty_record, has_numbers_of_equal);
+}
 
 pub returns : goal.returns
 returns c = record { value = search (command_at_past_end, has_numbers_of_equal); numbers = search (command_at_past_end, has_numbers_of_equal) }
