@@ -22,7 +22,7 @@ use Rattle.names_rules.specs.Names.{not_held, each_held, is_named, no_two_at_one
 use Rattle.heap_rules.specs.declared.State.{State}
 use Rattle.heap_rules.specs.Table.{is_live_block}
 use Rattle.check_rules.specs.Check.{names_valid}
-use Rattle.check_names.specs.NameScan.{held_count, each_has_aMark}
+use Rattle.check_names.specs.NameScan.{held_count, each_has_a_mark}
 
 -- ---- the answer
 each_held_cong : (f g : ℕ → Bool) (names : List ℕ) → ((b : ℕ) → f b ≡ g b) → each_held f names ≡ each_held g names
@@ -63,8 +63,8 @@ each_held_without_mark marks (y ∷ names) x held = go (each_held_without_mark m
     go ih (no f) =
         rw (ne_eqb y x f, is_marked_without_other marks x y f, ih) (keep (eqb y not_held) (is_marked marks y))
 
-each_has_a_mark_is_both : (marks names : List ℕ) → each_has_aMark marks names ≡ both (each_held (is_marked marks) names) (no_two_at_one names)
-unfolding each_has_aMark each_held no_two_at_one
+each_has_a_mark_is_both : (marks names : List ℕ) → each_has_a_mark marks names ≡ both (each_held (is_marked marks) names) (no_two_at_one names)
+unfolding each_has_a_mark each_held no_two_at_one
 each_has_a_mark_is_both marks [] = refl
 each_has_a_mark_is_both marks (x ∷ names) = go (each_has_a_mark_is_both marks names) (each_has_a_mark_is_both (without_mark marks x) names)
     (ℕ_discrete x not_held)
@@ -74,10 +74,10 @@ each_has_a_mark_is_both marks (x ∷ names) = go (each_has_a_mark_is_both marks 
     spread true false n t = refl
     spread false e n t = refl
 
-    go : each_has_aMark marks names ≡ both (each_held (is_marked marks) names) (no_two_at_one names)
-        → each_has_aMark (without_mark marks x) names ≡ both (each_held (is_marked (without_mark marks x)) names) (no_two_at_one names)
+    go : each_has_a_mark marks names ≡ both (each_held (is_marked marks) names) (no_two_at_one names)
+        → each_has_a_mark (without_mark marks x) names ≡ both (each_held (is_marked (without_mark marks x)) names) (no_two_at_one names)
         → Dec (x ≡ not_held)
-        → pick (eqb x not_held) (each_has_aMark marks names) (both (is_marked marks x) (each_has_aMark (without_mark marks x) names))
+        → pick (eqb x not_held) (each_has_a_mark marks names) (both (is_marked marks x) (each_has_a_mark (without_mark marks x) names))
         ≡ both (both (either (eqb x not_held) (is_marked marks x)) (each_held (is_marked marks) names))
         (both (either (eqb x not_held) (not (is_named x names))) (no_two_at_one names))
     go kept taken (yes q) = rw (eq-eqb x not_held q) kept
@@ -95,7 +95,7 @@ each_held_of_none_held test (x ∷ names) z = go (eqb x not_held) refl (each_hel
     go false e ih = let more : one (not (eqb x not_held)) ≡ 1 = rw e in absurd (let z : ⊥ = omega arith in z)
 
 pub names_valid_is_each_has_a_mark : (s : State) (marks : List ℕ) (r : Bool) → ((b : ℕ) → is_marked marks b ≡ is_live_block s b)
-    → r ≡ each_has_aMark marks s.names → r ≡ names_valid s
+    → r ≡ each_has_a_mark marks s.names → r ≡ names_valid s
 unfolding names_valid
 names_valid_is_each_has_a_mark s marks r live e =
     e
@@ -104,13 +104,13 @@ names_valid_is_each_has_a_mark s marks r live e =
 
 -- ---- names that are not held
 -- where none is held, none is asked
-each_has_a_mark_of_none_held : (marks names : List ℕ) → held_count names ≡ 0 → each_has_aMark marks names ≡ true
-unfolding held_count each_has_aMark
+each_has_a_mark_of_none_held : (marks names : List ℕ) → held_count names ≡ 0 → each_has_a_mark marks names ≡ true
+unfolding held_count each_has_a_mark
 each_has_a_mark_of_none_held marks [] z = refl
 each_has_a_mark_of_none_held marks (x ∷ names) z = go (eqb x not_held) refl (each_has_a_mark_of_none_held marks names)
   where
-    go : (t : Bool) → eqb x not_held ≡ t → (held_count names ≡ 0 → each_has_aMark marks names ≡ true)
-        → pick t (each_has_aMark marks names) (both (is_marked marks x) (each_has_aMark (without_mark marks x) names)) ≡ true
+    go : (t : Bool) → eqb x not_held ≡ t → (held_count names ≡ 0 → each_has_a_mark marks names ≡ true)
+        → pick t (each_has_a_mark marks names) (both (is_marked marks x) (each_has_a_mark (without_mark marks x) names)) ≡ true
     go true e ih = ih (omega arith)
     go false e ih = let more : one (not (eqb x not_held)) ≡ 1 = rw e in absurd (let z : ⊥ = omega arith in z)
 
@@ -170,12 +170,12 @@ pub record Scanned (marks names left : List ℕ) (n i : ℕ) : Type 0 where
   pub long : length left ≡ 256
   pub to_find : n ≡ held_count (drop i names)
   pub bound : n + i ≤ 1024
-  pub same : each_has_aMark marks names ≡ each_has_aMark left (drop i names)
+  pub same : each_has_a_mark marks names ≡ each_has_a_mark left (drop i names)
 
 pub scan_start : (marks names : List ℕ) (n : ℕ) → length marks ≡ 256 → length names ≡ 1024 → n ≡ held_count names → Scanned marks names marks n 0
 scan_start marks names n long all e = record { long = long; to_find = e; bound = let h = held_count_le names in omega arith; same = refl }
 
-pub scan_end : (marks left names : List ℕ) (n i : ℕ) → n ≡ 0 → Scanned marks names left n i → true ≡ each_has_aMark marks names
+pub scan_end : (marks left names : List ℕ) (n i : ℕ) → n ≡ 0 → Scanned marks names left n i → true ≡ each_has_a_mark marks names
 scan_end marks left names n i z t = sym (t.same ∙ each_has_a_mark_of_none_held left (drop i names) (sym t.to_find ∙ z))
 
 -- the code's mask is all ones but a power of two
@@ -187,15 +187,15 @@ code_takes_mark_out left x = rw (shl_one (x % 64) (omega arith))
 -- name i points at block x
 module _ (marks left names : List ℕ) (n i x : ℕ) (at : x ≡ get_or names i 0) (long : length names ≡ 1024) (below : i < 1024)
     (t : Scanned marks names left n i) where
-  scan_suc : each_has_aMark marks names ≡ pick (eqb x not_held) (each_has_aMark left (drop (suc i) names))
-      (both (is_marked left x) (each_has_aMark (without_mark left x) (drop (suc i) names)))
-  unfolding each_has_aMark
-  scan_suc = t.same ∙ ap (each_has_aMark left) (drop-cons names i 0 (omega arith)) ∙ rw at
+  scan_suc : each_has_a_mark marks names ≡ pick (eqb x not_held) (each_has_a_mark left (drop (suc i) names))
+      (both (is_marked left x) (each_has_a_mark (without_mark left x) (drop (suc i) names)))
+  unfolding each_has_a_mark
+  scan_suc = t.same ∙ ap (each_has_a_mark left) (drop-cons names i 0 (omega arith)) ∙ rw at
 
-  pub scan_false_of_no_mark : (x ≡ not_held → ⊥) → mark_bit left x ≡ 0 → false ≡ each_has_aMark marks names
+  pub scan_false_of_no_mark : (x ≡ not_held → ⊥) → mark_bit left x ≡ 0 → false ≡ each_has_a_mark marks names
   scan_false_of_no_mark f z = rw (scan_suc, ne_eqb x not_held f, no_mark_of_mark_bit_zero left x z)
 
-  pub scan_false_of_no_block : (x ≡ not_held → ⊥) → 16384 ≤ x → false ≡ each_has_aMark marks names
+  pub scan_false_of_no_block : (x ≡ not_held → ⊥) → 16384 ≤ x → false ≡ each_has_a_mark marks names
   scan_false_of_no_block f h = scan_false_of_no_mark f (mark_bit_past_the_end left x (omega (arith, t.long)))
 
   to_find_suc : n ≡ one (not (eqb x not_held)) + held_count (drop (suc i) names)

@@ -5,7 +5,7 @@
 
 ghost use Rattle.std.specs.Prelude.{◌≡◌};
 ghost use Rattle.check_rules.specs.Check.{names_valid};
-ghost use Rattle.check_names.specs.NameScan.{held_count, each_has_aMark};
+ghost use Rattle.check_names.specs.NameScan.{held_count, each_has_a_mark};
 
 use check_live_marks::{TABLE_WORDS, marks_of_table};
 use heap_rules::State;
@@ -21,7 +21,7 @@ const NUMBER_COUNT: usize = TABLE_WORDS * BITS_OF_WORD;
 // Each held name finds its block's mark, which it takes out. Past the last held name nothing is left to find.
 fn each_has_a_mark(marks: [u64; TABLE_WORDS], names: [u16; NAME_COUNT], held: u16) -> bool
     requires { held ≡ held_count names }
-    ensures { result ≡ each_has_aMark marks names }
+    ensures { result ≡ each_has_a_mark marks names }
 {
     let mut left = marks;
     let mut to_find = held;
