@@ -7,7 +7,8 @@ use Rattle.names_rules.specs.Names.{not_held}
 -- the block of each held name has a mark when the name is met
 unfoldable pub each_has_a_mark : List ℕ → List ℕ → Bool
 each_has_a_mark marks [] = true
-each_has_a_mark marks (x ∷ names) = pick (eqb x not_held) (each_has_a_mark marks names) (both (is_marked marks x) (each_has_a_mark (without_mark marks x) names))
+each_has_a_mark marks (x ∷ names) =
+    pick (eqb x not_held) (each_has_a_mark marks names) (both (is_marked marks x) (each_has_a_mark (without_mark marks x) names))
 
 -- how many names are held
 unfoldable pub held_count : List ℕ → ℕ
