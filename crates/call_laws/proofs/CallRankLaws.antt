@@ -27,7 +27,7 @@ use Rattle.call_laws.proofs.AcceptedCallLaws.{call_passes_if_accepted}
 use Rattle.call_laws.proofs.RefusalConditions.{rest_fails, check_fails_refused_13}
 use Rattle.call_laws.proofs.TotalsKeptLaws.{setup_state_is_new, refused_call_keeps_state}
 
--- ---- named calls do what the plain ones do (TakeLaws · take-ranks, FreeLaws · free-ranks)
+-- ---- named calls do what the plain ones do (TakeLaws · take_ranks, FreeLaws · free_ranks)
 pub named_take_ranks : (s : State) (order : List ℕ) (i m size k : ℕ) → Shape s → NamedTakeAccepted s order i m size k
     → TakeRanks i k s (named_take_of s order i m size).answer.state
 named_take_ranks s order i m size k shape acc =

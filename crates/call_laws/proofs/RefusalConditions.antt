@@ -53,8 +53,8 @@ use Rattle.call_laws.proofs.NothingOfferedLaws.{NotOffered, nothing_found_iff_no
 
 -- ---- the conditions
 -- what the check asks beside the setup numbers: of the superblocks, of the names, of the totals, which are the recount (heap by heap and class by
--- class: TotalsKeptLaws · totals-kept-iff-counted), of the ranks, and of the runs, read superblock by superblock (as facts of each run: heap_laws,
--- RunLaws · runs-sound-of-valid and runs-valid-of-sound)
+-- class: TotalsKeptLaws · totals_kept_iff_counted), of the ranks, and of the runs, read superblock by superblock (as facts of each run: heap_laws,
+-- RunLaws · runs_sound_of_valid and runs_valid_of_sound)
 abbrev pub RestSound : State → List ℕ → Type 0
 RestSound s order = Sound s order × NamesSound s × TotalsKept s × RanksSound s × T (runs_valid s)
 

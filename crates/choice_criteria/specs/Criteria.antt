@@ -15,7 +15,7 @@ meets_criterion (Belongs h c) = belongs h c
 meets_criterion Empty = empty_in_global
 meets_criterion Unused = is_unused
 
--- ---- meets_criterion by numbers, in the order of the code (the law meets-by-parts says that it is the same)
+-- ---- meets_criterion by numbers, in the order of the code (the law meets_by_parts says that it is the same)
 -- owner, class and live count of a superblock that meets the criterion
 unfoldable pub owner_sought : Criterion → ℕ
 owner_sought (HasFree h c) = h

@@ -14,7 +14,7 @@ preferred_by (Belongs h c) = fewer_live
 preferred_by Empty = never_preferred
 preferred_by Unused = never_preferred
 
--- ---- preferred_by by numbers, in the order of the code (the law preferred-by-numbers says that it is the same)
+-- ---- preferred_by by numbers, in the order of the code (the law preferred_by_numbers_lem says that it is the same)
 -- by the ranks of two superblocks: the first was freed into more recently
 unfoldable pub more_recent_rank : ℕ → ℕ → Bool
 more_recent_rank rank other = both (ltb 0 rank) (either (not (ltb 0 other)) (ltb rank other))

@@ -31,7 +31,7 @@ unfoldable pub sizes : List ℕ
 sizes = 16 ∷ 24 ∷ 32 ∷ 40 ∷ 48 ∷ 56 ∷ 64 ∷ 80 ∷ 96 ∷ 112 ∷ 128 ∷ 160 ∷ 192 ∷ 224 ∷ 256 ∷ 320 ∷ 384 ∷ 448 ∷ 512 ∷ 640 ∷ 768 ∷ 896 ∷ 1024 ∷ 1280 ∷ 1536
     ∷ 1792 ∷ 2048 ∷ []
 
--- the printed blocks in a superblock, by class; that each is 4096 divided by the size is the law blocks-of-is-quotient
+-- the printed blocks in a superblock, by class; that each is 4096 divided by the size is the law blocks_of_is_quotient
 unfoldable pub counts : List ℕ
 counts = 256 ∷ 170 ∷ 128 ∷ 102 ∷ 85 ∷ 73 ∷ 64 ∷ 51 ∷ 42 ∷ 36 ∷ 32 ∷ 25 ∷ 21 ∷ 18 ∷ 16 ∷ 12 ∷ 10 ∷ 9 ∷ 8 ∷ 6 ∷ 5 ∷ 4 ∷ 4 ∷ 3 ∷ 2 ∷ 2 ∷ 2 ∷ []
 

@@ -1,8 +1,7 @@
 // The size classes, as definitions with computed cases and laws. The code of their table is that of crate class_table, of the class of a size class_of_size.
-
-// How many classes there are: 0 to 26.
 #![tactic(auto)]
 
+// How many classes there are: 0 to 26.
 pub const CLASSES: u8 = 27;
 
 // The same as a length.

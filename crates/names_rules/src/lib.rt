@@ -1,8 +1,7 @@
 // The names of blocks, as definitions with computed cases. The laws are those of crate names_laws, the code that of crate names_table.
-
-// How many names there are: 0 to 1023.
 #![tactic(auto)]
 
+// How many names there are: 0 to 1023.
 pub const NAME_COUNT: usize = 1024;
 
 // What stands for a name that is not held.

@@ -1,8 +1,7 @@
 // The numbers of the refusals, for the code: those of specs/Refusals.antt, which has the words for when each is given.
-
-// A setup number outside its limits.
 #![tactic(auto)]
 
+// A setup number outside its limits.
 pub const SETUP_OUT_OF_LIMITS: u8 = 1;
 
 // Processor 0 or above P.
