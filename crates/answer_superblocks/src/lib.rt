@@ -1,9 +1,8 @@
 // The lines of the superblocks that a call leaves, written into a lent buffer, as far as they reach.
 #![tactic(auto)]
 
-ghost use Rattle.std.specs.Prelude.{◌≡◌, ◌≤◌, min, take};
-ghost use Rattle.row_rules.specs.Borrowed.{record_count};
-ghost use Rattle.text_rules.specs.Text.{pasted};
+ghost use Rattle.std.specs.Prelude.{◌≡◌, take};
+ghost use Rattle.text_writer.specs.Written.{written};
 ghost use Rattle.answer_rules.specs.AnswerLines.{
   is_as_new,
   marks_fields,
@@ -12,82 +11,63 @@ ghost use Rattle.answer_rules.specs.AnswerLines.{
   superblock_lines,
 };
 
-use answer_fields::put_wide_field;
 use heap_rules::Superblock;
 use heap_tests::is_unused;
-use line_fields::{put_byte, put_last_field};
-use line_next_fields::put_nothing;
+use line_fields::{put_field, put_last_field};
 use row_rules::RECORD_COUNT;
+use text_writer::Text;
 
 // The four numbers of live marks.
-fn put_marks(out: &mut [u8], at: usize, live: [u64; 4]) -> usize
-    ensures { record { end = result; buffer = out.new } ≡ pasted out.old at (marks_fields live) }
+#[tactic(auto, using(crate::proofs::SuperblockLinesLaws::each_number), unfolding(answer_rules::specs::AnswerLines::wide_decimal))]
+fn put_marks(text: &mut Text, live: [u64; 4])
+    ensures { text.new ≡ written text.old (marks_fields live) }
 {
-    let first = put_wide_field(out, at, b" live ", live[0]);
-    let second = put_wide_field(out, first, b" ", live[1]);
-    let third = put_wide_field(out, second, b" ", live[2]);
-    put_wide_field(out, third, b" ", live[3])
+    text.put_text(b" live");
+    for number in live {
+        put_field(text, b" ", number);
+    }
 }
 
 // The line of a superblock.
-fn superblock_line(out: &mut [u8], at: usize, k: u8, b: Superblock) -> usize
-    ensures { record { end = result; buffer = out.new } ≡ pasted out.old at (superblock_line k b) }
+fn superblock_line(text: &mut Text, k: u8, b: Superblock)
+    ensures { text.new ≡ written text.old (superblock_line k b) }
 {
-    let live = b.live;
-    let number = put_byte(out, at, b"superblock ", k);
-    let owner = put_byte(out, number, b" owner ", b.owner);
-    let class = put_byte(out, owner, b" class ", b.class);
-    let marks = put_marks(out, class, live);
-    let rank = put_byte(out, marks, b" rank ", b.rank);
-    put_last_field(out, rank, b" run ", b.run as u32)
+    put_field(text, b"superblock ", k);
+    put_field(text, b" owner ", b.owner);
+    put_field(text, b" class ", b.class);
+    put_marks(text, b.live);
+    put_field(text, b" rank ", b.rank);
+    put_last_field(text, b" run ", b.run);
 }
 
 // Unused, unranked and first of no run.
+#[tactic(auto, unfolding(answer_rules::specs::AnswerLines::is_as_new))]
 fn is_as_new(b: Superblock) -> bool
     ensures { result ≡ is_as_new b }
 {
-    if b.rank == 0 {
-        return b.run == 0 && is_unused(b);
-    }
-    false
+    b.rank == 0 && b.run == 0 && is_unused(b)
 }
 
 // The line of a superblock that is not as a new setup has it.
-fn superblock_line_if(out: &mut [u8], at: usize, k: u8, b: Superblock) -> usize
-    ensures { record { end = result; buffer = out.new } ≡ pasted out.old at (superblock_line_if k b) }
+#[tactic(auto, unfolding(answer_rules::specs::AnswerLines::superblock_line_if))]
+fn superblock_line_if(text: &mut Text, k: u8, b: Superblock)
+    ensures { text.new ≡ written text.old (superblock_line_if k b) }
 {
     if is_as_new(b) {
-        return put_nothing(out, at);
+        text.put_nothing();
+    } else {
+        superblock_line(text, k, b);
     }
-    superblock_line(out, at, k, b)
-}
-
-// As many as there are records.
-fn at_most(n: usize) -> usize
-    ensures { (result ≡ min n record_count) × (result ≤ record_count) }
-{
-    if n <= RECORD_COUNT {
-        return n;
-    }
-    RECORD_COUNT
 }
 
 // The lines of the first n records, or of all 65 where n is above.
-pub fn superblock_lines(
-    out: &mut [u8],
-    at: usize,
-    n: usize,
-    records: [Superblock; RECORD_COUNT],
-) -> usize
-    ensures { record { end = result; buffer = out.new } ≡ pasted out.old at (superblock_lines (take n records)) }
+// An array and a count, and no slice: a slice could have more records than k has numbers, which would need a `requires`.
+#[tactic(auto, using(crate::proofs::SuperblockLinesLaws::each_record), unfolding(answer_rules::specs::AnswerLines::superblock_lines))]
+pub fn superblock_lines(text: &mut Text, n: usize, records: [Superblock; RECORD_COUNT])
+    ensures { text.new ≡ written text.old (superblock_lines (take n records)) }
 {
-    let m = at_most(n);
-    let mut end = put_nothing(out, at);
-    let mut k: usize = 0;
-    while k < m {
-        let b = records[k];
-        end = superblock_line_if(out, end, k as u8, b);
-        k += 1;
+    text.put_nothing();
+    for (k, &b) in records[..n.min(RECORD_COUNT)].iter().enumerate() {
+        superblock_line_if(text, k as u8, b);
     }
-    end
 }

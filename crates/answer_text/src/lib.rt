@@ -3,6 +3,7 @@
 
 ghost use Rattle.std.specs.Prelude.{◌≡◌, take};
 ghost use Rattle.text_rules.specs.Text.{pasted};
+ghost use Rattle.text_writer.specs.Written.{written};
 ghost use Rattle.row_rules.specs.Row.{state_of};
 ghost use Rattle.answer_rules.specs.AnswerLines.{outcome_line, answer_text, bad_input_text};
 
@@ -17,22 +18,23 @@ use line_fields::put_last_field;
 use line_setup::setup_line;
 use row_by_value::control_of;
 use row_rules::{RecordsAnswer, RowAnswer};
-use text_writer::put_text;
+use text_writer::Text;
 
 // The line of an outcome.
-fn outcome_line(out: &mut [u8], at: usize, outcome: Outcome) -> usize
-    ensures { record { end = result; buffer = out.new } ≡ pasted out.old at (outcome_line outcome) }
+#[tactic(auto, unfolding(answer_rules::specs::AnswerLines::outcome_line))]
+fn outcome_line(text: &mut Text, outcome: Outcome)
+    ensures { text.new ≡ written text.old (outcome_line outcome) }
 {
     match outcome {
-        Outcome::Ready => put_text(out, at, b"ready\n"),
-        Outcome::Address(a) => put_last_field(out, at, b"at ", a),
-        Outcome::Moves(m) => put_last_field(out, at, b"moved ", m as u32),
-        Outcome::Refused(r) => put_last_field(out, at, b"refused ", r as u32),
+        Outcome::Ready => text.put_text(b"ready\n"),
+        Outcome::Address(a) => put_last_field(text, b"at ", a),
+        Outcome::Moves(m) => put_last_field(text, b"moved ", m),
+        Outcome::Refused(r) => put_last_field(text, b"refused ", r),
     }
 }
 
 // The text of a call on a lent row, of the first n records, put at the front of the buffer; where it ends. The places are those before and after
-// the call.
+// the call. The buffer, and the count beside the records, stay parameters: the program `call` has this promise, `take n a.records`, with any n.
 pub fn row_answer_text(
     out: &mut [u8],
     n: usize,
@@ -43,34 +45,30 @@ pub fn row_answer_text(
     ensures { record { end = result; buffer = out.new } ≡ pasted out.old 0
         (answer_text a.answer.outcome (state_of a.answer.control (take n a.records)) before.now after.now) }
 {
-    let records = a.records;
-    let answer = a.answer;
-    let outcome = answer.outcome;
-    let control = answer.control;
-    let setup = control.setup;
-    let names = control.names;
-    let totals = control.totals;
-    let first = outcome_line(out, 0, outcome);
-    let second = setup_line(out, first, setup);
-    let superblocks = superblock_lines(out, second, n, records);
-    let held = name_lines(out, superblocks, names);
-    let kept = total_lines(out, held, totals);
-    let changed = place_lines(out, kept, before, after);
-    put_text(out, changed, b"end\n")
+    let mut text = Text::new(out);
+    outcome_line(&mut text, a.answer.outcome);
+    setup_line(&mut text, a.answer.control.setup);
+    superblock_lines(&mut text, n, a.records);
+    name_lines(&mut text, a.answer.control.names);
+    total_lines(&mut text, a.answer.control.totals);
+    place_lines(&mut text, before, after);
+    text.put_text(b"end\n");
+    text.end
 }
 
 // The text of a call on a state.
+#[tactic(auto, using(crate::proofs::AnswerTextLaws::state_as_row))]
 pub fn state_answer_text(out: &mut [u8], a: Answer, before: &[u16], after: &[u16]) -> usize
     ensures { record { end = result; buffer = out.new } ≡ pasted out.old 0
         (answer_text a.outcome a.state before.now after.now) }
 {
-    let outcome = a.outcome;
-    let s = a.state;
-    let table = s.table;
-    let control = control_of(s);
-    let records = records_of(table);
-    let answer = RowAnswer { outcome, control };
-    let on_row = RecordsAnswer { records, answer };
+    let on_row = RecordsAnswer {
+        records: records_of(a.state.table),
+        answer: RowAnswer {
+            outcome: a.outcome,
+            control: control_of(a.state),
+        },
+    };
     row_answer_text(out, TABLE_LENGTH, on_row, before, after)
 }
 
@@ -78,5 +76,7 @@ pub fn state_answer_text(out: &mut [u8], a: Answer, before: &[u16], after: &[u16
 pub fn bad_input_text(out: &mut [u8]) -> usize
     ensures { record { end = result; buffer = out.new } ≡ pasted out.old 0 bad_input_text }
 {
-    put_text(out, 0, b"bad input\n")
+    let mut text = Text::new(out);
+    text.put_text(b"bad input\n");
+    text.end
 }

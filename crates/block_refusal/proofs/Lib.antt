@@ -1,1 +1,2 @@
 pub mod AddressTestLaws
+pub mod RefusalLaws

@@ -9,8 +9,7 @@ ghost use Rattle.heap_rules.specs.Ranks.{ranked_latest, RanksFit};
 ghost use Rattle.call_rules.specs.LongBlocks.{run_freed};
 ghost use Rattle.call_rules.specs.Free.{superblock_index, superblock_holding, is_in_run, mark_cleared, block_pushed, order_pushed, block_freed};
 
-use class_rules::SUPERBLOCK_BYTES;
-use heap_rules::{RUN_OWNER, State, Superblock};
+use heap_rules::{RUN_OWNER, State};
 
 // The block at the address is free again, no name points at it, and its number stands in the next place of its superblock's order, unless it is long:
 // all in one function, so that its callers hand the state over once.
@@ -22,15 +21,15 @@ pub fn release_block(s: State, order: &mut [u16], address: u32) -> State
     ensures { (result ≡ block_freed s address) × (order.new ≡ order_pushed s order.old address) }
 {
     let block = block_address::block_number_at(s, address);
-    let held = s.names;
-    let names = names_table::unbind_block(held, block);
-    let mut t = free_block_or_run(s, order, address);
-    t.names = names;
-    t
+    State {
+        names: names_table::unbind_block(s.names, block),
+        ..free_block_or_run(s, order, address)
+    }
 }
 
 // The state with the run at the address unused; or with the block's superblock the last freed into and the block no longer live, and with its number
 // in its place.
+#[tactic(auto, unfolding(call_rules::specs::Free::order_pushed, heap_rules::specs::Table::is_of_run))]
 fn free_block_or_run(s: State, order: &mut [u16], address: u32) -> State
     requires { (superblock_index address < table_length)
         × (superblock_index address + (superblock_holding s address).run ≤ table_length)
@@ -44,45 +43,34 @@ fn free_block_or_run(s: State, order: &mut [u16], address: u32) -> State
         )
         × (order.new ≡ order_pushed s order.old address) }
 {
-    let k = (address / SUPERBLOCK_BYTES) as usize;
+    let k = block_address::superblock_index(address);
     let b = s.table[k];
     if b.owner == RUN_OWNER {
-        return block_run::free_run(s, k, b.run);
+        block_run::free_run(s, k, b.run)
+    } else {
+        push_block(s, order, address);
+        clear_mark(heap_ranks::rank_latest(s, k), address)
     }
-    push_block(s, order, address);
-    let ranked = heap_ranks::rank_latest(s, k);
-    clear_mark(ranked, address)
 }
 
 // The state with the block at the address no longer live.
+#[tactic(auto, unfolding(call_rules::specs::Free::mark_cleared, call_rules::specs::Free::block_of))]
 fn clear_mark(s: State, address: u32) -> State
     requires { (superblock_index address < table_length) × TotalsKept s }
     ensures { result ≡ mark_cleared s address }
 {
-    let k = (address / SUPERBLOCK_BYTES) as usize;
-    let block = block_address::block_at(s, address) as usize;
-    let b = s.table[k];
-    let old = b.live;
-    let freed = marks_bitmap::clear_live(old, block);
-    let cleared = Superblock {
-        owner: b.owner,
-        class: b.class,
-        live: freed,
-        rank: b.rank,
-        run: b.run,
-    };
-    heap_table::replace(s, k, cleared)
+    let k = block_address::superblock_index(address);
+    heap_table::replace(s, k, block_address::without_mark(s.table[k], address))
 }
 
 // Puts the number of the block at the address in the next place of its superblock's order.
+#[tactic(auto, unfolding(call_rules::specs::Free::block_pushed, call_rules::specs::Free::block_of))]
 fn push_block(s: State, order: &mut [u16], address: u32)
     requires { superblock_index address < table_length }
     ensures { order.new ≡ block_pushed s order.old address }
 {
-    let k = address / SUPERBLOCK_BYTES;
-    let i = k as usize;
-    let b = s.table[i];
-    let next = heap_table::filled_in(b);
-    let j = block_address::block_at(s, address);
-    order_places::put_place(order, k, next, j);
+    let k = block_address::superblock_index(address);
+    let b = s.table[k];
+    let block = block_address::block_in(b.class, address);
+    order_places::put_place(order, k as u32, heap_table::filled_in(b), block);
 }

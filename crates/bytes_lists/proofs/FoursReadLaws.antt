@@ -1,24 +1,22 @@
--- A loop that reads several numbers of four bytes into an array of zeros. Assumes nothing.
-use mathlib.Core.Path.{◌≡◌, ◌∙◌}
-use mathlib.Core.List.{List}
-use Prim.Native.Nat.{ℕ, suc, ◌+◌, ◌-◌, ◌*◌, ◌≤◌, ◌<◌}
+-- What a loop leaves that reads several numbers of four bytes, in front of zeros. Assumes nothing.
+use mathlib.Core.Path.{◌≡◌, sym, ◌∙◌}
+use mathlib.Core.List.{List, ◌++◌}
+use Prim.Native.Nat.{ℕ, ◌+◌, ◌-◌, ◌*◌, ◌<◌}
 use native.Mathlib.Omega.{arith}
-use lib.ListN.{take, drop, set, replicate}
-use lib.Seq.{drop-set-lt, drop-drop}
+use lib.ListN.{length, get_or, take, drop, replicate}
+use Rattle.std.proofs.lemmas.List.{take_at, drop_at, drop-replicate}
+use lib.Seq.{ext_get_or}
 use Rattle.base_laws.specs.Lists.{listed}
+use Rattle.base_laws.proofs.ListedLaws.{length_listed, get_or_listed}
 use Rattle.bytes_rules.specs.Bytes.{four_at, fours_at}
 
--- zeros stand behind the numbers read, and behind one more
-pub zeros_behind_one_more : (l : List ℕ) (i n v : ℕ) → i < n → drop i l ≡ replicate (n - i) 0 → drop (i + 1) (set l i v) ≡ replicate (n - (i + 1)) 0
-zeros_behind_one_more l i n v h e =
-    let one : n - i ≡ suc (n - (i + 1)) = omega arith in
-    drop-set-lt (i + 1) l i v (omega arith) ∙ (rw (← drop-drop 1 i l, e, one))
+pub fours_read : (r xs zeros : List ℕ) (at n : ℕ) → length xs ≡ n → ((k : ℕ) → k < n → get_or xs k 0 ≡ four_at r (at + 4 * k))
+    → take n (xs ++ zeros) ≡ fours_at r at n
+unfolding fours_at
+fours_read r xs zeros at n long e =
+    let f : ℕ → ℕ = λ k. four_at r (at + 4 * k) in
+    take_at xs zeros n long
+    ∙ ext_get_or 0 xs (listed f n) (long ∙ sym (length_listed f n)) (λ k h. e k (omega arith) ∙ sym (get_or_listed f n k 0 (omega arith)))
 
--- all of them are read
-module _ (count i : ℕ) (l : List ℕ) (h : i ≤ count) (g : count ≤ i) where
-  pub fours_read : (r : List ℕ) (at : ℕ) → take i l ≡ listed (λ k. four_at r (at + 4 * k)) i → take count l ≡ fours_at r at count
-  unfolding fours_at
-  fours_read r at e = let s : i ≡ count = omega arith in rw s at e
-
-  pub zeros_behind_fours : drop i l ≡ replicate (255 - i) 0 → drop count l ≡ replicate (255 - count) 0
-  zeros_behind_fours e = let s : i ≡ count = omega arith in rw s at e
+pub zeros_behind_fours : (xs : List ℕ) (n : ℕ) → length xs ≡ n → drop n (xs ++ drop n (replicate 255 0)) ≡ replicate (255 - n) 0
+zeros_behind_fours xs n long = drop_at xs (drop n (replicate 255 0)) n long ∙ drop-replicate n 255 0

@@ -1,2 +1,1 @@
-pub mod PositionLaws
 pub mod FoursReadLaws

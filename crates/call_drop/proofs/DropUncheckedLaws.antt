@@ -1,11 +1,12 @@
 -- A drop behind the check, in the forms that the code's proofs ask. Assumes nothing.
-use mathlib.Core.Path.{◌≡◌, sym, ap, ◌∙◌}
-use mathlib.Core.Bool.{Bool, true, false}
+use mathlib.Core.Path.{◌≡◌, refl, sym, ap, ◌∙◌}
+use mathlib.Core.Bool.{Bool, true, false, not}
 use mathlib.Core.List.{List}
 use Prim.Native.Nat.{ℕ, ◌≤◌}
 use native.Mathlib.Omega.{arith}
-use borrow.Author.Tests.{ne_eqb, not-true, not-false}
 use lib.ListN.{length}
+use lib.Dec.{eqb}
+use Rattle.base_laws.specs.Sums.{pick}
 use Rattle.base_laws.proofs.TestLaws.{T_of_true}
 use Rattle.heap_rules.specs.declared.Setup.{Setup}
 use Rattle.heap_rules.specs.declared.State.{State}
@@ -18,49 +19,39 @@ use Rattle.heap_laws.proofs.StateCheckLaws.{sound_of_passes, totals_kept_of_pass
 use Rattle.heap_laws.proofs.RunLaws.{runs_sound_of_valid}
 use Rattle.call_laws.proofs.AllFreedLaws.{run_fits}
 use Rattle.call_drop_addresses.specs.TestedTable.{RunsFit}
-use Rattle.call_rules.specs.declared.Answer.{Answer}
-use Rattle.call_rules.specs.declared.Outcome.TheVariants.{Moves, Refused}
-use Rattle.call_rules.specs.Answers.{After, HasNumberAndValuesOf, is_processor}
+use Rattle.call_rules.specs.declared.Outcome.TheVariants.{Moves}
+use Rattle.call_rules.specs.Answers.{After, refused, is_processor}
 use Rattle.call_rules.specs.DropLoops.{heaps_restored}
 use Rattle.call_rules.proofs.TouchedPairLaws.{drop_moves_by_heaps}
 use Rattle.call_rules.specs.Drop.{all_freed, all_pushed, first_address_refusal, is_touched, drop_moves, dropped_all, drop_unchecked}
-use Rattle.call_rules.proofs.AnswerLaws.{number_and_values_by_rules, refused_of_answer}
+use Rattle.call_outcomes.proofs.CallTestLaws.{tested}
+use Rattle.call_drop.specs.DropRefusal.{drop_refusal}
 use Rattle.call_drop.specs.DropSteps.{FreesSafe, touched_in, TellsTouched}
 use Rattle.call_drop.proofs.FreesLaws.{all_freed_keeps_setup, all_freed_keeps_totals}
 use Rattle.call_drop.proofs.RestoreLaws.{heaps_restored_cong}
 use Rattle.call_drop.proofs.FreesSafeLaws.{frees_safe_of_passes}
 
-abbrev answer_and_order : Answer → List ℕ → After
-answer_and_order r order = record { answer = r; order = order }
-
--- ---- the two clauses of the contract, from the equation
-pub drop_unchecked_clauses : (s : State) (order : List ℕ) (i : ℕ) (addresses : List ℕ) {r : Answer} {out : List ℕ} → answer_and_order r out
-    ≡ drop_unchecked s order i addresses
-    → (answer_and_order r out ≡ drop_unchecked s order i addresses) × HasNumberAndValuesOf r.outcome (drop_unchecked s order i addresses).answer.outcome
-drop_unchecked_clauses s order i addresses {r = r} {out = out} e = (e, number_and_values_by_rules r out (drop_unchecked s order i addresses) e)
-
 -- ---- its ways out
-module _ (s : State) (order : List ℕ) (i : ℕ) (addresses : List ℕ) (t : Bool) (p : t ≡ is_processor s i) where
-  pub drop_unchecked_refused_2 : (r : Answer) → t ≡ false → r ≡ record { outcome = Refused 2; state = s } → answer_and_order r order
-      ≡ drop_unchecked s order i addresses
-  unfolding drop_unchecked
-  drop_unchecked_refused_2 r f h = refused_of_answer s order 2 r h ∙ sym (rw (← p, f))
+pub drop_unchecked_by_test : (s : State) (order : List ℕ) (i : ℕ) (addresses : List ℕ)
+    → tested (drop_refusal s i addresses) s order (dropped_all s order addresses) ≡ drop_unchecked s order i addresses
+unfolding drop_refusal drop_unchecked
+drop_unchecked_by_test s order i addresses = go (is_processor s i) (eqb (length addresses) 0) (dropped_all s order addresses)
+  where
+    go : (a b : Bool) (next : After) → tested (pick a (pick b 16 (first_address_refusal s addresses)) 2) s order next
+        ≡ pick (not a) (refused 2 s order) (pick b (refused 16 s order)
+        (pick (eqb (first_address_refusal s addresses) 0) next (refused (first_address_refusal s addresses) s order)))
+    go true true next = refl
+    go true false next = refl
+    go false b next = refl
 
-  module _ (f : t ≡ true) where
-    pub drop_unchecked_refused_16 : (r : Answer) → length addresses ≡ 0 → r ≡ record { outcome = Refused 16; state = s } → answer_and_order r order
-        ≡ drop_unchecked s order i addresses
-    unfolding drop_unchecked
-    drop_unchecked_refused_16 r z h = refused_of_answer s order 16 r h ∙ sym (rw (← p, f, z))
-
-    module _ (some : length addresses ≡ 0 → ⊥) (bad : ℕ) (g : bad ≡ first_address_refusal s addresses) where
-      pub drop_unchecked_refused_by_address : (r : Answer) → (bad ≡ 0 → ⊥) → r ≡ record { outcome = Refused bad; state = s } → answer_and_order r order
-          ≡ drop_unchecked s order i addresses
-      unfolding drop_unchecked
-      drop_unchecked_refused_by_address r n h = refused_of_answer s order bad r h ∙ sym (rw (← p, f, ne_eqb (length addresses) 0 some, ← g, ne_eqb bad 0 n))
-
-      pub drop_unchecked_is_dropped_all : (after : After) → bad ≡ 0 → after ≡ dropped_all s order addresses → after ≡ drop_unchecked s order i addresses
-      unfolding drop_unchecked
-      drop_unchecked_is_dropped_all after z h = h ∙ sym (rw (← p, f, ne_eqb (length addresses) 0 some, ← g, z))
+no_bad_address : (s : State) (i : ℕ) (addresses : List ℕ) → 0 ≡ drop_refusal s i addresses → first_address_refusal s addresses ≡ 0
+unfolding drop_refusal
+no_bad_address s i addresses = go (is_processor s i) (eqb (length addresses) 0)
+  where
+    go : (a b : Bool) → 0 ≡ pick a (pick b 16 (first_address_refusal s addresses)) 2 → first_address_refusal s addresses ≡ 0
+    go true false z = sym z
+    go true true z = absurd (omega arith)
+    go false b z = absurd (omega arith)
 
 -- ---- what the check tells of the state
 module _ (s : State) (order : List ℕ) (p : passes s order ≡ true) where
@@ -73,10 +64,13 @@ module _ (s : State) (order : List ℕ) (p : passes s order ≡ true) where
     λ m l. run_fits s m (runs_sound_of_valid s shape.length_is (runs_valid_of_rest s order (rest_of_passes s order (T_of_true _ p)))) l,
   )
 
-  pub blocks_can_be_dropped : (addresses : List ℕ) (bad : ℕ) → Shape s → bad ≡ first_address_refusal s addresses → bad ≡ 0 → FreesSafe s addresses
+  pub blocks_can_be_dropped : (i : ℕ) (addresses : List ℕ) → Shape s → 0 ≡ drop_refusal s i addresses → FreesSafe s addresses
       × TotalsKept s × (s.setup.processors ≤ 8)
-  blocks_can_be_dropped addresses bad shape g z =
-      (frees_safe_of_passes s order addresses shape p (sym g ∙ z), totals_kept_of_passes s order (T_of_true _ p), sound.numbers.processors_high)
+  blocks_can_be_dropped i addresses shape z = (
+    frees_safe_of_passes s order addresses shape p (no_bad_address s i addresses z),
+    totals_kept_of_passes s order (T_of_true _ p),
+    sound.numbers.processors_high,
+  )
 
 -- ---- an accepted drop, step by step
 pub moves_can_be_made : (s t : State) (addresses : List ℕ) → t ≡ all_freed s addresses → TotalsKept s → s.setup.processors ≤ 8 → TotalsKept t
@@ -84,7 +78,7 @@ pub moves_can_be_made : (s t : State) (addresses : List ℕ) → t ≡ all_freed
 moves_can_be_made s t addresses e kept few = rw e (all_freed_keeps_totals s addresses kept, rw (all_freed_keeps_setup s addresses) few)
 
 -- the moves that the code makes are the drop's
-drop_moves_by_steps : (s : State) (addresses : List ℕ) (touched : List Bool) (t : State) (m : Moved) → s.setup.processors ≤ 8
+drop_moves_by_steps : (s : State) (addresses : List ℕ) (touched : List (List Bool)) (t : State) (m : Moved) → s.setup.processors ≤ 8
     → TellsTouched touched s addresses → t ≡ all_freed s addresses
     → m ≡ heaps_restored (touched_in touched) t.setup.processors (record { moves = 0; state = t }) → m ≡ drop_moves s addresses
 drop_moves_by_steps s addresses touched t m few tells freed moved =
@@ -95,21 +89,11 @@ drop_moves_by_steps s addresses touched t m few tells freed moved =
     (λ h c l lc. tells h c (omega arith) lc)
     ∙ sym (drop_moves_by_heaps s addresses)
 
-pub dropped_all_by_steps : (s : State) (order addresses : List ℕ) (touched : List Bool) (t : State) (new : List ℕ) (m : Moved) → s.setup.processors ≤ 8
+pub dropped_all_by_steps : (s : State) (order addresses : List ℕ) (touched : List (List Bool)) (t : State) (new : List ℕ) (m : Moved) → s.setup.processors ≤ 8
     → TellsTouched touched s addresses
     → (t ≡ all_freed s addresses) × (new ≡ all_pushed s order addresses) → m ≡ heaps_restored (touched_in touched) t.setup.processors
     (record { moves = 0; state = t })
-    → answer_and_order (record { outcome = Moves m.moves; state = m.state }) new ≡ dropped_all s order addresses
+    → record { answer = record { outcome = Moves m.moves; state = m.state }; order = new } ≡ dropped_all s order addresses
 unfolding dropped_all
 dropped_all_by_steps s order addresses touched t new m few tells freed moved =
     rw (drop_moves_by_steps s addresses touched t m few tells freed.0 moved, freed.1)
-
--- ---- how a proof finds which way out it is at
-pub ruleset drop_outcomes = (
-  drop_unchecked_refused_2,
-  drop_unchecked_refused_16,
-  drop_unchecked_refused_by_address,
-  drop_unchecked_is_dropped_all,
-  not-true,
-  not-false,
-)

@@ -26,11 +26,10 @@ module _ (h c : ℕ) (before m : Moved) (can : CanMove before) (e : m ≡ invari
   pub moves_added_fit_w8 : Fits w8 (before.moves + m.moves)
   moves_added_fit_w8 = record { fits = rw e (omega (arith, can.moves_fit, moves_leave_heaps h c before.state can.length_is)) }
 
-pub then_restored_by_steps : (h c : ℕ) (before m : Moved) (moves : ℕ) (next : State) → m ≡ invariant_restored h c before.state
-    → moves ≡ before.moves + m.moves → next ≡ m.state
-    → ◌≡◌ {A = Moved} (record { moves = moves; state = next }) (then_restored h c before)
+pub then_restored_by_steps : (h c : ℕ) (before m : Moved) → m ≡ invariant_restored h c before.state
+    → ◌≡◌ {A = Moved} (record { moves = before.moves + m.moves; state = m.state }) (then_restored h c before)
 unfolding then_restored
-then_restored_by_steps h c before m moves next e em en = rw (em, en, e)
+then_restored_by_steps h c before m e = rw e
 
 -- ---- what the next heap and class asks
 can_move_after_pair : (h c : ℕ) (before : Moved) → CanMove before → CanMove (then_restored h c before)
@@ -65,6 +64,24 @@ module _ (touched : ℕ → ℕ → Bool) (h : ℕ) (before : Moved) where
       → m ≡ classes_restored touched h class_count before
   all_classes_restored m c so high low = so.restored_are ∙ ap (λ (n : ℕ). classes_restored touched h n before) (omega arith)
 
+-- ---- what is touched, told in another way
+module _ (touched told : ℕ → ℕ → Bool) where
+  classes_restored_cong : (h c : ℕ) (before : Moved) → ((d : ℕ) → d < c → told h d ≡ touched h d) → classes_restored told h c before
+      ≡ classes_restored touched h c before
+  unfolding classes_restored
+  classes_restored_cong h zero before e = refl
+  classes_restored_cong h (suc c) before e =
+      ap (λ (b : Bool). pick b (then_restored h c (classes_restored told h c before)) (classes_restored told h c before)) (e c (le_refl (suc c)))
+      ∙ ap (λ (m : Moved). pick (touched h c) (then_restored h c m) m) (classes_restored_cong h c before (λ d l. e d (omega arith)))
+
+  pub heaps_restored_cong : (n : ℕ) (before : Moved) → ((h c : ℕ) → h ≤ n → c < class_count → told h c ≡ touched h c) → heaps_restored told n before
+      ≡ heaps_restored touched n before
+  unfolding heaps_restored
+  heaps_restored_cong zero before e = refl
+  heaps_restored_cong (suc h) before e =
+      ap (classes_restored told (suc h) class_count) (heaps_restored_cong h before (λ i c l. e i c (omega arith)))
+      ∙ classes_restored_cong (suc h) class_count (heaps_restored touched h before) (λ d l. e (suc h) d (le_refl (suc h)) l)
+
 -- ---- the heaps: those from 1 to below the heap have made theirs
 pub record HeapsRestored (touched : ℕ → ℕ → Bool) (before : Moved) (h : ℕ) (m : Moved) : Type 0 where
   pub heap_low : 1 ≤ h
@@ -83,17 +100,23 @@ module _ (touched : ℕ → ℕ → Bool) where
       }
 
   module _ (before m : Moved) (h : ℕ) (so : HeapsRestored touched before h m) where
-    pub heap_restored : (next : Moved) → next ≡ classes_restored touched h class_count m → HeapsRestored touched before (h + 1) next
+    -- the heap's classes may be told in another way
+    pub heap_restored : (told : ℕ → ℕ → Bool) (next : Moved) → ((c : ℕ) → c < class_count → told h c ≡ touched h c)
+        → next ≡ classes_restored told h class_count m → HeapsRestored touched before (h + 1) next
     unfolding heaps_restored
-    heap_restored next e = record {
+    heap_restored told next same_classes e = record {
       heap_low = omega arith;
       restored_are =
-          e ∙ ap (classes_restored touched h class_count) so.restored_are
+          moved
+          ∙ ap (classes_restored touched h class_count) so.restored_are
           ∙ ap (λ (n : ℕ). classes_restored touched n class_count (heaps_restored touched (h - 1) before)) (up so.heap_low)
           ∙ ap (λ (n : ℕ). heaps_restored touched n before) (same so.heap_low);
-      can_move = rw e (classes_restored_keep CanMove can_move_after_pair touched h class_count m so.can_move);
+      can_move = rw moved (classes_restored_keep CanMove can_move_after_pair touched h class_count m so.can_move);
     }
       where
+        moved : next ≡ classes_restored touched h class_count m
+        moved = e ∙ classes_restored_cong touched told h class_count m same_classes
+
         up : 1 ≤ h → h ≡ suc (h - 1)
         up l = omega arith
 
@@ -102,21 +125,3 @@ module _ (touched : ℕ → ℕ → Bool) where
 
     pub all_heaps_restored : (n : ℕ) → h ≤ n + 1 → n < h → m ≡ heaps_restored touched n before
     all_heaps_restored n high low = so.restored_are ∙ ap (λ (k : ℕ). heaps_restored touched k before) (omega arith)
-
--- ---- what is touched, told in another way
-module _ (touched told : ℕ → ℕ → Bool) where
-  classes_restored_cong : (h c : ℕ) (before : Moved) → ((d : ℕ) → d < c → told h d ≡ touched h d) → classes_restored told h c before
-      ≡ classes_restored touched h c before
-  unfolding classes_restored
-  classes_restored_cong h zero before e = refl
-  classes_restored_cong h (suc c) before e =
-      ap (λ (b : Bool). pick b (then_restored h c (classes_restored told h c before)) (classes_restored told h c before)) (e c (le_refl (suc c)))
-      ∙ ap (λ (m : Moved). pick (touched h c) (then_restored h c m) m) (classes_restored_cong h c before (λ d l. e d (omega arith)))
-
-  pub heaps_restored_cong : (n : ℕ) (before : Moved) → ((h c : ℕ) → h ≤ n → c < class_count → told h c ≡ touched h c) → heaps_restored told n before
-      ≡ heaps_restored touched n before
-  unfolding heaps_restored
-  heaps_restored_cong zero before e = refl
-  heaps_restored_cong (suc h) before e =
-      ap (classes_restored told (suc h) class_count) (heaps_restored_cong h before (λ i c l. e i c (omega arith)))
-      ∙ classes_restored_cong (suc h) class_count (heaps_restored touched h before) (λ d l. e (suc h) d (le_refl (suc h)) l)

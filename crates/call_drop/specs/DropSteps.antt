@@ -1,12 +1,12 @@
 -- What the steps of a drop ask of the step before, and the heaps and classes that it touches as an array.
-use Rattle.std.specs.Prelude.{◌≡◌, Bool, false, not, List, ℕ, ◌+◌, ◌≤◌, ◌<◌, length, get_or, take, eqb}
+use Rattle.std.specs.Prelude.{◌≡◌, Bool, false, not, List, [], ℕ, ◌+◌, ◌≤◌, ◌<◌, length, get_or, take, eqb}
 use Rattle.base_laws.specs.Sums.{one}
 use Rattle.class_rules.specs.Classes.{class_count}
 use Rattle.heap_rules.specs.declared.State.{State}
 use Rattle.heap_rules.specs.declared.Moved.{Moved}
 use Rattle.heap_rules.specs.Table.{table_length}
 use Rattle.heap_rules.specs.Counts.{total}
-use Rattle.heap_rules.specs.Totals.{heap_count, TotalsKept, total_index}
+use Rattle.heap_rules.specs.Totals.{heap_count, TotalsKept}
 use Rattle.heap_rules.specs.Ranks.{RanksFit}
 use Rattle.call_rules.specs.Free.{superblock_index, superblock_holding, is_in_run}
 use Rattle.call_rules.specs.Drop.{all_freed, is_touched}
@@ -24,12 +24,16 @@ pub record FreeSafe (s : State) (addresses : List ℕ) (i : ℕ) : Type 0 where
 abbrev pub FreesSafe : State → List ℕ → Type 0
 FreesSafe s addresses = (i : ℕ) → i < length addresses → FreeSafe s addresses i
 
--- heap h and class c are touched, as an array tells that has them where the totals have theirs
-abbrev pub touched_in : List Bool → ℕ → ℕ → Bool
-touched_in touched h c = get_or touched (total_index h c) false
+-- class c is touched in a heap, as an array of its classes tells
+abbrev pub touched_of_heap : List Bool → ℕ → ℕ → Bool
+touched_of_heap classes h c = get_or classes c false
+
+-- heap h and class c are touched, as an array tells that has one for each heap
+abbrev pub touched_in : List (List Bool) → ℕ → ℕ → Bool
+touched_in touched h c = touched_of_heap (get_or touched h []) h c
 
 -- it tells this of the addresses
-abbrev pub TellsTouched : List Bool → State → List ℕ → Type 0
+abbrev pub TellsTouched : List (List Bool) → State → List ℕ → Type 0
 TellsTouched touched s addresses = (h c : ℕ) → h < heap_count → c < class_count → touched_in touched h c ≡ is_touched s addresses h c
 
 -- the move rule can be followed after moves that came before: they have kept the table's length and the totals, and the superblocks that were moved and those

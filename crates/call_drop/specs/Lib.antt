@@ -1,1 +1,2 @@
+pub mod DropRefusal
 pub mod DropSteps

@@ -1,18 +1,24 @@
 -- The refusals that the frees of a drop would meet, told by the marks and the runs alone. Assumes nothing.
-use mathlib.Core.Path.{◌≡◌, refl, sym, ap, ◌∙◌}
+use mathlib.Core.Path.{◌≡◌, refl, sym, ap, ◌∙◌, subst}
 use mathlib.Core.Bool.{true, false}
 use mathlib.Core.List.{List, [], ◌∷◌}
-use Prim.Native.Nat.{ℕ, zero, suc, ◌+◌, ◌/◌, ◌%◌, ◌≤◌, ◌<◌}
-use native.Mathlib.Nat.{le_of_suc-le-suc, not-suc-le-zero, le_antisymm}
+use Prim.Native.Nat.{ℕ, zero, suc, ◌+◌, ◌-◌, ◌/◌, ◌%◌, ◌≤◌, ◌<◌}
+use native.Mathlib.Nat.{le_of_suc-le-suc, not-suc-le-zero}
 use native.Mathlib.Numerals.{add-one}
 use native.Mathlib.Decide.{ℕ_discrete}
 use native.Mathlib.Omega.{arith}
 use borrow.Author.Tests.{eq-eqb, ne_eqb}
-use lib.ListN.{length, get_or, set, take, drop, length-set, drop_of_length-le}
-use lib.Seq.{drop-cons, get_or-set_same, get_or-set_other}
+use borrow.Rule.Slice.PartMut.{put_mid}
+use lib.ListN.{length, get_or, set, take, drop, replicate, length-set, drop_of_length-le}
+use lib.Seq.{paste, drop-cons, get_or-set_same, get_or-set_other}
+use Rattle.std.proofs.lemmas.Grind.{common_steps}
+use Rattle.std.proofs.lemmas.List.{length-replicate, get_or_read}
+use Rattle.std.proofs.lemmas.List.Edits.{paste_none, fill_from_more}
+use Rattle.std.proofs.lemmas.Slice.{put_mid-paste}
 use Rattle.base_laws.proofs.ListedLaws.{length_listed}
 use Rattle.class_rules.specs.Classes.{size_of}
-use Rattle.marks_rules.specs.Marks.{without_mark}
+use Rattle.refusal_rules.specs.declared.Refusal.{Refusal}
+use Rattle.refusal_rules.specs.RefusalNumbers.{number_of}
 use Rattle.heap_rules.specs.declared.Superblock.{Superblock}
 use Rattle.heap_rules.specs.declared.State.{State}
 use Rattle.heap_rules.specs.Table.{run_owner, blank, unused, superblock_at, is_unused, is_of_run, starts_run, live_blocks, with_rank, without_mark_at}
@@ -22,12 +28,13 @@ use Rattle.heap_rules.specs.Ranks.{rank_after_free, ranked_latest}
 use Rattle.heap_laws.proofs.CountLaws.{superblock_at_replaced, superblock_at_others}
 use Rattle.heap_laws.proofs.RerankedLaws.{superblock_keeps_all_but_rank}
 use Rattle.call_rules.specs.LongBlocks.{each_of_run, made_unused, run_freed}
-use Rattle.call_rules.specs.Free.{superblock_index, superblock_holding, block_of, is_unmapped, is_in_run, is_run_start, is_off_block, is_misaligned, is_live_at}
-use Rattle.call_rules.specs.Free.{address_refusal, mark_cleared, small_block_freed, long_block_freed, block_freed}
+use Rattle.call_rules.specs.Free.{superblock_index, superblock_holding, block_of, is_unmapped, is_in_run, is_run_start, is_off_block, is_misaligned}
+use Rattle.call_rules.specs.Free.{is_live_at, address_refusal, mark_cleared, small_block_freed, long_block_freed, block_freed}
 use Rattle.call_rules.specs.Drop.{all_freed, first_address_refusal}
 use Rattle.block_refusal.specs.Holding.{ToldByCountAndSuperblock}
 use Rattle.block_refusal.proofs.AddressTestLaws.{address_refusal_past_table}
-use Rattle.call_drop_addresses.specs.TestedTable.{RunsFit, table_without_run}
+use Rattle.block_refusal.proofs.RefusalLaws.{number_above_0}
+use Rattle.call_drop_addresses.specs.TestedTable.{RunsFit}
 
 -- ---- the frees at one address more
 pub all_freed_at_next : (s : State) (addresses : List ℕ) (i : ℕ) → i < length addresses → all_freed s (take (suc i) addresses)
@@ -155,6 +162,11 @@ module _ (u : State) (addresses : List ℕ) (i : ℕ) (l : i < length addresses)
 abbrev with_table : State → List Superblock → State
 with_table s t = record { setup = s.setup; table = t; names = s.names; totals = recounted t }
 
+-- the table with the n superblocks from k on unused
+unfoldable table_without_run : ℕ → ℕ → List Superblock → List Superblock
+table_without_run k zero table = table
+table_without_run k (suc n) table = set (table_without_run k n table) (k + n) unused
+
 -- a run freed in it
 run_freed_of_table : (s : State) (t : List Superblock) (k n : ℕ) → run_freed k n (with_table s t) ≡ with_table s (table_without_run k n t)
 unfolding run_freed each_of_run made_unused table_without_run
@@ -181,24 +193,24 @@ runs_fit_without_run t k (suc n) long l fit =
     runs_fit_of_replaced (table_without_run k n t) (k + n) unused (length_without_run k n t ∙ long) (omega arith) (omega arith)
     (runs_fit_without_run t k n long (omega arith) fit)
 
--- one superblock of the run after another
-module _ (table : List Superblock) (k : ℕ) where
-  pub none_left_yet : table ≡ table_without_run k 0 table
-  unfolding table_without_run
-  none_left_yet = refl
+-- made so by a fill, as the code goes
+fill_more : (t : List Superblock) (k n : ℕ) → k + n < length t
+    → set (paste t k (replicate n unused) n) (k + n) unused ≡ paste t k (replicate (suc n) unused) (suc n)
+fill_more t k n l = let e = fill_from_more t k n unused l in rw add-one at e
 
-  pub one_more_left : (t : List Superblock) (j : ℕ) → t ≡ table_without_run k j table → set t (k + j) unused ≡ table_without_run k (j + 1) table
-  unfolding table_without_run
-  one_more_left t j e = rw (add-one, e)
+without_run_is_paste : (t : List Superblock) (k n : ℕ) → k + n ≤ length t → paste t k (replicate n unused) n ≡ table_without_run k n t
+unfolding table_without_run
+without_run_is_paste t k zero l = sym (paste_none t k [])
+without_run_is_paste t k (suc n) l =
+    sym (fill_more t k n (omega arith))
+    ∙ ap (λ (x : List Superblock). set x (k + n) unused) (without_run_is_paste t k n (omega arith))
 
-  pub all_left : (t : List Superblock) (j n : ℕ) → t ≡ table_without_run k j table → j ≤ n → n ≤ j → t ≡ table_without_run k n table
-  all_left t j n e l g = e ∙ ap (λ (i : ℕ). table_without_run k i table) (le_antisymm l g)
-
--- a superblock with a mark cleared, as the code makes it
-pub without_mark_by_steps : (b : Superblock) (a block : ℕ) (freed : List ℕ) → block ≡ a % 4096 / size_of b.class → freed ≡ without_mark b.live block
-    → ◌≡◌ {A = Superblock} (record { owner = b.owner; class = b.class; live = freed; rank = b.rank; run = b.run })
-    (without_mark_at b (a % 4096 / size_of b.class))
-without_mark_by_steps b a block freed eb ef = rw (ef, eb)
+without_run_by_fill : (t filled : List Superblock) (k n : ℕ) → k + n ≤ length t → filled ≡ replicate (length (take (k + n - k) (drop k t))) unused
+    → put_mid k (k + n - k) t filled ≡ table_without_run k n t
+without_run_by_fill t filled k n l e =
+    let long : length (take (k + n - k) (drop k t)) ≡ n = grind (arith, common_steps) in
+    put_mid-paste k (k + n - k) t filled (replicate n unused) n (e ∙ ap (λ (m : ℕ). replicate m unused) long) (omega arith)
+    (sym (length-replicate n unused)) ∙ without_run_is_paste t k n l
 
 -- ---- the loop: the addresses below i meet no refusal, and t is the table without their marks and runs
 pub record NoneRefused (s : State) (addresses : List ℕ) (i : ℕ) (t : List Superblock) : Type 0 where
@@ -212,64 +224,73 @@ none_refused_yet s addresses long fit =
     record { refusal_left = refl; same = record { setup_is = refl; first_length = long; second_length = long; each = λ k. refl }; fit = fit }
 
 module _ (s : State) (t : List Superblock) (addresses : List ℕ) (i : ℕ) (so : NoneRefused s addresses i t) where
-  module _ (l : i < length addresses) where
+  -- the next address, in superblock k
+  module _ (l : i < length addresses) (k : ℕ) (ek : k ≡ get_or addresses i 0 / 4096) where
     abbrev a : ℕ
     a = get_or addresses i 0
-
-    -- the superblock of the address
-    abbrev b : Superblock
-    b = get_or t (get_or addresses i 0 / 4096) blank
 
     refused_of_bad : (bad : ℕ) → bad ≡ address_refusal (with_table s t) a → (bad ≡ 0 → ⊥) → bad ≡ first_address_refusal s addresses
     refused_of_bad bad e n =
         let at : bad ≡ address_refusal (all_freed s (take i addresses)) a = e ∙ same_refusal (with_table s t) (all_freed s (take i addresses)) so.same a in
         at ∙ sym (first_refusal_at_bad (all_freed s (take i addresses)) addresses i l (λ z. n (at ∙ z))) ∙ so.refusal_left
 
-    pub past_table_refused : s.setup.superblocks ≤ 64 → 64 ≤ get_or addresses i 0 / 4096 → 5 ≡ first_address_refusal s addresses
-    past_table_refused high h = refused_of_bad 5 (address_refusal_past_table (with_table s t) a high h) (λ z. omega arith)
+    pub past_table_refused : s.setup.superblocks ≤ 64 → length t ≤ k → 5 ≡ first_address_refusal s addresses
+    past_table_refused high h =
+        let long = so.same.first_length in
+        refused_of_bad 5 (address_refusal_past_table (with_table s t) a high (omega arith)) (λ z. omega arith)
 
-    module _ (bad : ℕ) (e : ToldByCountAndSuperblock bad address_refusal s.setup.superblocks (get_or t (get_or addresses i 0 / 4096) blank)
-        (get_or addresses i 0)) where
-      pub first_bad_refused : (bad ≡ 0 → ⊥) → bad ≡ first_address_refusal s addresses
-      first_bad_refused = refused_of_bad bad (e (with_table s t) refl refl)
+    -- which is b
+    module _ (b : Superblock) (below : k < length t) (at : b ≡ get_or t k b) where
+      eb : get_or t k blank ≡ b
+      eb = sym (get_or_read t k b below at blank)
 
-      -- the block is freed, and what it leaves of the table told
-      one_more_passed : bad ≡ 0 → (next : List Superblock) → SameBlocks (with_table s next) (block_freed (all_freed s (take i addresses)) a) → RunsFit next
-          → NoneRefused s addresses (i + 1) next
-      one_more_passed z next same fit =
-          let none : address_refusal (all_freed s (take i addresses)) a ≡ 0 =
-          sym (e (with_table s t) refl refl ∙ same_refusal (with_table s t) (all_freed s (take i addresses)) so.same a) ∙ z in
-          rw add-one (record {
-            refusal_left = rw (all_freed_at_next s addresses i l) (sym (first_refusal_past_good (all_freed s (take i addresses)) addresses i l none)
-                ∙ so.refusal_left);
-            same = rw (all_freed_at_next s addresses i l) same;
-            fit = fit;
-          })
+      held : superblock_holding (with_table s t) a ≡ b
+      held = rw ek at eb
 
-      module _ (z : bad ≡ 0) (below : get_or addresses i 0 / 4096 < 64) where
-        pub run_of_address_fits : get_or addresses i 0 / 4096 + (get_or t (get_or addresses i 0 / 4096) blank).run ≤ 64
-        run_of_address_fits = so.fit (a / 4096) below
+      pub run_of_address_fits : k + b.run ≤ length t
+      run_of_address_fits = let long = so.same.first_length in let fit = so.fit k (omega arith) in let e = ap (λ (x : Superblock). x.run) eb in omega arith
 
-        pub none_refused_past_run : (get_or t (get_or addresses i 0 / 4096) blank).owner ≡ run_owner → (next without : List Superblock)
-            → without ≡ table_without_run (get_or addresses i 0 / 4096) (get_or t (get_or addresses i 0 / 4096) blank).run t → next ≡ without
+      pub first_bad_refused : (bad : Refusal) → ToldByCountAndSuperblock (number_of bad) address_refusal s.setup.superblocks b (get_or addresses i 0)
+          → number_of bad ≡ first_address_refusal s addresses
+      first_bad_refused bad told = refused_of_bad (number_of bad) (told (with_table s t) refl held) (number_above_0 bad)
+
+      module _ (told : ToldByCountAndSuperblock 0 address_refusal s.setup.superblocks b (get_or addresses i 0)) where
+        -- the block is freed, and what it leaves of the table told
+        one_more_passed : (next : List Superblock) → SameBlocks (with_table s next) (block_freed (all_freed s (take i addresses)) a) → RunsFit next
             → NoneRefused s addresses (i + 1) next
-        unfolding is_of_run
-        none_refused_past_run o next without ew en =
-            rw (en, ew)
-            (one_more_passed z _
-            (rw (← run_freed_of_table s t (a / 4096) b.run) (same_of_long_freed (with_table s t) (all_freed s (take i addresses)) so.same a
-            (eq-eqb b.owner run_owner o) run_of_address_fits))
-            (runs_fit_without_run t (a / 4096) b.run so.same.first_length run_of_address_fits so.fit))
+        one_more_passed next same fit =
+            let none : address_refusal (all_freed s (take i addresses)) a ≡ 0 =
+            sym (told (with_table s t) refl held ∙ same_refusal (with_table s t) (all_freed s (take i addresses)) so.same a) in
+            rw add-one (record {
+              refusal_left = rw (all_freed_at_next s addresses i l) (sym (first_refusal_past_good (all_freed s (take i addresses)) addresses i l none)
+                  ∙ so.refusal_left);
+              same = rw (all_freed_at_next s addresses i l) same;
+              fit = fit;
+            })
 
-        pub none_refused_past_block : ((get_or t (get_or addresses i 0 / 4096) blank).owner ≡ run_owner → ⊥) → (next : List Superblock) (now : Superblock)
-            → now ≡ without_mark_at (get_or t (get_or addresses i 0 / 4096) blank)
-            (get_or addresses i 0 % 4096 / size_of (get_or t (get_or addresses i 0 / 4096) blank).class)
-            → next ≡ set t (get_or addresses i 0 / 4096) now → NoneRefused s addresses (i + 1) next
+        pub none_refused_past_run : b.owner ≡ run_owner → (n : ℕ) → n ≡ b.run → (filled : List Superblock)
+            → filled ≡ replicate (length (take (k + n - k) (drop k t))) unused → NoneRefused s addresses (i + 1) (put_mid k (k + n - k) t filled)
+        unfolding is_of_run
+        none_refused_past_run o n en filled ef =
+            let long = so.same.first_length in
+            let fits : k + n ≤ length t = rw en run_of_address_fits in
+            let freed : SameBlocks (with_table s (table_without_run k n t)) (block_freed (all_freed s (take i addresses)) a) =
+            rw (← run_freed_of_table s t k n, en, ← ap (λ (x : Superblock). x.run) eb, ek)
+            (same_of_long_freed (with_table s t) (all_freed s (take i addresses)) so.same a (rw held (eq-eqb b.owner run_owner o))
+            (so.fit (a / 4096) (omega arith))) in
+            subst (NoneRefused s addresses (i + 1)) (sym (without_run_by_fill t filled k n fits ef))
+            (one_more_passed (table_without_run k n t) freed (runs_fit_without_run t k n long (omega arith) so.fit))
+
+        pub none_refused_past_block : (b.owner ≡ run_owner → ⊥) → (freed : Superblock)
+            → freed ≡ without_mark_at b (get_or addresses i 0 % 4096 / size_of b.class) → NoneRefused s addresses (i + 1) (set t k freed)
         unfolding is_of_run mark_cleared block_of
-        none_refused_past_block f next now ew en =
-            rw (en, ew)
-            (one_more_passed z _ (same_of_block_freed (with_table s t) (all_freed s (take i addresses)) so.same a (ne_eqb b.owner run_owner f) below)
-            (runs_fit_of_replaced t (a / 4096) _ so.same.first_length below run_of_address_fits so.fit))
+        none_refused_past_block f freed ef =
+            let long = so.same.first_length in
+            let now : SameBlocks (with_table s (set t k freed)) (block_freed (all_freed s (take i addresses)) a) =
+            rw (ef, ← eb, ek)
+            (same_of_block_freed (with_table s t) (all_freed s (take i addresses)) so.same a (rw held (ne_eqb b.owner run_owner f)) (omega arith)) in
+            one_more_passed (set t k freed) now
+            (runs_fit_of_replaced t k freed long (omega arith) (rw ef (omega (arith, run_of_address_fits))) so.fit)
 
   pub none_refused_at_end : length addresses ≤ i → 0 ≡ first_address_refusal s addresses
   unfolding first_address_refusal

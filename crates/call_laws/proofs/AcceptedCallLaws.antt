@@ -1,4 +1,5 @@
 -- "An accepted call yields a state that passes", and the moves that a call reports are "at most q". Assumes nothing.
+use Rattle.std.specs.Prelude.{Option, Some, None}
 use mathlib.Core.Path.{◌≡◌, refl, sym, ap, ◌∙◌, subst}
 use mathlib.Core.Bool.{Bool, true, false, not}
 use mathlib.Core.Logic.{◌⊎◌, inl, inr, ⊎_elim}
@@ -15,8 +16,6 @@ use Rattle.names_rules.specs.Names.{is_held}
 use Rattle.order_rules.specs.Order.{cleared}
 use Rattle.heap_rules.specs.declared.Setup.{Setup}
 use Rattle.heap_rules.specs.declared.State.{State}
-use Rattle.heap_rules.specs.declared.Found.{Found}
-use Rattle.heap_rules.specs.declared.Found.TheVariants.{At, Nothing}
 use Rattle.heap_rules.specs.States.{no_state, new_state}
 use Rattle.choice_rules.specs.Choice.{fullest}
 use Rattle.choice_rules.specs.RunChoice.{lowest_run}
@@ -74,16 +73,16 @@ checked_not_refused_0 s order next h =
     (refused_not_refused_0 12 s order (λ e. omega arith)))
     (refused_not_refused_0 13 s order (λ e. omega arith))
 
-taken_not_refused_0 : (i c : ℕ) (s : State) (order : List ℕ) (own other : Found) → NotRefused0 (taken_at i c s order own other)
+taken_not_refused_0 : (i c : ℕ) (s : State) (order : List ℕ) (own other : Option ℕ) → NotRefused0 (taken_at i c s order own other)
 unfolding taken_at taken_from taken_from_other
-taken_not_refused_0 i c s order (At k) other = address_not_refused_0 _
-taken_not_refused_0 i c s order Nothing (At k) = address_not_refused_0 _
-taken_not_refused_0 i c s order Nothing Nothing = refused_not_refused_0 4 s order (λ e. omega arith)
+taken_not_refused_0 i c s order (Some k) other = address_not_refused_0 _
+taken_not_refused_0 i c s order None (Some k) = address_not_refused_0 _
+taken_not_refused_0 i c s order None None = refused_not_refused_0 4 s order (λ e. omega arith)
 
-long_taken_not_refused_0 : (n : ℕ) (s : State) (order : List ℕ) (run : Found) → NotRefused0 (long_taken_at n s order run)
+long_taken_not_refused_0 : (n : ℕ) (s : State) (order : List ℕ) (run : Option ℕ) → NotRefused0 (long_taken_at n s order run)
 unfolding long_taken_at long_taken_from
-long_taken_not_refused_0 n s order (At k) = address_not_refused_0 _
-long_taken_not_refused_0 n s order Nothing = refused_not_refused_0 17 s order (λ e. omega arith)
+long_taken_not_refused_0 n s order (Some k) = address_not_refused_0 _
+long_taken_not_refused_0 n s order None = refused_not_refused_0 17 s order (λ e. omega arith)
 
 take_not_refused_0 : (s : State) (order : List ℕ) (i size : ℕ) → NotRefused0 (take_unchecked s order i size)
 unfolding take_unchecked

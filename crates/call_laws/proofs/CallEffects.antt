@@ -1,4 +1,5 @@
 -- When a call is accepted, and what a take and a free then do to a state: the facts that the claims over lists go by.
+use Rattle.std.specs.Prelude.{Some, None}
 use mathlib.Core.Path.{◌≡◌}
 use mathlib.Core.Bool.{true, false}
 use mathlib.Core.Logic.{◌⊎◌, ◌↔◌}
@@ -14,7 +15,6 @@ use Rattle.heap_rules.specs.declared.State.{State}
 use Rattle.heap_rules.specs.Table.{run_owner, unused, superblock_at, live_in, is_of_run, run_part, with_rank}
 use Rattle.heap_rules.specs.Ranks.{rank_after_free, rank_after_renewal}
 use Rattle.heap_rules.specs.Counts.{superblocks_of, superblocks_of_class, live_of_class, owners_changed, passed_between_heaps}
-use Rattle.heap_rules.specs.declared.Found.TheVariants.{At, Nothing}
 use Rattle.choice_rules.specs.Choice.{fullest}
 use Rattle.choice_rules.specs.RunChoice.{is_available, lowest_run}
 use Rattle.check_rules.specs.Check.{names_valid, runs_valid}
@@ -53,8 +53,8 @@ pub record TakeAccepted (s : State) (order : List ℕ) (i size k : ℕ) : Type 0
   pub passed : Passed s order
   pub processor : (1 ≤ i) × (i ≤ s.setup.processors)
   pub size_le_2048 : size ≤ 2048
-  pub place : ((fullest i (class_of size) s ≡ At k) × (take_of s order i size ≡ taken_from k s order))
-      ⊎ ((fullest i (class_of size) s ≡ Nothing) × (other_places (class_of size) s ≡ At k)
+  pub place : ((fullest i (class_of size) s ≡ Some k) × (take_of s order i size ≡ taken_from k s order))
+      ⊎ ((fullest i (class_of size) s ≡ None) × (other_places (class_of size) s ≡ Some k)
       × (take_of s order i size ≡ taken_from_other i (class_of size) k s order))
 
 -- an accepted take of a long block (document 02, item 7): the size is 2049 to 65535, and the lowest-numbered run begins at superblock k
@@ -63,7 +63,7 @@ pub record LongTakeAccepted (s : State) (order : List ℕ) (i size k : ℕ) : Ty
   pub processor : (1 ≤ i) × (i ≤ s.setup.processors)
   pub size_above_2048 : 2048 < size
   pub size_le_65535 : size ≤ 65535
-  pub run : lowest_run (run_length size) s ≡ At k
+  pub run : lowest_run (run_length size) s ≡ Some k
   pub result_is : take_of s order i size ≡ long_taken_from k (run_length size) s order
 
 -- the state passes, the processor is in range, and a live block starts at the address

@@ -1,6 +1,7 @@
 -- "Its first n - live places hold the free blocks, last in first out": a superblock's free blocks as a stack. A free pushes its block, a drop each of
 -- its blocks in the order written, a take takes the block on top, a renewal rewrites the order places, moves leave every stack. A long block has no place in
 -- a stack: its free leaves them all, and its take those outside its run. Assumes nothing.
+use Rattle.std.specs.Prelude.{Option, Some, None}
 use mathlib.Core.Path.{◌≡◌, refl, sym, ap, ap₂, ◌∙◌, subst}
 use mathlib.Core.Bool.{Bool, true, false, not}
 use mathlib.Core.Logic.{◌⊎◌, inl, inr, ⊎_elim}
@@ -25,8 +26,6 @@ use Rattle.order_laws.proofs.OrderLaws.{with_place_other_superblock}
 use Rattle.filled_rules.proofs.PlacesValidLaws.{last_filled_of_renewed_is_0}
 use Rattle.heap_rules.specs.declared.Superblock.{Superblock}
 use Rattle.heap_rules.specs.declared.State.{State}
-use Rattle.heap_rules.specs.declared.Found.{Found}
-use Rattle.heap_rules.specs.declared.Found.TheVariants.{At, Nothing}
 use Rattle.heap_rules.specs.Table.{run_owner, unused_owner, blank, unused, superblock_at, live_in, is_of_run, with_owner, without_mark_at}
 use Rattle.heap_rules.specs.Ranks.{rank_after_free, reranked, ranked_latest, unranked}
 use Rattle.base_laws.proofs.ListedLaws.{length_listed}
@@ -129,7 +128,7 @@ pub record TakeRenews (s : State) (order : List ℕ) (i size k : ℕ) : Type 0 w
 
 -- "A superblock with nothing live is renewed for c when it comes from place 2, 3 or 4"
 pub record RenewedByTake (s : State) (i size k : ℕ) : Type 0 where
-  pub not_own : fullest i (class_of size) s ≡ Nothing
+  pub not_own : fullest i (class_of size) s ≡ None
   pub empty : live_in (superblock_at s k) ≡ 0
 
 -- ---- stacks by places
@@ -181,10 +180,10 @@ transferred_same_class_and_marks k s m = go (ℕ_discrete m k) (dec_lt k (length
 same_trans : (s t u : State) (m : ℕ) → SameClassAndMarks s t m → SameClassAndMarks t u m → SameClassAndMarks s u m
 same_trans s t u m a b = record { class = b.class ∙ a.class; live = b.live ∙ a.live }
 
-found_transferred_same_class_and_marks : (found : Found) (s : State) (m : ℕ) → SameClassAndMarks s (found_transferred found s) m
+found_transferred_same_class_and_marks : (found : Option ℕ) (s : State) (m : ℕ) → SameClassAndMarks s (found_transferred found s) m
 unfolding found_transferred
-found_transferred_same_class_and_marks (At k) s m = transferred_same_class_and_marks k s m
-found_transferred_same_class_and_marks Nothing s m = record { class = refl; live = refl }
+found_transferred_same_class_and_marks (Some k) s m = transferred_same_class_and_marks k s m
+found_transferred_same_class_and_marks None s m = record { class = refl; live = refl }
 
 -- the moves of a free change no superblock's class or marks
 pub invariant_restored_same_class_and_marks : (h c : ℕ) (s : State) (m : ℕ) → SameClassAndMarks s (invariant_restored h c s).state m
@@ -473,7 +472,7 @@ module _ (s : State) (order : List ℕ) (i size k : ℕ) (shape : Shape s) (acc 
   unfolding acquired acquired_order unranked_if_empty last_block_of
   taken_without_renewal not_renewed = go acc.place
     where
-      by_live : fullest i (class_of size) s ≡ Nothing → (t : Bool) → eqb (live_in (superblock_at s k)) 0 ≡ t
+      by_live : fullest i (class_of size) s ≡ None → (t : Bool) → eqb (live_in (superblock_at s k)) 0 ≡ t
           → take_of s order i size ≡ taken_with k (pick t (unranked k s) s) (pick t (renewed_for i (class_of size)) (with_owner i (superblock_at s k)))
           (pick t (renewed order k blocks) order) → TakenWithoutRenewal
       by_live none true q e = absurd (not_renewed (record { not_own = none; empty = eqb-true (live_in (superblock_at s k)) 0 q }))
@@ -489,8 +488,8 @@ module _ (s : State) (order : List ℕ) (i size k : ℕ) (shape : Shape s) (acc 
           was_class (inl z) = absurd (eqb-false (live_in (superblock_at s k)) 0 q z)
           was_class (inr h) = h.0
 
-      go : ((fullest i (class_of size) s ≡ At k) × (take_of s order i size ≡ taken_from k s order))
-          ⊎ ((fullest i (class_of size) s ≡ Nothing) × (other_places (class_of size) s ≡ At k)
+      go : ((fullest i (class_of size) s ≡ Some k) × (take_of s order i size ≡ taken_from k s order))
+          ⊎ ((fullest i (class_of size) s ≡ None) × (other_places (class_of size) s ≡ Some k)
           × (take_of s order i size ≡ taken_from_other i (class_of size) k s order)) → TakenWithoutRenewal
       go (inl (f, e)) =
           let e2 = e ∙ taken_from_is_taken_with k s order in
@@ -539,13 +538,13 @@ module _ (s : State) (order : List ℕ) (i size k : ℕ) (shape : Shape s) (acc 
     unfolding acquired acquired_order unranked_if_empty
     renewed_result = go acc.place
       where
-        go : ((fullest i (class_of size) s ≡ At k) × (take_of s order i size ≡ taken_from k s order))
-            ⊎ ((fullest i (class_of size) s ≡ Nothing) × (other_places (class_of size) s ≡ At k)
+        go : ((fullest i (class_of size) s ≡ Some k) × (take_of s order i size ≡ taken_from k s order))
+            ⊎ ((fullest i (class_of size) s ≡ None) × (other_places (class_of size) s ≡ Some k)
             × (take_of s order i size ≡ taken_from_other i (class_of size) k s order))
             → take_of s order i size ≡ taken_with k (unranked k s) (renewed_for i (class_of size)) (renewed order k blocks)
         go (inl (f, e)) = absurd (found_one (sym f ∙ renewing.not_own))
           where
-            found_one : At k ≡ Nothing → ⊥
+            found_one : Some k ≡ None → ⊥
             found_one q = let z : ◌≡◌ {A = ℕ} 0 1 = cc in omega arith
         go (inr (f, g, e)) =
             e ∙ taken_from_other_is_taken_with i (class_of size) k s order taken_superblock_lt_64 shape.length_is
@@ -621,12 +620,12 @@ take_keeps_stack : (k : ℕ) (s : State) (order : List ℕ) (i size : ℕ) → S
     → StackKept k s order (take_of s order i size).answer.state (take_of s order i size).order
 take_keeps_stack k s order i size shape apart = go (take_refused_or_accepted s order i size)
   where
-    other : (m : ℕ) (acc : TakeAccepted s order i size m) → (k ≡ m → ⊥) → Dec (live_in (superblock_at s m) ≡ 0) → (f : Found) → fullest i (class_of size) s
+    other : (m : ℕ) (acc : TakeAccepted s order i size m) → (k ≡ m → ⊥) → Dec (live_in (superblock_at s m) ≡ 0) → (f : Option ℕ) → fullest i (class_of size) s
         ≡ f → OtherStacksKept m s order (take_of s order i size).answer.state (take_of s order i size).order
-    other m acc f (yes z) Nothing e = (take_renews_stack s order i size m shape acc (record { not_own = e; empty = z })).others
-    other m acc f (yes z) (At n) e = (take_pops s order i size m shape acc (λ r. found_one n (sym e ∙ r.not_own))).1.others
+    other m acc f (yes z) None e = (take_renews_stack s order i size m shape acc (record { not_own = e; empty = z })).others
+    other m acc f (yes z) (Some n) e = (take_pops s order i size m shape acc (λ r. found_one n (sym e ∙ r.not_own))).1.others
       where
-        found_one : (n : ℕ) → At n ≡ Nothing → ⊥
+        found_one : (n : ℕ) → Some n ≡ None → ⊥
         found_one n q = let z : ◌≡◌ {A = ℕ} 0 1 = cc in omega arith
     other m acc f (no g) found e = (take_pops s order i size m shape acc (λ r. g r.empty)).1.others
 

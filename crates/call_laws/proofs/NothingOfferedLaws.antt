@@ -1,5 +1,6 @@
 -- Which superblocks the four places of a take offer, as facts on one superblock; the four choices find nothing exactly if none of the 64 is offered.
 -- Assumes nothing.
+use Rattle.std.specs.Prelude.{None}
 use mathlib.Core.Path.{◌≡◌}
 use mathlib.Core.Logic.{◌↔◌}
 use Prim.Native.Nat.{ℕ, ◌≤◌, ◌<◌}
@@ -7,7 +8,6 @@ use native.Mathlib.Omega.{arith}
 use Rattle.class_rules.specs.Classes.{blocks_of}
 use Rattle.heap_rules.specs.declared.Superblock.{Superblock}
 use Rattle.heap_rules.specs.declared.State.{State}
-use Rattle.heap_rules.specs.declared.Found.TheVariants.{Nothing}
 use Rattle.heap_rules.specs.Table.{superblock_at, live_in, is_unused}
 use Rattle.choice_rules.specs.Choice.{fuller_or_more_recent, never_preferred, has_free, empty_in_global, fullest, lowest_empty, lowest_unused}
 use Rattle.heap_laws.proofs.StateFacts.{Unused}
@@ -36,10 +36,10 @@ pub record NotOffered (s : State) (i c k : ℕ) : Type 0 where
 
 -- the four choices find nothing
 pub record NothingFound (s : State) (i c : ℕ) : Type 0 where
-  pub own : fullest i c s ≡ Nothing
-  pub zero : fullest 0 c s ≡ Nothing
-  pub empty : lowest_empty s ≡ Nothing
-  pub unused : lowest_unused s ≡ Nothing
+  pub own : fullest i c s ≡ None
+  pub zero : fullest 0 c s ≡ None
+  pub empty : lowest_empty s ≡ None
+  pub unused : lowest_unused s ≡ None
 
 module _ (s : State) (i c : ℕ) (few : s.setup.superblocks ≤ 64) where
   not_offered_of_nothing_found : NothingFound s i c → (k : ℕ) → k < 64 → NotOffered s i c k
@@ -50,21 +50,21 @@ module _ (s : State) (i c : ℕ) (few : s.setup.superblocks ≤ 64) where
     place_4 = λ n h. none_unused_of_lowest_unused_nothing s f.unused k n (is_unused_of_facts (superblock_at s k) h);
   }
 
-  fullest_nothing_of_none_free : (h : ℕ) → ((k : ℕ) → k < 64 → HasFree h c (superblock_at s k) → ⊥) → fullest h c s ≡ Nothing
+  fullest_nothing_of_none_free : (h : ℕ) → ((k : ℕ) → k < 64 → HasFree h c (superblock_at s k) → ⊥) → fullest h c s ≡ None
   unfolding fullest
   fullest_nothing_of_none_free h f =
       chosen_nothing_of_none_meets (has_free h c) fuller_or_more_recent s.table 64 (λ k l t.
       let w = facts_of_has_free h c (superblock_at s k) t in
       f k l (record { owner = w.0; class = w.1; free = w.2 }))
 
-  lowest_empty_nothing_of_none_empty : ((k : ℕ) → k < 64 → EmptyInGlobal (superblock_at s k) → ⊥) → lowest_empty s ≡ Nothing
+  lowest_empty_nothing_of_none_empty : ((k : ℕ) → k < 64 → EmptyInGlobal (superblock_at s k) → ⊥) → lowest_empty s ≡ None
   unfolding lowest_empty
   lowest_empty_nothing_of_none_empty f =
       chosen_nothing_of_none_meets empty_in_global never_preferred s.table 64 (λ k l t.
       let w = facts_of_empty_in_global (superblock_at s k) t in
       f k l (record { owner = w.0; live = w.1 }))
 
-  lowest_unused_nothing_of_none_unused : ((k : ℕ) → k < s.setup.superblocks → Unused (superblock_at s k) → ⊥) → lowest_unused s ≡ Nothing
+  lowest_unused_nothing_of_none_unused : ((k : ℕ) → k < s.setup.superblocks → Unused (superblock_at s k) → ⊥) → lowest_unused s ≡ None
   unfolding lowest_unused
   lowest_unused_nothing_of_none_unused f = chosen_nothing_of_none_meets is_unused never_preferred s.table s.setup.superblocks
       (λ k l t. f k l (facts_of_is_unused (superblock_at s k) t))

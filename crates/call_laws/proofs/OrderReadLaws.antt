@@ -1,5 +1,6 @@
 -- No call reads an order place from N × 256 on: storages with the same first N × 256 places get the same answers, for every state and argument.
 -- Assumes nothing.
+use Rattle.std.specs.Prelude.{Option, Some, None}
 use mathlib.Core.Path.{◌≡◌, refl, ap, subst}
 use mathlib.Core.Bool.{Bool, true, false, not}
 use mathlib.Core.Logic.{◌⊎◌, inl, inr}
@@ -20,8 +21,6 @@ use Rattle.order_laws.proofs.FirstPlaces.{same_first_with_place, same_first_clea
 use Rattle.heap_rules.specs.declared.Setup.{Setup}
 use Rattle.heap_rules.specs.declared.Superblock.{Superblock}
 use Rattle.heap_rules.specs.declared.State.{State}
-use Rattle.heap_rules.specs.declared.Found.{Found}
-use Rattle.heap_rules.specs.declared.Found.TheVariants.{At, Nothing}
 use Rattle.heap_rules.specs.Table.{superblock_at, live_in, with_mark_at}
 use Rattle.heap_rules.specs.States.{with_superblock}
 use Rattle.choice_rules.specs.Choice.{fullest}
@@ -145,22 +144,22 @@ module _ (s : State) (x y : List ℕ) (h : SameFirst (s.setup.superblocks * 256)
   take_agrees i size = go (is_processor s i) (is_too_large size) (is_long size) (lowest_run (run_length size) s) (fullest i (class_of size) s)
       (other_places (class_of size) s) refl refl refl
     where
-      go : (processor large long : Bool) (run own other : Found) → is_processor s i ≡ processor → fullest i (class_of size) s ≡ own
+      go : (processor large long : Bool) (run own other : Option ℕ) → is_processor s i ≡ processor → fullest i (class_of size) s ≡ own
           → other_places (class_of size) s ≡ other → Passed s x
           → Agree n (taken_by_tests s x i size processor large long run own other) (taken_by_tests s y i size processor large long run own other)
       go false large long run own other ep eo et passed = same_refusal 2
       go true true long run own other ep eo et passed = same_refusal 3
-      go true false true (At k) own other ep eo et passed = record { answer = refl; order = h }
-      go true false true Nothing own other ep eo et passed = same_refusal 17
-      go true false false run (At k) other ep eo et passed =
+      go true false true (Some k) own other ep eo et passed = record { answer = refl; order = h }
+      go true false true None own other ep eo et passed = same_refusal 17
+      go true false false run (Some k) other ep eo et passed =
           taken_from_agrees n k s x y h
           (omega (arith, fullest_below_superblocks s x passed i (class_of size) k (bounds_of_is_processor s i (T_of_true (is_processor s i) ep)).1 eo))
-      go true false false run Nothing (At k) ep eo et passed =
+      go true false false run None (Some k) ep eo et passed =
           let l : k * 256 + 256 ≤ n = omega (arith, other_places_below_superblocks s x passed (class_of size) k et) in
           taken_from_agrees n k (with_superblock (unranked_if_empty k s) k (acquired i (class_of size) (superblock_at s k)))
           (acquired_order (class_of size) k (superblock_at s k) x) (acquired_order (class_of size) k (superblock_at s k) y)
           (acquired_order_agrees n (class_of size) k (superblock_at s k) x y h l) l
-      go true false false run Nothing Nothing ep eo et passed = same_refusal 4
+      go true false false run None None ep eo et passed = same_refusal 4
 
   -- a free
   free_agrees : (i a : ℕ) → Agree n (free_unchecked s x i a) (free_unchecked s y i a)

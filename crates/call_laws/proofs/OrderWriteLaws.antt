@@ -1,5 +1,6 @@
 -- The order places that a call writes: a take those of a renewal, a free one, a drop one for each address, a setup the first N × 256, and none for a
 -- long block. Assumes nothing.
+use Rattle.std.specs.Prelude.{Option, Some, None}
 use mathlib.Core.Path.{◌≡◌, refl, sym, ap, ◌∙◌, subst}
 use mathlib.Core.Bool.{Bool, true, false, not}
 use mathlib.Core.Logic.{◌⊎◌, inl, inr, ⊎_elim}
@@ -21,8 +22,6 @@ use Rattle.order_laws.proofs.OrderLaws.{with_place_same, length_cleared, cleared
 use Rattle.order_laws.proofs.FirstPlaces.{renewed_at_index, drop_equal_of_same_rest}
 use Rattle.heap_rules.specs.declared.Setup.{Setup}
 use Rattle.heap_rules.specs.declared.State.{State}
-use Rattle.heap_rules.specs.declared.Found.{Found}
-use Rattle.heap_rules.specs.declared.Found.TheVariants.{At, Nothing}
 use Rattle.heap_rules.specs.Table.{unused_owner, superblock_at, live_in, is_unused, live_blocks}
 use Rattle.heap_rules.specs.States.{no_state}
 use Rattle.heap_rules.specs.Ranks.{ranked_latest}
@@ -61,8 +60,8 @@ pub record WritesRenewedPlaces (k n : ℕ) (before after : List ℕ) : Type 0 wh
 -- an accepted take that renews: place 1 offers nothing, places 2 to 4 offer superblock k, and it has nothing live
 pub record Renewal (s : State) (order : List ℕ) (i size k : ℕ) : Type 0 where
   pub accepted : TakeAccepted s order i size k
-  pub not_own : fullest i (class_of size) s ≡ Nothing
-  pub from_others : other_places (class_of size) s ≡ At k
+  pub not_own : fullest i (class_of size) s ≡ None
+  pub from_others : other_places (class_of size) s ≡ Some k
   pub below : k < s.setup.superblocks
   pub empty : live_in (superblock_at s k) ≡ 0
   pub places : WritesRenewedPlaces k (blocks_of (class_of size)) order (take_of s order i size).order
@@ -100,27 +99,27 @@ pub record ClearsFirst (n : ℕ) (before after : List ℕ) : Type 0 where
 -- ---- a take
 module _ (s : State) (order : List ℕ) (passed : Passed s order) where
   -- the superblock that a place offers is one of the first N
-  pub fullest_below_superblocks : (h c k : ℕ) → h ≤ s.setup.processors → fullest h c s ≡ At k → k < s.setup.superblocks
+  pub fullest_below_superblocks : (h c k : ℕ) → h ≤ s.setup.processors → fullest h c s ≡ Some k → k < s.setup.superblocks
   fullest_below_superblocks h c k l e =
       let best = best_of_fullest h c s k e in
       let w = facts_of_has_free h c (superblock_at s k) best.meets_criterion_lem in
       owned_below_superblocks s order passed.sound k best.below
       (λ (q : (superblock_at s k).owner ≡ unused_owner). omega (arith, w.0, passed.sound.numbers.processors_high))
 
-  lowest_empty_below_superblocks : (k : ℕ) → lowest_empty s ≡ At k → k < s.setup.superblocks
+  lowest_empty_below_superblocks : (k : ℕ) → lowest_empty s ≡ Some k → k < s.setup.superblocks
   lowest_empty_below_superblocks k e =
       let best = best_of_lowest_empty s k e in
       let w = facts_of_empty_in_global (superblock_at s k) best.meets_criterion_lem in
       owned_below_superblocks s order passed.sound k best.below (λ (q : (superblock_at s k).owner ≡ unused_owner). omega (arith, w.0))
 
-  pub other_places_below_superblocks : (c k : ℕ) → other_places c s ≡ At k → k < s.setup.superblocks
+  pub other_places_below_superblocks : (c k : ℕ) → other_places c s ≡ Some k → k < s.setup.superblocks
   unfolding other_places
   other_places_below_superblocks c k = go (fullest 0 c s) (lowest_empty s) refl refl
     where
-      go : (f g : Found) → fullest 0 c s ≡ f → lowest_empty s ≡ g → or_else f (or_else g (lowest_unused s)) ≡ At k → k < s.setup.superblocks
-      go (At m) g p q e = fullest_below_superblocks 0 c k (omega arith) (p ∙ e)
-      go Nothing (At m) p q e = lowest_empty_below_superblocks k (q ∙ e)
-      go Nothing Nothing p q e = (best_of_lowest_unused s k e).below
+      go : (f g : Option ℕ) → fullest 0 c s ≡ f → lowest_empty s ≡ g → or_else f (or_else g (lowest_unused s)) ≡ Some k → k < s.setup.superblocks
+      go (Some m) g p q e = fullest_below_superblocks 0 c k (omega arith) (p ∙ e)
+      go None (Some m) p q e = lowest_empty_below_superblocks k (q ∙ e)
+      go None None p q e = (best_of_lowest_unused s k e).below
 
 module _ (s : State) (order : List ℕ) (i size : ℕ) where
   renews_places : (k : ℕ) → k < s.setup.superblocks → Passed s order → WritesRenewedPlaces k (blocks_of (class_of size)) order
@@ -144,7 +143,7 @@ module _ (s : State) (order : List ℕ) (i size : ℕ) where
   unfolding taken_from_other taken_from acquired_order long_taken_from
   take_writes = go (take_refused_or_accepted s order i size)
     where
-      renewal : (k : ℕ) → TakeAccepted s order i size k → fullest i (class_of size) s ≡ Nothing → other_places (class_of size) s ≡ At k
+      renewal : (k : ℕ) → TakeAccepted s order i size k → fullest i (class_of size) s ≡ None → other_places (class_of size) s ≡ Some k
           → (t : Bool) → eqb (live_in (superblock_at s k)) 0 ≡ t → (take_of s order i size).order ≡ pick t (renewed order k (blocks_of (class_of size))) order
           → ((take_of s order i size).order ≡ order) ⊎ ((m : ℕ) × Renewal s order i size m)
       renewal k acc none found false q e = inl e
@@ -163,8 +162,8 @@ module _ (s : State) (order : List ℕ) (i size : ℕ) where
           )
 
       by_place : (k : ℕ) → TakeAccepted s order i size k
-          → ((fullest i (class_of size) s ≡ At k) × (take_of s order i size ≡ taken_from k s order))
-          ⊎ ((fullest i (class_of size) s ≡ Nothing) × (other_places (class_of size) s ≡ At k)
+          → ((fullest i (class_of size) s ≡ Some k) × (take_of s order i size ≡ taken_from k s order))
+          ⊎ ((fullest i (class_of size) s ≡ None) × (other_places (class_of size) s ≡ Some k)
           × (take_of s order i size ≡ taken_from_other i (class_of size) k s order))
           → ((take_of s order i size).order ≡ order) ⊎ ((m : ℕ) × Renewal s order i size m)
       by_place k acc (inl (f, e)) = inl (ap (λ (x : After). x.order) e)
@@ -178,15 +177,15 @@ module _ (s : State) (order : List ℕ) (i size : ℕ) where
       go (inr (inr (k, acc))) = inl (ap (λ (x : After). x.order) acc.result_is)
 
   -- and it does renew what comes from place 2, 3 or 4 with nothing live
-  pub take_renews : (k : ℕ) → TakeAccepted s order i size k → fullest i (class_of size) s ≡ Nothing → live_in (superblock_at s k) ≡ 0 → Renewal s order i size k
+  pub take_renews : (k : ℕ) → TakeAccepted s order i size k → fullest i (class_of size) s ≡ None → live_in (superblock_at s k) ≡ 0 → Renewal s order i size k
   unfolding taken_from_other taken_from acquired_order
   take_renews k acc none empty = go acc.place
     where
-      found_one : At k ≡ Nothing → ⊥
+      found_one : Some k ≡ None → ⊥
       found_one q = let z : ◌≡◌ {A = ℕ} 0 1 = cc in omega arith
 
-      go : ((fullest i (class_of size) s ≡ At k) × (take_of s order i size ≡ taken_from k s order))
-          ⊎ ((fullest i (class_of size) s ≡ Nothing) × (other_places (class_of size) s ≡ At k)
+      go : ((fullest i (class_of size) s ≡ Some k) × (take_of s order i size ≡ taken_from k s order))
+          ⊎ ((fullest i (class_of size) s ≡ None) × (other_places (class_of size) s ≡ Some k)
           × (take_of s order i size ≡ taken_from_other i (class_of size) k s order))
           → Renewal s order i size k
       go (inl (f, e)) = absurd (found_one (sym f ∙ none))

@@ -1,5 +1,6 @@
 -- Each refusal of a take, a free and a setup, by its number, given exactly if its condition holds and none before it in document 01's order: for every
 -- state, storage and argument. Assumes nothing.
+use Rattle.std.specs.Prelude.{Option, Some, None}
 use mathlib.Core.Path.{◌≡◌, refl, sym, ap, ◌∙◌, subst}
 use mathlib.Core.Bool.{Bool, true, false, not}
 use mathlib.Core.Logic.{◌↔◌, ◌⊎◌, inl, inr}
@@ -19,8 +20,6 @@ use Rattle.marks_rules.specs.Marks.{mark_bit, no_marks}
 use Rattle.marks_laws.proofs.MarkLaws.{mark_bit_zero_of_no_mark, no_mark_of_mark_bit_zero, with_mark_same}
 use Rattle.heap_rules.specs.declared.Setup.{Setup}
 use Rattle.heap_rules.specs.declared.State.{State}
-use Rattle.heap_rules.specs.declared.Found.{Found}
-use Rattle.heap_rules.specs.declared.Found.TheVariants.{At, Nothing}
 use Rattle.heap_rules.specs.Table.{run_owner, is_unused, is_of_run, starts_run, live_blocks}
 use Rattle.heap_rules.specs.States.{no_state}
 use Rattle.choice_rules.specs.Choice.{fullest}
@@ -257,8 +256,8 @@ module _ (s : State) (order : List ℕ) (i : ℕ) where
   -- ---- a take
   module _ (size : ℕ) where
     -- what it finds, of a size that a class holds, and of a long one
-    none_offered_of_nothing_found : Passed s order → IsProcessor s i → size ≤ 2048 → fullest i (class_of size) s ≡ Nothing → other_places (class_of size) s
-        ≡ Nothing → NothingOffered s order i size
+    none_offered_of_nothing_found : Passed s order → IsProcessor s i → size ≤ 2048 → fullest i (class_of size) s ≡ None → other_places (class_of size) s
+        ≡ None → NothingOffered s order i size
     unfolding taken_at
     none_offered_of_nothing_found passed p l eo et =
         let f = nothing_offered_of_refused_4 s order i size
@@ -272,7 +271,7 @@ module _ (s : State) (order : List ℕ) (i : ℕ) where
               (record { own = f.1; zero = f.2; empty = f.3; unused = f.4 });
         }
 
-    no_run_of_nothing_found : Passed s order → IsProcessor s i → 2048 < size → size ≤ 65535 → lowest_run (run_length size) s ≡ Nothing → NoRun s order i size
+    no_run_of_nothing_found : Passed s order → IsProcessor s i → 2048 < size → size ≤ 65535 → lowest_run (run_length size) s ≡ None → NoRun s order i size
     no_run_of_nothing_found passed p above l e =
         record {
           passed = passed;
@@ -291,7 +290,7 @@ module _ (s : State) (order : List ℕ) (i : ℕ) where
         (other_places (class_of size) s)
         decides_processor (decides_too_large size) (decides_long size) refl refl refl)
       where
-        go : (processor large long : Bool) (run own other : Found) → Decides processor (IsProcessor s i) ((i ≡ 0) ⊎ (s.setup.processors < i))
+        go : (processor large long : Bool) (run own other : Option ℕ) → Decides processor (IsProcessor s i) ((i ≡ 0) ⊎ (s.setup.processors < i))
             → Decides large (65535 < size) (size ≤ 65535) → Decides long (2048 < size) (size ≤ 2048) → lowest_run (run_length size) s ≡ run
             → fullest i (class_of size) s ≡ own → other_places (class_of size) s ≡ other
             → Passed s order → (taken_by_tests s order i size processor large long run own other).answer.outcome ≡ Refused r
@@ -300,12 +299,12 @@ module _ (s : State) (order : List ℕ) (i : ℕ) where
             (record { passed = passed; out = p.says })
         go true true long run own other p l n er eo et passed e = condition_at_number (take_refusals s order i size) 3 r e
             (record { passed = passed; processor = p.says; large = l.says })
-        go true false true (At k) own other p l n er eo et passed e = absurd (address_not_refused _ r e)
-        go true false true Nothing own other p l n er eo et passed e = condition_at_number (take_refusals s order i size) 17 r e
+        go true false true (Some k) own other p l n er eo et passed e = absurd (address_not_refused _ r e)
+        go true false true None own other p l n er eo et passed e = condition_at_number (take_refusals s order i size) 17 r e
             (no_run_of_nothing_found passed p.says n.says l.says er)
-        go true false false run (At k) other p l n er eo et passed e = absurd (address_not_refused _ r e)
-        go true false false run Nothing (At k) p l n er eo et passed e = absurd (address_not_refused _ r e)
-        go true false false run Nothing Nothing p l n er eo et passed e = condition_at_number (take_refusals s order i size) 4 r e
+        go true false false run (Some k) other p l n er eo et passed e = absurd (address_not_refused _ r e)
+        go true false false run None (Some k) p l n er eo et passed e = absurd (address_not_refused _ r e)
+        go true false false run None None p l n er eo et passed e = condition_at_number (take_refusals s order i size) 4 r e
             (none_offered_of_nothing_found passed p.says n.says eo et)
 
     pub nothing_offered_refused_4 : NothingOffered s order i size → take_of s order i size ≡ refused 4 s order

@@ -1,4 +1,5 @@
 -- Laws of a take, in the page's words. Assumes nothing.
+use Rattle.std.specs.Prelude.{Option, Some, None}
 use mathlib.Core.Path.{◌≡◌, refl, sym, ap, ◌∙◌, subst}
 use mathlib.Core.Bool.{Bool, true, false, not}
 use mathlib.Core.Logic.{◌⊎◌, inl, inr, ⊎_elim}
@@ -16,8 +17,6 @@ use Rattle.class_rules.proofs.ClassLaws.{class_of_lt_27, decides_long, le_2048_o
 use Rattle.heap_rules.specs.declared.Superblock.{Superblock}
 use Rattle.heap_rules.specs.declared.Setup.{Setup}
 use Rattle.heap_rules.specs.declared.State.{State}
-use Rattle.heap_rules.specs.declared.Found.{Found}
-use Rattle.heap_rules.specs.declared.Found.TheVariants.{At, Nothing}
 use Rattle.heap_rules.specs.Table.{superblock_at, live_in}
 use Rattle.heap_rules.specs.Ranks.{rank_after_renewal, unranked}
 use Rattle.choice_rules.specs.Choice.{fullest, lowest_empty, lowest_unused, or_else}
@@ -49,7 +48,7 @@ unfolding is_too_large
 le_65535_of_not_too_large size = ltb-false 65535 size
 
 -- a take past the check, by its three tests and by the run, and by what place 1 and the other places offer
-abbrev pub taken_by_tests : State → List ℕ → ℕ → ℕ → Bool → Bool → Bool → Found → Found → Found → After
+abbrev pub taken_by_tests : State → List ℕ → ℕ → ℕ → Bool → Bool → Bool → Option ℕ → Option ℕ → Option ℕ → After
 taken_by_tests s order i size processor large long run own other =
     pick (not processor) (refused 2 s order)
     (pick large (refused 3 s order)
@@ -59,8 +58,8 @@ taken_by_tests s order i size processor large long run own other =
 -- what the tests give to an accepted one, of a block of a class and of a long one
 module _ (s : State) (order : List ℕ) (i size k : ℕ) (passed : Passed s order) (known : is_processor s i ≡ true) where
   take_accepted : is_long size ≡ false
-      → ((fullest i (class_of size) s ≡ At k) × (take_of s order i size ≡ taken_from k s order))
-      ⊎ ((fullest i (class_of size) s ≡ Nothing) × (other_places (class_of size) s ≡ At k)
+      → ((fullest i (class_of size) s ≡ Some k) × (take_of s order i size ≡ taken_from k s order))
+      ⊎ ((fullest i (class_of size) s ≡ None) × (other_places (class_of size) s ≡ Some k)
       × (take_of s order i size ≡ taken_from_other i (class_of size) k s order))
       → TakeAccepted s order i size k
   take_accepted l place = record {
@@ -70,7 +69,7 @@ module _ (s : State) (order : List ℕ) (i size k : ℕ) (passed : Passed s orde
     place = place;
   }
 
-  long_take_accepted : is_too_large size ≡ false → is_long size ≡ true → lowest_run (run_length size) s ≡ At k → take_of s order i size ≡ long_taken_from k
+  long_take_accepted : is_too_large size ≡ false → is_long size ≡ true → lowest_run (run_length size) s ≡ Some k → take_of s order i size ≡ long_taken_from k
       (run_length size) s order → LongTakeAccepted s order i size k
   long_take_accepted l g run e = record {
     passed = passed;
@@ -92,18 +91,18 @@ take_refused_or_accepted s order i size =
     refl refl refl refl refl refl h.0 h.1)
     (checked_refused_or_passed s order (take_unchecked s order i size))
   where
-    go : (processor large long : Bool) (run own other : Found) → is_processor s i ≡ processor → is_too_large size ≡ large → is_long size ≡ long
+    go : (processor large long : Bool) (run own other : Option ℕ) → is_processor s i ≡ processor → is_too_large size ≡ large → is_long size ≡ long
         → lowest_run (run_length size) s ≡ run
         → fullest i (class_of size) s ≡ own → other_places (class_of size) s ≡ other → Passed s order → take_of s order i size
         ≡ taken_by_tests s order i size processor large long run own other
         → ((r : ℕ) × (take_of s order i size ≡ refused r s order)) ⊎ ((k : ℕ) × TakeAccepted s order i size k) ⊎ ((k : ℕ) × LongTakeAccepted s order i size k)
     go false large long run own other p l n h f g passed e = inl (2, e)
     go true true long run own other p l n h f g passed e = inl (3, e)
-    go true false true (At k) own other p l n h f g passed e = inr (inr (k, long_take_accepted s order i size k passed p l n h e))
-    go true false true Nothing own other p l n h f g passed e = inl (17, e)
-    go true false false run (At k) other p l n h f g passed e = inr (inl (k, take_accepted s order i size k passed p n (inl (f, e))))
-    go true false false run Nothing (At k) p l n h f g passed e = inr (inl (k, take_accepted s order i size k passed p n (inr (f, g, e))))
-    go true false false run Nothing Nothing p l n h f g passed e = inl (4, e)
+    go true false true (Some k) own other p l n h f g passed e = inr (inr (k, long_take_accepted s order i size k passed p l n h e))
+    go true false true None own other p l n h f g passed e = inl (17, e)
+    go true false false run (Some k) other p l n h f g passed e = inr (inl (k, take_accepted s order i size k passed p n (inl (f, e))))
+    go true false false run None (Some k) p l n h f g passed e = inr (inl (k, take_accepted s order i size k passed p n (inr (f, g, e))))
+    go true false false run None None p l n h f g passed e = inl (4, e)
 
 -- no refusal of the check is 4 or 17
 next_of_checked_refused : (r : ℕ) → (r ≡ 12 → ⊥) → (r ≡ 13 → ⊥) → (s : State) (order : List ℕ) (next : After) → checked s order next ≡ refused r s order
@@ -127,48 +126,48 @@ module _ (s : State) (order : List ℕ) (i size : ℕ) where
   unfolding number_of
   number r a e = ap (λ (x : After). number_of x.answer.outcome) e
 
-  nothing_found_of_refused_4 : (processor large long : Bool) (run own other : Found) → taken_by_tests s order i size processor large long run own other
+  nothing_found_of_refused_4 : (processor large long : Bool) (run own other : Option ℕ) → taken_by_tests s order i size processor large long run own other
       ≡ refused 4 s order
-      → (long ≡ false) × (own ≡ Nothing) × (other ≡ Nothing)
+      → (long ≡ false) × (own ≡ None) × (other ≡ None)
   unfolding taken_at taken_from_other taken_from long_taken_at long_taken_from number_of
   nothing_found_of_refused_4 false large long run own other e = absurd (let z : ⊥ = omega (arith, number 4 (refused 2 s order) e) in z)
   nothing_found_of_refused_4 true true long run own other e = absurd (let z : ⊥ = omega (arith, number 4 (refused 3 s order) e) in z)
-  nothing_found_of_refused_4 true false true (At k) own other e =
+  nothing_found_of_refused_4 true false true (Some k) own other e =
       absurd (let z : ⊥ = omega (arith, number 4 (long_taken_from k (run_length size) s order) e) in z)
-  nothing_found_of_refused_4 true false true Nothing own other e = absurd (let z : ⊥ = omega (arith, number 4 (refused 17 s order) e) in z)
-  nothing_found_of_refused_4 true false false run (At k) other e = absurd (let z : ⊥ = omega (arith, number 4 (taken_from k s order) e) in z)
-  nothing_found_of_refused_4 true false false run Nothing (At k) e =
+  nothing_found_of_refused_4 true false true None own other e = absurd (let z : ⊥ = omega (arith, number 4 (refused 17 s order) e) in z)
+  nothing_found_of_refused_4 true false false run (Some k) other e = absurd (let z : ⊥ = omega (arith, number 4 (taken_from k s order) e) in z)
+  nothing_found_of_refused_4 true false false run None (Some k) e =
       absurd (let z : ⊥ = omega (arith, number 4 (taken_from_other i (class_of size) k s order) e) in z)
-  nothing_found_of_refused_4 true false false run Nothing Nothing e = (refl, refl, refl)
+  nothing_found_of_refused_4 true false false run None None e = (refl, refl, refl)
 
-  no_run_found_of_refused_17 : (processor large long : Bool) (run own other : Found) → taken_by_tests s order i size processor large long run own other
+  no_run_found_of_refused_17 : (processor large long : Bool) (run own other : Option ℕ) → taken_by_tests s order i size processor large long run own other
       ≡ refused 17 s order
-      → (large ≡ false) × (long ≡ true) × (run ≡ Nothing)
+      → (large ≡ false) × (long ≡ true) × (run ≡ None)
   unfolding taken_at taken_from_other taken_from long_taken_at long_taken_from number_of
   no_run_found_of_refused_17 false large long run own other e = absurd (let z : ⊥ = omega (arith, number 17 (refused 2 s order) e) in z)
   no_run_found_of_refused_17 true true long run own other e = absurd (let z : ⊥ = omega (arith, number 17 (refused 3 s order) e) in z)
-  no_run_found_of_refused_17 true false true (At k) own other e =
+  no_run_found_of_refused_17 true false true (Some k) own other e =
       absurd (let z : ⊥ = omega (arith, number 17 (long_taken_from k (run_length size) s order) e) in z)
-  no_run_found_of_refused_17 true false true Nothing own other e = (refl, refl, refl)
-  no_run_found_of_refused_17 true false false run (At k) other e = absurd (let z : ⊥ = omega (arith, number 17 (taken_from k s order) e) in z)
-  no_run_found_of_refused_17 true false false run Nothing (At k) e =
+  no_run_found_of_refused_17 true false true None own other e = (refl, refl, refl)
+  no_run_found_of_refused_17 true false false run (Some k) other e = absurd (let z : ⊥ = omega (arith, number 17 (taken_from k s order) e) in z)
+  no_run_found_of_refused_17 true false false run None (Some k) e =
       absurd (let z : ⊥ = omega (arith, number 17 (taken_from_other i (class_of size) k s order) e) in z)
-  no_run_found_of_refused_17 true false false run Nothing Nothing e = absurd (let z : ⊥ = omega (arith, number 17 (refused 4 s order) e) in z)
+  no_run_found_of_refused_17 true false false run None None e = absurd (let z : ⊥ = omega (arith, number 17 (refused 4 s order) e) in z)
 
-places_2_to_4_find_nothing : (c : ℕ) (s : State) → other_places c s ≡ Nothing → (fullest 0 c s ≡ Nothing) × (lowest_empty s ≡ Nothing)
-    × (lowest_unused s ≡ Nothing)
+places_2_to_4_find_nothing : (c : ℕ) (s : State) → other_places c s ≡ None → (fullest 0 c s ≡ None) × (lowest_empty s ≡ None)
+    × (lowest_unused s ≡ None)
 unfolding other_places
 places_2_to_4_find_nothing c s = go (fullest 0 c s) (lowest_empty s) (lowest_unused s)
   where
-    go : (f g h : Found) → or_else f (or_else g h) ≡ Nothing → (f ≡ Nothing) × (g ≡ Nothing) × (h ≡ Nothing)
-    go (At k) g h e = absurd (let z : ◌≡◌ {A = ℕ} 0 1 = cc in omega arith)
-    go Nothing (At k) h e = absurd (let z : ◌≡◌ {A = ℕ} 0 1 = cc in omega arith)
-    go Nothing Nothing h e = (refl, refl, e)
+    go : (f g h : Option ℕ) → or_else f (or_else g h) ≡ None → (f ≡ None) × (g ≡ None) × (h ≡ None)
+    go (Some k) g h e = absurd (let z : ◌≡◌ {A = ℕ} 0 1 = cc in omega arith)
+    go None (Some k) h e = absurd (let z : ◌≡◌ {A = ℕ} 0 1 = cc in omega arith)
+    go None None h e = (refl, refl, e)
 
 -- refusal 4: given exactly if the size is one of a class and all four places offer nothing, to a call that no refusal before it meets
 pub nothing_offered_of_refused_4 : (s : State) (order : List ℕ) (i size : ℕ) → take_of s order i size ≡ refused 4 s order
-    → (size ≤ 2048) × (fullest i (class_of size) s ≡ Nothing) × (fullest 0 (class_of size) s ≡ Nothing) × (lowest_empty s ≡ Nothing)
-    × (lowest_unused s ≡ Nothing)
+    → (size ≤ 2048) × (fullest i (class_of size) s ≡ None) × (fullest 0 (class_of size) s ≡ None) × (lowest_empty s ≡ None)
+    × (lowest_unused s ≡ None)
 unfolding take_of take_unchecked
 nothing_offered_of_refused_4 s order i size e =
     let c = class_of size in
@@ -179,7 +178,7 @@ nothing_offered_of_refused_4 s order i size e =
     (le_2048_of_not_long size d.0, d.1, o.0, o.1, o.2)
 
 pub refused_4_of_nothing_offered : (s : State) (order : List ℕ) (i size : ℕ) → Passed s order → 1 ≤ i → i ≤ s.setup.processors → size ≤ 2048
-    → fullest i (class_of size) s ≡ Nothing → fullest 0 (class_of size) s ≡ Nothing → lowest_empty s ≡ Nothing → lowest_unused s ≡ Nothing
+    → fullest i (class_of size) s ≡ None → fullest 0 (class_of size) s ≡ None → lowest_empty s ≡ None → lowest_unused s ≡ None
     → take_of s order i size ≡ refused 4 s order
 unfolding take_of take_unchecked taken_at other_places is_processor
 refused_4_of_nothing_offered s order i size p h₁ h₂ h₃ a b c d =
@@ -197,7 +196,7 @@ refused_4_of_nothing_offered s order i size p h₁ h₂ h₃ a b c d =
 
 -- refusal 17, "no such run, given exactly then and in place of 4 for a long size" (document 02, item 7): the size is a long one and no run is found
 pub no_run_of_refused_17 : (s : State) (order : List ℕ) (i size : ℕ) → take_of s order i size ≡ refused 17 s order → (2048 < size) × (size ≤ 65535)
-    × (lowest_run (run_length size) s ≡ Nothing)
+    × (lowest_run (run_length size) s ≡ None)
 unfolding take_of take_unchecked
 no_run_of_refused_17 s order i size e =
     let c = class_of size in
@@ -207,7 +206,7 @@ no_run_of_refused_17 s order i size e =
     (above_2048_of_long size d.1, le_65535_of_not_too_large size d.0, d.2)
 
 pub refused_17_of_no_run : (s : State) (order : List ℕ) (i size : ℕ) → Passed s order → 1 ≤ i → i ≤ s.setup.processors → 2048 < size → size ≤ 65535
-    → lowest_run (run_length size) s ≡ Nothing
+    → lowest_run (run_length size) s ≡ None
     → take_of s order i size ≡ refused 17 s order
 unfolding take_of take_unchecked long_taken_at is_processor
 refused_17_of_no_run s order i size p h₁ h₂ h₃ h₄ a =

@@ -1,4 +1,5 @@
 -- The superblock that a take takes its block from: as it was (place 1), or acquired (places 2 to 4), and what holds of it then. Assumes nothing.
+use Rattle.std.specs.Prelude.{Option, Some, None}
 use mathlib.Core.Path.{◌≡◌, refl, sym, ap, ◌∙◌, subst}
 use mathlib.Core.Bool.{Bool, true, false}
 use mathlib.Core.Logic.{◌⊎◌, inl, inr, ⊎_elim}
@@ -23,8 +24,6 @@ use Rattle.filled_rules.specs.FilledPlaces.{places_valid}
 use Rattle.filled_rules.proofs.PlacesValidLaws.{places_valid_after_renewal}
 use Rattle.heap_rules.specs.declared.Superblock.{Superblock}
 use Rattle.heap_rules.specs.declared.State.{State}
-use Rattle.heap_rules.specs.declared.Found.{Found}
-use Rattle.heap_rules.specs.declared.Found.TheVariants.{At, Nothing}
 use Rattle.heap_rules.specs.Table.{run_owner, unused_owner, blank, superblock_at, live_in, is_of_run, with_owner, with_mark_at}
 use Rattle.heap_rules.specs.States.{with_superblock}
 use Rattle.heap_rules.specs.Counts.{superblocks_of, live_of}
@@ -137,7 +136,7 @@ module _ (s : State) (order : List ℕ) (shape : Shape s) (passed : Passed s ord
   length_outside_run m l e = (runs_sound_of_valid s shape.length_is passed.runs).outside_carries_0 m l e
 
   -- ---- place 1
-  pub source_of_own_heap : (i c k : ℕ) → i ≤ s.setup.processors → fullest i c s ≡ At k → TakeSource s order i c k (superblock_at s k) order
+  pub source_of_own_heap : (i c k : ℕ) → i ≤ s.setup.processors → fullest i c s ≡ Some k → TakeSource s order i c k (superblock_at s k) order
   source_of_own_heap i c k l e =
       let best = best_of_fullest i c s k e in
       let h = facts_of_has_free i c (superblock_at s k) best.meets_criterion_lem in
@@ -162,14 +161,14 @@ module _ (s : State) (order : List ℕ) (shape : Shape s) (passed : Passed s ord
 
   -- ---- places 2 to 4
   -- a heap that place 1 offers nothing of is full
-  heap_full_of_fullest_nothing : (i c : ℕ) → fullest i c s ≡ Nothing → superblocks_of i c s * blocks_of c ≤ live_of i c s
+  heap_full_of_fullest_nothing : (i c : ℕ) → fullest i c s ≡ None → superblocks_of i c s * blocks_of c ≤ live_of i c s
   heap_full_of_fullest_nothing i c e =
       live_of_at_least_each i c (blocks_of c) s
       (λ m l t. le_of_not_below (λ h. none_free_of_fullest_nothing i c s e m l (let o = owner_and_class_of_belongs i c (superblock_at s m) t in
       has_free_of_facts i c (superblock_at s m) o.0 o.1 h)))
 
   -- each superblock of heap 0 is sparse and so has a free block: place 2 offers nothing only where heap 0 has none of the class
-  none_in_global_of_fullest_nothing : (c : ℕ) → fullest 0 c s ≡ Nothing → superblocks_of 0 c s ≡ 0
+  none_in_global_of_fullest_nothing : (c : ℕ) → fullest 0 c s ≡ None → superblocks_of 0 c s ≡ 0
   none_in_global_of_fullest_nothing c e =
       superblocks_zero_of_none_belongs 0 c s (λ m l t.
       let h = owner_and_class_of_belongs 0 c (superblock_at s m) t in
@@ -180,7 +179,7 @@ module _ (s : State) (order : List ℕ) (shape : Shape s) (passed : Passed s ord
   global_below_superblocks : (k : ℕ) → k < 64 → (superblock_at s k).owner ≡ 0 → k < s.setup.superblocks
   global_below_superblocks k l e = owned_below_superblocks s order passed.sound k l (λ (q : (superblock_at s k).owner ≡ unused_owner). omega arith)
 
-  offered_by_place_2 : (c k : ℕ) → fullest 0 c s ≡ At k → OfferedByOthers s c k
+  offered_by_place_2 : (c k : ℕ) → fullest 0 c s ≡ Some k → OfferedByOthers s c k
   offered_by_place_2 c k e =
       let best = best_of_fullest 0 c s k e in
       let h = facts_of_has_free 0 c (superblock_at s k) best.meets_criterion_lem in
@@ -191,7 +190,7 @@ module _ (s : State) (order : List ℕ) (shape : Shape s) (passed : Passed s ord
         supply = inl (omega arith, h.1);
       }
 
-  offered_by_place_3 : (c k : ℕ) → fullest 0 c s ≡ Nothing → lowest_empty s ≡ At k → OfferedByOthers s c k
+  offered_by_place_3 : (c k : ℕ) → fullest 0 c s ≡ None → lowest_empty s ≡ Some k → OfferedByOthers s c k
   offered_by_place_3 c k none e =
       let best = best_of_lowest_empty s k e in
       let h = facts_of_empty_in_global (superblock_at s k) best.meets_criterion_lem in
@@ -202,22 +201,22 @@ module _ (s : State) (order : List ℕ) (shape : Shape s) (passed : Passed s ord
         supply = inr (none_in_global_of_fullest_nothing c none);
       }
 
-  offered_by_place_4 : (c k : ℕ) → fullest 0 c s ≡ Nothing → lowest_unused s ≡ At k → OfferedByOthers s c k
+  offered_by_place_4 : (c k : ℕ) → fullest 0 c s ≡ None → lowest_unused s ≡ Some k → OfferedByOthers s c k
   offered_by_place_4 c k none e =
       let best = best_of_lowest_unused s k e in
       let h = facts_of_is_unused (superblock_at s k) best.meets_criterion_lem in
       record { below = best.below; owner = inr h.owner; live = inl h.live; supply = inr (none_in_global_of_fullest_nothing c none) }
 
-  pub offered_of_other_places : (c k : ℕ) → other_places c s ≡ At k → OfferedByOthers s c k
+  pub offered_of_other_places : (c k : ℕ) → other_places c s ≡ Some k → OfferedByOthers s c k
   unfolding other_places
   offered_of_other_places c k = go (fullest 0 c s) (lowest_empty s) refl refl
     where
-      go : (f g : Found) → fullest 0 c s ≡ f → lowest_empty s ≡ g → or_else f (or_else g (lowest_unused s)) ≡ At k → OfferedByOthers s c k
-      go (At m) g p q e = offered_by_place_2 c k (p ∙ e)
-      go Nothing (At m) p q e = offered_by_place_3 c k p (q ∙ e)
-      go Nothing Nothing p q e = offered_by_place_4 c k p e
+      go : (f g : Option ℕ) → fullest 0 c s ≡ f → lowest_empty s ≡ g → or_else f (or_else g (lowest_unused s)) ≡ Some k → OfferedByOthers s c k
+      go (Some m) g p q e = offered_by_place_2 c k (p ∙ e)
+      go None (Some m) p q e = offered_by_place_3 c k p (q ∙ e)
+      go None None p q e = offered_by_place_4 c k p e
 
-  module _ (i c k : ℕ) (known : c < class_count) (none : fullest i c s ≡ Nothing) (offered : OfferedByOthers s c k) where
+  module _ (i c k : ℕ) (known : c < class_count) (none : fullest i c s ≡ None) (offered : OfferedByOthers s c k) where
     in_table : k < 64
     in_table = omega (arith, offered.below, passed.sound.numbers.superblocks_high)
 

@@ -1,5 +1,6 @@
 -- Document 02, item 3: "Every operation keeps them equal to the recount, a new or refused setup has them at 0, and the state check adds this equality to
 -- 13's conditions." Assumes nothing.
+use Rattle.std.specs.Prelude.{Option, Some, None}
 use mathlib.Core.Path.{◌≡◌, refl, sym, ap, ap₂, ◌∙◌, subst}
 use mathlib.Core.Bool.{Bool, true, false, not}
 use mathlib.Core.Logic.{◌↔◌, ◌⊎◌, inl, inr, ⊎_elim}
@@ -17,8 +18,6 @@ use Rattle.class_rules.specs.Classes.{class_count, class_of, is_long, run_length
 use Rattle.names_rules.specs.Names.{is_held}
 use Rattle.heap_rules.specs.declared.Setup.{Setup}
 use Rattle.heap_rules.specs.declared.State.{State}
-use Rattle.heap_rules.specs.declared.Found.{Found}
-use Rattle.heap_rules.specs.declared.Found.TheVariants.{At, Nothing}
 use Rattle.heap_rules.specs.Table.{run_owner, superblock_at}
 use Rattle.heap_rules.specs.Counts.{superblocks_of, live_of, superblocks_of_class, live_of_class}
 use Rattle.heap_rules.specs.Totals.{heap_count, total_count, total_index, superblocks_kept, live_kept, TotalsKept, TotalsCounted}
@@ -128,17 +127,17 @@ module _ (s : State) (order : List ℕ) where
       (with_refusal 13 (omega arith))
 
   -- a take replaces a superblock too
-  take_recounts_at : (i c : ℕ) (own other : Found) → RefusedOrRecounted s order (taken_at i c s order own other)
+  take_recounts_at : (i c : ℕ) (own other : Option ℕ) → RefusedOrRecounted s order (taken_at i c s order own other)
   unfolding taken_at taken_from taken_from_other
-  take_recounts_at i c (At k) other = inr (address_not_refused _, refl)
-  take_recounts_at i c Nothing (At k) = inr (address_not_refused _, refl)
-  take_recounts_at i c Nothing Nothing = with_refusal 4 (omega arith)
+  take_recounts_at i c (Some k) other = inr (address_not_refused _, refl)
+  take_recounts_at i c None (Some k) = inr (address_not_refused _, refl)
+  take_recounts_at i c None None = with_refusal 4 (omega arith)
 
   -- and a long one those of its run
-  long_take_recounts_at : TotalsKept s → (n : ℕ) (run : Found) → RefusedOrRecounted s order (long_taken_at n s order run)
+  long_take_recounts_at : TotalsKept s → (n : ℕ) (run : Option ℕ) → RefusedOrRecounted s order (long_taken_at n s order run)
   unfolding long_taken_at long_taken_from
-  long_take_recounts_at kept n (At k) = inr (address_not_refused _, run_taken_recounted k n s kept)
-  long_take_recounts_at kept n Nothing = with_refusal 17 (omega arith)
+  long_take_recounts_at kept n (Some k) = inr (address_not_refused _, run_taken_recounted k n s kept)
+  long_take_recounts_at kept n None = with_refusal 17 (omega arith)
 
   take_recounts : TotalsKept s → (i size : ℕ) → RefusedOrRecounted s order (take_unchecked s order i size)
   unfolding take_unchecked

@@ -1,1 +1,1 @@
-pub mod NamedCallSteps
+pub mod NamedCallLaws

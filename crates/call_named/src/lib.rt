@@ -3,13 +3,15 @@
 #![tactic(auto)]
 
 ghost use Rattle.std.specs.Prelude.{◌≡◌, true};
+ghost use Rattle.refusal_rules.specs.RefusalNumbers.{number_if_refused};
 ghost use Rattle.check_rules.specs.Check.{passes};
 ghost use Rattle.call_rules.specs.Answers.{After, HasNumberAndValuesOf};
 ghost use Rattle.call_rules.specs.Named.{named_take_unchecked, named_free_unchecked};
+ghost use Rattle.call_named.specs.NamedRefusals.{named_take_refusal, named_free_refusal};
 
 use call_rules::Answer;
 use heap_rules::State;
-use refusal_rules::{NAME_NOT_HELD, NAME_UNAVAILABLE, NO_SUCH_PROCESSOR};
+use refusal_rules::Refusal;
 
 // The address of a block or a run for the size, with the name bound to it; or refusal 2, 14, 4 or 17.
 pub fn take(s: State, order: &mut [u16], processor: u8, name: u16, size: u16) -> Answer
@@ -17,20 +19,29 @@ pub fn take(s: State, order: &mut [u16], processor: u8, name: u16, size: u16) ->
     ensures order_after { record { answer = result; order = order.new } ≡ named_take_unchecked s order.old processor name size }
     ensures number_and_values { HasNumberAndValuesOf result.outcome (named_take_unchecked s order.old processor name size).answer.outcome }
 {
-    let names = s.names;
-    if !call_states::is_processor(s, processor) {
-        return call_outcomes::refuse(s, NO_SUCH_PROCESSOR);
+    match take_refusal(&s, processor, name) {
+        Err(refusal) => call_outcomes::refuse(s, refusal.number()),
+        Ok(()) => {
+            let plain = call_take::take(s, order, processor, size);
+            Answer {
+                outcome: plain.outcome,
+                state: block_name::bound_by(plain.outcome, name, plain.state),
+            }
+        }
     }
-    if names_table::is_unavailable(names, name) {
-        return call_outcomes::refuse(s, NAME_UNAVAILABLE);
-    }
-    let plain = call_take::take(s, order, processor, size);
-    let outcome = plain.outcome;
-    let taken = plain.state;
-    let bound = block_name::bound_by(outcome, name, taken);
-    Answer {
-        outcome,
-        state: bound,
+}
+
+// The refusals of a named take before the plain one's: its processor's, then its name's. A reference, as a state by value is a copy.
+#[tactic(auto, unfolding(crate::specs::NamedRefusals::named_take_refusal, call_rules::specs::Named::is_unavailable))]
+fn take_refusal(s: &State, processor: u8, name: u16) -> Result<(), Refusal>
+    ensures { number_if_refused result ≡ named_take_refusal s.now processor name }
+{
+    if !call_states::is_processor(*s, processor) {
+        Err(Refusal::NoSuchProcessor)
+    } else if names_table::is_unavailable(s.names, name) {
+        Err(Refusal::NameUnavailable)
+    } else {
+        Ok(())
     }
 }
 
@@ -41,13 +52,22 @@ pub fn free(s: State, order: &mut [u16], processor: u8, name: u16) -> Answer
     ensures order_after { record { answer = result; order = order.new } ≡ named_free_unchecked s order.old processor name }
     ensures number_and_values { HasNumberAndValuesOf result.outcome (named_free_unchecked s order.old processor name).answer.outcome }
 {
-    let held = s.names;
-    if !call_states::is_processor(s, processor) {
-        return call_outcomes::refuse(s, NO_SUCH_PROCESSOR);
+    match free_refusal(&s, processor, name) {
+        Err(refusal) => call_outcomes::refuse(s, refusal.number()),
+        Ok(()) => call_free::free(s, order, processor, block_name::held_address(s, name)),
     }
-    if !names_table::is_held(held, name) {
-        return call_outcomes::refuse(s, NAME_NOT_HELD);
+}
+
+// The refusals of a named free before the plain one's.
+#[tactic(auto, unfolding(crate::specs::NamedRefusals::named_free_refusal))]
+fn free_refusal(s: &State, processor: u8, name: u16) -> Result<(), Refusal>
+    ensures { number_if_refused result ≡ named_free_refusal s.now processor name }
+{
+    if !call_states::is_processor(*s, processor) {
+        Err(Refusal::NoSuchProcessor)
+    } else if !names_table::is_held(s.names, name) {
+        Err(Refusal::NameNotHeld)
+    } else {
+        Ok(())
     }
-    let address = block_name::held_address(s, name);
-    call_free::free(s, order, processor, address)
 }

@@ -9,14 +9,13 @@ use call_rules::{Answer, Outcome};
 use heap_rules::State;
 
 // Document 01's number for an outcome: 0 where the call is accepted.
+#[tactic(auto, unfolding(call_rules::specs::Answers::number_of))]
 pub fn number_of(outcome: Outcome) -> u8
     ensures { result ≡ number_of outcome }
 {
     match outcome {
-        Outcome::Ready => 0,
-        Outcome::Address(a) => 0,
-        Outcome::Moves(m) => 0,
-        Outcome::Refused(r) => r,
+        Outcome::Ready | Outcome::Address(_) | Outcome::Moves(_) => 0,
+        Outcome::Refused(number) => number,
     }
 }
 

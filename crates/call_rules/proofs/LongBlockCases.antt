@@ -1,4 +1,5 @@
 -- The parts of calls with long blocks (document 02, item 7) in cases that tell the rules from near misses, by computation. Assumes nothing.
+use Rattle.std.specs.Prelude.{Some, None}
 use mathlib.Core.Path.{◌≡◌, refl}
 use mathlib.Core.Bool.{true, false}
 use mathlib.Core.List.{List, [], ◌∷◌, map}
@@ -8,7 +9,6 @@ use Rattle.base_laws.proofs.Stages.{◌also◌}
 use Rattle.names_rules.specs.Names.{no_names, with_name}
 use Rattle.heap_rules.specs.declared.Superblock.{Superblock}
 use Rattle.heap_rules.specs.declared.State.{State}
-use Rattle.heap_rules.specs.declared.Found.TheVariants.{At, Nothing}
 use Rattle.heap_rules.specs.Table.{unused, run_part}
 use Rattle.heap_rules.specs.States.{with_names}
 use Rattle.heap_rules.proofs.CaseStates.{unnamed_state}
@@ -116,7 +116,7 @@ unfolding quick_runs_hold unchecked_call_definitions
 run_taken_cases = refl
 
 -- "The block's address is the start of the run", and order places "keep what they had"; 17 where there is no run
-pub long_taken_at_cases : map (long_taken_at 3 before_run used_places) (At 1 ∷ Nothing ∷ []) ≡ after_with (Address 4096) with_run used_places
+pub long_taken_at_cases : map (long_taken_at 3 before_run used_places) (Some 1 ∷ None ∷ []) ≡ after_with (Address 4096) with_run used_places
     ∷ refused 17 before_run used_places ∷ []
 unfolding unchecked_call_definitions
 long_taken_at_cases = let before = run_taken_cases in refl

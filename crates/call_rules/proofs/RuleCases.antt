@@ -1,4 +1,5 @@
 -- Answers, the check's order, setups and the conditions of refusals, in cases that tell them from near misses, by computation. Assumes nothing.
+use Rattle.std.specs.Prelude.{Some, None}
 use mathlib.Core.Path.{◌≡◌, refl, ap}
 use mathlib.Core.Bool.{true, false}
 use mathlib.Core.List.{List, [], ◌∷◌, ◌++◌, map}
@@ -11,7 +12,6 @@ use Rattle.names_rules.specs.Names.{no_names, with_name}
 use Rattle.heap_rules.specs.declared.Superblock.{Superblock}
 use Rattle.heap_rules.specs.declared.Setup.{Setup}
 use Rattle.heap_rules.specs.declared.State.{State}
-use Rattle.heap_rules.specs.declared.Found.TheVariants.{At, Nothing}
 use Rattle.heap_rules.specs.Table.{unused}
 use Rattle.heap_rules.specs.States.{with_names}
 use Rattle.heap_rules.proofs.CaseStates.{unnamed_state}
@@ -203,7 +203,7 @@ after_with outcome s order = record { answer = record { outcome = outcome; state
 
 -- from place 1 an empty superblock is not renewed, and keeps its rank: its block 0 is the last filled place's
 pub taken_at_place_1_case :
-    taken_at 2 26 (three_ranked (ranked 2 26 0 1) (ranked 1 20 31 2) unused) (1 ∷ 0 ∷ 9 ∷ []) (At 0) Nothing
+    taken_at 2 26 (three_ranked (ranked 2 26 0 1) (ranked 1 20 31 2) unused) (1 ∷ 0 ∷ 9 ∷ []) (Some 0) None
     ≡ after_with (Address 0) (three_ranked (ranked 2 26 1 1) (ranked 1 20 31 2) unused) (1 ∷ 0 ∷ 9 ∷ [])
 unfolding unchecked_call_definitions
 taken_at_place_1_case = refl
@@ -251,7 +251,7 @@ state_offering a b = unnamed_state (setup_with 2 3 1 3 7) (unused ∷ a ∷ b �
 pub other_places_cases :
     map (other_places 24) (state_offering (of 0 23 0) (of 0 24 1) ∷ state_offering (of 0 23 0) (of 0 24 0) ∷ state_offering (of 0 26 0) (of 0 23 0)
     ∷ state_offering (of 1 24 0) (of 2 24 1) ∷ [])
-    ≡ At 2 ∷ At 2 ∷ At 1 ∷ At 0 ∷ []
+    ≡ Some 2 ∷ Some 2 ∷ Some 1 ∷ Some 0 ∷ []
 unfolding unchecked_call_definitions
 other_places_cases = let before = refused_drop_keeps_cases in refl
 
@@ -282,8 +282,8 @@ abbrev pub name_0_held : State → State
 name_0_held s = with_names s (with_name no_names 0 0)
 
 pub taken_from_other_cases :
-    taken_at 2 26 (name_0_held (three_ranked (ranked 1 20 31 2) (ranked 0 20 0 1) unused)) (replicate 512 9) Nothing (At 1)
-    ∷ taken_at 2 26 (name_0_held (three_ranked (ranked 1 20 31 2) (ranked 0 26 1 1) unused)) (replicate 256 9 ++ 1 ∷ 9 ∷ []) Nothing (At 1) ∷ []
+    taken_at 2 26 (name_0_held (three_ranked (ranked 1 20 31 2) (ranked 0 20 0 1) unused)) (replicate 512 9) None (Some 1)
+    ∷ taken_at 2 26 (name_0_held (three_ranked (ranked 1 20 31 2) (ranked 0 26 1 1) unused)) (replicate 256 9 ++ 1 ∷ 9 ∷ []) None (Some 1) ∷ []
     ≡ after_with (Address 4096) (name_0_held (three_ranked (ranked 1 20 31 1) (of 2 26 1) unused)) (replicate 256 9 ++ 1 ∷ 0 ∷ replicate 254 9)
     ∷ after_with (Address 6144) (name_0_held (three_ranked (ranked 1 20 31 2) (ranked 2 26 3 1) unused)) (replicate 256 9 ++ 1 ∷ 9 ∷ []) ∷ []
 unfolding unchecked_call_definitions

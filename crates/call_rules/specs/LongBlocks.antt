@@ -1,11 +1,9 @@
 -- Long blocks (document 02, item 7): what taking and freeing one does to the superblocks of its run.
-use Rattle.std.specs.Prelude.{ℕ, zero, suc, ◌+◌, ◌*◌, List, eqb}
+use Rattle.std.specs.Prelude.{ℕ, zero, suc, ◌+◌, ◌*◌, List, eqb, Option, Some, None}
 use Rattle.base_laws.specs.Sums.{pick}
 use Rattle.class_rules.specs.Classes.{superblock_bytes}
 use Rattle.refusal_rules.specs.Refusals.{no_run}
 use Rattle.heap_rules.specs.declared.State.{State}
-use Rattle.heap_rules.specs.declared.Found.{Found}
-use Rattle.heap_rules.specs.declared.Found.TheVariants.{At, Nothing}
 use Rattle.heap_rules.specs.Table.{unused, run_part}
 use Rattle.heap_rules.specs.States.{with_superblock}
 use Rattle.heap_rules.specs.Ranks.{unranked}
@@ -31,9 +29,9 @@ unfoldable pub long_taken_from : ℕ → ℕ → State → List ℕ → After
 long_taken_from k n s order = record { answer = record { outcome = Address (k * superblock_bytes); state = run_taken k n s }; order = order }
 
 -- the run that was found, n superblocks long; refusal 17, "no such run, given exactly then and in place of 4 for a long size"
-unfoldable pub long_taken_at : ℕ → State → List ℕ → Found → After
-long_taken_at n s order (At k) = long_taken_from k n s order
-long_taken_at n s order Nothing = refused no_run s order
+unfoldable pub long_taken_at : ℕ → State → List ℕ → Option ℕ → After
+long_taken_at n s order (Some k) = long_taken_from k n s order
+long_taken_at n s order None = refused no_run s order
 
 -- superblock m becomes unused
 unfoldable pub made_unused : ℕ → State → State

@@ -1,5 +1,5 @@
 -- "Take (processor i, size)"
-use Rattle.std.specs.Prelude.{ℕ, ◌+◌, ◌-◌, ◌*◌, not, List, eqb}
+use Rattle.std.specs.Prelude.{ℕ, ◌+◌, ◌-◌, ◌*◌, not, List, eqb, Option, Some, None}
 use Rattle.base_laws.specs.Sums.{pick}
 use Rattle.class_rules.specs.Classes.{superblock_bytes, size_of, blocks_of, class_of, is_long, run_length, is_too_large}
 use Rattle.marks_rules.specs.Marks.{no_marks}
@@ -7,8 +7,6 @@ use Rattle.order_rules.specs.Order.{last_filled, renewed}
 use Rattle.refusal_rules.specs.Refusals.{no_such_processor, size_too_large, no_superblock}
 use Rattle.heap_rules.specs.declared.Superblock.{Superblock}
 use Rattle.heap_rules.specs.declared.State.{State}
-use Rattle.heap_rules.specs.declared.Found.{Found}
-use Rattle.heap_rules.specs.declared.Found.TheVariants.{At, Nothing}
 use Rattle.heap_rules.specs.Table.{superblock_at, live_in, with_owner, with_mark_at}
 use Rattle.heap_rules.specs.States.{with_superblock}
 use Rattle.heap_rules.specs.Ranks.{unranked}
@@ -20,7 +18,7 @@ use Rattle.call_rules.specs.declared.Outcome.TheVariants.{Address}
 
 -- places 2 to 4, after place 1: "2. heap 0: the same choice; 3. heap 0: the lowest-numbered superblock with nothing live, of any
 -- class; 4. the lowest-numbered unused one of superblocks 0 to N - 1"
-unfoldable pub other_places : ℕ → State → Found
+unfoldable pub other_places : ℕ → State → Option ℕ
 other_places c s = or_else (fullest 0 c s) (or_else (lowest_empty s) (lowest_unused s))
 
 -- "To renew a superblock for class c: set its class, clear its marks", here as heap i's. "Renew" is document 01's term for reinitializing. It
@@ -66,10 +64,10 @@ taken_from_other i c k s order =
 
 -- "The superblock is the first that one of these four places offers"; refusal 4 (bench word: dry):
 -- "none of the four places offers a superblock"
-unfoldable pub taken_at : ℕ → ℕ → State → List ℕ → Found → Found → After
-taken_at i c s order (At k) other = taken_from k s order
-taken_at i c s order Nothing (At k) = taken_from_other i c k s order
-taken_at i c s order Nothing Nothing = refused no_superblock s order
+unfoldable pub taken_at : ℕ → ℕ → State → List ℕ → Option ℕ → Option ℕ → After
+taken_at i c s order (Some k) other = taken_from k s order
+taken_at i c s order None (Some k) = taken_from_other i c k s order
+taken_at i c s order None None = refused no_superblock s order
 
 -- a take behind the check, on any state: "then take 2, 3, 4"; refusal 3 (bench word: size) "can no longer be met" by a size of 16 bits, and a long size
 -- takes a run (document 02, item 7)

@@ -6,33 +6,24 @@ ghost use Rattle.heap_rules.specs.Table.{table_length, unused};
 ghost use Rattle.heap_rules.specs.States.{no_state, new_state};
 ghost use Rattle.call_rules.specs.Answers.{is_processor};
 
-use heap_rules::{Setup, State, Superblock, TABLE_LENGTH, TOTAL_COUNT, Totals, UNUSED_OWNER};
+use heap_rules::{Setup, State, Superblock, TABLE_LENGTH, TOTAL_COUNT, Totals, UNUSED};
 use names_rules::{NAME_COUNT, NOT_HELD};
 
 // The processor is one of the setup's.
+#[tactic(auto, unfolding(call_rules::specs::Answers::is_processor))]
 pub fn is_processor(s: State, processor: u8) -> bool
     ensures { result ≡ is_processor s processor }
 {
-    if processor < 1 {
-        return false;
-    }
-    processor <= s.setup.processors
+    (1..=s.setup.processors).contains(&processor)
 }
 
 // A new setup's state: its numbers, 64 unused superblocks, no names and totals of 0.
 pub fn new_state(u: Setup) -> State
     ensures { result ≡ new_state u }
 {
-    let b = Superblock {
-        owner: UNUSED_OWNER,
-        class: 0,
-        live: [0u64; 4],
-        rank: 0,
-        run: 0,
-    };
     State {
         setup: u,
-        table: [b; TABLE_LENGTH],
+        table: [UNUSED; TABLE_LENGTH],
         names: [NOT_HELD; NAME_COUNT],
         totals: Totals {
             superblocks: [0u8; TOTAL_COUNT],
@@ -58,6 +49,5 @@ pub fn no_state() -> State
 pub fn unused_table() -> [Superblock; TABLE_LENGTH]
     ensures { result ≡ replicate table_length unused }
 {
-    let s = no_state();
-    s.table
+    [UNUSED; TABLE_LENGTH]
 }

@@ -6,13 +6,12 @@ use native.Mathlib.Nat.{zero-mul}
 use native.Mathlib.Omega.{arith}
 use mir.Syntax.{w8, w32}
 use mir.Val.{Fits}
-use borrow.Author.Count.{below_more}
-use borrow.Author.Tests.{le-leb, lt-leb, not-true, not-false}
+use borrow.Author.Tests.{le-leb, lt-leb}
 use lib.Dec.{T, leb, leb→le}
 use Rattle.base_laws.specs.Sums.{either, all_below}
 use Rattle.base_laws.proofs.TestLaws.{T_of_true, equal_of_iff, both_left, both_right, both_false_right, either_right_of_left_false}
 use Rattle.base_laws.proofs.Inequalities.{mul_le_of_bounds}
-use Rattle.base_laws.proofs.SumLaws.{all_at, all_of_each, all_cong, all_false, all_true}
+use Rattle.base_laws.proofs.SumLaws.{all_at, all_of_each, all_cong}
 use Rattle.class_rules.specs.Classes.{class_count, blocks_of}
 use Rattle.heap_rules.specs.declared.Setup.{Setup}
 use Rattle.heap_rules.specs.declared.Totals.{Totals}
@@ -57,34 +56,10 @@ module _ (u : Setup) (t : Totals) (h : ℕ) where
       either_no : (a b : Bool) → a ≡ false → either (not a) b ≡ true
       either_no a b e = rw e
 
-  pub class_invariants_step : (c : ℕ) (r : Bool) → r ≡ class_invariant u t h c → not r ≡ false → ((d : ℕ) → d < c → T (class_invariant u t h d)) → (d : ℕ)
-      → d < c + 1 → T (class_invariant u t h d)
-  class_invariants_step c r e f below = below_more (λ d. T (class_invariant u t h d)) c below (T_of_true _ (sym e ∙ not-false r f))
-
   module _ (low : 1 ≤ h) (high : h ≤ u.processors) where
-    heap_invariant_is_all_classes : heap_invariant u t h ≡ all_below (class_invariant u t h) class_count
+    pub heap_invariant_is_all_classes : heap_invariant u t h ≡ all_below (class_invariant u t h) class_count
     unfolding heap_invariant
     heap_invariant_is_all_classes = simp (le-leb 1 h low, le-leb h u.processors high)
-
-    pub heap_invariant_false_of_class : (c : ℕ) (r : Bool) → c < class_count → r ≡ class_invariant u t h c → not r ≡ true → false ≡ heap_invariant u t h
-    heap_invariant_false_of_class c r l e f = all_false (class_invariant u t h) class_count c l (sym e ∙ not-true r f) ∙ sym heap_invariant_is_all_classes
-
-    pub heap_invariant_of_all_classes : (c : ℕ) → class_count ≤ c → ((d : ℕ) → d < c → T (class_invariant u t h d)) → true ≡ heap_invariant u t h
-    heap_invariant_of_all_classes c l each = all_true (class_invariant u t h) class_count (λ d ld. each d (omega arith)) ∙ sym heap_invariant_is_all_classes
-
--- ---- all heaps of which totals are kept
-module _ (u : Setup) (t : Totals) (h : ℕ) where
-  pub totals_invariant_false_of_heap : (r : Bool) → h < heap_count → r ≡ heap_invariant u t h → not r ≡ true → false ≡ totals_invariant u t
-  unfolding totals_invariant
-  totals_invariant_false_of_heap r l e f = all_false (heap_invariant u t) heap_count h l (sym e ∙ not-true r f)
-
-  pub heap_invariants_step : (r : Bool) → r ≡ heap_invariant u t h → not r ≡ false → ((i : ℕ) → i < h → T (heap_invariant u t i)) → (i : ℕ) → i < h + 1
-      → T (heap_invariant u t i)
-  heap_invariants_step r e f below = below_more (λ i. T (heap_invariant u t i)) h below (T_of_true _ (sym e ∙ not-false r f))
-
-  pub totals_invariant_of_all_heaps : heap_count ≤ h → ((i : ℕ) → i < h → T (heap_invariant u t i)) → true ≡ totals_invariant u t
-  unfolding totals_invariant
-  totals_invariant_of_all_heaps l each = all_true (heap_invariant u t) heap_count (λ i li. each i (omega arith))
 
 -- ---- by the recount of a state's table
 module _ (s : State) where

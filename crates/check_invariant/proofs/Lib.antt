@@ -1,1 +1,2 @@
 pub mod EmptinessInvariantLaws
+pub mod AllBelowLaws

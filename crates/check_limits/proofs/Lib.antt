@@ -1,2 +1,1 @@
-pub mod WithinLimitsLaws
-pub mod SetupRefusalLaws
+pub mod SetupFaultLaws

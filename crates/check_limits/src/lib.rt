@@ -1,59 +1,61 @@
 // What a setup is tested for before anything else: its numbers, and the order places lent for them.
 #![tactic(auto)]
 
-ghost use Rattle.std.specs.Prelude.{◌≡◌};
-ghost use Rattle.check_rules.specs.Check.{within, within_limits};
-ghost use Rattle.check_limits.specs.SetupRefusal.{setup_refusal};
+ghost use Rattle.std.specs.Prelude.{◌≡◌, ℕ};
+ghost use Rattle.check_rules.specs.Check.{within_limits};
+ghost use Rattle.check_limits.specs.SetupRefusal.{setup_refusal, refusal_of_fault, number_if_fault};
 
 use heap_rules::{MOST_PROCESSORS, Setup, TABLE_LENGTH};
 use order_rules::PLACES_EACH;
-use refusal_rules::STORAGE_TOO_SMALL;
+use refusal_rules::Refusal;
 
 // The most superblocks that a setup has, in the width of its numbers.
 const SUPERBLOCKS: u8 = TABLE_LENGTH as u8;
 
+// What a setup is refused for.
+#[derive(Clone, Copy, PartialEq, Eq, Debug)]
+pub enum SetupFault {
+    // A setup number outside its limits.
+    OutOfLimits,
+    // Too few order places lent.
+    StorageTooSmall,
+}
+
+impl SetupFault {
+    // As a refusal, where setup numbers outside their limits are refused so: those of a setup otherwise than those of a state handed in.
+    pub fn refusal(self, numbers: Refusal) -> Refusal
+        ensures { result ≡ refusal_of_fault numbers self }
+    {
+        match self {
+            SetupFault::OutOfLimits => numbers,
+            SetupFault::StorageTooSmall => Refusal::StorageTooSmall,
+        }
+    }
+}
+
 // The setup numbers are within their limits.
+#[tactic(auto, unfolding(check_rules::specs::Check::within_limits))]
 fn within_limits(u: Setup) -> bool
     ensures { result ≡ within_limits u }
 {
-    if !between(1, MOST_PROCESSORS, u.processors) {
-        return false;
-    }
-    if !between(1, SUPERBLOCKS, u.superblocks) {
-        return false;
-    }
-    if !between(1, 16, u.spare) {
-        return false;
-    }
-    if u.p < 1 {
-        return false;
-    }
-    if u.p >= u.q {
-        return false;
-    }
-    between(2, 8, u.q)
+    (1..=MOST_PROCESSORS).contains(&u.processors)
+        && (1..=SUPERBLOCKS).contains(&u.superblocks)
+        && (1..=16).contains(&u.spare)
+        && 1 <= u.p
+        && u.p < u.q
+        && (2..=8).contains(&u.q)
 }
 
-fn between(a: u8, b: u8, x: u8) -> bool
-    ensures { result ≡ within a b x }
+// The refusals of a setup: its numbers, then the order places lent for them.
+#[tactic(auto, unfolding(crate::specs::SetupRefusal::setup_refusal))]
+pub fn setup_refusal(u: Setup, order: &[u16]) -> Result<(), SetupFault>
+    ensures { (numbers : ℕ) → number_if_fault numbers result ≡ setup_refusal numbers u order.now }
 {
-    if x < a {
-        return false;
+    if !within_limits(u) {
+        Err(SetupFault::OutOfLimits)
+    } else if order.len() < u.superblocks as usize * PLACES_EACH {
+        Err(SetupFault::StorageTooSmall)
+    } else {
+        Ok(())
     }
-    x <= b
-}
-
-// The refusals of a setup: the number given for its numbers, then 12; 0 where neither applies.
-pub fn setup_refusal(numbers: u8, u: Setup, order: &[u16]) -> u8
-    ensures { result ≡ setup_refusal numbers u order.now }
-{
-    let lawful = within_limits(u);
-    let places = u.superblocks as usize * PLACES_EACH;
-    if !lawful {
-        return numbers;
-    }
-    if order.len() < places {
-        return STORAGE_TOO_SMALL;
-    }
-    0
 }

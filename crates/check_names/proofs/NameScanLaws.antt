@@ -3,17 +3,17 @@
 use mathlib.Core.Path.{◌≡◌, refl, sym, ap, ap₂, ◌∙◌}
 use mathlib.Core.Bool.{Bool, true, false, not}
 use mathlib.Core.List.{List, [], ◌∷◌}
-use Prim.Native.Nat.{ℕ, suc, ◌+◌, ◌-◌, ◌*◌, ◌/◌, ◌%◌, ◌^◌, ◌≤◌, ◌<◌, zero-le}
+use Prim.Native.Nat.{ℕ, suc, ◌+◌, ◌-◌, ◌*◌, ◌/◌, ◌%◌, ◌^◌, ◌≤◌, ◌<◌}
 use native.Mathlib.Decide.{ℕ_discrete}
 use native.Mathlib.Numerals.{add-one}
 use native.Mathlib.Omega.{arith}
 use borrow.Author.Tests.{eq-eqb, ne_eqb}
-use lib.ListN.{length, get_or, set, drop, drop_of_length-le, length-drop}
+use lib.ListN.{length, get_or, set, drop, drop_of_length-le}
 use lib.Seq.{drop-cons}
 use lib.Dec.{eqb}
 use lib.Bits.{bit_and}
 use Rattle.base_laws.specs.Sums.{pick, both, either, one}
-use Rattle.base_laws.proofs.TestLaws.{both_false_right, one_le_one}
+use Rattle.base_laws.proofs.TestLaws.{both_false_right}
 use Rattle.marks_rules.specs.Marks.{mark_bit, is_marked, without_mark}
 use Rattle.marks_laws.proofs.BitLaws.{shl_one}
 use Rattle.marks_laws.proofs.MarkLaws.{length_without_mark, without_mark_same, without_mark_other, mark_bit_lt_two, mark_of_mark_bit_one}
@@ -147,15 +147,6 @@ module _ (names : List ℕ) (held held' i : ℕ) (long : length names ≡ 1024) 
   count_step_not_held q e = rw (add-one i) (let o : one (not (eqb (get_or names i 0) not_held)) ≡ 0 = rw (eq-eqb (get_or names i 0) not_held q) in
       omega (arith, held_count_suc names i (omega arith)))
 
--- no more are held than there are
-held_count_le : (names : List ℕ) → held_count names ≤ length names
-unfolding held_count
-held_count_le [] = zero-le
-held_count_le (x ∷ names) = omega (arith, held_count_le names, one_le_one (not (eqb x not_held)))
-
-held_count_left_le : (names : List ℕ) (i : ℕ) → length names ≡ 1024 → i ≤ 1024 → held_count (drop i names) + i ≤ 1024
-held_count_left_le names i long l = let h = held_count_le (drop i names) in let d = length-drop i names in omega arith
-
 -- none is left past the last
 pub held_count_past_the_end : (names : List ℕ) (i : ℕ) → length names ≤ i → held_count (drop i names) ≡ 0
 unfolding held_count
@@ -169,14 +160,17 @@ count_end names held i long h t = let z = held_count_past_the_end names i (omega
 pub record Scanned (marks names left : List ℕ) (n i : ℕ) : Type 0 where
   pub long : length left ≡ 256
   pub to_find : n ≡ held_count (drop i names)
-  pub bound : n + i ≤ 1024
   pub same : each_has_a_mark marks names ≡ each_has_a_mark left (drop i names)
 
-pub scan_start : (marks names : List ℕ) (n : ℕ) → length marks ≡ 256 → length names ≡ 1024 → n ≡ held_count names → Scanned marks names marks n 0
-scan_start marks names n long all e = record { long = long; to_find = e; bound = let h = held_count_le names in omega arith; same = refl }
+pub scan_start : (marks names : List ℕ) (n : ℕ) → length marks ≡ 256 → n ≡ held_count names → Scanned marks names marks n 0
+scan_start marks names n long e = record { long = long; to_find = e; same = refl }
 
 pub scan_end : (marks left names : List ℕ) (n i : ℕ) → n ≡ 0 → Scanned marks names left n i → true ≡ each_has_a_mark marks names
 scan_end marks left names n i z t = sym (t.same ∙ each_has_a_mark_of_none_held left (drop i names) (sym t.to_find ∙ z))
+
+pub scan_end_of_names : (marks left names : List ℕ) (n i : ℕ) → length names ≡ 1024 → 1024 ≤ i → Scanned marks names left n i
+    → true ≡ each_has_a_mark marks names
+scan_end_of_names marks left names n i long h t = scan_end marks left names n i (t.to_find ∙ held_count_past_the_end names i (omega arith)) t
 
 -- the code's mask is all ones but a power of two
 code_takes_mark_out : (left : List ℕ) (x : ℕ)
@@ -201,13 +195,15 @@ module _ (marks left names : List ℕ) (n i x : ℕ) (at : x ≡ get_or names i 
   to_find_suc : n ≡ one (not (eqb x not_held)) + held_count (drop (suc i) names)
   to_find_suc = t.to_find ∙ held_count_suc names i (omega arith) ∙ ap (λ (y : ℕ). one (not (eqb y not_held)) + held_count (drop (suc i) names)) (sym at)
 
+  pub to_find_of_held : (x ≡ not_held → ⊥) → 1 ≤ n
+  to_find_of_held f = let o : one (not (eqb x not_held)) ≡ 1 = rw (ne_eqb x not_held f) in omega (arith, to_find_suc)
+
   pub scan_step_not_held : (left' : List ℕ) (n' : ℕ) → x ≡ not_held → left' ≡ left → n' ≡ n → Scanned marks names left' n' (i + 1)
   scan_step_not_held left' n' q e m =
       rw (e, add-one)
       (record {
         long = t.long;
         to_find = let o : one (not (eqb x not_held)) ≡ 0 = rw (eq-eqb x not_held q) in omega (arith, to_find_suc);
-        bound = let o : one (not (eqb x not_held)) ≡ 0 = rw (eq-eqb x not_held q) in omega (arith, to_find_suc, held_count_left_le names (suc i) long below);
         same = scan_suc ∙ rw (eq-eqb x not_held q);
       })
 
@@ -219,9 +215,11 @@ module _ (marks left names : List ℕ) (n i x : ℕ) (at : x ≡ get_or names i 
       (record {
         long = length_without_mark left x ∙ t.long;
         to_find = let o : one (not (eqb x not_held)) ≡ 1 = rw (ne_eqb x not_held f) in omega (arith, to_find_suc);
-        bound = let o : one (not (eqb x not_held)) ≡ 1 = rw (ne_eqb x not_held f) in omega (arith, to_find_suc, held_count_left_le names (suc i) long below);
         same = scan_suc ∙ rw (ne_eqb x not_held f, mark_of_mark_bit_one left x (set_mark z));
       })
     where
       set_mark : (mark_bit left x ≡ 0 → ⊥) → mark_bit left x ≡ 1
       set_mark z = omega (arith, mark_bit_lt_two left x)
+
+  pub scan_end_at_held : (x ≡ not_held → ⊥) → (mark_bit left x ≡ 0 → ⊥) → n - 1 ≡ 0 → true ≡ each_has_a_mark marks names
+  scan_end_at_held f z last = scan_end marks _ names (n - 1) (i + 1) last (scan_step_held _ (n - 1) f z refl refl)

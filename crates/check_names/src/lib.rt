@@ -12,23 +12,18 @@ use heap_rules::State;
 use marks_rules::BITS_OF_WORD;
 use names_rules::{NAME_COUNT, NOT_HELD};
 
-// What stands for a name that is not held, in the width of an index.
-const NO_BLOCK: usize = NOT_HELD as usize;
-
 // The numbers that the blocks of a table have: 0 up to this.
 const NUMBER_COUNT: usize = TABLE_WORDS * BITS_OF_WORD;
 
 // Each held name finds its block's mark, which it takes out. Past the last held name nothing is left to find.
-fn each_has_a_mark(marks: [u64; TABLE_WORDS], names: [u16; NAME_COUNT], held: u16) -> bool
+fn each_has_a_mark(mut left: [u64; TABLE_WORDS], names: [u16; NAME_COUNT], held: u16) -> bool
     requires { held ≡ held_count names }
-    ensures { result ≡ each_has_a_mark marks names }
+    ensures { result ≡ each_has_a_mark left names }
 {
-    let mut left = marks;
     let mut to_find = held;
-    let mut i: usize = 0;
-    while 0 < to_find {
-        let x = names[i] as usize;
-        if x != NO_BLOCK {
+    for name in names {
+        if name != NOT_HELD {
+            let x = name as usize;
             if NUMBER_COUNT <= x {
                 return false;
             }
@@ -38,30 +33,26 @@ fn each_has_a_mark(marks: [u64; TABLE_WORDS], names: [u16; NAME_COUNT], held: u1
             if (m >> b) % 2 == 0 {
                 return false;
             }
-            left[w] = m & !(1u64 << b);
+            left[w] = m & !(1 << b);
             to_find -= 1;
+            if to_find == 0 {
+                break;
+            }
         }
-        i += 1;
     }
     true
 }
 
 // Each held name points at a live block, no two at one. The held names are counted first: where there is none no mark is looked at.
+// A loop counts them, in 16 bits: with `filter` and `count` the check of a state without names takes twice as long (measured).
 pub fn names_valid(s: State) -> bool
     ensures { result ≡ names_valid s }
 {
     let mut held: u16 = 0;
-    let mut i: usize = 0;
-    while i < NAME_COUNT {
-        if s.names[i] != NOT_HELD {
+    for name in &s.names {
+        if *name != NOT_HELD {
             held += 1;
         }
-        i += 1;
     }
-    if held == 0 {
-        return true;
-    }
-    let names = s.names;
-    let marks = marks_of_table(s);
-    each_has_a_mark(marks, names, held)
+    held == 0 || each_has_a_mark(marks_of_table(s), s.names, held)
 }

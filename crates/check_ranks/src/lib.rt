@@ -6,7 +6,7 @@
 ghost use Rattle.std.specs.Prelude.{◌≡◌};
 ghost use Rattle.check_rules.specs.Check.{ranks_valid};
 
-use heap_rules::{RUN_OWNER, State, TABLE_LENGTH};
+use heap_rules::{RUN_OWNER, State};
 use marks_rules::BITS_OF_WORD;
 
 // The ranks are a ranking. The owner is looked at before `is_unowned` is called, so that it seldom is.
@@ -16,9 +16,7 @@ pub fn ranks_valid(s: State) -> bool
     let mut met = [0u64; 4];
     let mut ranked: usize = 0;
     let mut highest: usize = 0;
-    let mut k: usize = 0;
-    while k < TABLE_LENGTH {
-        let b = s.table[k];
+    for b in &s.table {
         let x = b.rank as usize;
         if 0 < x {
             let w = x / BITS_OF_WORD;
@@ -28,7 +26,7 @@ pub fn ranks_valid(s: State) -> bool
                 return false;
             }
             if RUN_OWNER <= b.owner {
-                if heap_tests::is_unowned(b) {
+                if heap_tests::is_unowned(*b) {
                     return false;
                 }
             }
@@ -38,7 +36,6 @@ pub fn ranks_valid(s: State) -> bool
                 highest = x;
             }
         }
-        k += 1;
     }
     highest <= ranked
 }

@@ -12,15 +12,11 @@ pub fn recount(table: [Superblock; TABLE_LENGTH]) -> Totals
 {
     let mut superblocks = [0u8; TOTAL_COUNT];
     let mut live = [0u16; TOTAL_COUNT];
-    let mut k: usize = 0;
-    while k < TABLE_LENGTH {
-        let b = table[k];
-        let at = heap_totals::index_of(b.owner, b.class);
-        if at < TOTAL_COUNT {
+    for b in table {
+        if let Some(at) = heap_totals::index_of(b.owner, b.class) {
             superblocks[at] += 1;
             live[at] += heap_tests::live_in(b) as u16;
         }
-        k += 1;
     }
     Totals { superblocks, live }
 }

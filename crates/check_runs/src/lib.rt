@@ -12,9 +12,7 @@ pub fn runs_valid(table: [Superblock; TABLE_LENGTH]) -> bool
     ensures { result ≡ runs_whole 0 table }
 {
     let mut left: u8 = 0;
-    let mut k: usize = 0;
-    while k < TABLE_LENGTH {
-        let b = table[k];
+    for b in &table {
         if 0 < left {
             if b.owner != RUN_OWNER {
                 return false;
@@ -34,7 +32,6 @@ pub fn runs_valid(table: [Superblock; TABLE_LENGTH]) -> bool
         } else if 0 < b.run {
             return false;
         }
-        k += 1;
     }
     left == 0
 }

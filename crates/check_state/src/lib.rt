@@ -3,40 +3,36 @@
 #![tactic(auto)]
 
 ghost use Rattle.std.specs.Prelude.{◌≡◌};
-ghost use Rattle.check_state.specs.FirstRefusal.{first_refusal};
+ghost use Rattle.refusal_rules.specs.RefusalNumbers.{number_if_refused};
+ghost use Rattle.check_state.specs.FirstRefusal.{first_refusal, counts_valid};
 
+use check_limits::setup_refusal;
 use heap_rules::State;
-use refusal_rules::STATE_INVALID;
+use refusal_rules::Refusal;
 
-// The refusals that all calls on a state share: 13 for setup numbers, 12, the rest of 13; 0 where none applies. Of the rest, what is asked
-// of each superblock alone comes first: it is the longer part.
-pub fn first_refusal(s: State, order: &[u16]) -> u8
-    ensures { result ≡ first_refusal s order.now }
+// The refusals that all calls on a state share: 13 for setup numbers, 12, the rest of 13. Of the rest, what is asked of each superblock
+// alone comes first: it is the longer part.
+pub fn first_refusal(s: State, order: &[u16]) -> Result<(), Refusal>
+    ensures { number_if_refused result ≡ first_refusal s order.now }
 {
-    let first = check_limits::setup_refusal(STATE_INVALID, s.setup, order);
-    if first != 0 {
-        return first;
+    setup_refusal(s.setup, order).map_err(|fault| fault.refusal(Refusal::StateInvalid))?;
+    if check_superblock::each_valid(s.setup, s.table, order)
+        && counts_valid(&s)
+        && check_names::names_valid(s)
+        && check_ranks::ranks_valid(s)
+        && check_runs::runs_valid(s.table)
+    {
+        Ok(())
+    } else {
+        Err(Refusal::StateInvalid)
     }
-    let table = s.table;
-    if !check_superblock::each_valid(s.setup, table, order) {
-        return STATE_INVALID;
-    }
-    let kept = s.totals;
-    let counted = check_recount::recount(table);
-    if !check_totals::same_totals(kept, counted) {
-        return STATE_INVALID;
-    }
-    if !check_invariant::emptiness_invariant(s.setup, counted) {
-        return STATE_INVALID;
-    }
-    if !check_names::names_valid(s) {
-        return STATE_INVALID;
-    }
-    if !check_ranks::ranks_valid(s) {
-        return STATE_INVALID;
-    }
-    if !check_runs::runs_valid(table) {
-        return STATE_INVALID;
-    }
-    0
+}
+
+// The totals are those of a recount, by which no heap and class is to move superblocks.
+fn counts_valid(s: &State) -> bool
+    ensures { result ≡ counts_valid s.now }
+{
+    let counted = check_recount::recount(s.table);
+    check_totals::same_totals(s.totals, counted)
+        && check_invariant::emptiness_invariant(s.setup, counted)
 }

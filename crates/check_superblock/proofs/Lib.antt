@@ -1,1 +1,2 @@
 pub mod AloneValidLaws
+pub mod AllBelowLaws

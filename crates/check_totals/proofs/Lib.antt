@@ -1,1 +1,1 @@
-pub mod DifferingLaws
+pub mod SameTotalsLaws

@@ -2,9 +2,11 @@
 use Rattle.std.specs.Prelude.{Bool, false, not, ℕ, eqb, ltb}
 use Rattle.base_laws.specs.Sums.{both, either}
 use Rattle.heap_rules.specs.declared.Superblock.{Superblock}
+use Rattle.heap_rules.specs.Table.{live_in}
 use Rattle.choice_rules.specs.Choice.{fuller_or_more_recent, fewer_live, never_preferred}
 use Rattle.choice_criteria.specs.declared.Criterion.{Criterion}
 use Rattle.choice_criteria.specs.declared.Criterion.TheVariants.{HasFree, Belongs, Empty, Unused}
+use Rattle.choice_preference.specs.declared.Candidate.{Candidate}
 
 -- "most live first", and "Among equally full superblocks .. the one freed into most recently" (document 02, item 4); "with the fewest live"; "the
 -- lowest-numbered"
@@ -19,9 +21,13 @@ preferred_by Unused = never_preferred
 unfoldable pub more_recent_rank : ℕ → ℕ → Bool
 more_recent_rank rank other = both (ltb 0 rank) (either (not (ltb 0 other)) (ltb rank other))
 
+-- superblock k, which is b, as a candidate
+abbrev pub candidate : ℕ → Superblock → Candidate
+candidate k b = record { number = k; live = live_in b; rank = b.rank }
+
 -- by live count and rank of two superblocks: the first is preferred
-unfoldable pub preferred_by_numbers : Criterion → ℕ → ℕ → ℕ → ℕ → Bool
-preferred_by_numbers (HasFree h c) live rank best_live best_rank = either (ltb best_live live) (both (eqb live best_live) (more_recent_rank rank best_rank))
-preferred_by_numbers (Belongs h c) live rank best_live best_rank = ltb live best_live
-preferred_by_numbers Empty live rank best_live best_rank = false
-preferred_by_numbers Unused live rank best_live best_rank = false
+unfoldable pub preferred_by_numbers : Criterion → Candidate → Candidate → Bool
+preferred_by_numbers (HasFree h c) b best = either (ltb best.live b.live) (both (eqb b.live best.live) (more_recent_rank b.rank best.rank))
+preferred_by_numbers (Belongs h c) b best = ltb b.live best.live
+preferred_by_numbers Empty b best = false
+preferred_by_numbers Unused b best = false

@@ -1,4 +1,5 @@
 -- The choices of a superblock in cases that tell them from near misses, by computation. Assumes nothing.
+use Rattle.std.specs.Prelude.{Some, None}
 use mathlib.Core.Path.{◌≡◌, refl}
 use mathlib.Core.List.{[], ◌∷◌, ◌++◌, map}
 use Prim.Native.Nat.{ℕ}
@@ -8,7 +9,6 @@ use Rattle.base_laws.specs.Sums.{sum_below}
 use Rattle.class_rules.specs.Classes.{counts, blocks_of}
 use Rattle.marks_rules.specs.Marks.{bit, mark_bit, live_count}
 use Rattle.heap_rules.specs.declared.State.{State}
-use Rattle.heap_rules.specs.declared.Found.TheVariants.{At, Nothing}
 use Rattle.heap_rules.specs.Table.{unused, is_unused}
 use Rattle.heap_rules.specs.Counts.{belongs}
 use Rattle.heap_rules.specs.Ranks.{is_ranked, is_more_recent}
@@ -29,7 +29,7 @@ choice_state n =
 pub emptiest_cases :
     emptiest 1 16 (choice_state 64) ∷ emptiest 2 16 (choice_state 64) ∷ emptiest 0 16 (choice_state 64) ∷ emptiest 2 17 (choice_state 64)
     ∷ emptiest 2 18 (choice_state 64) ∷ emptiest 0 0 (choice_state 64) ∷ []
-    ≡ At 11 ∷ At 0 ∷ At 8 ∷ At 63 ∷ Nothing ∷ Nothing ∷ []
+    ≡ Some 11 ∷ Some 0 ∷ Some 8 ∷ Some 63 ∷ None ∷ None ∷ []
 unfolding emptiest chosen_below prefer fewer_live more_live is_more_recent is_ranked belongs live_count sum_below mark_bit bit
 emptiest_cases = refl
 
@@ -38,7 +38,7 @@ emptiest_cases = refl
 pub emptiest_by_number_case :
     map (λ (h : ℕ). emptiest h 16
     (unnamed_state (choice_state 64).setup (of 1 16 7 ∷ of 1 16 3 ∷ ranked 1 16 3 1 ∷ ranked 0 16 1 3 ∷ ranked 0 16 2 2 ∷ replicate 59 unused)))
-    (1 ∷ 0 ∷ []) ≡ At 1 ∷ At 3 ∷ []
+    (1 ∷ 0 ∷ []) ≡ Some 1 ∷ Some 3 ∷ []
 unfolding emptiest chosen_below prefer fewer_live more_live is_more_recent is_ranked belongs live_count sum_below mark_bit bit
 emptiest_by_number_case = refl
 
@@ -46,7 +46,7 @@ emptiest_by_number_case = refl
 abbrev pub none_empty_in_global : State
 none_empty_in_global = unnamed_state (choice_state 64).setup (of 1 16 0 ∷ of 0 17 4 ∷ of 0 16 1 ∷ replicate 61 unused)
 
-pub lowest_empty_cases : lowest_empty (choice_state 64) ∷ lowest_empty none_empty_in_global ∷ [] ≡ At 7 ∷ Nothing ∷ []
+pub lowest_empty_cases : lowest_empty (choice_state 64) ∷ lowest_empty none_empty_in_global ∷ [] ≡ Some 7 ∷ None ∷ []
 unfolding lowest_empty chosen_below prefer never_preferred is_more_recent is_ranked empty_in_global live_count sum_below mark_bit bit
 lowest_empty_cases = refl
 
@@ -58,19 +58,19 @@ two_empty_in_global r t = unnamed_state (choice_state 64).setup (ranked 1 16 0 3
 pub lowest_empty_by_number_cases :
     lowest_empty (two_empty_in_global 0 1) ∷ lowest_empty (two_empty_in_global 2 1)
     ∷ lowest_empty (unnamed_state (choice_state 64).setup (of 0 17 4 ∷ replicate 62 unused ++ ranked 0 16 0 1 ∷ [])) ∷ []
-    ≡ At 1 ∷ At 1 ∷ At 63 ∷ []
+    ≡ Some 1 ∷ Some 1 ∷ Some 63 ∷ []
 unfolding lowest_empty chosen_below prefer never_preferred is_more_recent is_ranked empty_in_global live_count sum_below mark_bit bit
 lowest_empty_by_number_cases = refl
 
 -- "the lowest-numbered unused one of superblocks 0 to N - 1", for N = 14, 11 and 10; by number too where they are ranked, as in no state that passes
 pub lowest_unused_cases :
-    map (λ (n : ℕ). lowest_unused (choice_state n)) (14 ∷ 11 ∷ 10 ∷ []) ≡ At 10 ∷ At 10 ∷ Nothing ∷ []
-    × lowest_unused (unnamed_state (choice_state 64).setup (of 1 16 0 ∷ ranked 255 0 0 2 ∷ ranked 255 0 0 1 ∷ replicate 61 unused)) ≡ At 1
+    map (λ (n : ℕ). lowest_unused (choice_state n)) (14 ∷ 11 ∷ 10 ∷ []) ≡ Some 10 ∷ Some 10 ∷ None ∷ []
+    × lowest_unused (unnamed_state (choice_state 64).setup (of 1 16 0 ∷ ranked 255 0 0 2 ∷ ranked 255 0 0 1 ∷ replicate 61 unused)) ≡ Some 1
 unfolding lowest_unused chosen_below prefer never_preferred is_more_recent is_ranked is_unused live_count sum_below mark_bit bit
 lowest_unused_cases = (refl, refl)
 
 -- the first that is found
-pub or_else_cases : or_else (At 5) (At 3) ∷ or_else Nothing (At 3) ∷ or_else (At 5) Nothing ∷ or_else Nothing Nothing ∷ [] ≡ At 5 ∷ At 3 ∷ At 5 ∷ Nothing ∷ []
+pub or_else_cases : or_else (Some 5) (Some 3) ∷ or_else None (Some 3) ∷ or_else (Some 5) None ∷ or_else None None ∷ [] ≡ Some 5 ∷ Some 3 ∷ Some 5 ∷ None ∷ []
 or_else_cases = refl
 
 -- ---- the cases so far take little. Each that follows takes longer, and is computed where they and the one before it hold
@@ -88,8 +88,8 @@ ranked_choice_state =
 
 -- "Among equally full superblocks in places 1 and 2 of a take, the one freed into most recently since it was last renewed comes first. Those not
 -- freed into since then follow, lower number first."
-pub fullest_of_equals_cases : fullest 1 16 ranked_choice_state ∷ fullest 2 16 ranked_choice_state ∷ fullest 0 16 ranked_choice_state ∷ [] ≡ At 2 ∷ At 6
-    ∷ At 9 ∷ []
+pub fullest_of_equals_cases : fullest 1 16 ranked_choice_state ∷ fullest 2 16 ranked_choice_state ∷ fullest 0 16 ranked_choice_state ∷ [] ≡ Some 2 ∷ Some 6
+    ∷ Some 9 ∷ []
 unfolding quick_choices_hold fullest chosen_below prefer fuller_or_more_recent more_live is_more_recent is_ranked has_free belongs blocks_of counts live_count
     sum_below
     mark_bit bit
@@ -100,7 +100,7 @@ fullest_of_equals_cases = refl
 pub fullest_cases :
     fullest 1 16 (choice_state 64) ∷ fullest 2 16 (choice_state 64) ∷ fullest 0 16 (choice_state 64) ∷ fullest 0 17 (choice_state 64)
     ∷ fullest 1 17 (choice_state 64) ∷ fullest 2 17 (choice_state 64) ∷ fullest 1 18 (choice_state 64) ∷ fullest 0 0 (choice_state 64) ∷ []
-    ≡ At 4 ∷ Nothing ∷ At 8 ∷ At 7 ∷ At 6 ∷ At 63 ∷ Nothing ∷ Nothing ∷ []
+    ≡ Some 4 ∷ None ∷ Some 8 ∷ Some 7 ∷ Some 6 ∷ Some 63 ∷ None ∷ None ∷ []
 unfolding fullest chosen_below prefer fuller_or_more_recent more_live is_more_recent is_ranked has_free belongs blocks_of counts live_count sum_below mark_bit
     bit
 fullest_cases = let before = fullest_of_equals_cases in refl

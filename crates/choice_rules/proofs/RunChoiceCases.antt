@@ -1,15 +1,15 @@
 -- The run that a long block takes (document 02, item 7) in cases that tell the choice from near misses, by computation. Assumes nothing.
+use Rattle.std.specs.Prelude.{Some, None}
 use mathlib.Core.Path.{◌≡◌, refl}
 use mathlib.Core.Bool.{true, false}
 use mathlib.Core.List.{[], ◌∷◌, ◌++◌, map}
-use Prim.Native.Nat.{ℕ, ◌+◌}
+use Prim.Native.Nat.{ℕ}
 use lib.ListN.{replicate}
 use lib.Dec.{ltb}
 use Rattle.base_laws.proofs.Stages.{◌also◌}
 use Rattle.base_laws.specs.Sums.{sum_below, all_below}
 use Rattle.marks_rules.specs.Marks.{bit, mark_bit, live_count}
 use Rattle.heap_rules.specs.declared.State.{State}
-use Rattle.heap_rules.specs.declared.Found.TheVariants.{At, Nothing}
 use Rattle.heap_rules.specs.Table.{unused, is_unused, run_part}
 use Rattle.choice_rules.specs.Choice.{empty_in_global}
 use Rattle.choice_rules.specs.RunChoice.{is_available, is_free_run, lowest_below, lowest_run}
@@ -25,7 +25,7 @@ unfolding choices_hold is_available is_unused empty_in_global live_count sum_bel
 is_available_cases = (refl, refl)
 
 -- the lowest that passes, of those below the bound
-pub lowest_below_cases : map (lowest_below (λ k. ltb 2 k)) (0 ∷ 3 ∷ 4 ∷ 9 ∷ []) ≡ Nothing ∷ Nothing ∷ At 3 ∷ At 3 ∷ []
+pub lowest_below_cases : map (lowest_below (λ k. ltb 2 k)) (0 ∷ 3 ∷ 4 ∷ 9 ∷ []) ≡ None ∷ None ∷ Some 3 ∷ Some 3 ∷ []
 unfolding choices_hold lowest_below
 lowest_below_cases = refl
 
@@ -46,7 +46,7 @@ unfolding choices_hold is_free_run all_below is_available is_unused empty_in_glo
 is_free_run_cases = (refl, refl)
 
 -- N = 9: superblock 8 alone is a gap of just one, and the lowest run of one is in the gap from 1 on all the same
-pub lowest_run_before_exact_gap_case : lowest_run 1 (gaps_state 9) ≡ At 1
+pub lowest_run_before_exact_gap_case : lowest_run 1 (gaps_state 9) ≡ Some 1
 unfolding choices_hold lowest_run lowest_below is_free_run all_below is_available is_unused empty_in_global live_count sum_below mark_bit bit
 lowest_run_before_exact_gap_case = refl
 
@@ -59,11 +59,11 @@ pub lowest_run_at_end_cases :
     lowest_run 1 (unnamed_state (gaps_state 64).setup (replicate 63 (run_part 1) ++ unused ∷ []))
     ∷ lowest_run 16 (unnamed_state (gaps_state 64).setup (replicate 48 (run_part 1) ++ replicate 16 unused))
     ∷ lowest_run 1 (unnamed_state (gaps_state 64).setup (replicate 64 (run_part 1))) ∷ []
-    ≡ At 63 ∷ At 48 ∷ Nothing ∷ []
+    ≡ Some 63 ∷ Some 48 ∷ None ∷ []
 unfolding quick_runs_hold lowest_run lowest_below is_free_run all_below is_available is_unused empty_in_global live_count sum_below mark_bit bit
 lowest_run_at_end_cases = refl
 
 -- the lowest gap that is long enough: for 1 and 2 the first, for 3 the second, for 4 and 6 the third, and for 7 none, as all are to be below N = 14
-pub lowest_run_cases : map (λ (n : ℕ). lowest_run n (gaps_state 14)) (1 ∷ 2 ∷ 3 ∷ 4 ∷ 6 ∷ 7 ∷ []) ≡ At 1 ∷ At 1 ∷ At 4 ∷ At 8 ∷ At 8 ∷ Nothing ∷ []
+pub lowest_run_cases : map (λ (n : ℕ). lowest_run n (gaps_state 14)) (1 ∷ 2 ∷ 3 ∷ 4 ∷ 6 ∷ 7 ∷ []) ≡ Some 1 ∷ Some 1 ∷ Some 4 ∷ Some 8 ∷ Some 8 ∷ None ∷ []
 unfolding lowest_run lowest_below is_free_run all_below is_available is_unused empty_in_global live_count sum_below mark_bit bit
 lowest_run_cases = let before = lowest_run_at_end_cases in refl

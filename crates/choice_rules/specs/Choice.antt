@@ -1,23 +1,21 @@
 -- The choice of one superblock among those that meet the criterion.
-use Rattle.std.specs.Prelude.{ℕ, zero, suc, Bool, false, List, get_or, eqb, ltb}
+use Rattle.std.specs.Prelude.{ℕ, zero, suc, Bool, false, List, get_or, eqb, ltb, Option, Some, None}
 use Rattle.base_laws.specs.Sums.{pick, both, either}
 use Rattle.class_rules.specs.Classes.{blocks_of}
 use Rattle.heap_rules.specs.declared.Superblock.{Superblock}
 use Rattle.heap_rules.specs.declared.State.{State}
-use Rattle.heap_rules.specs.declared.Found.{Found}
-use Rattle.heap_rules.specs.declared.Found.TheVariants.{At, Nothing}
 use Rattle.heap_rules.specs.Table.{table_length, blank, live_in, is_unused}
 use Rattle.heap_rules.specs.Counts.{belongs}
 use Rattle.heap_rules.specs.Ranks.{is_more_recent}
 
 -- the one found so far; or superblock k, which meets the criterion, where there is none yet or it is preferred
-unfoldable pub prefer : (Superblock → Superblock → Bool) → List Superblock → Found → ℕ → Found
-prefer preferred table Nothing k = At k
-prefer preferred table (At m) k = pick (preferred (get_or table k blank) (get_or table m blank)) (At k) (At m)
+unfoldable pub prefer : (Superblock → Superblock → Bool) → List Superblock → Option ℕ → ℕ → Option ℕ
+prefer preferred table None k = Some k
+prefer preferred table (Some m) k = pick (preferred (get_or table k blank) (get_or table m blank)) (Some k) (Some m)
 
 -- of the superblocks below n that meet the criterion, the best; the lower number among equals
-unfoldable pub chosen_below : (Superblock → Bool) → (Superblock → Superblock → Bool) → List Superblock → ℕ → Found
-chosen_below meets preferred table zero = Nothing
+unfoldable pub chosen_below : (Superblock → Bool) → (Superblock → Superblock → Bool) → List Superblock → ℕ → Option ℕ
+chosen_below meets preferred table zero = None
 chosen_below meets preferred table (suc k) =
     pick (meets (get_or table k blank)) (prefer preferred table (chosen_below meets preferred table k) k) (chosen_below meets preferred table k)
 
@@ -48,22 +46,22 @@ empty_in_global b = both (eqb b.owner 0) (eqb (live_in b) 0)
 
 -- places 1 (h the processor's heap) and 2 (h = 0) of a take: the fullest, among these the last freed into; "Those not freed into since then
 -- follow, lower number first"
-unfoldable pub fullest : ℕ → ℕ → State → Found
+unfoldable pub fullest : ℕ → ℕ → State → Option ℕ
 fullest h c s = chosen_below (has_free h c) fuller_or_more_recent s.table table_length
 
 -- place 3
-unfoldable pub lowest_empty : State → Found
+unfoldable pub lowest_empty : State → Option ℕ
 lowest_empty s = chosen_below empty_in_global never_preferred s.table table_length
 
 -- place 4
-unfoldable pub lowest_unused : State → Found
+unfoldable pub lowest_unused : State → Option ℕ
 lowest_unused s = chosen_below is_unused never_preferred s.table s.setup.superblocks
 
 -- "heap i's class-c superblock with the fewest live, the lower number among equals"; "The emptiest for a move is still chosen by number"
-unfoldable pub emptiest : ℕ → ℕ → State → Found
+unfoldable pub emptiest : ℕ → ℕ → State → Option ℕ
 emptiest h c s = chosen_below (belongs h c) fewer_live s.table table_length
 
 -- the first that is found
-abbrev pub or_else : Found → Found → Found
-or_else (At k) f = At k
-or_else Nothing f = f
+abbrev pub or_else : Option ℕ → Option ℕ → Option ℕ
+or_else (Some k) f = Some k
+or_else None f = f

@@ -1,40 +1,24 @@
 -- The search for a run: the available superblocks in a row, turn by turn. Assumes nothing.
-use mathlib.Core.Path.{◌≡◌, refl, sym, ◌∙◌, subst}
+use Rattle.std.proofs.Common.{Some, None}
+use mathlib.Core.Path.{◌≡◌, sym, ap, ◌∙◌, subst}
 use mathlib.Core.Bool.{Bool, true, false}
-use mathlib.Core.Logic.{◌⊎◌, inl, inr}
 use mathlib.Core.List.{[]}
-use Prim.Native.Nat.{ℕ, ◌+◌, ◌-◌, ◌≤◌, ◌<◌, zero-le}
+use Prim.Native.Nat.{ℕ, ◌+◌, ◌-◌, ◌≤◌, ◌<◌, min, zero-le}
 use native.Mathlib.Nat.{lt_of_not-le}
 use native.Mathlib.Decide.{ℕ_discrete, dec_le, dec_lt}
 use native.Mathlib.Omega.{arith}
-use borrow.Author.Tests.{ne_eqb}
-use lib.ListN.{length, get_or-eq_default}
-use lib.Dec.{T, eqb}
-use Rattle.base_laws.specs.Sums.{either}
+use lib.ListN.{length, take, get_or, get_or-eq_default}
+use Rattle.std.proofs.lemmas.List.{get_or-take, length-take}
+use lib.Dec.{T}
 use Rattle.base_laws.proofs.TestLaws.{T_of_true, not_T_of_false}
 use Rattle.base_laws.proofs.Inequalities.{le_of_not_below}
 use Rattle.marks_laws.proofs.MarkLaws.{mark_bit_of_empty_list, live_count_zero_of_marks_clear}
 use Rattle.heap_rules.specs.declared.Superblock.{Superblock}
 use Rattle.heap_rules.specs.declared.State.{State}
-use Rattle.heap_rules.specs.declared.Found.TheVariants.{At, Nothing}
-use Rattle.heap_rules.specs.Table.{blank, superblock_at, live_in, is_unused}
+use Rattle.heap_rules.specs.Table.{blank, superblock_at, is_unused}
 use Rattle.choice_rules.specs.Choice.{empty_in_global}
-use Rattle.choice_rules.specs.RunChoice.{is_available, is_free_run, lowest_below, lowest_run}
+use Rattle.choice_rules.specs.RunChoice.{is_available, is_free_run, lowest_run}
 use Rattle.heap_laws.proofs.RunChoiceLaws.{FreeRun, facts_of_is_free_run, is_free_run_of_facts, lowest_below_of_lowest, lowest_below_nothing_of_none}
-
--- ---- one superblock, by its owner
-module _ (b : Superblock) where
-  pub available_of_global : (n : ℕ) → b.owner ≡ 0 → n ≡ live_in b → eqb n 0 ≡ is_available b
-  unfolding is_available is_unused empty_in_global
-  available_of_global n e l = rw (e, l)
-
-  pub available_of_other_owner : (r : Bool) → (b.owner ≡ 0 → ⊥) → r ≡ is_unused b → r ≡ is_available b
-  unfolding is_available empty_in_global
-  available_of_other_owner r f e = rw (ne_eqb b.owner 0 f) (e ∙ go (is_unused b))
-    where
-      go : (t : Bool) → t ≡ either t false
-      go true = refl
-      go false = refl
 
 -- ---- the loop
 -- before superblock k stand so many available ones in a row, fewer than n; one that is not stands in each longer row; and no run of n ends at or before k
@@ -65,7 +49,15 @@ module _ (s : State) (n k row : ℕ) (before : RowBefore s n k row) where
       go (yes g) = before.no_run j g t
       go (no f) = longer j (omega arith) (λ i m u. t.available i m (omega arith))
 
-  module _ (t : Bool) (e : t ≡ is_available (superblock_at s k)) where
+  -- superblock k, which is one of those that the scan looks at, below N
+  module _ (end : ℕ) (ends : end ≡ min s.setup.superblocks 64) (inside : k < length (take end s.table)) (t : Bool)
+      (looked : t ≡ is_available (get_or (take end s.table) k blank)) where
+    below_end : k < end
+    below_end = omega (arith, inside, length-take end s.table)
+
+    e : t ≡ is_available (superblock_at s k)
+    e = looked ∙ ap is_available (get_or-take end s.table k blank below_end)
+
     here : t ≡ true → T (is_available (superblock_at s k))
     here y = T_of_true _ (sym e ∙ y)
 
@@ -108,10 +100,11 @@ module _ (s : State) (n k row : ℕ) (before : RowBefore s n k row) where
           }
 
       -- it is n long: the run
-      pub run_found : t ≡ true → now ≡ row + 1 → now ≡ n → k < s.setup.superblocks → k < 64 → At (k + 1 - n) ≡ lowest_run n s
+      pub run_found : t ≡ true → now ≡ row + 1 → now ≡ n → Some (k + 1 - n) ≡ lowest_run n s
       unfolding lowest_run
-      run_found y q g l h =
+      run_found y q g =
           let fit = before.fits in
+          let below = below_end in
           let here_free : FreeRun n s (k + 1 - n) = record { below = omega arith; available = λ i a b. row_longer y i (omega arith) (omega arith) } in
           sym
           (lowest_below_of_lowest (is_free_run n s) 64 (k + 1 - n)
@@ -122,11 +115,7 @@ module _ (s : State) (n k row : ℕ) (before : RowBefore s n k row) where
           }))
 
 -- ---- after the scan
--- it ends at N, or at the table's end where N is above it
-abbrev pub ScanEnd : State → ℕ → Type 0
-ScanEnd s end = ((end ≡ s.setup.superblocks) × (end ≤ 64)) ⊎ ((end ≡ 64) × (64 ≤ s.setup.superblocks))
-
-pub run_of_none_is_first : (s : State) → At 0 ≡ lowest_run 0 s
+pub run_of_none_is_first : (s : State) → Some 0 ≡ lowest_run 0 s
 unfolding lowest_run
 run_of_none_is_first s =
     sym
@@ -146,7 +135,8 @@ available_past_table : (s : State) → length s.table ≡ 64 → (i : ℕ) → 6
 available_past_table s long i h =
     subst (λ (b : Superblock). T (is_available b)) (sym (get_or-eq_default s.table blank {n = i} (omega arith))) blank_available
 
-module _ (s : State) (n k end row : ℕ) (ends : ScanEnd s end) (scanned : RowBefore s n k row) (le : k ≤ end) (ge : end ≤ k) where
+-- it ends at N, or at the table's end where N is above it
+module _ (s : State) (n k end row : ℕ) (ends : end ≡ min s.setup.superblocks 64) (scanned : RowBefore s n k row) (le : k ≤ end) (ge : end ≤ k) where
   before : RowBefore s n end row
   before = let e : k ≡ end = omega arith in subst (λ (m : ℕ). RowBefore s n m row) e scanned
 
@@ -159,35 +149,33 @@ module _ (s : State) (n k end row : ℕ) (ends : ScanEnd s end) (scanned : RowBe
       go (no f) = before.no_longer j l (λ i a b. t.available i a (omega (arith, lt_of_not-le f)))
 
   -- the last row and what lies past the table are the run
-  pub run_past_table : length s.table ≡ 64 → 0 < row → n ≤ row + (s.setup.superblocks - end) → At (end - row) ≡ lowest_run n s
+  pub run_past_table : length s.table ≡ 64 → 0 < row → n ≤ row + (s.setup.superblocks - end) → Some (end - row) ≡ lowest_run n s
   unfolding lowest_run
-  run_past_table long some enough = go ends
+  run_past_table long some enough =
+      let fit = before.fits in
+      let short = before.shorter in
+      let at_table_end : end ≡ 64 = omega arith in
+      sym
+      (lowest_below_of_lowest (is_free_run n s) 64 (end - row)
+      (record {
+        below = omega arith;
+        passes = is_free_run_of_facts n s (end - row) (record { below = omega arith; available = λ i a b. here at_table_end i a (dec_lt i 64) });
+        none_lower = λ j m t. none_before_row j (omega arith) (facts_of_is_free_run n s j t);
+      }))
     where
-      go : ScanEnd s end → At (end - row) ≡ lowest_below (is_free_run n s) 64
-      go (inl e) = absurd (omega (arith, e.0, before.shorter))
-      go (inr e) =
-          let fit = before.fits in
-          sym
-          (lowest_below_of_lowest (is_free_run n s) 64 (end - row)
-          (record {
-            below = omega (arith, e.0);
-            passes = is_free_run_of_facts n s (end - row) (record { below = omega (arith, e.0, e.1); available = λ i a b. here i a (dec_lt i 64) });
-            none_lower = λ j m t. none_before_row j (omega arith) (facts_of_is_free_run n s j t);
-          }))
-        where
-          here : (i : ℕ) → end - row ≤ i → Dec (i < 64) → T (is_available (superblock_at s i))
-          here i a (yes l) = before.available i (omega arith) (omega (arith, e.0))
-          here i a (no f) = available_past_table s long i (le_of_not_below f)
+      here : end ≡ 64 → (i : ℕ) → end - row ≤ i → Dec (i < 64) → T (is_available (superblock_at s i))
+      here e i a (yes l) = before.available i (omega arith) (omega arith)
+      here e i a (no f) = available_past_table s long i (le_of_not_below f)
 
   -- no row was long enough
-  pub no_run_found : (0 < row → n ≤ row + (s.setup.superblocks - end) → ⊥) → Nothing ≡ lowest_run n s
+  pub no_run_found : (0 < row → n ≤ row + (s.setup.superblocks - end) → ⊥) → None ≡ lowest_run n s
   unfolding lowest_run
   no_run_found short = sym (lowest_below_nothing_of_none (is_free_run n s) 64 (λ j l t. none j l (facts_of_is_free_run n s j t)))
     where
       none : (j : ℕ) → j < 64 → FreeRun n s j → ⊥
-      none j l t = go ends (dec_lt (j + row) end)
+      none j l t = go (dec_lt (j + row) end) (dec_le s.setup.superblocks 64)
         where
-          go : ScanEnd s end → Dec (j + row < end) → ⊥
-          go _ (yes h) = none_before_row j h t
-          go (inl e) (no f) = before.no_run j (omega (arith, t.below, e.0)) t
-          go (inr e) (no f) = short (omega (arith, le_of_not_below f, e.0)) (omega (arith, le_of_not_below f, t.below, e.0, e.1))
+          go : Dec (j + row < end) → Dec (s.setup.superblocks ≤ 64) → ⊥
+          go (yes h) _ = none_before_row j h t
+          go (no f) (yes h) = before.no_run j (omega (arith, t.below)) t
+          go (no f) (no g) = short (omega (arith, le_of_not_below f)) (omega (arith, le_of_not_below f, t.below))

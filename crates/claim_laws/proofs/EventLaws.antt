@@ -1,4 +1,5 @@
 -- Where the ranks of a state go by the last frees, so do those after one more free, renewal, long block taken or other call. Assumes nothing.
+use Rattle.std.specs.Prelude.{Some}
 use mathlib.Core.Path.{◌≡◌, refl, sym, ap, ap₂, ◌∙◌}
 use mathlib.Core.Logic.{◌↔◌, inl, inr}
 use mathlib.Core.List.{List, [], ◌∷◌}
@@ -13,7 +14,6 @@ use Rattle.base_laws.proofs.Inequalities.{le_of_not_below}
 use Rattle.base_laws.proofs.TestLaws.{true_of_T, false_of_not_T, both_left, both_right, pick_true, pick_false}
 use Rattle.heap_rules.specs.declared.Setup.{Setup}
 use Rattle.heap_rules.specs.declared.State.{State}
-use Rattle.heap_rules.specs.declared.Found.TheVariants.{At}
 use Rattle.heap_rules.specs.Table.{superblock_at}
 use Rattle.heap_rules.specs.States.{new_state}
 use Rattle.heap_rules.specs.Ranks.{rank_after_free, rank_after_renewal}
@@ -243,11 +243,11 @@ module _ (s : State) (events : List Event) (ranked : RankedByLastFree s events) 
   offers_last_freed_of_ranked =
       record { none_freed_later = none_later; lowest_of_not_freed = λ h c k m e equal none. le_of_not_below (not_lower h c k m e equal none) }
     where
-      none_later : (h c k m : ℕ) → fullest h c s ≡ At k → EquallyFull h c k m s → FreedLater (last_free m events) (last_free k events) → ⊥
+      none_later : (h c k m : ℕ) → fullest h c s ≡ Some k → EquallyFull h c k m s → FreedLater (last_free m events) (last_free k events) → ⊥
       none_later h c k m e (l, free, same) later =
           fullest_is_most_recent_among_equals h c s k m e l free same (more_recent_of_freed_later m k l (best_of_fullest h c s k e).below later)
 
-      not_lower : (h c k m : ℕ) → fullest h c s ≡ At k → EquallyFull h c k m s → last_free k events ≡ not_since_renewal → m < k → ⊥
+      not_lower : (h c k m : ℕ) → fullest h c s ≡ Some k → EquallyFull h c k m s → last_free k events ≡ not_since_renewal → m < k → ⊥
       not_lower h c k m e (l, free, same) none lower =
           go ((ranked.unranked_iff k (best_of_fullest h c s k e).below).1 none) (ℕ_discrete (superblock_at s m).rank 0)
         where

@@ -1,5 +1,6 @@
 -- Lists of calls of which the claims about ranks and about what a take is offered hold, by computation: the claims of one state and its history are made
 -- tests first. Assumes nothing.
+use Rattle.std.specs.Prelude.{Option, Some, None}
 use mathlib.Core.Path.{◌≡◌, refl, sym, ap, subst}
 use mathlib.Core.Bool.{Bool, true, false, not}
 use mathlib.Core.Logic.{◌↔◌}
@@ -14,8 +15,6 @@ use Rattle.base_laws.proofs.TestLaws.{T_of_true, true_of_T, both_left, both_righ
 use Rattle.base_laws.proofs.SumLaws.{all_at}
 use Rattle.heap_rules.specs.declared.Superblock.{Superblock}
 use Rattle.heap_rules.specs.declared.State.{State}
-use Rattle.heap_rules.specs.declared.Found.{Found}
-use Rattle.heap_rules.specs.declared.Found.TheVariants.{At, Nothing}
 use Rattle.heap_rules.specs.Table.{blank, superblock_at, live_in}
 use Rattle.heap_rules.specs.Counts.{belongs}
 use Rattle.heap_rules.proofs.CaseStates.{unnamed_state}
@@ -94,7 +93,7 @@ ranked_by_test s events e = record { unranked_iff = λ k l. iff k (last_free k e
 -- ---- what is offered
 -- what is found is below the bound and meets the criterion
 module _ (meets : Superblock → Bool) (preferred : Superblock → Superblock → Bool) (table : List Superblock) where
-  found_meets : (n k : ℕ) → chosen_below meets preferred table n ≡ At k → (k < n) × T (meets (get_or table k blank))
+  found_meets : (n k : ℕ) → chosen_below meets preferred table n ≡ Some k → (k < n) × T (meets (get_or table k blank))
   unfolding chosen_below prefer
   found_meets zero k e = absurd (let z : ◌≡◌ {A = ℕ} 0 1 = cc in let w : ⊥ = omega arith in w)
   found_meets (suc n) k e = go (meets (get_or table n blank)) refl (chosen_below meets preferred table n) (found_meets n k) e
@@ -102,23 +101,23 @@ module _ (meets : Superblock → Bool) (preferred : Superblock → Superblock �
       Result : Type 0
       Result = (k < suc n) × T (meets (get_or table k blank))
 
-      here : meets (get_or table n blank) ≡ true → At n ≡ At k → Result
+      here : meets (get_or table n blank) ≡ true → Some n ≡ Some k → Result
       here w q = let same : n ≡ k = cc in (omega arith, subst (λ (i : ℕ). T (meets (get_or table i blank))) same (T_of_true _ w))
 
       below : (k < n) × T (meets (get_or table k blank)) → Result
       below (l, t) = (omega arith, t)
 
-      go : (w : Bool) → meets (get_or table n blank) ≡ w → (f : Found) → (f ≡ At k → (k < n) × T (meets (get_or table k blank)))
-          → pick w (prefer preferred table f n) f ≡ At k → Result
+      go : (w : Bool) → meets (get_or table n blank) ≡ w → (f : Option ℕ) → (f ≡ Some k → (k < n) × T (meets (get_or table k blank)))
+          → pick w (prefer preferred table f n) f ≡ Some k → Result
       go false w f ih q = below (ih q)
-      go true w Nothing ih q = here w q
-      go true w (At m) ih q = chosen (preferred (get_or table n blank) (get_or table m blank)) q
+      go true w None ih q = here w q
+      go true w (Some m) ih q = chosen (preferred (get_or table n blank) (get_or table m blank)) q
         where
-          chosen : (x : Bool) → pick x (At n) (At m) ≡ At k → Result
+          chosen : (x : Bool) → pick x (Some n) (Some m) ≡ Some k → Result
           chosen true g = here w g
           chosen false g = below (ih g)
 
-found_has_free : (h c k : ℕ) (s : State) → fullest h c s ≡ At k → (k < 64) × T (has_free h c (superblock_at s k))
+found_has_free : (h c k : ℕ) (s : State) → fullest h c s ≡ Some k → (k < 64) × T (has_free h c (superblock_at s k))
 unfolding fullest
 found_has_free h c k s e = found_meets (has_free h c) fuller_or_more_recent s.table 64 k e
 
@@ -128,9 +127,9 @@ heap_and_class h c b t =
     let own = both_left (both (eqb b.owner h) (eqb b.class c)) _ t in
     (eqb→eq b.owner h (both_left (eqb b.owner h) _ own), eqb→eq b.class c (both_right (eqb b.owner h) _ own))
 
-unfoldable is_found_at : ℕ → Found → Bool
-is_found_at k (At m) = eqb m k
-is_found_at k Nothing = false
+unfoldable is_found_at : ℕ → Option ℕ → Bool
+is_found_at k (Some m) = eqb m k
+is_found_at k None = false
 
 -- superblock k, where it is offered, goes before superblock m, where that could be
 unfoldable is_before : State → List Event → ℕ → ℕ → Bool
@@ -153,7 +152,7 @@ offers_by_test : (s : State) (events : List Event) (n : ℕ) → FreeBelow s n �
 unfolding is_offered_rightly is_offered_before is_before is_found_at is_freed
 offers_by_test s events n below e = record { none_freed_later = later; lowest_of_not_freed = lowest }
   where
-    before : (h c k m : ℕ) → fullest h c s ≡ At k → EquallyFull h c k m s → T (is_before s events k m)
+    before : (h c k m : ℕ) → fullest h c s ≡ Some k → EquallyFull h c k m s → T (is_before s events k m)
     before h c k m found (l, free, same) =
         let (lk, meets) = found_has_free h c k s found in
         let b : Superblock = superblock_at s k in
@@ -170,12 +169,12 @@ offers_by_test s events n below e = record { none_freed_later = later; lowest_of
     not_and true n y = n
     not_and false n y = y
 
-    later : (h c k m : ℕ) → fullest h c s ≡ At k → EquallyFull h c k m s → FreedLater (last_free m events) (last_free k events) → ⊥
+    later : (h c k m : ℕ) → fullest h c s ≡ Some k → EquallyFull h c k m s → FreedLater (last_free m events) (last_free k events) → ⊥
     later h c k m found equal freed =
         let t = is_freed_later (last_free m events) (last_free k events) in
         not_and t (both_left (not t) _ (before h c k m found equal)) (T_of_freed_later _ _ freed)
 
-    lowest : (h c k m : ℕ) → fullest h c s ≡ At k → EquallyFull h c k m s → last_free k events ≡ not_since_renewal → k ≤ m
+    lowest : (h c k m : ℕ) → fullest h c s ≡ Some k → EquallyFull h c k m s → last_free k events ≡ not_since_renewal → k ≤ m
     lowest h c k m found equal none =
         let or = both_right (not (is_freed_later (last_free m events) (last_free k events))) _ (before h c k m found equal) in
         leb→le k m (either_right_of_left_false (is_freed (last_free k events)) (leb k m) or (ap is_freed none))

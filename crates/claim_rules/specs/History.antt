@@ -1,10 +1,9 @@
 -- Which superblocks were freed into since they were last renewed, and when, from a list of calls and their answers. An answer is an outcome and
 -- a state: the frees are told by the calls and outcomes and the ledger that they make, a renewal also by the state that the answer before it holds.
-use Rattle.std.specs.Prelude.{ℕ, suc, ◌+◌, ◌/◌, ◌≤◌, ◌<◌, ◌≡◌, Bool, not, ◌↔◌, List, [], ◌∷◌, T, eqb, leb, ltb}
+use Rattle.std.specs.Prelude.{ℕ, suc, ◌+◌, ◌/◌, ◌≤◌, ◌<◌, ◌≡◌, Bool, not, ◌↔◌, List, [], ◌∷◌, T, eqb, leb, ltb, Some}
 use Rattle.base_laws.specs.Sums.{pick, both}
 use Rattle.class_rules.specs.Classes.{superblock_bytes, is_long, run_length}
 use Rattle.heap_rules.specs.declared.State.{State}
-use Rattle.heap_rules.specs.declared.Found.TheVariants.{At}
 use Rattle.heap_rules.specs.Table.{table_length, superblock_at, live_in}
 use Rattle.choice_rules.specs.Choice.{has_free, fullest}
 use Rattle.call_rules.specs.Calls.{Call, Take, Free, NamedTake, NamedFree, Drop}
@@ -101,9 +100,9 @@ FreedLater not_since_renewal other = ⊥
 -- "Among equally full superblocks in places 1 and 2 of a take, the one freed into most recently since it was last renewed comes first .. Those not freed
 -- into since then follow, lower number first" (document 02, item 4): of the superblock k that place 1 (h the processor's heap) or 2 (h = 0) offers
 pub record OffersLastFreed (s : State) (events : List Event) : Type 0 where
-  pub none_freed_later : (h c k m : ℕ) → fullest h c s ≡ At k → EquallyFull h c k m s → FreedLater (last_free m events) (last_free k events) → ⊥
+  pub none_freed_later : (h c k m : ℕ) → fullest h c s ≡ Some k → EquallyFull h c k m s → FreedLater (last_free m events) (last_free k events) → ⊥
   -- where it was not, and so none was
-  pub lowest_of_not_freed : (h c k m : ℕ) → fullest h c s ≡ At k → EquallyFull h c k m s → last_free k events ≡ not_since_renewal → k ≤ m
+  pub lowest_of_not_freed : (h c k m : ℕ) → fullest h c s ≡ Some k → EquallyFull h c k m s → last_free k events ≡ not_since_renewal → k ≤ m
 
 -- what is so of the state and of the history before a list and after each of its calls
 unfoldable pub AlongHistory : (State → List Event → Type 0) → After → List Entry → List Event → List Step → Type 0

@@ -11,28 +11,24 @@ use class_rules::{CLASSES, LARGEST_CLASS_SIZE, SUPERBLOCK_BYTES};
 pub fn class_of(size: u16) -> u8
     ensures { result ≡ class_of size }
 {
-    if size > LARGEST_CLASS_SIZE {
-        return CLASSES;
-    }
-    let index = ((size + 7) / 8) as usize;
-    CLASS_BY_SIZE[index]
+    CLASS_BY_SIZE
+        .get(size.div_ceil(8) as usize)
+        .copied()
+        .unwrap_or(CLASSES)
 }
 
 // No class holds a size above 2048: it takes a run.
 pub fn is_long(size: u16) -> bool
     ensures { result ≡ is_long size }
 {
-    LARGEST_CLASS_SIZE < size
+    size > LARGEST_CLASS_SIZE
 }
-
-// The last offset in a superblock.
-const LAST_OFFSET: u32 = SUPERBLOCK_BYTES - 1;
 
 // How many superblocks a long size takes: size / 4096 rounded up.
 pub fn run_length(size: u16) -> u8
     ensures { result ≡ run_length size }
 {
-    ((size as u32 + LAST_OFFSET) / SUPERBLOCK_BYTES) as u8
+    (size as u32).div_ceil(SUPERBLOCK_BYTES) as u8
 }
 
 // The class of each multiple of 8 up to 2048, with that size beside it: a size has the class of its size rounded up.

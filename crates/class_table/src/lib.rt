@@ -4,7 +4,7 @@
 ghost use Rattle.std.specs.Prelude.{◌≡◌, ◌≤◌};
 ghost use Rattle.class_rules.specs.Classes.{most_blocks, size_of, blocks_of};
 
-use class_rules::{CLASS_COUNT, CLASSES};
+use class_rules::CLASS_COUNT;
 
 const SIZES: [u16; CLASS_COUNT] = [
     16, 24, 32, 40, 48, 56, 64, 80, 96, 112, 128, 160, 192, 224, 256, 320, 384, 448, 512, 640, 768,
@@ -20,20 +20,12 @@ const COUNTS: [u16; CLASS_COUNT] = [
 pub fn block_size(class: u8) -> u16
     ensures { result ≡ size_of class }
 {
-    if class >= CLASSES {
-        return 0;
-    }
-    let c = class as usize;
-    SIZES[c]
+    SIZES.get(class as usize).copied().unwrap_or(0)
 }
 
 // How many blocks a superblock of a class has; 0 where there is no such class.
 pub fn block_count(class: u8) -> u16
     ensures { (result ≡ blocks_of class) × (result ≤ most_blocks) }
 {
-    if class >= CLASSES {
-        return 0;
-    }
-    let c = class as usize;
-    COUNTS[c]
+    COUNTS.get(class as usize).copied().unwrap_or(0)
 }

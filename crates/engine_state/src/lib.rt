@@ -11,7 +11,7 @@ use call_header::CallHeader;
 use call_rules::{Answer, Outcome};
 use heap_rules::{Setup, State};
 use order_rules::PLACES_EACH;
-use refusal_rules::SETUP_OUT_OF_LIMITS;
+use refusal_rules::Refusal;
 
 // A new state with its first N × 256 order places 0; or refusal 1, then 12.
 pub fn setup(u: Setup, order: &mut [u16]) -> Answer
@@ -19,15 +19,18 @@ pub fn setup(u: Setup, order: &mut [u16]) -> Answer
     ensures number_and_values { HasNumberAndValuesOf result.outcome (setup_of u order.old).answer.outcome }
     ensures passes { PassesIfAccepted result.outcome result.state order.new }
 {
-    let first = check_limits::setup_refusal(SETUP_OUT_OF_LIMITS, u, order);
-    if first != 0 {
-        return call_outcomes::refuse(call_states::no_state(), first);
-    }
-    order_renewal::clear_order(order, u.superblocks as usize * PLACES_EACH);
-    let s = call_states::new_state(u);
-    Answer {
-        outcome: Outcome::Ready,
-        state: s,
+    match check_limits::setup_refusal(u, order) {
+        Err(fault) => {
+            let refusal = fault.refusal(Refusal::SetupOutOfLimits);
+            call_outcomes::refuse(call_states::no_state(), refusal.number())
+        }
+        Ok(()) => {
+            order_renewal::clear_order(order, usize::from(u.superblocks) * PLACES_EACH);
+            Answer {
+                outcome: Outcome::Ready,
+                state: call_states::new_state(u),
+            }
+        }
     }
 }
 
@@ -38,9 +41,8 @@ pub fn call_state(s: State, order: &mut [u16], c: CallHeader, addresses: &[u32])
     ensures passes { PassesIfAccepted result.outcome result.state order.new }
     ensures moves { MovesAtMost (most_moves s.setup.q (call_with c addresses.now)) result.outcome }
 {
-    let first = check_state::first_refusal(s, order);
-    if first != 0 {
-        return call_outcomes::refuse(s, first);
+    if let Err(refusal) = check_state::first_refusal(s, order) {
+        return call_outcomes::refuse(s, refusal.number());
     }
     match c {
         CallHeader::Take { processor, size } => call_take::take(s, order, processor, size),

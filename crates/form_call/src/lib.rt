@@ -3,6 +3,7 @@
 #![tactic(auto)]
 
 ghost use Rattle.std.specs.Prelude.{◌≡◌};
+ghost use Rattle.form_rules.specs.declared.Request.TheVariants.{Call};
 ghost use Rattle.form_rules.specs.Form.{call_in, setup_in};
 
 use bytes_reader::{byte_at, four_at, two_at};
@@ -14,38 +15,42 @@ use heap_rules::Setup;
 pub fn call_in(bytes: &[u8]) -> Request
     ensures { result ≡ call_in bytes.now }
 {
-    let first = byte_at(bytes, 0);
-    if first == 0 {
-        return Request::Setup;
-    }
     let processor = byte_at(bytes, 6);
-    if first == 1 {
-        let size = two_at(bytes, 7);
-        let call = CallHeader::Take { processor, size };
-        return Request::Call { call, count: 0 };
-    }
-    if first == 2 {
-        let address = four_at(bytes, 7);
-        let call = CallHeader::Free { processor, address };
-        return Request::Call { call, count: 0 };
-    }
-    let name = two_at(bytes, 7);
-    if first == 3 {
-        let size = two_at(bytes, 9);
-        let call = CallHeader::NamedTake {
+    match byte_at(bytes, 0) {
+        0 => Request::Setup,
+        1 => call(CallHeader::Take {
             processor,
-            name,
-            size,
-        };
-        return Request::Call { call, count: 0 };
+            size: two_at(bytes, 7),
+        }),
+        2 => call(CallHeader::Free {
+            processor,
+            address: four_at(bytes, 7),
+        }),
+        3 => {
+            let name = two_at(bytes, 7);
+            let size = two_at(bytes, 9);
+            call(CallHeader::NamedTake {
+                processor,
+                name,
+                size,
+            })
+        }
+        4 => call(CallHeader::NamedFree {
+            processor,
+            name: two_at(bytes, 7),
+        }),
+        _ => Request::Call {
+            call: CallHeader::Drop { processor },
+            count: two_at(bytes, 7),
+        },
     }
-    if first == 4 {
-        let call = CallHeader::NamedFree { processor, name };
-        return Request::Call { call, count: 0 };
-    }
-    let count = two_at(bytes, 7);
-    let call = CallHeader::Drop { processor };
-    Request::Call { call, count }
+}
+
+// A call that lends no addresses.
+fn call(call: CallHeader) -> Request
+    ensures { result ≡ Call call 0 }
+{
+    Request::Call { call, count: 0 }
 }
 
 // The setup numbers.

@@ -1,12 +1,11 @@
 -- Where the form's parts begin, by the first byte, in the shape in which the code meets it. Assumes nothing.
-use mathlib.Core.Path.{◌≡◌}
-use mathlib.Core.Bool.{false}
+use mathlib.Core.Path.{◌≡◌, ap, ◌∙◌}
 use mathlib.Core.List.{List}
 use mathlib.Core.Logic.{◌⊎◌, inl, inr, ⊎_elim}
 use Prim.Native.Nat.{ℕ, ◌+◌, ◌*◌, ◌≤◌, ◌<◌}
 use native.Mathlib.Omega.{arith}
 use lib.ListN.{length}
-use lib.Dec.{eqb}
+use lib.Dec.{eqb, leb}
 use borrow.Author.Tests.{eq-eqb, ne_eqb, le-leb, lt-leb}
 use Rattle.bytes_rules.specs.Bytes.{byte_at, two_at, four_at}
 use Rattle.form_rules.specs.Form.{table_offset, places_offset, place_count, well_formed}
@@ -34,18 +33,19 @@ module _ (b : List ℕ) (first : ℕ) (is : first ≡ byte_at b 0) where
   unfolding places_offset
   places_offset_of_state table n t = rw (← is, ne_eqb _ _ n, ← t) (omega arith)
 
-  pub place_count_of_setup : (lent : ℕ) → first ≡ 0 → lent ≡ four_at b 6 → lent ≡ place_count b
+  pub place_count_of_setup : (at lent : ℕ) → first ≡ 0 → at ≡ 6 → lent ≡ four_at b at → lent ≡ place_count b
   unfolding place_count
-  place_count_of_setup lent e l = rw (← is, eq-eqb _ _ e, ← l)
+  place_count_of_setup at lent e p l = rw (← is, eq-eqb _ _ e) (l ∙ ap (four_at b) p)
 
-  pub place_count_of_state : (table lent : ℕ) → (first ≡ 0 → ⊥) → table ≡ table_offset b → lent ≡ four_at b (table + 5081) → lent ≡ place_count b
+  pub place_count_of_state : (at table lent : ℕ) → (first ≡ 0 → ⊥) → table ≡ table_offset b → at ≡ table + 5081 → lent ≡ four_at b at
+      → lent ≡ place_count b
   unfolding place_count
-  place_count_of_state table lent n t l =
-      let e : table + 64 * 36 + 1024 * 2 + (243 + 243 * 2) ≡ table + 5081 = omega arith in
-      rw (← is, ne_eqb _ _ n, ← t, e, ← l)
+  place_count_of_state at table lent n t p l =
+      let e : at ≡ table + 64 * 36 + 1024 * 2 + (243 + 243 * 2) = omega arith in
+      rw (← is, ne_eqb _ _ n, ← t) (l ∙ ap (four_at b) e)
 
   -- ---- the whole form
-  pub well_formed_false_of_unknown : 5 < first → false ≡ well_formed b
+  pub well_formed_false_of_unknown : 5 < first → leb first 5 ≡ well_formed b
   unfolding well_formed
   well_formed_false_of_unknown h = rw (← is, lt-leb _ _ h)
 

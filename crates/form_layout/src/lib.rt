@@ -9,6 +9,9 @@ use bytes_reader::{byte_at, four_at, two_at};
 use heap_rules::{TABLE_LENGTH, TOTAL_COUNT};
 use names_rules::NAME_COUNT;
 
+// The greatest byte that names a call, a drop.
+const LAST_CALL: u8 = 5;
+
 // The bytes of a superblock.
 pub const RECORD_BYTES: usize = 36;
 
@@ -22,7 +25,7 @@ pub const TOTALS_OFFSET: usize = NAMES_OFFSET + 2 * NAME_COUNT;
 const TOTALS_END: usize = TOTALS_OFFSET + 3 * TOTAL_COUNT;
 
 // Where the order places begin: the four bytes of L come before them.
-const PLACES_OFFSET: usize = TOTALS_END + 4;
+pub const PLACES_OFFSET: usize = TOTALS_END + 4;
 
 // Where the superblocks begin: a take and a named free have two bytes fewer before them than a free and a named take, and a drop has
 // its addresses there, four bytes each.
@@ -31,10 +34,7 @@ pub fn table_offset(bytes: &[u8]) -> usize
 {
     match byte_at(bytes, 0) {
         1 | 4 => 9,
-        5 => {
-            let addresses = two_at(bytes, 7);
-            9 + 4 * (addresses as usize)
-        }
+        5 => 9 + 4 * two_at(bytes, 7) as usize,
         _ => 11,
     }
 }
@@ -45,33 +45,26 @@ pub fn table_offset(bytes: &[u8]) -> usize
 pub fn places_offset(bytes: &[u8]) -> usize
     ensures { (result ≡ places_offset bytes.now) × (result ≤ 267234) }
 {
-    if byte_at(bytes, 0) == 0 {
-        return 10;
+    match byte_at(bytes, 0) {
+        0 => 10,
+        _ => table_offset(bytes) + PLACES_OFFSET,
     }
-    table_offset(bytes) + PLACES_OFFSET
 }
 
 // How many are lent: the four bytes before them.
 pub fn place_count(bytes: &[u8]) -> usize
     ensures { (result ≡ place_count bytes.now) × (result < 2 ^ 32) }
 {
-    if byte_at(bytes, 0) == 0 {
-        let lent = four_at(bytes, 6);
-        return lent as usize;
-    }
-    let at = table_offset(bytes);
-    let lent = four_at(bytes, at + TOTALS_END);
-    lent as usize
+    let at = match byte_at(bytes, 0) {
+        0 => 6,
+        _ => table_offset(bytes) + TOTALS_END,
+    };
+    four_at(bytes, at) as usize
 }
 
 // The input is a known call with all its bytes and none left over.
 pub fn well_formed(bytes: &[u8]) -> bool
     ensures { result ≡ well_formed bytes.now }
 {
-    if byte_at(bytes, 0) > 5 {
-        return false;
-    }
-    let from = places_offset(bytes);
-    let lent = place_count(bytes);
-    bytes.len() == from + 2 * lent
+    byte_at(bytes, 0) <= LAST_CALL && bytes.len() == places_offset(bytes) + 2 * place_count(bytes)
 }

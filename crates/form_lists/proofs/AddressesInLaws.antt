@@ -1,13 +1,13 @@
--- The addresses of a drop that the bytes hold, in the shape in which the loop over them meets them. Assumes nothing.
+-- The addresses of a drop that the bytes hold. Assumes nothing.
 use mathlib.Core.Path.{◌≡◌, sym, ap, ◌∙◌}
 use mathlib.Core.List.{List, [], ◌∷◌}
 use Prim.Native.Nat.{ℕ, zero, suc, ◌+◌, ◌*◌, ◌≤◌}
 use native.Mathlib.Omega.{arith}
 use native.Mathlib.Decide.{dec_le}
-use lib.ListN.{length, take}
+use lib.ListN.{take}
 use lib.Seq.{take_all, take-append-le}
 use Rattle.base_laws.specs.Lists.{listed}
-use Rattle.base_laws.proofs.ListedLaws.{length_listed, listed_end}
+use Rattle.base_laws.proofs.ListedLaws.{length_listed}
 use Rattle.bytes_rules.specs.Bytes.{two_at, four_at, fours_at}
 use Rattle.form_rules.specs.Form.{drop_addresses}
 
@@ -34,9 +34,7 @@ take_of_either f m n = go (dec_le m n)
     go (no g) = take_all m (listed f n) (omega (arith, length_listed f n)) ∙ sym (take_of_more f n m (omega arith))
 
 -- the addresses are read once 512 are
-pub addresses_in_of_all : (b addresses : List ℕ) (i : ℕ) → length addresses ≡ 512 → take i addresses ≡ listed (λ k. four_at b (9 + 4 * k)) i → i ≤ 512
-    → 512 ≤ i → take (two_at b 7) addresses ≡ take 512 (drop_addresses b)
+pub addresses_in_of_all : (b addresses : List ℕ) → addresses ≡ listed (λ k. four_at b (9 + 4 * k)) 512
+    → take (two_at b 7) addresses ≡ take 512 (drop_addresses b)
 unfolding drop_addresses fours_at
-addresses_in_of_all b addresses i long e h g =
-    let all : addresses ≡ listed (λ k. four_at b (9 + 4 * k)) 512 = listed_end (λ k. four_at b (9 + 4 * k)) addresses i 512 long e h g in
-    rw all (take_of_either (λ k. four_at b (9 + 4 * k)) (two_at b 7) 512)
+addresses_in_of_all b addresses all = rw all (take_of_either (λ k. four_at b (9 + 4 * k)) (two_at b 7) 512)

@@ -8,29 +8,20 @@ ghost use Rattle.form_rules.specs.Form.{drop_addresses, places_in};
 
 use bytes_lists::position_after;
 use bytes_reader::{four_at, two_at};
+use std::array;
 
 // The addresses of a drop, or the first 512 of more. Where it has fewer, numbers made of the bytes behind them follow.
 pub fn load_addresses(bytes: &[u8]) -> [u32; 512]
     ensures { take (two_at bytes.now 7) result ≡ take 512 (drop_addresses bytes.now) }
 {
-    let mut addresses = [0u32; 512];
-    let mut i = 0;
-    while i < 512 {
-        let address = four_at(bytes, position_after(bytes, 9, 4 * i));
-        addresses[i] = address;
-        i += 1;
-    }
-    addresses
+    array::from_fn(|i| four_at(bytes, position_after(bytes, 9, 4 * i)))
 }
 
 // Fills the storage with the places from a position on.
 pub fn load_places(bytes: &[u8], at: usize, order: &mut [u16])
     ensures { order.new ≡ places_in bytes.now at (length order.old) }
 {
-    let mut i = 0;
-    while i < order.len() {
-        let place = two_at(bytes, position_after(bytes, at, 2 * i));
-        order[i] = place;
-        i += 1;
+    for (i, place) in order.iter_mut().enumerate() {
+        *place = two_at(bytes, position_after(bytes, at, 2 * i));
     }
 }

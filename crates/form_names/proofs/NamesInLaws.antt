@@ -1,14 +1,14 @@
--- The names that the bytes hold, in the shape in which the loop over them meets them. Assumes nothing.
+-- The names that the bytes hold, from a position behind another. Assumes nothing.
 use mathlib.Core.Path.{◌≡◌, ap, ◌∙◌}
 use mathlib.Core.List.{List}
 use Prim.Native.Nat.{ℕ, ◌+◌, ◌*◌, ◌≤◌}
 use native.Mathlib.Omega.{arith}
-use lib.ListN.{length, take}
+use lib.ListN.{length}
 use Rattle.bytes_rules.specs.Bytes.{two_at, position_after}
 use Rattle.bytes_rules.proofs.PastEndLaws.{two_at_past_end, read_at_position_after}
 use Rattle.base_laws.specs.Lists.{listed}
 use Rattle.form_rules.specs.Form.{names_in}
-use Rattle.base_laws.proofs.ListedLaws.{listed_end, listed_of_equal_elements}
+use Rattle.base_laws.proofs.ListedLaws.{listed_of_equal_elements}
 
 -- past the end every name reads as 0, so that a position clamped to the end has the same names
 names_in_past_end : (b : List ℕ) (j : ℕ) → length b ≤ j → listed (λ m. 0) 1024 ≡ names_in b j
@@ -18,9 +18,3 @@ names_in_past_end b j past = listed_of_equal_elements (λ m. 0) (λ m. two_at b 
 pub names_in_position_after : (b : List ℕ) (at i position : ℕ) (names : List ℕ) → position ≡ position_after b at i → names ≡ names_in b position
     → names ≡ names_in b (at + i)
 names_in_position_after b at i position names p e = e ∙ ap (names_in b) p ∙ read_at_position_after (names_in b) _ b at i (names_in_past_end b)
-
--- the names are read once all 1024 are
-pub names_in_of_all_names : (b : List ℕ) (at : ℕ) (names : List ℕ) (m : ℕ) → length names ≡ 1024 → take m names ≡ listed (λ i. two_at b (at + 2 * i)) m
-    → m ≤ 1024 → 1024 ≤ m → names ≡ names_in b at
-unfolding names_in
-names_in_of_all_names b at names m long e h g = listed_end (λ i. two_at b (at + 2 * i)) names m 1024 long e h g

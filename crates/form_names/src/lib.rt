@@ -7,17 +7,11 @@ ghost use Rattle.form_rules.specs.Form.{names_in};
 use bytes_lists::position_after;
 use bytes_reader::two_at;
 use names_rules::NAME_COUNT;
+use std::array;
 
 // The 1024 names that begin at a position.
 pub fn names_at(bytes: &[u8], at: usize) -> [u16; NAME_COUNT]
     ensures { result ≡ names_in bytes.now at }
 {
-    let mut names = [0u16; NAME_COUNT];
-    let mut m = 0;
-    while m < NAME_COUNT {
-        let name = two_at(bytes, position_after(bytes, at, 2 * m));
-        names[m] = name;
-        m += 1;
-    }
-    names
+    array::from_fn(|m| two_at(bytes, position_after(bytes, at, 2 * m)))
 }

@@ -12,14 +12,13 @@ use row_rules::RECORD_COUNT;
 pub fn other_records() -> [Superblock; RECORD_COUNT]
     ensures { result ≡ replicate record_count other_record }
 {
-    let b = Superblock {
+    [Superblock {
         owner: 9,
         class: 9,
-        live: [9u64; 4],
+        live: [9; 4],
         rank: 9,
         run: 9,
-    };
-    [b; RECORD_COUNT]
+    }; RECORD_COUNT]
 }
 
 // A table's 64 superblocks, and one such record more.
@@ -27,11 +26,6 @@ pub fn records_of(table: [Superblock; TABLE_LENGTH]) -> [Superblock; RECORD_COUN
     ensures { result ≡ table ++ (other_record ∷ []) }
 {
     let mut records = other_records();
-    let mut k: usize = 0;
-    while k < TABLE_LENGTH {
-        let b = table[k];
-        records[k] = b;
-        k += 1;
-    }
+    records[..TABLE_LENGTH].copy_from_slice(&table);
     records
 }

@@ -5,6 +5,7 @@
 use call_header::CallHeader;
 
 // What is asked: a setup, or a call, with how many addresses a drop has, and 0 for any other call.
+// No Option of a pair: a setup is a call of its own kind, not the absence of one.
 #[derive(Clone, Copy)]
 pub enum Request {
     Setup,

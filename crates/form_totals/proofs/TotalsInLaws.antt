@@ -1,16 +1,16 @@
--- The totals that the bytes hold, in the shape in which the loop over them meets them. Assumes nothing.
+-- The totals that the bytes hold, from a position behind another. Assumes nothing.
 use mathlib.Core.Path.{◌≡◌, ap, ap₂, ◌∙◌}
 use mathlib.Core.List.{List}
 use Prim.Native.Nat.{ℕ, ◌+◌, ◌*◌, ◌≤◌}
 use native.Mathlib.Omega.{arith}
-use lib.ListN.{length, take}
+use lib.ListN.{length}
 use Rattle.heap_rules.specs.declared.Totals.{Totals}
 use Rattle.bytes_rules.specs.Bytes.{byte_at, two_at, position_after}
 use Rattle.bytes_rules.proofs.PastEndLaws.{byte_at_past_end, two_at_past_end, read_at_position_after}
 use Rattle.base_laws.specs.Lists.{listed}
 use Rattle.heap_rules.specs.Totals.{total_count}
 use Rattle.form_rules.specs.Form.{totals_in}
-use Rattle.base_laws.proofs.ListedLaws.{listed_end, listed_of_equal_elements}
+use Rattle.base_laws.proofs.ListedLaws.{listed_of_equal_elements}
 
 -- past the end a byte reads as 0, and so does every total: the same for a position clamped to the end
 pub byte_at_position_after : (b : List ℕ) (at i position v : ℕ) → position ≡ position_after b at i → v ≡ byte_at b position → v ≡ byte_at b (at + i)
@@ -28,13 +28,3 @@ totals_in_past_end b j past =
 pub totals_in_position_after : (b : List ℕ) (at i position : ℕ) (totals : Totals) → position ≡ position_after b at i → totals ≡ totals_in b position
     → totals ≡ totals_in b (at + i)
 totals_in_position_after b at i position totals p e = e ∙ ap (totals_in b) p ∙ read_at_position_after (totals_in b) _ b at i (totals_in_past_end b)
-
--- the totals are read once all of each kind are
-pub totals_in_of_all_totals : (b : List ℕ) (at : ℕ) (superblocks live : List ℕ) (x : ℕ) → length superblocks ≡ total_count → length live ≡ total_count
-    → take x superblocks ≡ listed (λ i. byte_at b (at + i)) x → take x live ≡ listed (λ i. two_at b (at + (total_count + 2 * i))) x → x ≤ total_count
-    → total_count ≤ x → record { superblocks = superblocks; live = live } ≡ totals_in b at
-unfolding totals_in
-totals_in_of_all_totals b at superblocks live x long longer s l h g =
-    ap₂ (λ (superblocks live : List ℕ). record { superblocks = superblocks; live = live })
-    (listed_end (λ i. byte_at b (at + i)) superblocks x total_count long s h g)
-    (listed_end (λ i. two_at b (at + (total_count + 2 * i))) live x total_count longer l h g)

@@ -7,20 +7,13 @@ ghost use Rattle.form_rules.specs.Form.{totals_in};
 use bytes_lists::position_after;
 use bytes_reader::{byte_at, two_at};
 use heap_rules::{TOTAL_COUNT, Totals};
+use std::array;
 
 // The totals of superblocks that begin at a position, and behind them those of live blocks.
 pub fn totals_at(bytes: &[u8], at: usize) -> Totals
     ensures { result ≡ totals_in bytes.now at }
 {
-    let mut superblocks = [0u8; TOTAL_COUNT];
-    let mut live = [0u16; TOTAL_COUNT];
-    let mut x = 0;
-    while x < TOTAL_COUNT {
-        let owned = byte_at(bytes, position_after(bytes, at, x));
-        superblocks[x] = owned;
-        let taken = two_at(bytes, position_after(bytes, at, TOTAL_COUNT + 2 * x));
-        live[x] = taken;
-        x += 1;
-    }
+    let superblocks = array::from_fn(|x| byte_at(bytes, position_after(bytes, at, x)));
+    let live = array::from_fn(|x| two_at(bytes, position_after(bytes, at, TOTAL_COUNT + 2 * x)));
     Totals { superblocks, live }
 }

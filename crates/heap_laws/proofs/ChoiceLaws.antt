@@ -1,4 +1,6 @@
 -- What a choice finds, in the page's words. Assumes nothing.
+use Rattle.std.specs.Prelude.{Option, Some, None}
+use Rattle.std.proofs.lemmas.Option.{none-some, same_Some}
 use mathlib.Core.Path.{◌≡◌, refl, sym, ap, ◌∙◌, subst}
 use mathlib.Core.Bool.{Bool, true, false, not}
 use mathlib.Core.Logic.{◌⊎◌, inl, inr}
@@ -16,8 +18,6 @@ use Rattle.base_laws.proofs.TestLaws.{T_of_true, not_T_of_false, false_of_not_T,
 use Rattle.class_rules.specs.Classes.{blocks_of}
 use Rattle.heap_rules.specs.declared.Superblock.{Superblock}
 use Rattle.heap_rules.specs.declared.State.{State}
-use Rattle.heap_rules.specs.declared.Found.{Found}
-use Rattle.heap_rules.specs.declared.Found.TheVariants.{At, Nothing}
 use Rattle.heap_rules.specs.Table.{blank, superblock_at, live_in, is_unused}
 use Rattle.heap_rules.specs.Counts.{belongs}
 use Rattle.heap_rules.specs.Ranks.{is_ranked, is_more_recent}
@@ -148,12 +148,6 @@ unfolding never_preferred
 never_preferred_is_strict_weak_order = record { is_irreflexive = λ b t. t; is_transitive = λ a b d t u. t; is_negatively_transitive = λ a b d t f. t }
 
 -- ---- the choice
-At_injective : (m k : ℕ) → At m ≡ At k → m ≡ k
-At_injective m k e = cc
-
-At_not_Nothing : (k : ℕ) → At k ≡ Nothing → ⊥
-At_not_Nothing k e = let z : ◌≡◌ {A = ℕ} 0 1 = cc in omega arith
-
 module _ (meets : Superblock → Bool) (preferred : Superblock → Superblock → Bool) (table : List Superblock) where
   -- superblock n beside the best of those below it
   module _ (r : StrictWeakOrder preferred) (n : ℕ) where
@@ -194,46 +188,47 @@ module _ (meets : Superblock → Bool) (preferred : Superblock → Superblock �
         best_new w (λ m l t u. b.none_preferred m l t (r.is_transitive (get_or table m blank) (get_or table n blank) (get_or table k blank) u more))
         (λ m l t. r.is_negatively_transitive (get_or table n blank) (get_or table m blank) (get_or table k blank) more (b.none_preferred m l t))
 
-    best_step : (k : ℕ) (w : Bool) → meets (get_or table n blank) ≡ w → (f : Found) → ((m : ℕ) → f ≡ At m → IsBest meets preferred table n m)
-        → (f ≡ Nothing → (m : ℕ) → m < n → T (meets (get_or table m blank)) → ⊥) → pick w (prefer preferred table f n) f ≡ At k
+    best_step : (k : ℕ) (w : Bool) → meets (get_or table n blank) ≡ w → (f : Option ℕ) → ((m : ℕ) → f ≡ Some m → IsBest meets preferred table n m)
+        → (f ≡ None → (m : ℕ) → m < n → T (meets (get_or table m blank)) → ⊥) → pick w (prefer preferred table f n) f ≡ Some k
         → IsBest meets preferred table (suc n) k
     unfolding prefer
     best_step k false w f some none e = best_kept k (λ t u. not_T_of_false (meets (get_or table n blank)) w t) (some k e)
-    best_step k true w Nothing some none e =
-        subst (IsBest meets preferred table (suc n)) (At_injective n k e)
+    best_step k true w None some none e =
+        subst (IsBest meets preferred table (suc n)) (same_Some n k e)
         (best_new (T_of_true (meets (get_or table n blank)) w) (λ m l t u. none refl m l t) (λ m l t. absurd (none refl m l t)))
-    best_step k true w (At m) some none e = go (preferred (get_or table n blank) (get_or table m blank)) refl e
+    best_step k true w (Some m) some none e = go (preferred (get_or table n blank) (get_or table m blank)) refl e
       where
-        go : (x : Bool) → preferred (get_or table n blank) (get_or table m blank) ≡ x → pick x (At n) (At m) ≡ At k → IsBest meets preferred table (suc n) k
+        go : (x : Bool) → preferred (get_or table n blank) (get_or table m blank) ≡ x → pick x (Some n) (Some m) ≡ Some k
+            → IsBest meets preferred table (suc n) k
         go true q found =
-            subst (IsBest meets preferred table (suc n)) (At_injective n k found)
+            subst (IsBest meets preferred table (suc n)) (same_Some n k found)
             (best_replaced m (T_of_true (meets (get_or table n blank)) w) (T_of_true (preferred (get_or table n blank) (get_or table m blank)) q) (some m refl))
-        go false q found = subst (IsBest meets preferred table (suc n)) (At_injective m k found)
+        go false q found = subst (IsBest meets preferred table (suc n)) (same_Some m k found)
             (best_kept m (λ t u. not_T_of_false (preferred (get_or table n blank) (get_or table m blank)) q u) (some m refl))
 
-  prefer_not_nothing : (f : Found) (k : ℕ) → prefer preferred table f k ≡ Nothing → ⊥
+  prefer_not_nothing : (f : Option ℕ) (k : ℕ) → prefer preferred table f k ≡ None → ⊥
   unfolding prefer
-  prefer_not_nothing Nothing k e = At_not_Nothing k e
-  prefer_not_nothing (At m) k e = go (preferred (get_or table k blank) (get_or table m blank)) e
+  prefer_not_nothing None k e = none-some k (sym e)
+  prefer_not_nothing (Some m) k e = go (preferred (get_or table k blank) (get_or table m blank)) e
     where
-      go : (t : Bool) → pick t (At k) (At m) ≡ Nothing → ⊥
-      go true q = At_not_Nothing k q
-      go false q = At_not_Nothing m q
+      go : (t : Bool) → pick t (Some k) (Some m) ≡ None → ⊥
+      go true q = none-some k (sym q)
+      go false q = none-some m (sym q)
 
   -- nothing is found exactly if none meets the criterion
-  pub none_meets_of_chosen_nothing : (n : ℕ) → chosen_below meets preferred table n ≡ Nothing → (m : ℕ) → m < n → T (meets (get_or table m blank)) → ⊥
+  pub none_meets_of_chosen_nothing : (n : ℕ) → chosen_below meets preferred table n ≡ None → (m : ℕ) → m < n → T (meets (get_or table m blank)) → ⊥
   unfolding chosen_below
   none_meets_of_chosen_nothing zero e m l t = omega arith
   none_meets_of_chosen_nothing (suc n) e m l t = go (λ q. none_meets_of_chosen_nothing n q m) (meets (get_or table n blank)) refl e
       (eq-or-lt_of_le (le_of_suc-le-suc l))
     where
-      go : (chosen_below meets preferred table n ≡ Nothing → m < n → T (meets (get_or table m blank)) → ⊥) → (w : Bool) → meets (get_or table n blank) ≡ w
-          → pick w (prefer preferred table (chosen_below meets preferred table n) n) (chosen_below meets preferred table n) ≡ Nothing → (m ≡ n) ⊎ (m < n) → ⊥
+      go : (chosen_below meets preferred table n ≡ None → m < n → T (meets (get_or table m blank)) → ⊥) → (w : Bool) → meets (get_or table n blank) ≡ w
+          → pick w (prefer preferred table (chosen_below meets preferred table n) n) (chosen_below meets preferred table n) ≡ None → (m ≡ n) ⊎ (m < n) → ⊥
       go ih true w q d = prefer_not_nothing (chosen_below meets preferred table n) n q
       go ih false w q (inl same) = not_T_of_false (meets (get_or table m blank)) (ap (λ (i : ℕ). meets (get_or table i blank)) same ∙ w) t
       go ih false w q (inr less) = ih q less t
 
-  pub chosen_nothing_of_none_meets : (n : ℕ) → ((m : ℕ) → m < n → T (meets (get_or table m blank)) → ⊥) → chosen_below meets preferred table n ≡ Nothing
+  pub chosen_nothing_of_none_meets : (n : ℕ) → ((m : ℕ) → m < n → T (meets (get_or table m blank)) → ⊥) → chosen_below meets preferred table n ≡ None
   unfolding chosen_below
   chosen_nothing_of_none_meets zero h = refl
   chosen_nothing_of_none_meets (suc n) h =
@@ -241,19 +236,19 @@ module _ (meets : Superblock → Bool) (preferred : Superblock → Superblock �
       (false_of_not_T (meets (get_or table n blank)) (h n (lt-suc_self n)))
       ∙ chosen_nothing_of_none_meets n (λ m l. h m (omega arith))
 
-  pub best_of_chosen : StrictWeakOrder preferred → (n k : ℕ) → chosen_below meets preferred table n ≡ At k → IsBest meets preferred table n k
+  pub best_of_chosen : StrictWeakOrder preferred → (n k : ℕ) → chosen_below meets preferred table n ≡ Some k → IsBest meets preferred table n k
   unfolding chosen_below
-  best_of_chosen r zero k e = absurd (At_not_Nothing k (sym e))
+  best_of_chosen r zero k e = absurd (none-some k e)
   best_of_chosen r (suc n) k e = best_step r n k (meets (get_or table n blank)) refl (chosen_below meets preferred table n) (best_of_chosen r n)
       (none_meets_of_chosen_nothing n) e
 
   -- where one meets the criterion, one is found
-  pub chosen_of_meets : (n m : ℕ) → m < n → T (meets (get_or table m blank)) → (k : ℕ) × (chosen_below meets preferred table n ≡ At k)
+  pub chosen_of_meets : (n m : ℕ) → m < n → T (meets (get_or table m blank)) → (k : ℕ) × (chosen_below meets preferred table n ≡ Some k)
   chosen_of_meets n m l t = go (chosen_below meets preferred table n) refl
     where
-      go : (f : Found) → chosen_below meets preferred table n ≡ f → (k : ℕ) × (chosen_below meets preferred table n ≡ At k)
-      go (At k) e = (k, e)
-      go Nothing e = absurd (none_meets_of_chosen_nothing n e m l t)
+      go : (f : Option ℕ) → chosen_below meets preferred table n ≡ f → (k : ℕ) × (chosen_below meets preferred table n ≡ Some k)
+      go (Some k) e = (k, e)
+      go None e = absurd (none_meets_of_chosen_nothing n e m l t)
 
   -- only one superblock is the best, and it is the one found
   best_not_two : (n k m : ℕ) → IsBest meets preferred table n k → IsBest meets preferred table n m → k < m → ⊥
@@ -267,10 +262,10 @@ module _ (meets : Superblock → Bool) (preferred : Superblock → Superblock �
       go (no f) (yes l) = absurd (best_not_two n m k d b l)
       go (no f) (no g) = omega arith
 
-  pub chosen_of_best : StrictWeakOrder preferred → (n k : ℕ) → IsBest meets preferred table n k → chosen_below meets preferred table n ≡ At k
+  pub chosen_of_best : StrictWeakOrder preferred → (n k : ℕ) → IsBest meets preferred table n k → chosen_below meets preferred table n ≡ Some k
   chosen_of_best r n k b =
       let found = chosen_of_meets n k b.below b.meets_criterion_lem in
-      found.1 ∙ ap At (best_unique n found.0 k (best_of_chosen r n found.0 found.1) b)
+      found.1 ∙ ap Some (best_unique n found.0 k (best_of_chosen r n found.0 found.1) b)
 
 -- ---- what meets the criterion
 -- class c with a free block, in heap h
@@ -294,26 +289,26 @@ unfolding empty_in_global
 empty_in_global_of_facts b p q = both_make (eqb b.owner 0) _ (T_of_true _ (eq-eqb b.owner 0 p)) (T_of_true _ (eq-eqb (live_in b) 0 q))
 
 -- ---- the page's words for each choice
-pub best_of_fullest : (h c : ℕ) (s : State) (k : ℕ) → fullest h c s ≡ At k → IsBest (has_free h c) fuller_or_more_recent s.table 64 k
+pub best_of_fullest : (h c : ℕ) (s : State) (k : ℕ) → fullest h c s ≡ Some k → IsBest (has_free h c) fuller_or_more_recent s.table 64 k
 unfolding fullest
 best_of_fullest h c s k e = best_of_chosen (has_free h c) fuller_or_more_recent s.table fuller_or_more_recent_is_strict_weak_order 64 k e
 
 -- an offered superblock such that none offered has more live ..
-pub fullest_has_most_live : (h c : ℕ) (s : State) (k m : ℕ) → fullest h c s ≡ At k → m < 64 → T (has_free h c (superblock_at s m))
+pub fullest_has_most_live : (h c : ℕ) (s : State) (k m : ℕ) → fullest h c s ≡ Some k → m < 64 → T (has_free h c (superblock_at s m))
     → live_in (superblock_at s m) ≤ live_in (superblock_at s k)
 fullest_has_most_live h c s k m e l t =
     le_of_not_below (λ more. (best_of_fullest h c s k e).none_preferred m l t
     (fuller_or_more_recent_of_facts (superblock_at s m) (superblock_at s k) (inl more)))
 
 -- .. nor as many and was freed into more recently: "the one freed into most recently since it was last renewed comes first" ..
-pub fullest_is_most_recent_among_equals : (h c : ℕ) (s : State) (k m : ℕ) → fullest h c s ≡ At k → m < 64 → T (has_free h c (superblock_at s m))
+pub fullest_is_most_recent_among_equals : (h c : ℕ) (s : State) (k m : ℕ) → fullest h c s ≡ Some k → m < 64 → T (has_free h c (superblock_at s m))
     → live_in (superblock_at s m) ≡ live_in (superblock_at s k)
     → MoreRecent (superblock_at s m) (superblock_at s k) → ⊥
 fullest_is_most_recent_among_equals h c s k m e l t same recent =
     (best_of_fullest h c s k e).none_preferred m l t (fuller_or_more_recent_of_facts (superblock_at s m) (superblock_at s k) (inr (same, recent)))
 
 -- .. nor as many, with no rank either and a lower number: "Those not freed into since then follow, lower number first"
-pub fullest_is_lowest_among_unranked : (h c : ℕ) (s : State) (k m : ℕ) → fullest h c s ≡ At k → m < k → T (has_free h c (superblock_at s m))
+pub fullest_is_lowest_among_unranked : (h c : ℕ) (s : State) (k m : ℕ) → fullest h c s ≡ Some k → m < k → T (has_free h c (superblock_at s m))
     → live_in (superblock_at s m) ≡ live_in (superblock_at s k)
     → (superblock_at s m).rank ≡ 0 → (superblock_at s k).rank ≡ 0 → ⊥
 fullest_is_lowest_among_unranked h c s k m e l t same none also =
@@ -323,59 +318,59 @@ fullest_is_lowest_among_unranked h c s k m e l t same none also =
     go (inl more) = omega arith
     go (inr (equal, (ranked, x))) = omega arith
 
-pub none_free_of_fullest_nothing : (h c : ℕ) (s : State) → fullest h c s ≡ Nothing → (m : ℕ) → m < 64 → T (has_free h c (superblock_at s m)) → ⊥
+pub none_free_of_fullest_nothing : (h c : ℕ) (s : State) → fullest h c s ≡ None → (m : ℕ) → m < 64 → T (has_free h c (superblock_at s m)) → ⊥
 unfolding fullest
 none_free_of_fullest_nothing h c s e m l t = none_meets_of_chosen_nothing (has_free h c) fuller_or_more_recent s.table 64 e m l t
 
-pub fullest_of_has_free : (h c : ℕ) (s : State) (m : ℕ) → m < 64 → T (has_free h c (superblock_at s m)) → (k : ℕ) × (fullest h c s ≡ At k)
+pub fullest_of_has_free : (h c : ℕ) (s : State) (m : ℕ) → m < 64 → T (has_free h c (superblock_at s m)) → (k : ℕ) × (fullest h c s ≡ Some k)
 unfolding fullest
 fullest_of_has_free h c s m l t = chosen_of_meets (has_free h c) fuller_or_more_recent s.table 64 m l t
 
-pub best_of_lowest_empty : (s : State) (k : ℕ) → lowest_empty s ≡ At k → IsBest empty_in_global never_preferred s.table 64 k
+pub best_of_lowest_empty : (s : State) (k : ℕ) → lowest_empty s ≡ Some k → IsBest empty_in_global never_preferred s.table 64 k
 unfolding lowest_empty
 best_of_lowest_empty s k e = best_of_chosen empty_in_global never_preferred s.table never_preferred_is_strict_weak_order 64 k e
 
-pub none_empty_of_lowest_empty_nothing : (s : State) → lowest_empty s ≡ Nothing → (m : ℕ) → m < 64 → T (empty_in_global (superblock_at s m)) → ⊥
+pub none_empty_of_lowest_empty_nothing : (s : State) → lowest_empty s ≡ None → (m : ℕ) → m < 64 → T (empty_in_global (superblock_at s m)) → ⊥
 unfolding lowest_empty
 none_empty_of_lowest_empty_nothing s e m l t = none_meets_of_chosen_nothing empty_in_global never_preferred s.table 64 e m l t
 
 -- none with a lower number is offered
-pub none_empty_below_lowest_empty : (s : State) (k m : ℕ) → lowest_empty s ≡ At k → m < k → T (empty_in_global (superblock_at s m)) → ⊥
+pub none_empty_below_lowest_empty : (s : State) (k m : ℕ) → lowest_empty s ≡ Some k → m < k → T (empty_in_global (superblock_at s m)) → ⊥
 unfolding never_preferred
 none_empty_below_lowest_empty s k m e l t = (best_of_lowest_empty s k e).preferred_to_earlier m l t
 
-pub best_of_lowest_unused : (s : State) (k : ℕ) → lowest_unused s ≡ At k → IsBest is_unused never_preferred s.table s.setup.superblocks k
+pub best_of_lowest_unused : (s : State) (k : ℕ) → lowest_unused s ≡ Some k → IsBest is_unused never_preferred s.table s.setup.superblocks k
 unfolding lowest_unused
 best_of_lowest_unused s k e = best_of_chosen is_unused never_preferred s.table never_preferred_is_strict_weak_order s.setup.superblocks k e
 
-pub none_unused_of_lowest_unused_nothing : (s : State) → lowest_unused s ≡ Nothing → (m : ℕ) → m < s.setup.superblocks → T (is_unused (superblock_at s m)) → ⊥
+pub none_unused_of_lowest_unused_nothing : (s : State) → lowest_unused s ≡ None → (m : ℕ) → m < s.setup.superblocks → T (is_unused (superblock_at s m)) → ⊥
 unfolding lowest_unused
 none_unused_of_lowest_unused_nothing s e m l t = none_meets_of_chosen_nothing is_unused never_preferred s.table s.setup.superblocks e m l t
 
-pub none_unused_below_lowest_unused : (s : State) (k m : ℕ) → lowest_unused s ≡ At k → m < k → T (is_unused (superblock_at s m)) → ⊥
+pub none_unused_below_lowest_unused : (s : State) (k m : ℕ) → lowest_unused s ≡ Some k → m < k → T (is_unused (superblock_at s m)) → ⊥
 unfolding never_preferred
 none_unused_below_lowest_unused s k m e l t = (best_of_lowest_unused s k e).preferred_to_earlier m l t
 
-pub best_of_emptiest : (h c : ℕ) (s : State) (k : ℕ) → emptiest h c s ≡ At k → IsBest (belongs h c) fewer_live s.table 64 k
+pub best_of_emptiest : (h c : ℕ) (s : State) (k : ℕ) → emptiest h c s ≡ Some k → IsBest (belongs h c) fewer_live s.table 64 k
 unfolding emptiest
 best_of_emptiest h c s k e = best_of_chosen (belongs h c) fewer_live s.table fewer_live_is_strict_weak_order 64 k e
 
-pub emptiest_has_fewest_live : (h c : ℕ) (s : State) (k m : ℕ) → emptiest h c s ≡ At k → m < 64 → T (belongs h c (superblock_at s m))
+pub emptiest_has_fewest_live : (h c : ℕ) (s : State) (k m : ℕ) → emptiest h c s ≡ Some k → m < 64 → T (belongs h c (superblock_at s m))
     → live_in (superblock_at s k) ≤ live_in (superblock_at s m)
 unfolding fewer_live
 emptiest_has_fewest_live h c s k m e l t = le_of_not_ltb (live_in (superblock_at s m)) (live_in (superblock_at s k))
     ((best_of_emptiest h c s k e).none_preferred m l t)
 
-pub emptiest_lowest_among_equals : (h c : ℕ) (s : State) (k m : ℕ) → emptiest h c s ≡ At k → m < k → T (belongs h c (superblock_at s m))
+pub emptiest_lowest_among_equals : (h c : ℕ) (s : State) (k m : ℕ) → emptiest h c s ≡ Some k → m < k → T (belongs h c (superblock_at s m))
     → live_in (superblock_at s k) < live_in (superblock_at s m)
 unfolding fewer_live
 emptiest_lowest_among_equals h c s k m e l t = ltb→lt (live_in (superblock_at s k)) (live_in (superblock_at s m))
     ((best_of_emptiest h c s k e).preferred_to_earlier m l t)
 
-pub none_belongs_of_emptiest_nothing : (h c : ℕ) (s : State) → emptiest h c s ≡ Nothing → (m : ℕ) → m < 64 → T (belongs h c (superblock_at s m)) → ⊥
+pub none_belongs_of_emptiest_nothing : (h c : ℕ) (s : State) → emptiest h c s ≡ None → (m : ℕ) → m < 64 → T (belongs h c (superblock_at s m)) → ⊥
 unfolding emptiest
 none_belongs_of_emptiest_nothing h c s e m l t = none_meets_of_chosen_nothing (belongs h c) fewer_live s.table 64 e m l t
 
-pub emptiest_of_belongs : (h c : ℕ) (s : State) (m : ℕ) → m < 64 → T (belongs h c (superblock_at s m)) → (k : ℕ) × (emptiest h c s ≡ At k)
+pub emptiest_of_belongs : (h c : ℕ) (s : State) (m : ℕ) → m < 64 → T (belongs h c (superblock_at s m)) → (k : ℕ) × (emptiest h c s ≡ Some k)
 unfolding emptiest
 emptiest_of_belongs h c s m l t = chosen_of_meets (belongs h c) fewer_live s.table 64 m l t

@@ -1,4 +1,5 @@
 -- The move rule: what the moves of one free do. Assumes nothing.
+use Rattle.std.specs.Prelude.{Option, Some, None}
 use mathlib.Core.Path.{◌≡◌, refl, sym, ap, ◌∙◌, subst}
 use mathlib.Core.Bool.{Bool, true, false, not}
 use mathlib.Core.Logic.{◌⊎◌, inl, inr}
@@ -19,8 +20,6 @@ use Rattle.class_rules.specs.Classes.{blocks_of}
 use Rattle.heap_rules.specs.declared.Superblock.{Superblock}
 use Rattle.heap_rules.specs.declared.Setup.{Setup}
 use Rattle.heap_rules.specs.declared.State.{State}
-use Rattle.heap_rules.specs.declared.Found.{Found}
-use Rattle.heap_rules.specs.declared.Found.TheVariants.{At, Nothing}
 use Rattle.heap_rules.specs.declared.Moved.{Moved}
 use Rattle.heap_rules.specs.Table.{run_owner, blank, superblock_at, live_in, is_of_heap, with_owner}
 use Rattle.heap_rules.specs.Counts.{total, belongs, is_owned_of_class, one_if_belongs, live_if_belongs, superblocks_of, blocks_in, live_of}
@@ -91,14 +90,14 @@ superblocks_pos_of_must_move h c s t = go (conditions_of_must_move h c s t).0 (e
     go l (inl z) = let e : superblocks_of h c s * blocks_of c ≡ 0 = rw z (zero-mul (blocks_of c)) in omega arith
     go l (inr p) = p
 
-pub emptiest_found_of_must_move : (h c : ℕ) (s : State) → T (must_move h c s) → (k : ℕ) × (emptiest h c s ≡ At k)
+pub emptiest_found_of_must_move : (h c : ℕ) (s : State) → T (must_move h c s) → (k : ℕ) × (emptiest h c s ≡ Some k)
 emptiest_found_of_must_move h c s t = go (emptiest h c s) refl (belongs_of_superblocks_pos h c s (superblocks_pos_of_must_move h c s t))
   where
-    go : (f : Found) → emptiest h c s ≡ f → (k : ℕ) × (k < 64) × T (belongs h c (superblock_at s k)) → (k : ℕ) × (emptiest h c s ≡ At k)
-    go (At k) e w = (k, e)
-    go Nothing e w = absurd (none_belongs_of_emptiest_nothing h c s e w.0 w.1 w.2)
+    go : (f : Option ℕ) → emptiest h c s ≡ f → (k : ℕ) × (k < 64) × T (belongs h c (superblock_at s k)) → (k : ℕ) × (emptiest h c s ≡ Some k)
+    go (Some k) e w = (k, e)
+    go None e w = absurd (none_belongs_of_emptiest_nothing h c s e w.0 w.1 w.2)
 
-pub emptiest_sparse_of_must_move : (h c : ℕ) (s : State) (k : ℕ) → T (must_move h c s) → emptiest h c s ≡ At k
+pub emptiest_sparse_of_must_move : (h c : ℕ) (s : State) (k : ℕ) → T (must_move h c s) → emptiest h c s ≡ Some k
     → s.setup.q * live_in (superblock_at s k) < (s.setup.q - s.setup.p) * blocks_of c
 unfolding blocks_in
 emptiest_sparse_of_must_move h c s k t e = go s.setup.q (s.setup.q - s.setup.p) (superblocks_of h c s) (blocks_of c) (live_of h c s)
@@ -113,7 +112,7 @@ zero_not_processor_heap : (i : ℕ) → 0 < i → 0 ≡ i → ⊥
 zero_not_processor_heap i p z = lt_irrefl 0 (subst (λ (x : ℕ). 0 < x) (sym z) p)
 
 -- ---- one move: superblock k, the emptiest of heap h and class c, passes to heap 0
-module _ (h c : ℕ) (s : State) (k : ℕ) (long : length s.table ≡ 64) (pos : 0 < h) (e : emptiest h c s ≡ At k) where
+module _ (h c : ℕ) (s : State) (k : ℕ) (long : length s.table ≡ 64) (pos : 0 < h) (e : emptiest h c s ≡ Some k) where
   transfer_lt_64 : k < 64
   transfer_lt_64 = (best_of_emptiest h c s k e).below
 
@@ -218,7 +217,7 @@ pub superblocks_after_transfer : (h c : ℕ) (s : State) → length s.table ≡ 
 unfolding found_transferred
 superblocks_after_transfer h c s long p t = go (emptiest_found_of_must_move h c s t)
   where
-    go : (k : ℕ) × (emptiest h c s ≡ At k) → superblocks_of h c (found_transferred (emptiest h c s) s) + 1 ≡ superblocks_of h c s
+    go : (k : ℕ) × (emptiest h c s ≡ Some k) → superblocks_of h c (found_transferred (emptiest h c s) s) + 1 ≡ superblocks_of h c s
     go w = rw w.1 (transfer_superblocks h c s w.0 long p w.1)
 
 -- forms for a loop: no more moves, and one move
@@ -233,16 +232,16 @@ unfolding transfers_up_to
 transfers_up_to_step k h c m s e = rw e
 
 -- a transfer keeps the table's length
-pub length_of_found_transferred : (f : Found) (s : State) → length (found_transferred f s).table ≡ length s.table
+pub length_of_found_transferred : (f : Option ℕ) (s : State) → length (found_transferred f s).table ≡ length s.table
 unfolding found_transferred transferred
-length_of_found_transferred (At k) s = length-set s.table k (with_owner 0 (superblock_at s k))
-length_of_found_transferred Nothing s = refl
+length_of_found_transferred (Some k) s = length-set s.table k (with_owner 0 (superblock_at s k))
+length_of_found_transferred None s = refl
 
 -- a superblock that passes on is replaced, and the totals with it
-pub totals_kept_of_found_transferred : (found : Found) (s : State) → TotalsKept s → TotalsKept (found_transferred found s)
+pub totals_kept_of_found_transferred : (found : Option ℕ) (s : State) → TotalsKept s → TotalsKept (found_transferred found s)
 unfolding found_transferred transferred
-totals_kept_of_found_transferred (At k) s kept = totals_kept_with_superblock s k (with_owner 0 (superblock_at s k))
-totals_kept_of_found_transferred Nothing s kept = kept
+totals_kept_of_found_transferred (Some k) s kept = totals_kept_with_superblock s k (with_owner 0 (superblock_at s k))
+totals_kept_of_found_transferred None s kept = kept
 
 -- ---- several moves: from state s to t, and then one more
 -- superblock b of state s has become d: the two cases of TransferredFrom
@@ -269,7 +268,7 @@ owners_changed_self s =
     (λ k l. ap (λ (x : Bool). one (not x)) (eq-eqb (superblock_at s k).owner (superblock_at s k).owner refl))
 
 module _ (h c : ℕ) (s t : State) (k : ℕ) (r : TransferredFrom h c s t) (pos : 0 < h) (low : h < run_owner) (must : T (must_move h c t))
-    (e : emptiest h c t ≡ At k) where
+    (e : emptiest h c t ≡ Some k) where
   next_owner_and_class : ((superblock_at t k).owner ≡ h) × ((superblock_at t k).class ≡ c)
   next_owner_and_class = transfer_owner_and_class h c t k r.length_is pos e
 
@@ -389,7 +388,7 @@ record MovesEnded (h c freed : ℕ) (s : State) (r : Moved) : Type 0 where
   invariant : T (must_move h c r.state) → ⊥
 
 module _ (h c freed : ℕ) (s : State) (numbers : WithinLimits s.setup) (pos : 0 < h) (low : h < run_owner) where
-  after_transfer : (m k : ℕ) (t : State) → AfterMoves h c freed s m t → T (must_move h c t) → emptiest h c t ≡ At k
+  after_transfer : (m k : ℕ) (t : State) → AfterMoves h c freed s m t → T (must_move h c t) → emptiest h c t ≡ Some k
       → AfterMoves h c freed s (m + 1) (transferred k t)
   unfolding blocks_in
   after_transfer m k t r must e =

@@ -1,18 +1,18 @@
 -- What each move keeps, all moves of a heap and class keep. Assumes nothing.
+use Rattle.std.specs.Prelude.{Option}
 use mathlib.Core.Path.{◌≡◌, ◌∙◌}
 use Prim.Native.Nat.{ℕ, zero, suc, ◌+◌}
 use lib.ListN.{length}
 use lib.Dec.{eqb}
 use Rattle.base_laws.proofs.TestLaws.{pick_elim}
 use Rattle.heap_rules.specs.declared.State.{State}
-use Rattle.heap_rules.specs.declared.Found.{Found}
 use Rattle.heap_rules.specs.declared.Moved.{Moved}
 use Rattle.heap_rules.specs.Totals.{TotalsKept}
 use Rattle.choice_rules.specs.Choice.{emptiest}
 use Rattle.move_rules.specs.Moves.{must_move, found_transferred, transfers_up_to, excess_transferred, invariant_restored}
 use Rattle.heap_laws.proofs.MoveLaws.{length_of_found_transferred, totals_kept_of_found_transferred}
 
-module _ (P : State → Type 0) (kept : (found : Found) (s : State) → P s → P (found_transferred found s)) where
+module _ (P : State → Type 0) (kept : (found : Option ℕ) (s : State) → P s → P (found_transferred found s)) where
   transfers_keep : (k h c m : ℕ) (s : State) → P s → P (transfers_up_to k h c m s).state
   unfolding transfers_up_to
   transfers_keep zero h c m s p = p

@@ -1,5 +1,6 @@
 -- The superblocks that are not the global heap's: each move takes one away, so that the moves of several heaps and classes, one after another, are at
 -- most 64. Assumes nothing.
+use Rattle.std.specs.Prelude.{Some}
 use mathlib.Core.Path.{◌≡◌, refl, ap, ◌∙◌}
 use mathlib.Core.Bool.{Bool, not}
 use Prim.Native.Nat.{ℕ, zero, suc, ◌+◌, ◌≤◌, ◌<◌}
@@ -12,7 +13,6 @@ use Rattle.base_laws.proofs.TestLaws.{T_of_true, one_le_one, pick_elim}
 use Rattle.base_laws.proofs.Counting.{sum_le_of_terms_le_one}
 use Rattle.heap_rules.specs.declared.Superblock.{Superblock}
 use Rattle.heap_rules.specs.declared.State.{State}
-use Rattle.heap_rules.specs.declared.Found.TheVariants.{At}
 use Rattle.heap_rules.specs.declared.Moved.{Moved}
 use Rattle.heap_rules.specs.Table.{superblock_at, with_owner}
 use Rattle.heap_rules.specs.Counts.{total}
@@ -35,7 +35,7 @@ outside_global_le_64 s = sum_le_of_terms_le_one (λ k. one_if_outside_global (su
 
 -- ---- one move
 module _ (h c : ℕ) (s : State) (long : length s.table ≡ 64) (pos : 0 < h) where
-  one_less_outside_global : (k : ℕ) → emptiest h c s ≡ At k → outside_global (transferred k s) + 1 ≡ outside_global s
+  one_less_outside_global : (k : ℕ) → emptiest h c s ≡ Some k → outside_global (transferred k s) + 1 ≡ outside_global s
   unfolding transferred
   one_less_outside_global k e =
       let best = best_of_emptiest h c s k e in

@@ -1,4 +1,5 @@
 -- The run that a long block takes, in the page's words (document 02, item 7). Assumes nothing.
+use Rattle.std.specs.Prelude.{Option, Some, None}
 use mathlib.Core.Path.{◌≡◌, refl, ◌∙◌, subst}
 use mathlib.Core.Bool.{Bool, true, false}
 use mathlib.Core.Logic.{◌⊎◌, inl, inr}
@@ -13,8 +14,6 @@ use Rattle.base_laws.proofs.TestLaws.{T_of_true, not_T_of_false, both_left, both
 use Rattle.base_laws.proofs.SumLaws.{all_at, all_of_each}
 use Rattle.heap_rules.specs.declared.Superblock.{Superblock}
 use Rattle.heap_rules.specs.declared.State.{State}
-use Rattle.heap_rules.specs.declared.Found.{Found}
-use Rattle.heap_rules.specs.declared.Found.TheVariants.{At, Nothing}
 use Rattle.heap_rules.specs.Table.{superblock_at, live_in, is_unused}
 use Rattle.choice_rules.specs.Choice.{or_else}
 use Rattle.choice_rules.specs.RunChoice.{is_available, is_free_run, lowest_below, lowest_run}
@@ -66,41 +65,41 @@ pub record IsLowest (test : ℕ → Bool) (n k : ℕ) : Type 0 where
 
 module _ (test : ℕ → Bool) where
   -- nothing is found: none passes
-  pub none_passes_of_lowest_below_nothing : (n : ℕ) → lowest_below test n ≡ Nothing → (m : ℕ) → m < n → T (test m) → ⊥
+  pub none_passes_of_lowest_below_nothing : (n : ℕ) → lowest_below test n ≡ None → (m : ℕ) → m < n → T (test m) → ⊥
   unfolding lowest_below
   none_passes_of_lowest_below_nothing zero e m l t = omega arith
   none_passes_of_lowest_below_nothing (suc n) e m l t =
       go (λ p lower. none_passes_of_lowest_below_nothing n p m lower t) (lowest_below test n) refl (test n) refl e (eq-or-lt_of_le (le_of_suc-le-suc l))
     where
-      go : (lowest_below test n ≡ Nothing → m < n → ⊥) → (f : Found) → lowest_below test n ≡ f → (x : Bool) → test n ≡ x → or_else f (pick x (At n) Nothing)
-          ≡ Nothing → (m ≡ n) ⊎ (m < n) → ⊥
-      go fewer (At j) p x q r side = let z : ◌≡◌ {A = ℕ} 0 1 = cc in omega arith
-      go fewer Nothing p true q r side = let z : ◌≡◌ {A = ℕ} 0 1 = cc in omega arith
-      go fewer Nothing p false q r (inl same) = not_T_of_false (test n) q (subst (λ (x : ℕ). T (test x)) same t)
-      go fewer Nothing p false q r (inr lower) = fewer p lower
+      go : (lowest_below test n ≡ None → m < n → ⊥) → (f : Option ℕ) → lowest_below test n ≡ f → (x : Bool) → test n ≡ x → or_else f (pick x (Some n) None)
+          ≡ None → (m ≡ n) ⊎ (m < n) → ⊥
+      go fewer (Some j) p x q r side = let z : ◌≡◌ {A = ℕ} 0 1 = cc in omega arith
+      go fewer None p true q r side = let z : ◌≡◌ {A = ℕ} 0 1 = cc in omega arith
+      go fewer None p false q r (inl same) = not_T_of_false (test n) q (subst (λ (x : ℕ). T (test x)) same t)
+      go fewer None p false q r (inr lower) = fewer p lower
 
   -- a number is found: it is the lowest
-  pub lowest_of_lowest_below : (n k : ℕ) → lowest_below test n ≡ At k → IsLowest test n k
+  pub lowest_of_lowest_below : (n k : ℕ) → lowest_below test n ≡ Some k → IsLowest test n k
   unfolding lowest_below
   lowest_of_lowest_below zero k e = absurd (let z : ◌≡◌ {A = ℕ} 0 1 = cc in let y : ⊥ = omega arith in y)
   lowest_of_lowest_below (suc n) k e = go (lowest_of_lowest_below n k) (lowest_below test n) refl (test n) refl e
     where
-      go : (lowest_below test n ≡ At k → IsLowest test n k) → (f : Found) → lowest_below test n ≡ f → (x : Bool) → test n ≡ x
-          → or_else f (pick x (At n) Nothing) ≡ At k → IsLowest test (suc n) k
-      go fewer (At j) p x q r =
+      go : (lowest_below test n ≡ Some k → IsLowest test n k) → (f : Option ℕ) → lowest_below test n ≡ f → (x : Bool) → test n ≡ x
+          → or_else f (pick x (Some n) None) ≡ Some k → IsLowest test (suc n) k
+      go fewer (Some j) p x q r =
           let h = fewer (p ∙ r) in
           record { below = omega (arith, h.below); passes = h.passes; none_lower = h.none_lower }
-      go fewer Nothing p true q r =
+      go fewer None p true q r =
           let same : n ≡ k = cc in
           record {
             below = omega arith;
             passes = subst (λ (x : ℕ). T (test x)) same (T_of_true (test n) q);
             none_lower = λ m l t. none_passes_of_lowest_below_nothing n p m (omega arith) t;
           }
-      go fewer Nothing p false q r = absurd (let z : ◌≡◌ {A = ℕ} 0 1 = cc in let y : ⊥ = omega arith in y)
+      go fewer None p false q r = absurd (let z : ◌≡◌ {A = ℕ} 0 1 = cc in let y : ⊥ = omega arith in y)
 
   -- and back
-  pub lowest_below_of_lowest : (n k : ℕ) → IsLowest test n k → lowest_below test n ≡ At k
+  pub lowest_below_of_lowest : (n k : ℕ) → IsLowest test n k → lowest_below test n ≡ Some k
   lowest_below_of_lowest n k h = go (lowest_below test n) refl
     where
       same : (j : ℕ) → IsLowest test n j → Dec (j < k) → Dec (k < j) → j ≡ k
@@ -108,35 +107,35 @@ module _ (test : ℕ → Bool) where
       same j g (no _) (yes l) = absurd (g.none_lower k l h.passes)
       same j g (no a) (no b) = omega (arith, le_of_not_below a, le_of_not_below b)
 
-      go : (f : Found) → lowest_below test n ≡ f → lowest_below test n ≡ At k
-      go (At j) p = let q = same j (lowest_of_lowest_below n j p) (dec_lt j k) (dec_lt k j) in cc
-      go Nothing p = absurd (none_passes_of_lowest_below_nothing n p k h.below h.passes)
+      go : (f : Option ℕ) → lowest_below test n ≡ f → lowest_below test n ≡ Some k
+      go (Some j) p = let q = same j (lowest_of_lowest_below n j p) (dec_lt j k) (dec_lt k j) in cc
+      go None p = absurd (none_passes_of_lowest_below_nothing n p k h.below h.passes)
 
-  pub lowest_below_nothing_of_none : (n : ℕ) → ((m : ℕ) → m < n → T (test m) → ⊥) → lowest_below test n ≡ Nothing
+  pub lowest_below_nothing_of_none : (n : ℕ) → ((m : ℕ) → m < n → T (test m) → ⊥) → lowest_below test n ≡ None
   lowest_below_nothing_of_none n none = go (lowest_below test n) refl
     where
-      go : (f : Found) → lowest_below test n ≡ f → lowest_below test n ≡ Nothing
-      go (At j) p = let h = lowest_of_lowest_below n j p in absurd (none j h.below h.passes)
-      go Nothing p = p
+      go : (f : Option ℕ) → lowest_below test n ≡ f → lowest_below test n ≡ None
+      go (Some j) p = let h = lowest_of_lowest_below n j p in absurd (none j h.below h.passes)
+      go None p = p
 
 -- ---- the run
 module _ (n : ℕ) (s : State) where
   -- it is free ..
-  pub lowest_run_is_free : (k : ℕ) → lowest_run n s ≡ At k → FreeRun n s k
+  pub lowest_run_is_free : (k : ℕ) → lowest_run n s ≡ Some k → FreeRun n s k
   unfolding lowest_run
   lowest_run_is_free k e = facts_of_is_free_run n s k (lowest_of_lowest_below (is_free_run n s) 64 k e).passes
 
   -- .. and "the lowest-numbered": no run of that length with a lower first superblock is
-  pub lowest_run_is_lowest : (k : ℕ) → lowest_run n s ≡ At k → (m : ℕ) → m < k → FreeRun n s m → ⊥
+  pub lowest_run_is_lowest : (k : ℕ) → lowest_run n s ≡ Some k → (m : ℕ) → m < k → FreeRun n s m → ⊥
   unfolding lowest_run
   lowest_run_is_lowest k e m l h = (lowest_of_lowest_below (is_free_run n s) 64 k e).none_lower m l (is_free_run_of_facts n s m h)
 
   -- nothing is found exactly if there is none: "no such run"
-  pub no_run_of_lowest_run_nothing : 1 ≤ n → s.setup.superblocks ≤ 64 → lowest_run n s ≡ Nothing → (m : ℕ) → FreeRun n s m → ⊥
+  pub no_run_of_lowest_run_nothing : 1 ≤ n → s.setup.superblocks ≤ 64 → lowest_run n s ≡ None → (m : ℕ) → FreeRun n s m → ⊥
   unfolding lowest_run
   no_run_of_lowest_run_nothing some limit e m h = none_passes_of_lowest_below_nothing (is_free_run n s) 64 e m (omega (arith, h.below))
       (is_free_run_of_facts n s m h)
 
-  pub lowest_run_nothing_of_no_run : ((m : ℕ) → FreeRun n s m → ⊥) → lowest_run n s ≡ Nothing
+  pub lowest_run_nothing_of_no_run : ((m : ℕ) → FreeRun n s m → ⊥) → lowest_run n s ≡ None
   unfolding lowest_run
   lowest_run_nothing_of_no_run none = lowest_below_nothing_of_none (is_free_run n s) 64 (λ m l t. none m (facts_of_is_free_run n s m t))

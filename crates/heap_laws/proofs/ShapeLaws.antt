@@ -12,7 +12,6 @@ use denote.Shadow.{shadow}
 use Rattle.heap_rules.specs.declared.Superblock.{Superblock}
 use Rattle.heap_rules.specs.declared.State.{State}
 use Rattle.heap_rules.specs.Table.{blank}
-use Rattle.heap_rules.specs.Totals.{total_count}
 use Rattle.heap_laws.proofs.StateFacts.{Shape}
 use Rattle.heap_rules.specs.contracts.Superblock as B
 use Rattle.heap_rules.specs.contracts.State as S

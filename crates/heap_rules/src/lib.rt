@@ -41,6 +41,15 @@ pub struct Superblock {
     pub live: [u64; 4],
 }
 
+// An unused superblock, as a new setup has it.
+pub const UNUSED: Superblock = Superblock {
+    owner: UNUSED_OWNER,
+    class: 0,
+    rank: 0,
+    run: 0,
+    live: [0; 4],
+};
+
 // Document 01's P, N, K, p and q.
 #[derive(Clone, Copy)]
 pub struct Setup {
@@ -73,13 +82,6 @@ pub struct State {
     // the block that each name points at, as superblock × 256 + block, or names_rules' NOT_HELD
     pub names: [u16; NAME_COUNT],
     pub totals: Totals,
-}
-
-// The number of a chosen superblock, or none.
-#[derive(Clone, Copy)]
-pub enum Found {
-    At(usize),
-    Nothing,
 }
 
 // What the move rule did.

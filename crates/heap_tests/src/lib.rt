@@ -13,21 +13,18 @@ use heap_rules::{RUN_OWNER, Superblock, UNUSED_OWNER};
 pub fn live_in(b: Superblock) -> u32
     ensures { (result ≡ live_in b) × (result ≤ mark_count) }
 {
-    let live = b.live;
-    marks_count::live_count(live)
+    marks_count::live_count(b.live)
 }
 
 // The owner is this one, the class 0, and nothing is live. The owner is looked at first, so that live blocks are seldom counted.
 fn is_bare(b: Superblock, owner: u8) -> bool
     ensures { result ≡ both (eqb b.owner owner) (both (eqb b.class 0) (eqb (live_in b) 0)) }
 {
-    if b.owner == owner {
-        return b.class == 0 && live_in(b) == 0;
-    }
-    false
+    b.owner == owner && b.class == 0 && live_in(b) == 0
 }
 
 // Of owner UNUSED_OWNER and class 0, nothing live.
+#[tactic(auto, unfolding(heap_rules::specs::Table::is_unused))]
 pub fn is_unused(b: Superblock) -> bool
     ensures { result ≡ is_unused b }
 {
@@ -35,6 +32,7 @@ pub fn is_unused(b: Superblock) -> bool
 }
 
 // Part of a long block's run: of owner RUN_OWNER and class 0, nothing live.
+#[tactic(auto, unfolding(check_rules::specs::Check::is_part_of_run, heap_rules::specs::Table::is_of_run))]
 pub fn is_part_of_run(b: Superblock) -> bool
     ensures { result ≡ is_part_of_run b }
 {
@@ -42,16 +40,15 @@ pub fn is_part_of_run(b: Superblock) -> bool
 }
 
 // No heap owns it: it is unused, or part of a run. Its owner is one of the two at most, so that its live blocks are counted once at most.
+#[tactic(auto, unfolding(check_rules::specs::Check::is_unowned))]
 pub fn is_unowned(b: Superblock) -> bool
     ensures { result ≡ is_unowned b }
 {
-    if is_unused(b) {
-        return true;
-    }
-    is_part_of_run(b)
+    is_unused(b) || is_part_of_run(b)
 }
 
 // The first superblock of a long block's run, which carries the run's length.
+#[tactic(auto, unfolding(heap_rules::specs::Table::starts_run, heap_rules::specs::Table::is_of_run))]
 pub fn starts_run(b: Superblock) -> bool
     ensures { result ≡ starts_run b }
 {

@@ -6,12 +6,13 @@ use Prim.Native.Nat.{ℕ, ◌+◌, ◌-◌, ◌≤◌, ◌<◌}
 use native.Mathlib.Nat.{le_refl}
 use native.Mathlib.Decide.{ℕ_discrete, dec_lt}
 use native.Mathlib.Omega.{arith}
+use Rattle.std.proofs.Common.{Some, None}
 use lib.ListN.{length, get_or, set, length-set}
 use lib.Seq.{get_or-set_same, get_or-set_other, set_out}
-use lib.Dec.{ltb, ltb→lt}
+use lib.Dec.{ltb}
 use Rattle.base_laws.specs.Sums.{pick, both}
 use Rattle.class_rules.specs.Classes.{class_count}
-use Rattle.base_laws.proofs.TestLaws.{T_of_true, both_left, both_right, not_T_of_false}
+use Rattle.base_laws.proofs.TestLaws.{T_of_true, not_T_of_false}
 use Rattle.base_laws.proofs.SumLaws.{term_le_sum}
 use Rattle.base_laws.proofs.ReplacedElement.{sum_set}
 use Rattle.base_laws.proofs.NumberLists.{increased_is_set}
@@ -26,65 +27,65 @@ use Rattle.heap_laws.proofs.TotalsLaws.{counted_below_is_sum, totals_equal_of_ea
 use Rattle.heap_totals.specs.OneSuperblock.{index_of, without_counted, counted_in, counted_out}
 
 -- ---- where a superblock is counted
-module _ (b : Superblock) (x : ℕ) (at : x ≡ index_of b.owner b.class) where
-  counted_of_index : x < total_count → (is_counted b ≡ true) × (x ≡ total_index b.owner b.class)
+module _ (b : Superblock) where
+  not_counted_of_no_index : None ≡ index_of b.owner b.class → is_counted b ≡ false
   unfolding index_of is_counted
-  counted_of_index l = go (both (ltb b.owner heap_count) (ltb b.class class_count)) at
+  not_counted_of_no_index at = go (both (ltb b.owner heap_count) (ltb b.class class_count)) at
     where
-      go : (t : Bool) → x ≡ pick t (total_index b.owner b.class) total_count → (t ≡ true) × (x ≡ total_index b.owner b.class)
-      go true e = (refl, e)
-      go false e = absurd (let z : ⊥ = omega arith in z)
+      go : (t : Bool) → None ≡ pick t (Some (total_index b.owner b.class)) None → t ≡ false
+      go true e = absurd (cc)
+      go false e = refl
 
-  not_counted_of_no_index : total_count ≤ x → is_counted b ≡ false
-  unfolding index_of is_counted
-  not_counted_of_no_index l = go (both (ltb b.owner heap_count) (ltb b.class class_count)) refl at
-    where
-      go : (t : Bool) → both (ltb b.owner heap_count) (ltb b.class class_count) ≡ t → x ≡ pick t (total_index b.owner b.class) total_count → t ≡ false
-      go true e q =
-          let w = T_of_true _ e in
-          let h = ltb→lt b.owner heap_count (both_left (ltb b.owner heap_count) (ltb b.class class_count) w) in
-          let c = ltb→lt b.class class_count (both_right (ltb b.owner heap_count) (ltb b.class class_count) w) in
-          absurd (let z : ⊥ = omega arith in z)
-      go false e q = refl
-
-  pub with_counted_of_index : (f : Superblock → ℕ) (l : List ℕ) (n : ℕ) → x < total_count → n ≡ f b → set l x (get_or l x 0 + n) ≡ with_counted f b l
-  unfolding with_counted
-  with_counted_of_index f l n below e =
-      let i = counted_of_index below in
-      rw (i.0, e, sym i.1) (sym (increased_is_set x (f b) l))
-
-  pub with_counted_of_no_index : (f : Superblock → ℕ) (l : List ℕ) → total_count ≤ x → l ≡ with_counted f b l
+  -- one of no heap or class is not counted
+  pub with_counted_of_no_index : (f : Superblock → ℕ) (l : List ℕ) → None ≡ index_of b.owner b.class → l ≡ with_counted f b l
   unfolding with_counted
   with_counted_of_no_index f l past = let e = not_counted_of_no_index past in rw e
 
-  without_counted_of_index : (f : Superblock → ℕ) (l : List ℕ) (n : ℕ) → x < total_count → n ≡ get_or l x 0 - f b → set l x n ≡ without_counted f b l
-  unfolding without_counted
-  without_counted_of_index f l n below e = let i = counted_of_index below in rw (i.0, e, sym i.1)
-
-  -- one of no heap or class is not counted
-  pub counted_in_of_no_index : (t : Totals) → total_count ≤ x → t ≡ counted_in b t
+  pub counted_in_of_no_index : (t : Totals) → None ≡ index_of b.owner b.class → t ≡ counted_in b t
   unfolding counted_in
-  counted_in_of_no_index t l = ap₂ (λ (a d : List ℕ). record { superblocks = a; live = d }) (with_counted_of_no_index (λ y. 1) t.superblocks l)
-      (with_counted_of_no_index live_in t.live l)
+  counted_in_of_no_index t past = ap₂ (λ (a d : List ℕ). record { superblocks = a; live = d }) (with_counted_of_no_index (λ y. 1) t.superblocks past)
+      (with_counted_of_no_index live_in t.live past)
 
-  pub counted_out_of_no_index : (t : Totals) → total_count ≤ x → t ≡ counted_out b t
+  pub counted_out_of_no_index : (t : Totals) → None ≡ index_of b.owner b.class → t ≡ counted_out b t
   unfolding counted_out without_counted
-  counted_out_of_no_index t l = let e = not_counted_of_no_index l in rw e
+  counted_out_of_no_index t past = let e = not_counted_of_no_index past in rw e
 
-  -- any other is, at its index
-  pub counted_in_of_index : (t : Totals) (n : ℕ) → x < total_count → n ≡ live_in b
-      → record { superblocks = set t.superblocks x (get_or t.superblocks x 0 + 1); live = set t.live x (get_or t.live x 0 + n) } ≡ counted_in b t
-  unfolding counted_in
-  counted_in_of_index t n l e =
-      ap₂ (λ (a d : List ℕ). record { superblocks = a; live = d }) (with_counted_of_index (λ y. 1) t.superblocks 1 l refl)
-      (with_counted_of_index live_in t.live n l e)
+  module _ (x : ℕ) (at : Some x ≡ index_of b.owner b.class) where
+    counted_of_index : (is_counted b ≡ true) × (x ≡ total_index b.owner b.class)
+    unfolding index_of is_counted
+    counted_of_index = go (both (ltb b.owner heap_count) (ltb b.class class_count)) at
+      where
+        go : (t : Bool) → Some x ≡ pick t (Some (total_index b.owner b.class)) None → (t ≡ true) × (x ≡ total_index b.owner b.class)
+        go true e = (refl, cc)
+        go false e = absurd (cc)
 
-  pub counted_out_of_index : (t : Totals) (m n live : ℕ) → x < total_count → m ≡ get_or t.superblocks x 0 - 1 → live ≡ live_in b → n ≡ get_or t.live x 0 - live
-      → record { superblocks = set t.superblocks x m; live = set t.live x n } ≡ counted_out b t
-  unfolding counted_out
-  counted_out_of_index t m n live l e d f =
-      ap₂ (λ (a d : List ℕ). record { superblocks = a; live = d }) (without_counted_of_index (λ y. 1) t.superblocks m l e)
-      (without_counted_of_index live_in t.live n l (f ∙ ap (λ (y : ℕ). get_or t.live x 0 - y) d))
+    pub index_lt_total_count : x < total_count
+    index_lt_total_count = let w = counted_heap_and_class b counted_of_index.0 in omega (arith, counted_of_index.1)
+
+    -- any other is, at its index
+    pub with_counted_of_index : (f : Superblock → ℕ) (l : List ℕ) (n : ℕ) → n ≡ f b → set l x (get_or l x 0 + n) ≡ with_counted f b l
+    unfolding with_counted
+    with_counted_of_index f l n e =
+        let i = counted_of_index in
+        rw (i.0, e, sym i.1) (sym (increased_is_set x (f b) l))
+
+    without_counted_of_index : (f : Superblock → ℕ) (l : List ℕ) (n : ℕ) → n ≡ get_or l x 0 - f b → set l x n ≡ without_counted f b l
+    unfolding without_counted
+    without_counted_of_index f l n e = let i = counted_of_index in rw (i.0, e, sym i.1)
+
+    pub counted_in_of_index : (t : Totals) (n : ℕ) → n ≡ live_in b
+        → record { superblocks = set t.superblocks x (get_or t.superblocks x 0 + 1); live = set t.live x (get_or t.live x 0 + n) } ≡ counted_in b t
+    unfolding counted_in
+    counted_in_of_index t n e =
+        ap₂ (λ (a d : List ℕ). record { superblocks = a; live = d }) (with_counted_of_index (λ y. 1) t.superblocks 1 refl)
+        (with_counted_of_index live_in t.live n e)
+
+    pub counted_out_of_index : (t : Totals) (m n live : ℕ) → m ≡ get_or t.superblocks x 0 - 1 → live ≡ live_in b → n ≡ get_or t.live x 0 - live
+        → record { superblocks = set t.superblocks x m; live = set t.live x n } ≡ counted_out b t
+    unfolding counted_out
+    counted_out_of_index t m n live e d f =
+        ap₂ (λ (a d : List ℕ). record { superblocks = a; live = d }) (without_counted_of_index (λ y. 1) t.superblocks m e)
+        (without_counted_of_index live_in t.live n (f ∙ ap (λ (y : ℕ). get_or t.live x 0 - y) d))
 
 -- ---- one superblock no longer counted
 length_without_counted : (f : Superblock → ℕ) (b : Superblock) (l : List ℕ) → length (without_counted f b l) ≡ length l

@@ -1,15 +1,15 @@
 -- The totals with one superblock more, or one fewer, counted in them. Assumes nothing.
-use Rattle.std.specs.Prelude.{ℕ, ◌-◌, List, get_or, set, ltb}
+use Rattle.std.specs.Prelude.{ℕ, ◌-◌, List, Option, Some, None, get_or, set, ltb}
 use Rattle.base_laws.specs.Sums.{pick, both}
 use Rattle.class_rules.specs.Classes.{class_count}
 use Rattle.heap_rules.specs.declared.Superblock.{Superblock}
 use Rattle.heap_rules.specs.declared.Totals.{Totals}
 use Rattle.heap_rules.specs.Table.{live_in}
-use Rattle.heap_rules.specs.Totals.{heap_count, total_count, total_index, is_counted, with_counted}
+use Rattle.heap_rules.specs.Totals.{heap_count, total_index, is_counted, with_counted}
 
--- where the totals of a heap and class stand; past all of them where none are kept
-unfoldable pub index_of : ℕ → ℕ → ℕ
-index_of h c = pick (both (ltb h heap_count) (ltb c class_count)) (total_index h c) total_count
+-- where the totals of a heap and class stand; none where none are kept
+unfoldable pub index_of : ℕ → ℕ → Option ℕ
+index_of h c = pick (both (ltb h heap_count) (ltb c class_count)) (Some (total_index h c)) None
 
 -- a number of the superblock, taken away at its heap and class
 unfoldable pub without_counted : (Superblock → ℕ) → Superblock → List ℕ → List ℕ

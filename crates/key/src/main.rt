@@ -5,34 +5,29 @@ ghost use Rattle.program_stream.specs.Stream.{IsPrefixLen};
 
 use heap_rules::TABLE_LENGTH;
 use key_replay::ROOM;
-use key_rules::Printed;
 use order_rules::PLACES_EACH;
-use program_stream::Input;
 use record_rules::LONGEST_RECORD;
 
 // A record is at most 60000 bytes: one byte more is enough to know that it is too long, and the rest is not read.
 fn main(rt: HostRuntime) {
     let mut input = [0u8; LONGEST_RECORD + 1];
-    let read = program_stream::read_input(&rt, b"key", &mut input);
-    let Input::Bytes(n) = read else {
-        return;
-    };
-    print_key(&rt, &input[..n]);
+    if let Ok(n) = program_stream::read_input(&rt, b"key", &mut input) {
+        print_key(&rt, &input[..n]);
+    }
 }
 
 // The program's own order storage, and room for any key.
 fn print_key(rt: &HostRuntime, record: &[u8]) {
     let mut storage = [0u16; TABLE_LENGTH * PLACES_EACH];
     let mut text = [0u8; ROOM];
-    let printed = key_replay::key(record, &mut storage, &mut text);
-    match printed {
-        Printed::Text(end) => print(rt, &text, end),
-        Printed::NoRoom => {}
+    if let Some(end) = key_replay::key(record, &mut storage, &mut text) {
+        print(rt, &text, end);
     }
 }
 
+// Where it fails, standard error has said so already.
 fn print(rt: &HostRuntime, text: &[u8], end: usize)
     requires { IsPrefixLen end text.now }
 {
-    program_stream::write_output(rt, b"key", &text[..end]);
+    let _ = program_stream::write_output(rt, b"key", &text[..end]);
 }

@@ -1,5 +1,6 @@
 -- The key of any record of bytes fits its room: a command prints at most 10 bytes for each of its own, and the final lines are those of
 -- at most 9 heaps and 27 classes and of at most 64 runs. Assumes nothing.
+use Rattle.std.specs.Prelude.{Option, Some, None}
 use mathlib.Core.Path.{◌≡◌, refl, sym, subst}
 use mathlib.Core.Bool.{Bool, true, false, not}
 use mathlib.Core.List.{List, [], ◌∷◌}
@@ -15,8 +16,6 @@ use Rattle.class_rules.specs.Classes.{class_of, is_long, run_length, is_too_larg
 use Rattle.names_rules.specs.Names.{is_held}
 use Rattle.heap_rules.specs.declared.Setup.{Setup}
 use Rattle.heap_rules.specs.declared.State.{State}
-use Rattle.heap_rules.specs.declared.Found.{Found}
-use Rattle.heap_rules.specs.declared.Found.TheVariants.{At, Nothing}
 use Rattle.heap_rules.specs.declared.Moved.{Moved}
 use Rattle.choice_rules.specs.Choice.{fullest, emptiest}
 use Rattle.choice_rules.specs.RunChoice.{lowest_run}
@@ -66,16 +65,16 @@ short_result_of_taken_from : (k : ℕ) (s : State) (order : List ℕ) → ShortR
 unfolding ShortResult taken_from
 short_result_of_taken_from k s order = length_of_address_result_le_14 _
 
-short_result_of_taken_at : (i c : ℕ) (s : State) (order : List ℕ) (own other : Found) → ShortResult 14 (taken_at i c s order own other)
+short_result_of_taken_at : (i c : ℕ) (s : State) (order : List ℕ) (own other : Option ℕ) → ShortResult 14 (taken_at i c s order own other)
 unfolding taken_at taken_from_other
-short_result_of_taken_at i c s order (At k) other = short_result_of_taken_from k s order
-short_result_of_taken_at i c s order Nothing (At k) = short_result_of_taken_from k _ _
-short_result_of_taken_at i c s order Nothing Nothing = short_result_of_refused 14 4 s order (omega arith) (omega arith)
+short_result_of_taken_at i c s order (Some k) other = short_result_of_taken_from k s order
+short_result_of_taken_at i c s order None (Some k) = short_result_of_taken_from k _ _
+short_result_of_taken_at i c s order None None = short_result_of_refused 14 4 s order (omega arith) (omega arith)
 
-short_result_of_long_taken_at : (n : ℕ) (s : State) (order : List ℕ) (found : Found) → ShortResult 14 (long_taken_at n s order found)
+short_result_of_long_taken_at : (n : ℕ) (s : State) (order : List ℕ) (found : Option ℕ) → ShortResult 14 (long_taken_at n s order found)
 unfolding ShortResult long_taken_at long_taken_from
-short_result_of_long_taken_at n s order (At k) = length_of_address_result_le_14 _
-short_result_of_long_taken_at n s order Nothing = short_result_of_refused 14 17 s order (omega arith) (omega arith)
+short_result_of_long_taken_at n s order (Some k) = length_of_address_result_le_14 _
+short_result_of_long_taken_at n s order None = short_result_of_refused 14 17 s order (omega arith) (omega arith)
 
 short_result_of_checked : (n : ℕ) (s : State) (order : List ℕ) (next : After) → 12 ≤ n → ShortResult n next → ShortResult n (checked s order next)
 unfolding checked

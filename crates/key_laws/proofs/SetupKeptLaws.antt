@@ -1,4 +1,5 @@
 -- The setup numbers stay what the accepted setup gave, so that no state of a record has a processor heap above 8. Assumes nothing.
+use Rattle.std.specs.Prelude.{Option, Some, None}
 use mathlib.Core.Path.{◌≡◌, refl, sym, ap, ◌∙◌, subst}
 use mathlib.Core.Bool.{Bool, true, false, not}
 use mathlib.Core.Logic.{⊎_elim}
@@ -13,8 +14,6 @@ use Rattle.names_rules.specs.Names.{is_held}
 use Rattle.heap_rules.specs.declared.Setup.{Setup}
 use Rattle.heap_rules.specs.declared.State.{State}
 use Rattle.heap_rules.specs.declared.Moved.{Moved}
-use Rattle.heap_rules.specs.declared.Found.{Found}
-use Rattle.heap_rules.specs.declared.Found.TheVariants.{At, Nothing}
 use Rattle.heap_rules.specs.Table.{superblock_at, live_in}
 use Rattle.heap_rules.specs.States.{no_state}
 use Rattle.heap_rules.specs.Ranks.{ranked_latest, unranked}
@@ -43,10 +42,10 @@ use Rattle.call_laws.proofs.RunEffectLaws.{run_taken_keeps_rest, run_freed_keeps
 use Rattle.call_laws.proofs.CheckedLaws.{checked_refused_or_passed}
 
 -- ---- the move rule
-setup_of_found_transferred : (f : Found) (s : State) → (found_transferred f s).setup ≡ s.setup
+setup_of_found_transferred : (f : Option ℕ) (s : State) → (found_transferred f s).setup ≡ s.setup
 unfolding found_transferred transferred
-setup_of_found_transferred (At k) s = refl
-setup_of_found_transferred Nothing s = refl
+setup_of_found_transferred (Some k) s = refl
+setup_of_found_transferred None s = refl
 
 setup_of_invariant_restored : (h c : ℕ) (s : State) → (invariant_restored h c s).state.setup ≡ s.setup
 setup_of_invariant_restored h c s = invariant_restored_keeps (λ t. t.setup ≡ s.setup) (λ found t e. setup_of_found_transferred found t ∙ e) h c s refl
@@ -70,16 +69,16 @@ unfolding SetupKept
 setup_kept_by_refused r s order = refl
 
 -- a take
-setup_kept_by_taken_at : (i c : ℕ) (s : State) (order : List ℕ) (own other : Found) → SetupKept s (taken_at i c s order own other)
+setup_kept_by_taken_at : (i c : ℕ) (s : State) (order : List ℕ) (own other : Option ℕ) → SetupKept s (taken_at i c s order own other)
 unfolding SetupKept taken_at taken_from_other taken_from
-setup_kept_by_taken_at i c s order (At k) other = refl
-setup_kept_by_taken_at i c s order Nothing (At k) = setup_of_unranked_if_empty k s
-setup_kept_by_taken_at i c s order Nothing Nothing = refl
+setup_kept_by_taken_at i c s order (Some k) other = refl
+setup_kept_by_taken_at i c s order None (Some k) = setup_of_unranked_if_empty k s
+setup_kept_by_taken_at i c s order None None = refl
 
-setup_kept_by_long_taken_at : (n : ℕ) (s : State) (order : List ℕ) (found : Found) → SetupKept s (long_taken_at n s order found)
+setup_kept_by_long_taken_at : (n : ℕ) (s : State) (order : List ℕ) (found : Option ℕ) → SetupKept s (long_taken_at n s order found)
 unfolding SetupKept long_taken_at long_taken_from
-setup_kept_by_long_taken_at n s order (At k) = (run_taken_keeps_rest k n s).setup
-setup_kept_by_long_taken_at n s order Nothing = refl
+setup_kept_by_long_taken_at n s order (Some k) = (run_taken_keeps_rest k n s).setup
+setup_kept_by_long_taken_at n s order None = refl
 
 setup_kept_by_take_unchecked : (s : State) (order : List ℕ) (i size : ℕ) → SetupKept s (take_unchecked s order i size)
 unfolding take_unchecked

@@ -3,6 +3,7 @@ use mathlib.Core.Path.{◌≡◌, refl, sym, ap, ◌∙◌, subst}
 use mathlib.Core.Bool.{false}
 use mathlib.Core.Logic.{⊎_elim}
 use mathlib.Core.List.{List, [], ◌∷◌, ◌++◌}
+use Rattle.std.specs.Prelude.{Some}
 use Prim.Native.Nat.{ℕ, ◌+◌, ◌*◌, ◌≤◌}
 use native.Mathlib.Omega.{arith}
 use lib.ListN.{length, get_or, take, drop, replicate}
@@ -25,7 +26,6 @@ use Rattle.record_rules.specs.Record.{commands_of}
 use Rattle.record_rules.proofs.CommandDefinitions.{command_definitions}
 use Rattle.text_rules.specs.Text.{letters}
 use Rattle.line_rules.specs.Lines.{stop_line}
-use Rattle.key_rules.specs.declared.Printed.TheVariants.{Text}
 use Rattle.key_rules.specs.Key.{key_of, storage_of, KeyOrNoRoom}
 use Rattle.key_rules.specs.KeyClaim.{calls_in, steps_in, KeyClaims}
 use Rattle.key_laws.proofs.KeyClaims.{key_demand_3}
@@ -158,7 +158,7 @@ whole_storage =
     ap places_left (whole_key_claims.storage ∙ ap (λ (steps : List Step). (last_after start steps).order) calls_are_unchecked) ∙ refl
 
 -- ---- what the answer of a call for this key says: the text stands in the buffer, what lies behind it is as it was, and the storage is the one left
-pub whole_answer : (out left new : List ℕ) (n : ℕ) → KeyOrNoRoom whole_record storage out (Text n) left new
+pub whole_answer : (out left new : List ℕ) (n : ℕ) → KeyOrNoRoom whole_record storage out (Some n) left new
     → (n ≡ length whole_text) × (take n new ≡ whole_text) × (drop n new ≡ drop n out) × (left ≡ storage_of whole_record storage)
 unfolding KeyOrNoRoom
 whole_answer out left new n h = (h.1.count ∙ ap length whole_case, h.1.text ∙ whole_case, h.1.behind, h.1.storage)

@@ -1,75 +1,98 @@
 -- Where the replay of a record stands, between two commands.
-use Rattle.std.specs.Prelude.{◌≡◌, true, false, List, ℕ, suc, ◌+◌, ◌-◌, ◌≤◌, ◌<◌, length, ltb}
+use Rattle.std.specs.Borrow.{MutBor}
+use Rattle.std.specs.Prelude.{◌≡◌, Bool, true, false, List, ℕ, suc, ◌+◌, ◌-◌, ◌≤◌, ◌<◌, length, ltb}
 use Rattle.base_laws.specs.Sums.{pick}
-use Rattle.text_rules.specs.Text.{Pasted, pasted}
+use Rattle.text_writer.specs.declared.Text.{Text}
+use Rattle.text_writer.specs.Written.{written}
 use Rattle.heap_rules.specs.declared.State.{State}
 use Rattle.heap_rules.specs.Totals.{most_processors, TotalsKept}
 use Rattle.call_header.specs.declared.CallHeader.{CallHeader}
+use Rattle.record_rules.specs.declared.Command.{Command}
 use Rattle.record_rules.specs.declared.Command.TheVariants as command
 use Rattle.record_rules.specs.Record.{longest_record, addresses_in, command_at, commands_from}
 use Rattle.line_rules.specs.Lines.{stop_line, closing_lines}
+use Rattle.key_replay.specs.declared.Progress.{Progress}
+use Rattle.key_replay.specs.declared.Progress.TheVariants.{Going, Ended, Stopped}
 use Rattle.key_replay.specs.declared.Replay.{Replay}
 use Rattle.key_rules.specs.Key.{state_and_storage, text_of, order_after, key_of, storage_of}
 
+-- more commands are still to be read
+abbrev pub is_going : Progress → Bool
+is_going Going = true
+is_going Ended = false
+is_going Stopped = false
+
+-- a stop line was the last
+abbrev pub is_stopped : Progress → Bool
+is_stopped Going = false
+is_stopped Ended = false
+is_stopped Stopped = true
+
+-- the commands still to be read, where there are more
+abbrev pub commands_ahead : Replay → List Command
+commands_ahead x = commands_from (suc (length x.bytes.now)) x.bytes.now x.at
+
 -- the text still to come
-unfoldable pub text_ahead : List ℕ → Replay → List ℕ → List ℕ
-text_ahead r x order = pick x.going (text_of r (state_and_storage x.state order) (commands_from (suc (length r)) r x.at))
-    (closing_lines x.stopped x.state)
+unfoldable pub text_ahead : Replay → List ℕ
+text_ahead x = pick (is_going x.progress) (text_of x.bytes.now (state_and_storage x.state x.order.now) (commands_ahead x))
+    (closing_lines (is_stopped x.progress) x.state)
 
 -- the storage that the commands still to be read leave
-unfoldable pub order_ahead : List ℕ → Replay → List ℕ → List ℕ
-order_ahead r x order = pick x.going (order_after r (state_and_storage x.state order) (commands_from (suc (length r)) r x.at)) order
+unfoldable pub order_ahead : Replay → List ℕ
+order_ahead x =
+    pick (is_going x.progress) (order_after x.bytes.now (state_and_storage x.state x.order.now) (commands_ahead x)) x.order.now
 
--- a text in the buffer, and the order storage beside it
-pub record TextAndOrder : Type 0 where
-  pub text : Pasted
-  pub order : List ℕ
+-- what is lent to a replay: a buffer with a text in it, and the order storage
+pub record Lent : Type 0 where
+  pub text : MutBor Text
+  pub order : MutBor (List ℕ)
 
--- the buffer with all that is still to come, and the storage
-unfoldable pub text_and_order_ahead : List ℕ → Replay → List ℕ → List ℕ → TextAndOrder
-text_and_order_ahead r x order out = record { text = pasted out x.end (text_ahead r x order); order = order_ahead r x order }
+-- as it stands
+abbrev pub lent : Replay → Lent
+lent x = record { text = x.text; order = x.order }
 
--- the whole key of a record in the buffer, and the storage that making it leaves
-unfoldable pub key_and_storage : List ℕ → List ℕ → List ℕ → TextAndOrder
-key_and_storage r order out = record { text = pasted out 0 (key_of r order); order = storage_of r order }
+-- the buffer with the closing lines, and the storage as it is
+abbrev pub closed : Bool → Replay → Lent
+closed stopped x = record { text = record x.text { now = written x.text.now (closing_lines stopped x.state) }; order = x.order }
+
+-- the buffer with all that is still to come, and the storage that this leaves
+unfoldable pub lent_ahead : Replay → Lent
+lent_ahead x = record { text = record x.text { now = written x.text.now (text_ahead x) }; order = record x.order { now = order_ahead x } }
+
+-- the whole key of a record put to a text, and the storage that making it leaves
+unfoldable pub key_lent : List ℕ → MutBor (List ℕ) → MutBor Text → Lent
+key_lent r order t = record { text = record t { now = written t.now (key_of r order.now) }; order = record order { now = storage_of r order.now } }
 
 -- a bound on the commands still to be read
 unfoldable pub commands_left : Replay → ℕ
-commands_left x = pick x.going (longest_record + 1 - x.at) 0
+commands_left x = pick (is_going x.progress) (longest_record + 1 - x.at) 0
 
 -- the final lines can be read from a state's totals: they are the recount, and each of its heaps has some
 abbrev pub TotalsReadable : State → Type 0
 TotalsReadable s = TotalsKept s × (s.setup.processors ≤ most_processors)
 
--- the position is one of a record that is not too long, the text ends in the buffer, and the totals can be read
-pub record InBounds (x : Replay) (out : List ℕ) : Type 0 where
+-- the position is one of a record that is not too long, and the totals can be read
+pub record InBounds (x : Replay) : Type 0 where
   pub position_bound : x.at ≤ longest_record
-  pub text_end_bound : x.end ≤ length out
   pub totals_readable : TotalsReadable x.state
 
 -- one command on: what stands and is still to come stays the same
-pub record Stepped (r : List ℕ) (x : Replay) (order out : List ℕ) (y : Replay) (new text : List ℕ) : Type 0 where
-  pub text_and_order_same : text_and_order_ahead r y new text ≡ text_and_order_ahead r x order out
-  pub in_bounds : InBounds y text
+pub record Stepped (x y : Replay) : Type 0 where
+  pub lent_same : lent_ahead y ≡ lent_ahead x
+  pub in_bounds : InBounds y
   pub fewer_commands_left : commands_left y < commands_left x
 
--- the replay is over: no command is left
-pub record Finished (r order out : List ℕ) (y : Replay) (new text : List ℕ) : Type 0 where
-  pub text_and_order_same : text_and_order_ahead r y new text ≡ key_and_storage r order out
-  pub in_bounds : InBounds y text
-  pub not_going : y.going ≡ false
+-- with what a command left: a state, the order storage, and the text
+abbrev pub with_left : Replay → State → List ℕ → Text → Replay
+with_left x s order text = record x { order = record x.order { now = order }; text = record x.text { now = text }; state = s }
 
--- after a command that was read whole
-abbrev pub next_of : List ℕ → State → ℕ → ℕ → Replay
-next_of r s at end = record { state = s; at = at; end = end; going = ltb at (length r); stopped = false }
+-- past a command of so many bytes that was read whole: the record goes on while it has bytes
+abbrev pub past : Replay → ℕ → Replay
+past x size = record x { at = x.at + size; progress = pick (ltb (x.at + size) (length x.bytes.now)) Going Ended }
 
--- after a stop line that ends there
-abbrev pub stop_of : Replay → ℕ → Replay
-stop_of x end = record { state = x.state; at = x.at; end = end; going = false; stopped = true }
-
-pub record Stopped (x : Replay) (out : List ℕ) (number offset : ℕ) (y : Replay) (text : List ℕ) : Type 0 where
-  pub line_written : record { end = y.end; buffer = text } ≡ pasted out x.end (stop_line number offset)
-  pub replay_is : y ≡ stop_of x y.end
+-- after a stop line
+abbrev pub stop_of : Replay → ℕ → ℕ → Replay
+stop_of x number offset = record x { text = record x.text { now = written x.text.now (stop_line number offset) }; progress = Stopped }
 
 -- a call's command stands at a position of the record, and its addresses, so many, are lent beside its header; the first of them stands at an offset
 pub record CallAt (r : List ℕ) (at : ℕ) (call : CallHeader) (addresses : List ℕ) (count : ℕ) : Type 0 where

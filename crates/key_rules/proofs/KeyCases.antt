@@ -1,5 +1,6 @@
 -- Keys of small records, computed from the definitions alone: first those in which no call finds a state that passes its check. Assumes nothing.
 use mathlib.Core.Path.{◌≡◌, refl, ap}
+use Rattle.std.specs.Prelude.{Some, None}
 use mathlib.Core.Bool.{true}
 use mathlib.Core.List.{List, [], ◌∷◌, ◌++◌}
 use Prim.Native.Nat.{ℕ, ◌+◌, ◌*◌, ◌≤◌}
@@ -31,7 +32,6 @@ use Rattle.record_rules.proofs.CommandDefinitions.{command_definitions}
 use Rattle.line_rules.proofs.LineDefinitions.{line_definitions}
 use Rattle.key_rules.specs.Key.{state_and_storage, before_first, setup_text, text_of, order_after, key_of, storage_of, room, KeyWritten, KeyOrNoRoom}
 use Rattle.key_rules.proofs.KeyClaimCases.{key_claims_hold}
-use Rattle.key_rules.specs.declared.Printed.TheVariants.{Text, NoRoom}
 
 -- what a key's case computes with
 unfoldable pub key_definitions : Unit {0}
@@ -114,26 +114,26 @@ other_storage_not_left = (
 
 -- "the key, wherever the buffer has room for every key; else nothing was changed": no text in a buffer that has not the room, though this key fits in
 -- it; no other text than the key in one that has; nothing told for want of room where there is room
-text_without_room_fails : KeyOrNoRoom setup (places_of 7) (replicate 23 5) (Text 20) (places_of 0) (setup_key ++ replicate 3 5) → ⊥
+text_without_room_fails : KeyOrNoRoom setup (places_of 7) (replicate 23 5) (Some 20) (places_of 0) (setup_key ++ replicate 3 5) → ⊥
 unfolding KeyOrNoRoom
 text_without_room_fails k = let z : room ≤ 23 = k.0 in omega arith
 
-other_text_with_room_fails : (out left new : List ℕ) → KeyOrNoRoom setup (places_of 7) out (Text 19) left new → ⊥
+other_text_with_room_fails : (out left new : List ℕ) → KeyOrNoRoom setup (places_of 7) out (Some 19) left new → ⊥
 unfolding KeyOrNoRoom key_definitions
 other_text_with_room_fails out left new k = let z : ◌≡◌ {A = ℕ} 19 20 = k.1.count in omega arith
 
-no_room_with_room_fails : (out left new : List ℕ) → room ≤ length out → KeyOrNoRoom setup (places_of 7) out NoRoom left new → ⊥
+no_room_with_room_fails : (out left new : List ℕ) → room ≤ length out → KeyOrNoRoom setup (places_of 7) out None left new → ⊥
 unfolding KeyOrNoRoom
 no_room_with_room_fails out left new l k = let z = k.0 in omega arith
 
 -- where there is none, neither the buffer nor a place may change
-no_room_holds : KeyOrNoRoom setup (places_of 7) (replicate 23 5) NoRoom (places_of 7) (replicate 23 5)
+no_room_holds : KeyOrNoRoom setup (places_of 7) (replicate 23 5) None (places_of 7) (replicate 23 5)
 unfolding KeyOrNoRoom
 no_room_holds = (omega arith, refl, refl)
 
 no_room_changed_fails :
-    (KeyOrNoRoom setup (places_of 7) (replicate 23 5) NoRoom (places_of 7) (setup_key ++ replicate 3 5) → ⊥)
-    × (KeyOrNoRoom setup (places_of 7) (replicate 23 5) NoRoom (places_of 0) (replicate 23 5) → ⊥)
+    (KeyOrNoRoom setup (places_of 7) (replicate 23 5) None (places_of 7) (setup_key ++ replicate 3 5) → ⊥)
+    × (KeyOrNoRoom setup (places_of 7) (replicate 23 5) None (places_of 0) (replicate 23 5) → ⊥)
 unfolding KeyOrNoRoom
 no_room_changed_fails = (
   λ k. let z : ◌≡◌ {A = ℕ} 115 5 = ap (λ (l : List ℕ). get_or l 0 9) k.2 in omega arith,

@@ -1,5 +1,5 @@
 -- The printed key of a record.
-use Rattle.std.specs.Prelude.{◌≡◌, List, [], ◌∷◌, ◌++◌, ℕ, ◌≤◌, ◌<◌, length, take, drop, eqb}
+use Rattle.std.specs.Prelude.{◌≡◌, List, [], ◌∷◌, ◌++◌, ℕ, ◌≤◌, ◌<◌, Option, Some, None, length, take, drop, eqb}
 use Rattle.base_laws.specs.Sums.{pick}
 use Rattle.heap_rules.specs.declared.Setup.{Setup}
 use Rattle.heap_rules.specs.declared.State.{State}
@@ -13,8 +13,6 @@ use Rattle.record_rules.specs.declared.Command.{Command}
 use Rattle.record_rules.specs.declared.Command.TheVariants as command
 use Rattle.record_rules.specs.Record.{addresses_in, commands_of}
 use Rattle.line_rules.specs.Lines.{setup_line, call_line, stop_line, final_lines}
-use Rattle.key_rules.specs.declared.Printed.{Printed}
-use Rattle.key_rules.specs.declared.Printed.TheVariants.{Text, NoRoom}
 
 -- what a command finds: a state and the storage
 abbrev pub state_and_storage : State → List ℕ → After
@@ -71,7 +69,7 @@ pub record KeyWritten (r order out : List ℕ) (n : ℕ) (left new : List ℕ) :
   pub behind : drop n new ≡ drop n out
   pub storage : left ≡ storage_of r order
 
--- what each answer means: the key, wherever the buffer has room for every key; else nothing was changed
-unfoldable pub KeyOrNoRoom : List ℕ → List ℕ → List ℕ → Printed → List ℕ → List ℕ → Type 0
-KeyOrNoRoom r order out (Text n) left new = (room ≤ length out) × KeyWritten r order out n left new
-KeyOrNoRoom r order out NoRoom left new = (length out < room) × (left ≡ order) × (new ≡ out)
+-- what each answer means: so many bytes of the key, wherever the buffer has room for every key; else none, and nothing was changed
+unfoldable pub KeyOrNoRoom : List ℕ → List ℕ → List ℕ → Option ℕ → List ℕ → List ℕ → Type 0
+KeyOrNoRoom r order out (Some n) left new = (room ≤ length out) × KeyWritten r order out n left new
+KeyOrNoRoom r order out None left new = (length out < room) × (left ≡ order) × (new ≡ out)

@@ -2,35 +2,25 @@
 #![tactic(auto)]
 
 ghost use Rattle.std.specs.Prelude.{◌≡◌, ◌++◌};
-ghost use Rattle.text_rules.specs.Text.{letters, decimal, pasted};
+ghost use Rattle.text_rules.specs.Text.{letters};
+ghost use Rattle.text_writer.specs.Written.{written};
 
-use text_writer::{put_decimal, put_text};
+use text_writer::{Decimal, Text};
 
 // A word and a number after it.
-pub fn put_field(out: &mut [u8], at: usize, label: &[u8], n: u32) -> usize
-    ensures { record { end = result; buffer = out.new } ≡ pasted out.old at (label.now ++ decimal n) }
+#[tactic(auto, using(text_writer::proofs::WriteLaws::one_after_another))]
+pub fn put_field<N: Decimal>(text: &mut Text, label: &[u8], n: N)
+    ensures { text.new ≡ written text.old (label.now ++ N.in_decimal n) }
 {
-    let next = put_text(out, at, label);
-    put_decimal(out, next, n)
-}
-
-// The same for numbers of 8 and of 16 bits.
-pub fn put_byte(out: &mut [u8], at: usize, label: &[u8], n: u8) -> usize
-    ensures { record { end = result; buffer = out.new } ≡ pasted out.old at (label.now ++ decimal n) }
-{
-    put_field(out, at, label, n as u32)
-}
-
-pub fn put_short(out: &mut [u8], at: usize, label: &[u8], number: u16) -> usize
-    ensures { record { end = result; buffer = out.new } ≡ pasted out.old at (label.now ++ decimal number) }
-{
-    put_field(out, at, label, number as u32)
+    text.put_text(label);
+    n.put(text);
 }
 
 // A word, a number and the end of the line.
-pub fn put_last_field(out: &mut [u8], at: usize, label: &[u8], n: u32) -> usize
-    ensures { record { end = result; buffer = out.new } ≡ pasted out.old at (label.now ++ decimal n ++ letters "\n") }
+#[tactic(auto, using(text_writer::proofs::WriteLaws::one_after_another))]
+pub fn put_last_field<N: Decimal>(text: &mut Text, label: &[u8], n: N)
+    ensures { text.new ≡ written text.old (label.now ++ N.in_decimal n ++ letters "\n") }
 {
-    let end = put_field(out, at, label, n);
-    put_text(out, end, b"\n")
+    put_field(text, label, n);
+    text.put_text(b"\n");
 }

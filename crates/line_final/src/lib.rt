@@ -4,61 +4,59 @@
 ghost use Rattle.std.specs.Prelude.{◌≡◌, ◌≤◌, ◌<◌};
 ghost use Rattle.class_rules.specs.Classes.{class_count};
 ghost use Rattle.heap_rules.specs.Totals.{most_processors, heap_count, TotalsKept};
-ghost use Rattle.text_rules.specs.Text.{pasted};
+ghost use Rattle.text_writer.specs.Written.{written};
 ghost use Rattle.line_rules.specs.Lines.{class_lines, heap_lines, final_lines, closing_lines};
 
 use class_rules::CLASSES;
 use heap_rules::State;
 use line_heap::heap_line_if;
-use line_next_fields::put_nothing;
 use line_runs::run_lines;
-use text_writer::put_text;
+use text_writer::Text;
 
 // The lines of a heap, classes rising.
-fn class_lines(out: &mut [u8], at: usize, heap: u8, s: State) -> usize
+#[tactic(auto, using(crate::proofs::FinalLinesLaws::each_class))]
+fn class_lines(text: &mut Text, heap: u8, s: State)
     requires { (heap < heap_count) × TotalsKept s }
-    ensures { record { end = result; buffer = out.new } ≡ pasted out.old at (class_lines heap class_count s) }
+    ensures { text.new ≡ written text.old (class_lines heap class_count s) }
 {
-    let mut end = put_nothing(out, at);
-    let mut class: u8 = 0;
-    while class < CLASSES {
-        end = heap_line_if(out, end, heap, class, s);
-        class += 1;
+    text.put_nothing();
+    for class in 0..CLASSES {
+        heap_line_if(text, heap, class, s);
     }
-    end
 }
 
 // The lines of the heaps below a number, heaps rising.
-fn heap_lines(out: &mut [u8], at: usize, heaps: usize, s: State) -> usize
+#[tactic(auto, using(crate::proofs::FinalLinesLaws::each_heap))]
+fn heap_lines(text: &mut Text, heaps: u8, s: State)
     requires { (heaps ≤ heap_count) × TotalsKept s }
-    ensures { record { end = result; buffer = out.new } ≡ pasted out.old at (heap_lines heaps s) }
+    ensures { text.new ≡ written text.old (heap_lines heaps s) }
 {
-    let mut end = put_nothing(out, at);
-    let mut heap: usize = 0;
-    while heap < heaps {
-        end = class_lines(out, end, heap as u8, s);
-        heap += 1;
+    text.put_nothing();
+    for heap in 0..heaps {
+        class_lines(text, heap, s);
     }
-    end
 }
 
 // The lines at the end of a record that does not stop.
-fn final_lines(out: &mut [u8], at: usize, s: State) -> usize
+#[tactic(auto, using(text_writer::proofs::WriteLaws::one_after_another), unfolding(line_rules::specs::Lines::final_lines))]
+fn final_lines(text: &mut Text, s: State)
     requires { TotalsKept s × (s.setup.processors ≤ most_processors) }
-    ensures { record { end = result; buffer = out.new } ≡ pasted out.old at (final_lines s) }
+    ensures { text.new ≡ written text.old (final_lines s) }
 {
-    let heaps = heap_lines(out, at, s.setup.processors as usize + 1, s);
-    let runs = run_lines(out, heaps, s);
-    put_text(out, runs, b"end\n")
+    heap_lines(text, s.setup.processors + 1, s);
+    run_lines(text, s);
+    text.put_text(b"end\n");
 }
 
 // The lines after the last command of a record: none after a stop line.
-pub fn closing_lines(out: &mut [u8], at: usize, stopped: bool, s: State) -> usize
+#[tactic(auto, unfolding(line_rules::specs::Lines::closing_lines))]
+pub fn closing_lines(text: &mut Text, stopped: bool, s: State)
     requires { TotalsKept s × (s.setup.processors ≤ most_processors) }
-    ensures { record { end = result; buffer = out.new } ≡ pasted out.old at (closing_lines stopped s) }
+    ensures { text.new ≡ written text.old (closing_lines stopped s) }
 {
-    if !stopped {
-        return final_lines(out, at, s);
+    if stopped {
+        text.put_nothing();
+    } else {
+        final_lines(text, s);
     }
-    put_nothing(out, at)
 }

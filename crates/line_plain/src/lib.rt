@@ -2,37 +2,40 @@
 #![tactic(auto)]
 
 ghost use Rattle.std.specs.Prelude.{◌≡◌};
-ghost use Rattle.text_rules.specs.Text.{pasted};
+ghost use Rattle.text_writer.specs.Written.{written};
 ghost use Rattle.line_rules.specs.Lines.{take_line, free_line, drop_line};
 
 use call_rules::Outcome;
-use line_fields::{put_byte, put_short};
-use line_next_fields::put_next;
+use line_fields::put_field;
 use line_results::put_result_end;
+use text_writer::Text;
 
 // The line of a take.
-pub fn take_line(out: &mut [u8], at: usize, processor: u8, size: u16, outcome: Outcome) -> usize
-    ensures { record { end = result; buffer = out.new } ≡ pasted out.old at (take_line processor size outcome) }
+#[tactic(auto, using(text_writer::proofs::WriteLaws::one_after_another), unfolding(line_rules::specs::Lines::take_line))]
+pub fn take_line(text: &mut Text, processor: u8, size: u16, outcome: Outcome)
+    ensures { text.new ≡ written text.old (take_line processor size outcome) }
 {
-    let a = put_byte(out, at, b"take ", processor);
-    let b = put_short(out, a, b" ", size);
-    put_result_end(out, b, outcome)
+    put_field(text, b"take ", processor);
+    put_field(text, b" ", size);
+    put_result_end(text, outcome);
 }
 
 // The line of a free.
-pub fn free_line(out: &mut [u8], at: usize, processor: u8, address: u32, outcome: Outcome) -> usize
-    ensures { record { end = result; buffer = out.new } ≡ pasted out.old at (free_line processor address outcome) }
+#[tactic(auto, using(text_writer::proofs::WriteLaws::one_after_another), unfolding(line_rules::specs::Lines::free_line))]
+pub fn free_line(text: &mut Text, processor: u8, address: u32, outcome: Outcome)
+    ensures { text.new ≡ written text.old (free_line processor address outcome) }
 {
-    let a = put_byte(out, at, b"free ", processor);
-    let b = put_next(out, a, address);
-    put_result_end(out, b, outcome)
+    put_field(text, b"free ", processor);
+    put_field(text, b" ", address);
+    put_result_end(text, outcome);
 }
 
 // The line of a drop.
-pub fn drop_line(out: &mut [u8], at: usize, processor: u8, count: u8, outcome: Outcome) -> usize
-    ensures { record { end = result; buffer = out.new } ≡ pasted out.old at (drop_line processor count outcome) }
+#[tactic(auto, using(text_writer::proofs::WriteLaws::one_after_another), unfolding(line_rules::specs::Lines::drop_line))]
+pub fn drop_line(text: &mut Text, processor: u8, count: u8, outcome: Outcome)
+    ensures { text.new ≡ written text.old (drop_line processor count outcome) }
 {
-    let a = put_byte(out, at, b"drop ", processor);
-    let b = put_byte(out, a, b" count ", count);
-    put_result_end(out, b, outcome)
+    put_field(text, b"drop ", processor);
+    put_field(text, b" count ", count);
+    put_result_end(text, outcome);
 }

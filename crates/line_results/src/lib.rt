@@ -2,30 +2,24 @@
 #![tactic(auto)]
 
 ghost use Rattle.std.specs.Prelude.{◌≡◌, ◌++◌};
-ghost use Rattle.text_rules.specs.Text.{letters, pasted};
+ghost use Rattle.text_rules.specs.Text.{letters};
+ghost use Rattle.text_writer.specs.Written.{written};
 ghost use Rattle.line_rules.specs.Lines.{result as result_text};
 
 use call_rules::Outcome;
-use line_fields::{put_byte, put_field};
-use line_next_fields::put_nothing;
-use text_writer::put_text;
-
-// The address given, the moves or the refusal, without the end of the line.
-fn put_result(out: &mut [u8], at: usize, outcome: Outcome) -> usize
-    ensures { record { end = result; buffer = out.new } ≡ pasted out.old at (result_text outcome) }
-{
-    match outcome {
-        Outcome::Ready => put_nothing(out, at),
-        Outcome::Address(a) => put_field(out, at, b" at ", a),
-        Outcome::Moves(m) => put_byte(out, at, b" moved ", m),
-        Outcome::Refused(r) => put_byte(out, at, b" refused ", r),
-    }
-}
+use line_fields::put_field;
+use text_writer::Text;
 
 // The address given, the moves or the refusal, and the end of the line.
-pub fn put_result_end(out: &mut [u8], at: usize, outcome: Outcome) -> usize
-    ensures { record { end = result; buffer = out.new } ≡ pasted out.old at (result_text outcome ++ letters "\n") }
+#[tactic(auto, using(text_writer::proofs::WriteLaws::one_after_another), unfolding(line_rules::specs::Lines::result))]
+pub fn put_result_end(text: &mut Text, outcome: Outcome)
+    ensures { text.new ≡ written text.old (result_text outcome ++ letters "\n") }
 {
-    let end = put_result(out, at, outcome);
-    put_text(out, end, b"\n")
+    match outcome {
+        Outcome::Ready => {}
+        Outcome::Address(address) => put_field(text, b" at ", address),
+        Outcome::Moves(moves) => put_field(text, b" moved ", moves),
+        Outcome::Refused(number) => put_field(text, b" refused ", number),
+    }
+    text.put_text(b"\n");
 }

@@ -11,25 +11,18 @@ use marks_rules::{BITS_OF_WORD, MARK_COUNT};
 pub fn is_live(live: [u64; 4], j: usize) -> bool
     ensures { result ≡ is_marked live j }
 {
-    if MARK_COUNT <= j {
-        return false;
-    }
-    let i = j / BITS_OF_WORD;
-    let b = j % BITS_OF_WORD;
-    (live[i] >> b) % 2 == 1
+    let word = live.get(j / BITS_OF_WORD).copied().unwrap_or(0);
+    (word >> (j % BITS_OF_WORD)) % 2 == 1
 }
 
 // The marks with block j live.
 pub fn set_live(live: [u64; 4], j: usize) -> [u64; 4]
     ensures { result ≡ with_mark live j }
 {
-    if MARK_COUNT <= j {
-        return live;
-    }
-    let i = j / BITS_OF_WORD;
-    let b = j % BITS_OF_WORD;
     let mut next = live;
-    next[i] = live[i] | (1u64 << b);
+    if j < MARK_COUNT {
+        next[j / BITS_OF_WORD] |= 1 << (j % BITS_OF_WORD);
+    }
     next
 }
 
@@ -37,12 +30,9 @@ pub fn set_live(live: [u64; 4], j: usize) -> [u64; 4]
 pub fn clear_live(live: [u64; 4], j: usize) -> [u64; 4]
     ensures { result ≡ without_mark live j }
 {
-    if MARK_COUNT <= j {
-        return live;
-    }
-    let i = j / BITS_OF_WORD;
-    let b = j % BITS_OF_WORD;
     let mut next = live;
-    next[i] = live[i] & !(1u64 << b);
+    if j < MARK_COUNT {
+        next[j / BITS_OF_WORD] &= !(1 << (j % BITS_OF_WORD));
+    }
     next
 }

@@ -10,10 +10,7 @@ use marks_rules::BITS_OF_WORD;
 pub fn live_count(live: [u64; 4]) -> u32
     ensures { (result ≡ live_count live) × (result ≤ mark_count) }
 {
-    u64::count_ones(live[0])
-        + u64::count_ones(live[1])
-        + u64::count_ones(live[2])
-        + u64::count_ones(live[3])
+    live[0].count_ones() + live[1].count_ones() + live[2].count_ones() + live[3].count_ones()
 }
 
 // No block from n on is live: of each number, nothing is left of the bits that stand for those blocks.
@@ -31,9 +28,6 @@ pub fn no_mark_from(live: [u64; 4], n: usize) -> bool
 fn tail(w: u64, n: usize, start: usize) -> u64
     ensures { result ≡ w / 2 ^ (n - start) }
 {
-    if n <= start {
-        return w;
-    }
-    let m = n - start;
+    let m = n.saturating_sub(start);
     if m < BITS_OF_WORD { w >> m } else { 0 }
 }

@@ -1,10 +1,8 @@
 -- The move rule, which restores a heap's emptiness invariant: superblocks pass to the global heap, heap 0, while both conditions hold.
-use Rattle.std.specs.Prelude.{ℕ, zero, suc, ◌+◌, ◌-◌, ◌*◌, Bool, eqb, ltb}
+use Rattle.std.specs.Prelude.{ℕ, zero, suc, ◌+◌, ◌-◌, ◌*◌, Bool, eqb, ltb, Option, Some, None}
 use Rattle.base_laws.specs.Sums.{pick, both}
 use Rattle.class_rules.specs.Classes.{blocks_of}
 use Rattle.heap_rules.specs.declared.State.{State}
-use Rattle.heap_rules.specs.declared.Found.{Found}
-use Rattle.heap_rules.specs.declared.Found.TheVariants.{At, Nothing}
 use Rattle.heap_rules.specs.declared.Moved.{Moved}
 use Rattle.heap_rules.specs.Table.{table_length, superblock_at, with_owner}
 use Rattle.heap_rules.specs.States.{with_superblock}
@@ -24,9 +22,9 @@ unfoldable pub transferred : ℕ → State → State
 transferred k s = with_superblock s k (with_owner 0 (superblock_at s k))
 
 -- the superblock that was found, if any, passes to heap 0
-unfoldable pub found_transferred : Found → State → State
-found_transferred (At k) s = transferred k s
-found_transferred Nothing s = s
+unfoldable pub found_transferred : Option ℕ → State → State
+found_transferred (Some k) s = transferred k s
+found_transferred None s = s
 
 -- the moves while both conditions are met, at most as many as the first number, after m moves
 unfoldable pub transfers_up_to : ℕ → ℕ → ℕ → ℕ → State → Moved

@@ -1,6 +1,7 @@
 -- Laws of the move rule's code: the test, one superblock passed on, and the loop of the moves. Assumes nothing.
+use Rattle.std.proofs.Common.{Option}
 use mathlib.Core.Path.{◌≡◌, refl, sym, ap, ◌∙◌, subst}
-use mathlib.Core.Bool.{Bool, true, false, ◌&&◌}
+use mathlib.Core.Bool.{Bool, true, false}
 use Prim.Native.Nat.{ℕ, suc, ◌+◌, ◌-◌, ◌*◌, ◌≤◌, ◌<◌}
 use native.Mathlib.Omega.{arith}
 use mir.Syntax.{w8}
@@ -10,11 +11,9 @@ use Rattle.base_laws.proofs.TestLaws.{T_of_true}
 use Rattle.class_rules.specs.Classes.{class_count, blocks_of}
 use Rattle.heap_rules.specs.declared.State.{State}
 use Rattle.heap_rules.specs.declared.Moved.{Moved}
-use Rattle.heap_rules.specs.declared.Found.{Found}
 use Rattle.heap_rules.specs.Table.{superblock_at, with_owner}
 use Rattle.heap_rules.specs.Counts.{superblocks_of, blocks_in}
 use Rattle.heap_rules.specs.Totals.{heap_count, superblocks_kept, live_kept, TotalsKept}
-use Rattle.heap_rules.specs.States.{with_superblock}
 use Rattle.choice_rules.specs.Choice.{emptiest}
 use Rattle.move_rules.specs.Moves.{both_conditions, must_move, transferred, found_transferred, transfers_up_to, excess_transferred}
 use Rattle.heap_laws.proofs.CountLaws.{superblocks_of_le_64}
@@ -34,18 +33,7 @@ pub must_move_from_totals : (h c : ℕ) (s : State) (n : ℕ) (r : Bool) → h <
 unfolding must_move blocks_in superblocks_kept live_kept
 must_move_from_totals h c s n r lh lc kept p g = rw (← p, ← superblocks_kept_are_counted s h c lh lc kept, ← live_kept_is_counted s h c lh lc kept) g
 
--- a superblock replaced by one of heap 0 has passed on; past the table's end nothing does
-pub transferred_by_replacement : (k : ℕ) (s t : State)
-    → t ≡ with_superblock s k (record {
-      owner = 0;
-      class = (superblock_at s k).class;
-      live = (superblock_at s k).live;
-      rank = (superblock_at s k).rank;
-      run = (superblock_at s k).run;
-    }) → t ≡ transferred k s
-unfolding transferred
-transferred_by_replacement k s t e = e
-
+-- past the table's end nothing passes on
 pub transferred_past_table : (k : ℕ) (s : State) → TotalsKept s → length s.table ≡ 64 → 64 ≤ k → s ≡ transferred k s
 unfolding transferred
 transferred_past_table k s kept long h = with_superblock_past_table s k long h (with_owner 0 (superblock_at s k)) kept
@@ -69,17 +57,12 @@ pub excess_transferred_at_loop_end : (h c : ℕ) (s t : State) (m : ℕ) (must :
     → ◌≡◌ {A = Moved} (record { moves = m; state = t }) (excess_transferred h c s)
 excess_transferred_at_loop_end h c s t m must d e f = sym (transfers_up_to_stop (64 - m) h c m t (sym e ∙ f)) ∙ d.transfers_left
 
--- the first of two tests that both hold; so a loop that asks more than the rule still makes the rule's moves, and only ends too early
-pub left_true_of_and : (must more : Bool) → (must && more) ≡ true → must ≡ true
-left_true_of_and true more e = refl
-left_true_of_and false more e = e
-
 -- one move: a superblock less, and the state that it leaves
-module _ (h c : ℕ) (t next : State) (must : Bool) (found : Found) (long : length t.table ≡ 64) (pos : 0 < h) (asked : must ≡ must_move h c t)
+module _ (h c : ℕ) (t next : State) (must : Bool) (found : Option ℕ) (long : length t.table ≡ 64) (pos : 0 < h) (asked : must ≡ must_move h c t)
     (holds : must ≡ true)
     (chosen : found ≡ emptiest h c t) (next_is : next ≡ found_transferred found t) where
   next_is_emptiest_transferred : next ≡ found_transferred (emptiest h c t) t
-  next_is_emptiest_transferred = next_is ∙ ap (λ (f : Found). found_transferred f t) chosen
+  next_is_emptiest_transferred = next_is ∙ ap (λ (f : Option ℕ). found_transferred f t) chosen
 
   must_move_true : must_move h c t ≡ true
   must_move_true = sym asked ∙ holds
@@ -102,3 +85,6 @@ module _ (h c : ℕ) (t next : State) (must : Bool) (found : Found) (long : leng
         length_is = ap (λ (x : State). length x.table) next_is ∙ length_of_found_transferred found t ∙ long;
         totals = subst TotalsKept (sym next_is) (totals_kept_of_found_transferred found t d.totals);
       }
+
+-- what closes the goals of transfer_excess that have no answer
+pub ruleset transfer_rules = (transfer_invariant_start, transfer_count_fits_w8, superblocks_decrease, excess_transferred_at_loop_end)

@@ -1,1 +1,1 @@
-pub mod LoopLaws
+pub mod RenewedLaws

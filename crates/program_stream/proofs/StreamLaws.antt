@@ -1,24 +1,11 @@
 -- What reads and writes, one after another, do to the bytes that a reader has left and a writer holds, where these are known. Assumes nothing.
-use Rattle.std.proofs.Common.{◌≡◌, ◌≤◌, ◌+◌, ◌-◌, ℕ, List, ◌++◌, Option, None, Some, Result, Ok, Err, length, take, drop, min}
-use Rattle.std.proofs.Common.{sym, ap, ◌∙◌, subst, arith, append_assoc, le_refl, drop_at, length-take-le}
-use Rattle.std.specs.Io.{ReadsAtMost}
-use Rattle.std.specs.Io.KnownBytes.{ReadConsumes, Appends, Consumes}
+use Rattle.std.proofs.Common.{◌≡◌, ◌≤◌, ◌+◌, ◌-◌, ℕ, List, ◌++◌, Option, None, Some, length, take, drop}
+use Rattle.std.proofs.Common.{sym, ap, ◌∙◌, subst, append_assoc, le_refl, drop_at, length-take-le}
+use Rattle.std.specs.Io.KnownBytes.{Appends, Consumes}
 use Rattle.std.proofs.lemmas.List.{take_rest}
 use Rattle.std.proofs.lemmas.Slice.{take-put_mid_below}
 use Rattle.std.proofs.Math.Seq.{take-add, take-append-le}
 use borrow.Rule.Slice.PartMut.{put_mid, post_of}
-use Rattle.program_stream.specs.declared.Input.{Input}
-use Rattle.program_stream.specs.declared.Input.TheVariants.{Bytes}
-use Rattle.program_stream.specs.Stream.{IsNextInput, input_of}
-
--- what a read answered, as an input
-pub next_input_of_read : {E : Type 0} (before after : Option (List ℕ)) (got : Result ℕ E) (buf : List ℕ) (input : Input)
-    → ReadsAtMost got buf → ReadConsumes before after got buf → input ≡ input_of got (length buf) → IsNextInput before after input buf
-unfolding input_of
-next_input_of_read before after (Ok n) buf input bound bytes value =
-    let whole : Bytes n ≡ input = ap Bytes (let e : n ≡ min n (length buf) = omega arith in e) ∙ sym value in
-    subst (λ (r : Input). IsNextInput before after r buf) whole bytes
-next_input_of_read before after (Err e) buf input bound bytes value = subst (λ (r : Input). IsNextInput before after r buf) (sym value) bytes
 
 -- two reads, one after the other
 consumed_by_two : (a b c : Option (List ℕ)) (bs cs : List ℕ) → Consumes a b bs → Consumes b c cs → Consumes a c (bs ++ cs)

@@ -1,8 +1,9 @@
 // Reads the commands of a record.
 #![tactic(auto)]
 
-ghost use Rattle.std.specs.Prelude.{◌≡◌, ◌+◌, ◌≤◌, ◌<◌, length};
-ghost use Rattle.record_rules.specs.declared.Command.TheVariants.{Refused};
+ghost use Rattle.std.specs.Prelude.{◌≡◌, ◌*◌, ◌≤◌, ◌<◌, length};
+ghost use Rattle.refusal_rules.specs.RefusalNumbers.{number_of};
+ghost use Rattle.record_rules.specs.declared.Command.TheVariants.{Call, Refused};
 ghost use Rattle.record_rules.specs.Record.{
   longest_record,
   setup_at,
@@ -15,10 +16,11 @@ ghost use Rattle.record_rules.specs.Record.{
   command_at,
   HasNumbersOf,
 };
+ghost use Rattle.record_decoder.specs.Decoded.{command_of};
 
 use call_header::CallHeader;
 use record_rules::{Command, LONGEST_RECORD};
-use refusal_rules::{COMMAND_MISPLACED, COMMAND_TRUNCATED, RECORD_TOO_LONG, UNKNOWN_COMMAND};
+use refusal_rules::Refusal;
 
 // The command at a position of a record. There is one for any record and position: past the record's end, a refusal.
 pub fn command_at(bytes: &[u8], at: usize) -> Command
@@ -26,179 +28,141 @@ pub fn command_at(bytes: &[u8], at: usize) -> Command
     ensures numbers { HasNumbersOf result (command_at bytes.now at) }
 {
     if LONGEST_RECORD < bytes.len() {
-        return refused(RECORD_TOO_LONG, 0);
+        return refused(Refusal::RecordTooLong, 0);
     }
     if at < bytes.len() {
-        return command_by_first_byte(bytes, at);
+        return match command_by_first_byte(bytes, at) {
+            Ok(command) => command,
+            Err(refusal) => refused(refusal, at),
+        };
     }
     if at == 0 {
-        return refused(COMMAND_MISPLACED, 0);
+        return refused(Refusal::CommandMisplaced, 0);
     }
-    refused(COMMAND_TRUNCATED, bytes.len())
+    refused(Refusal::CommandTruncated, bytes.len())
 }
 
 // The command at a position before the record's end, by its first byte.
-fn command_by_first_byte(bytes: &[u8], at: usize) -> Command
+fn command_by_first_byte(bytes: &[u8], at: usize) -> Result<Command, Refusal>
     requires { (length bytes.now ≤ longest_record) × (at < length bytes.now) }
-    ensures { result ≡ command_by_first_byte bytes.now at }
+    ensures { command_of result at ≡ command_by_first_byte bytes.now at }
 {
-    let first = bytes[at];
-    if first == 0 {
-        return setup_at(bytes, at);
+    match bytes[at] {
+        0 => setup_at(bytes, at),
+        6.. => Err(Refusal::UnknownCommand),
+        _ if at == 0 => Err(Refusal::CommandMisplaced),
+        1 => take_at(bytes, at),
+        2 => free_at(bytes, at),
+        3 => named_take_at(bytes, at),
+        4 => named_free_at(bytes, at),
+        5 => drop_at(bytes, at),
     }
-    if first == 1 {
-        return take_at(bytes, at);
-    }
-    if first == 2 {
-        return free_at(bytes, at);
-    }
-    if first == 3 {
-        return named_take_at(bytes, at);
-    }
-    if first == 4 {
-        return named_free_at(bytes, at);
-    }
-    if first == 5 {
-        return drop_at(bytes, at);
-    }
-    refused(UNKNOWN_COMMAND, at)
 }
 
-fn setup_at(bytes: &[u8], at: usize) -> Command
-    requires { (length bytes.now ≤ longest_record) × (at < length bytes.now) }
-    ensures { result ≡ setup_at bytes.now at }
+fn setup_at(bytes: &[u8], at: usize) -> Result<Command, Refusal>
+    ensures { command_of result at ≡ setup_at bytes.now at }
 {
     if at != 0 {
-        return refused(COMMAND_MISPLACED, at);
+        return Err(Refusal::CommandMisplaced);
     }
-    if at + 6 <= bytes.len() {
-        return Command::Setup {
-            processors: bytes[at + 1],
-            superblocks: bytes[at + 2],
-            spare: bytes[at + 3],
-            p: bytes[at + 4],
-            q: bytes[at + 5],
-        };
-    }
-    refused(COMMAND_TRUNCATED, at)
+    let &[_, processors, superblocks, spare, p, q, ..] = bytes else {
+        return Err(Refusal::CommandTruncated);
+    };
+    Ok(Command::Setup {
+        processors,
+        superblocks,
+        spare,
+        p,
+        q,
+    })
 }
 
-fn take_at(bytes: &[u8], at: usize) -> Command
-    requires { (length bytes.now ≤ longest_record) × (at < length bytes.now) }
-    ensures { result ≡ take_at bytes.now at }
+// ---- the calls, none of which is first
+
+fn take_at(bytes: &[u8], at: usize) -> Result<Command, Refusal>
+    requires { (0 < at) × (at < length bytes.now) }
+    ensures { command_of result at ≡ take_at bytes.now at }
 {
-    if at == 0 {
-        return refused(COMMAND_MISPLACED, at);
-    }
-    if at + 4 <= bytes.len() {
-        let call = CallHeader::Take {
-            processor: bytes[at + 1],
-            size: bytes_reader::two_at(bytes, at + 2),
-        };
-        return Command::Call {
-            call,
-            count: 0,
-            first: 0,
-        };
-    }
-    refused(COMMAND_TRUNCATED, at)
+    let &[_, processor, s0, s1, ..] = &bytes[at..] else {
+        return Err(Refusal::CommandTruncated);
+    };
+    let size = u16::from_le_bytes([s0, s1]);
+    Ok(call(CallHeader::Take { processor, size }))
 }
 
-fn free_at(bytes: &[u8], at: usize) -> Command
-    requires { (length bytes.now ≤ longest_record) × (at < length bytes.now) }
-    ensures { result ≡ free_at bytes.now at }
+fn free_at(bytes: &[u8], at: usize) -> Result<Command, Refusal>
+    requires { (0 < at) × (at < length bytes.now) }
+    ensures { command_of result at ≡ free_at bytes.now at }
 {
-    if at == 0 {
-        return refused(COMMAND_MISPLACED, at);
-    }
-    if at + 6 <= bytes.len() {
-        let call = CallHeader::Free {
-            processor: bytes[at + 1],
-            address: bytes_reader::four_at(bytes, at + 2),
-        };
-        return Command::Call {
-            call,
-            count: 0,
-            first: 0,
-        };
-    }
-    refused(COMMAND_TRUNCATED, at)
+    let &[_, processor, a0, a1, a2, a3, ..] = &bytes[at..] else {
+        return Err(Refusal::CommandTruncated);
+    };
+    let address = u32::from_le_bytes([a0, a1, a2, a3]);
+    Ok(call(CallHeader::Free { processor, address }))
 }
 
-fn named_take_at(bytes: &[u8], at: usize) -> Command
-    requires { (length bytes.now ≤ longest_record) × (at < length bytes.now) }
-    ensures { result ≡ named_take_at bytes.now at }
+fn named_take_at(bytes: &[u8], at: usize) -> Result<Command, Refusal>
+    requires { (0 < at) × (at < length bytes.now) }
+    ensures { command_of result at ≡ named_take_at bytes.now at }
 {
-    if at == 0 {
-        return refused(COMMAND_MISPLACED, at);
-    }
-    let end = at + 6;
-    if end <= bytes.len() {
-        let call = CallHeader::NamedTake {
-            processor: bytes[at + 1],
-            name: bytes_reader::two_at(bytes, at + 2),
-            size: bytes_reader::two_at(bytes, at + 4),
-        };
-        return Command::Call {
-            call,
-            count: 0,
-            first: 0,
-        };
-    }
-    refused(COMMAND_TRUNCATED, at)
+    let &[_, processor, n0, n1, s0, s1, ..] = &bytes[at..] else {
+        return Err(Refusal::CommandTruncated);
+    };
+    let name = u16::from_le_bytes([n0, n1]);
+    let size = u16::from_le_bytes([s0, s1]);
+    Ok(call(CallHeader::NamedTake {
+        processor,
+        name,
+        size,
+    }))
 }
 
-fn named_free_at(bytes: &[u8], at: usize) -> Command
-    requires { (length bytes.now ≤ longest_record) × (at < length bytes.now) }
-    ensures { result ≡ named_free_at bytes.now at }
+fn named_free_at(bytes: &[u8], at: usize) -> Result<Command, Refusal>
+    requires { (0 < at) × (at < length bytes.now) }
+    ensures { command_of result at ≡ named_free_at bytes.now at }
 {
-    if at == 0 {
-        return refused(COMMAND_MISPLACED, at);
-    }
-    let end = at + 4;
-    if end <= bytes.len() {
-        let call = CallHeader::NamedFree {
-            processor: bytes[at + 1],
-            name: bytes_reader::two_at(bytes, at + 2),
-        };
-        return Command::Call {
-            call,
-            count: 0,
-            first: 0,
-        };
-    }
-    refused(COMMAND_TRUNCATED, at)
+    let &[_, processor, n0, n1, ..] = &bytes[at..] else {
+        return Err(Refusal::CommandTruncated);
+    };
+    let name = u16::from_le_bytes([n0, n1]);
+    Ok(call(CallHeader::NamedFree { processor, name }))
 }
 
-// The count reads as 0 where the record ends before it; such a drop is cut all the same.
-fn drop_at(bytes: &[u8], at: usize) -> Command
-    requires { (length bytes.now ≤ longest_record) × (at < length bytes.now) }
-    ensures { result ≡ drop_at bytes.now at }
+fn drop_at(bytes: &[u8], at: usize) -> Result<Command, Refusal>
+    requires { (length bytes.now ≤ longest_record) × (0 < at) × (at < length bytes.now) }
+    ensures { command_of result at ≡ drop_at bytes.now at }
 {
-    if at == 0 {
-        return refused(COMMAND_MISPLACED, at);
+    let &[_, processor, count, ref addresses @ ..] = &bytes[at..] else {
+        return Err(Refusal::CommandTruncated);
+    };
+    if addresses.len() < 4 * count as usize {
+        return Err(Refusal::CommandTruncated);
     }
-    let count = bytes_reader::byte_at(bytes, at + 2);
-    let size = 3 + 4 * (count as usize);
-    if at + size <= bytes.len() {
-        let call = CallHeader::Drop {
-            processor: bytes[at + 1],
-        };
-        return Command::Call {
-            call,
-            count,
-            first: (at + 3) as u32,
-        };
-    }
-    refused(COMMAND_TRUNCATED, at)
+    Ok(Command::Call {
+        call: CallHeader::Drop { processor },
+        count,
+        first: at as u32 + 3,
+    })
 }
 
-fn refused(number: u8, at: usize) -> Command
-    requires { at ≤ longest_record }
-    ensures { result ≡ Refused number at }
+// A call that lends no addresses.
+fn call(call: CallHeader) -> Command
+    ensures { result ≡ Call call 0 0 }
+{
+    Command::Call {
+        call,
+        count: 0,
+        first: 0,
+    }
+}
+
+// A refusal at an offset of the record.
+fn refused(refusal: Refusal, offset: usize) -> Command
+    requires { offset ≤ longest_record }
+    ensures { result ≡ Refused (number_of refusal) offset }
 {
     Command::Refused {
-        number,
-        offset: at as u32,
+        number: refusal.number(),
+        offset: offset as u32,
     }
 }

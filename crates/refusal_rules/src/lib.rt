@@ -1,53 +1,53 @@
-// The numbers of the refusals, for the code: those of specs/Refusals.antt, which has the words for when each is given.
+// The refusals. specs/Refusals.antt has their numbers, and the words for when each is given.
 #![tactic(auto)]
 
-// A setup number outside its limits.
-pub const SETUP_OUT_OF_LIMITS: u8 = 1;
+ghost use Rattle.std.specs.Prelude.{◌≡◌};
+ghost use Rattle.refusal_rules.specs.RefusalNumbers.{number_of};
 
-// Processor 0 or above P.
-pub const NO_SUCH_PROCESSOR: u8 = 2;
+// Why a call, or a command of a record, is refused.
+#[derive(Clone, Copy, PartialEq, Eq, Debug)]
+pub enum Refusal {
+    // A setup number outside its limits.
+    SetupOutOfLimits = 1,
+    // Processor 0 or above P.
+    NoSuchProcessor = 2,
+    // A size that no block can have.
+    SizeTooLarge = 3,
+    // None of the places of a take offers a superblock.
+    NoSuperblock = 4,
+    // An address past the superblocks, or in an unused one.
+    AddressUnmapped = 5,
+    // An address at which no block starts.
+    AddressMisaligned = 6,
+    // The block at the address is not live.
+    BlockNotLive = 7,
+    // An unknown command byte.
+    UnknownCommand = 8,
+    // The record ends inside a command.
+    CommandTruncated = 9,
+    // A command that stands where it may not.
+    CommandMisplaced = 10,
+    // A record that is too long.
+    RecordTooLong = 11,
+    // Too few order places lent.
+    StorageTooSmall = 12,
+    // The state fails its check.
+    StateInvalid = 13,
+    // A name that is held, or none.
+    NameUnavailable = 14,
+    // A name that is not held.
+    NameNotHeld = 15,
+    // A drop of no address.
+    DropEmpty = 16,
+    // No run of superblocks for a long size.
+    NoRun = 17,
+}
 
-// A size that no block can have.
-pub const SIZE_TOO_LARGE: u8 = 3;
-
-// None of the places of a take offers a superblock.
-pub const NO_SUPERBLOCK: u8 = 4;
-
-// An address past the superblocks, or in an unused one.
-pub const ADDRESS_UNMAPPED: u8 = 5;
-
-// An address at which no block starts.
-pub const ADDRESS_MISALIGNED: u8 = 6;
-
-// The block at the address is not live.
-pub const BLOCK_NOT_LIVE: u8 = 7;
-
-// An unknown command byte.
-pub const UNKNOWN_COMMAND: u8 = 8;
-
-// The record ends inside a command.
-pub const COMMAND_TRUNCATED: u8 = 9;
-
-// A command that stands where it may not.
-pub const COMMAND_MISPLACED: u8 = 10;
-
-// A record that is too long.
-pub const RECORD_TOO_LONG: u8 = 11;
-
-// Too few order places lent.
-pub const STORAGE_TOO_SMALL: u8 = 12;
-
-// The state fails its check.
-pub const STATE_INVALID: u8 = 13;
-
-// A name that is held, or none.
-pub const NAME_UNAVAILABLE: u8 = 14;
-
-// A name that is not held.
-pub const NAME_NOT_HELD: u8 = 15;
-
-// A drop of no address.
-pub const DROP_EMPTY: u8 = 16;
-
-// No run of superblocks for a long size.
-pub const NO_RUN: u8 = 17;
+impl Refusal {
+    // Its number on the page.
+    pub fn number(self) -> u8
+        ensures { result ≡ number_of self }
+    {
+        self as u8
+    }
+}

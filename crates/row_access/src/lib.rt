@@ -4,34 +4,23 @@
 ghost use Rattle.std.specs.Prelude.{◌≡◌};
 ghost use Rattle.row_rules.specs.LoadStore.{load_of, store_of};
 
-use heap_rules::{Superblock, TABLE_LENGTH};
+use heap_rules::{Superblock, TABLE_LENGTH, UNUSED};
 
 // The row's records as a table, or an unused table where they are not 64.
 pub fn load(row: &[Superblock]) -> [Superblock; TABLE_LENGTH]
     ensures { result ≡ load_of row.now }
 {
-    let mut t = call_states::unused_table();
-    if row.len() == TABLE_LENGTH {
-        let mut i: usize = 0;
-        while i < TABLE_LENGTH {
-            t[i] = row[i];
-            i += 1;
-        }
+    match <[Superblock; TABLE_LENGTH]>::try_from(row) {
+        Ok(t) => t,
+        Err(_) => [UNUSED; TABLE_LENGTH],
     }
-    t
 }
 
 // A table's records overwrite the row's, where the call was accepted and they are 64. Else nothing is written.
 pub fn store(row: &mut [Superblock], t: [Superblock; TABLE_LENGTH], accepted: bool)
     ensures { row.new ≡ store_of accepted row.old t }
 {
-    if accepted {
-        if row.len() == TABLE_LENGTH {
-            let mut k: usize = 0;
-            while k < TABLE_LENGTH {
-                row[k] = t[k];
-                k += 1;
-            }
-        }
+    if accepted && row.len() == TABLE_LENGTH {
+        row.copy_from_slice(&t);
     }
 }

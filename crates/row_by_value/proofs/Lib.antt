@@ -1,1 +1,1 @@
-pub mod TableCallLaws
+pub mod RowRefusalLaws

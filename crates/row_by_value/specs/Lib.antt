@@ -1,1 +1,2 @@
+pub mod RowRefusal
 pub mod Tables

@@ -2,32 +2,66 @@
 // apart. The row's length is a number among the arguments.
 #![tactic(auto)]
 
-ghost use Rattle.std.specs.Prelude.{◌≡◌};
+ghost use Rattle.std.specs.Prelude.{◌≡◌, ℕ, ◌<◌};
 ghost use Rattle.call_rules.specs.declared.Outcome.TheVariants.{Refused};
 ghost use Rattle.call_rules.specs.Answers.{HasNumberAndValuesOf};
 ghost use Rattle.row_rules.specs.Row.{state_of, control_of};
-ghost use Rattle.row_by_value.specs.Tables.{is_accepted, row_first_refusal, refused_call, answered_call};
+ghost use Rattle.row_by_value.specs.RowRefusal.{row_first_refusal, refusal_of_row_fault, number_if_row_fault, number_if_row_fault_of_0};
+ghost use Rattle.row_by_value.specs.Tables.{refused_call, answered_call};
 
 use call_rules::{Answer, Outcome};
+use check_limits::{SetupFault, setup_refusal};
 use heap_rules::{Setup, State, Superblock, TABLE_LENGTH};
-use refusal_rules::STATE_INVALID;
+use refusal_rules::Refusal;
 use row_rules::{Control, RowAnswer};
 
-// What is to be stored in the row where the call was accepted, the answer, and whether it was.
+// What a call on a lent row is refused for before any superblock is looked at.
+#[derive(Clone, Copy, PartialEq, Eq, Debug)]
+pub enum RowFault {
+    // The setup numbers, or the order places lent.
+    Setup(SetupFault),
+    // A row that is not 64 records long.
+    Length,
+}
+
+impl From<SetupFault> for RowFault {
+    ghost use Rattle.row_by_value.specs.declared.RowFault.TheVariants.{Setup};
+
+    ghost from_gives = { λ fault r. r ≡ Setup fault };
+
+    fn from(fault: SetupFault) -> RowFault {
+        RowFault::Setup(fault)
+    }
+}
+
+impl RowFault {
+    // As a refusal, where setup numbers outside their limits are refused so.
+    pub fn refusal(self, numbers: Refusal) -> Refusal
+        ensures { result ≡ refusal_of_row_fault numbers self }
+    {
+        match self {
+            RowFault::Setup(fault) => fault.refusal(numbers),
+            RowFault::Length => Refusal::StateInvalid,
+        }
+    }
+}
+
+// What is to be stored in the row where the call was accepted, and the answer.
 #[derive(Clone, Copy)]
 pub struct TableCall {
     pub table: [Superblock; TABLE_LENGTH],
     pub answer: RowAnswer,
-    pub accepted: bool,
 }
 
 // The state that a control and a table make.
 pub fn state_of(control: Control, table: [Superblock; TABLE_LENGTH]) -> State
     ensures { result ≡ state_of control table }
 {
-    let setup = control.setup;
-    let names = control.names;
-    let totals = control.totals;
+    let Control {
+        setup,
+        names,
+        totals,
+    } = control;
     State {
         setup,
         table,
@@ -36,13 +70,16 @@ pub fn state_of(control: Control, table: [Superblock; TABLE_LENGTH]) -> State
     }
 }
 
-// All of a state but its table.
+// All of a state but its table. No `From`: both types are other crates'.
 pub fn control_of(s: State) -> Control
     ensures { result ≡ control_of s }
 {
-    let setup = s.setup;
-    let names = s.names;
-    let totals = s.totals;
+    let State {
+        setup,
+        names,
+        totals,
+        ..
+    } = s;
     Control {
         setup,
         names,
@@ -50,25 +87,17 @@ pub fn control_of(s: State) -> Control
     }
 }
 
-// The refusals before any superblock is looked at: setup numbers, 12, 13 for the row's length; 0 where none applies.
-pub fn row_first_refusal(numbers: u8, n: usize, order: &[u16], u: Setup) -> u8
-    ensures { result ≡ row_first_refusal numbers n order.now u }
+// The refusals before any superblock is looked at: a setup's, then the row's length.
+pub fn row_first_refusal(n: usize, order: &[u16], u: Setup) -> Result<(), RowFault>
+    ensures number { (numbers : ℕ) → 0 < numbers → number_if_row_fault numbers result ≡ row_first_refusal numbers n order.now u }
+    ensures number_of_0 { number_if_row_fault_of_0 n result ≡ row_first_refusal 0 n order.now u }
 {
-    let first = check_limits::setup_refusal(numbers, u, order);
-    if first != 0 {
-        return first;
+    setup_refusal(u, order)?;
+    if n == TABLE_LENGTH {
+        Ok(())
+    } else {
+        Err(RowFault::Length)
     }
-    if n != TABLE_LENGTH {
-        return STATE_INVALID;
-    }
-    0
-}
-
-// Whether a call was accepted.
-fn accepted(outcome: Outcome) -> bool
-    ensures { result ≡ is_accepted outcome }
-{
-    call_outcomes::number_of(outcome) == 0
 }
 
 // A refusal, with the control and the table as they are to be.
@@ -76,13 +105,12 @@ pub fn refuse(number: u8, control: Control, table: [Superblock; TABLE_LENGTH]) -
     ensures value { result ≡ refused_call number control table }
     ensures number_and_values { HasNumberAndValuesOf result.answer.outcome (Refused number) }
 {
-    let outcome = Outcome::Refused(number);
-    let accepted = accepted(outcome);
-    let answer = RowAnswer { outcome, control };
     TableCall {
         table,
-        answer,
-        accepted,
+        answer: RowAnswer {
+            outcome: Outcome::Refused(number),
+            control,
+        },
     }
 }
 
@@ -91,15 +119,12 @@ pub fn answered(a: Answer) -> TableCall
     ensures value { result ≡ answered_call a }
     ensures number_and_values { HasNumberAndValuesOf result.answer.outcome a.outcome }
 {
-    let s = a.state;
-    let table = s.table;
-    let outcome = a.outcome;
-    let control = control_of(s);
-    let accepted = accepted(outcome);
-    let answer = RowAnswer { outcome, control };
+    let table = a.state.table;
     TableCall {
         table,
-        answer,
-        accepted,
+        answer: RowAnswer {
+            outcome: a.outcome,
+            control: control_of(a.state),
+        },
     }
 }

@@ -66,7 +66,7 @@ pick_of_equal false row = refl
 
 -- whatever the call
 module _ (row t stored : List Superblock) (after : List ℕ) (r : TableCall) (loads : t ≡ load_of row)
-    (accepts : r.accepted ≡ is_accepted r.answer.outcome) (stores : stored ≡ store_of r.accepted row r.table) where
+    (accepted : Bool) (accepts : accepted ≡ is_accepted r.answer.outcome) (stores : stored ≡ store_of accepted row r.table) where
   stored_result_is_rule : (f : List Superblock → RowAfter) → ((length row ≡ 64 → ⊥) → with_row (f t) row ≡ f row)
       → ((b : Bool) → b ≡ is_accepted (f row).outcome → pick b (f row).row row ≡ (f row).row) → row_after_call r after ≡ f t
       → row_after r.answer stored after ≡ f row
@@ -77,15 +77,15 @@ module _ (row t stored : List Superblock) (after : List ℕ) (r : TableCall) (lo
           let gives : row_after_call r after ≡ f row = works ∙ ap f (loads ∙ pick_true (eqb (length row) 64) row _ (eq-eqb (length row) 64 e)) in
           let table_is : r.table ≡ (f row).row = ap (λ (x : RowAfter). x.row) gives in
           let stored_is : stored ≡ r.table =
-          stores ∙ ap (λ (zs : List Superblock). pick r.accepted zs row) (pick_true (eqb (length row) 64) r.table row (eq-eqb (length row) 64 e)
+          stores ∙ ap (λ (zs : List Superblock). pick accepted zs row) (pick_true (eqb (length row) 64) r.table row (eq-eqb (length row) 64 e)
           ∙ table_is)
-          ∙ kept r.accepted (accepts ∙ ap (λ (x : RowAfter). is_accepted x.outcome) gives)
+          ∙ kept accepted (accepts ∙ ap (λ (x : RowAfter). is_accepted x.outcome) gives)
           ∙ sym table_is in
           ap (λ (zs : List Superblock). row_after r.answer zs after) stored_is ∙ gives
       go (no g) =
           ap (λ (zs : List Superblock). row_after r.answer zs after)
-          (stores ∙ ap (λ (zs : List Superblock). pick r.accepted zs row) (pick_false (eqb (length row) 64) r.table row (ne_eqb (length row) 64 g))
-          ∙ pick_of_equal r.accepted row)
+          (stores ∙ ap (λ (zs : List Superblock). pick accepted zs row) (pick_false (eqb (length row) 64) r.table row (ne_eqb (length row) 64 g))
+          ∙ pick_of_equal accepted row)
           ∙ ap (λ (x : RowAfter). with_row x row) works ∙ other g
 
   pub stored_setup_is_row_setup : (u : Setup) (order : List ℕ) → row_after_call r after ≡ setup_on (length row) u t order → row_after r.answer stored after
@@ -106,12 +106,12 @@ module _ (row t stored : List Superblock) (after : List ℕ) (r : TableCall) (lo
       → PassesIfAcceptedWith r.table → PassesIfAcceptedWith stored
   stored_passes_if_accepted f not-accepted works y z = go (ℕ_discrete (length row) 64)
     where
-      taken : r.accepted ≡ true
+      taken : accepted ≡ true
       taken = accepts ∙ ap (λ (n : ℕ). eqb n 0) z
 
       go : Dec (length row ≡ 64) → passes (state_of r.answer.control stored) after ≡ true
       go (yes e) =
-          let stored_is : stored ≡ r.table = stores ∙ pick_true r.accepted _ row taken ∙ pick_true (eqb (length row) 64) r.table row
+          let stored_is : stored ≡ r.table = stores ∙ pick_true accepted _ row taken ∙ pick_true (eqb (length row) 64) r.table row
           (eq-eqb (length row) 64 e) in
           subst PassesIfAcceptedWith (sym stored_is) y z
       go (no g) = absurd (not-accepted g (sym (ap (λ (x : RowAfter). number_of x.outcome) works) ∙ z))

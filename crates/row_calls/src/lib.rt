@@ -9,13 +9,14 @@ ghost use Rattle.row_rules.specs.Row.{state_of, row_after, setup_on, call_on, ro
 ghost use Rattle.row_by_value.specs.Tables.{is_accepted, row_after_call};
 
 use call_header::CallHeader;
+use call_rules::Outcome;
 use heap_rules::{Setup, Superblock, TABLE_LENGTH};
-use refusal_rules::{SETUP_OUT_OF_LIMITS, STATE_INVALID};
-use row_by_value::TableCall;
+use refusal_rules::Refusal;
+use row_by_value::{TableCall, row_first_refusal};
 use row_rules::{Control, RowAnswer};
 
-// ---- on a table by value. The row's length is a number among the arguments, and the table that is to be stored in the row is handed back,
-// with whether the call was accepted: a refused one stores nothing.
+// ---- on a table by value. The row's length is a number among the arguments, and the table that is to be stored in the row is handed back: a
+// refused call stores nothing.
 
 // A setup where n records are lent.
 fn setup_table(
@@ -25,18 +26,17 @@ fn setup_table(
     u: Setup,
 ) -> TableCall
     ensures order_after { row_after_call result order.new ≡ setup_on n u table order.old }
-    ensures accepts { result.accepted ≡ is_accepted result.answer.outcome }
     ensures number_and_values { HasNumberAndValuesOf result.answer.outcome (setup_on n u table order.old).outcome }
     ensures passes { PassesIfAccepted result.answer.outcome (state_of result.answer.control result.table) order.new }
 {
-    let first = row_by_value::row_first_refusal(SETUP_OUT_OF_LIMITS, n, order, u);
-    if first != 0 {
-        let none = call_states::no_state();
-        let zeros = row_by_value::control_of(none);
-        return row_by_value::refuse(first, zeros, table);
+    match row_first_refusal(n, order, u) {
+        Err(fault) => {
+            let refusal = fault.refusal(Refusal::SetupOutOfLimits);
+            let zeros = row_by_value::control_of(call_states::no_state());
+            row_by_value::refuse(refusal.number(), zeros, table)
+        }
+        Ok(()) => row_by_value::answered(engine_state::setup(u, order)),
     }
-    let a = engine_state::setup(u, order);
-    row_by_value::answered(a)
 }
 
 // A take, a free, plain or named, or a drop, where n records are lent. Only a drop reads the addresses.
@@ -49,19 +49,20 @@ fn call_table(
     addresses: &[u32],
 ) -> TableCall
     ensures order_after { row_after_call result order.new ≡ call_on n control table order.old (call_with call addresses.now) }
-    ensures accepts { result.accepted ≡ is_accepted result.answer.outcome }
     ensures number_and_values { HasNumberAndValuesOf result.answer.outcome (call_on n control table order.old (call_with call addresses.now)).outcome }
     ensures passes { PassesIfAccepted result.answer.outcome (state_of result.answer.control result.table) order.new }
     ensures moves { MovesAtMost (most_moves control.setup.q (call_with call addresses.now)) result.answer.outcome }
 {
-    let u = control.setup;
-    let first = row_by_value::row_first_refusal(STATE_INVALID, n, order, u);
-    if first != 0 {
-        return row_by_value::refuse(first, control, table);
+    match row_first_refusal(n, order, control.setup) {
+        Err(fault) => {
+            let refusal = fault.refusal(Refusal::StateInvalid);
+            row_by_value::refuse(refusal.number(), control, table)
+        }
+        Ok(()) => {
+            let s = row_by_value::state_of(control, table);
+            row_by_value::answered(engine_state::call_state(s, order, call, addresses))
+        }
     }
-    let s = row_by_value::state_of(control, table);
-    let a = engine_state::call_state(s, order, call, addresses);
-    row_by_value::answered(a)
 }
 
 // ---- on a lent row
@@ -81,11 +82,10 @@ pub fn call_row(
     ensures passes { PassesIfAccepted result.outcome (state_of result.control row.new) order.new }
     ensures moves { MovesAtMost (most_moves control.setup.q (call_with call addresses.now)) result.outcome }
 {
-    let n = row.len();
     let t = row_access::load(row);
-    let w = call_table(n, t, order, control, call, addresses);
-    row_access::store(row, w.table, w.accepted);
-    w.answer
+    let called = call_table(row.len(), t, order, control, call, addresses);
+    row_access::store(row, called.table, is_accepted(called.answer.outcome));
+    called.answer
 }
 
 // A setup on the row, whatever its length. A refused one writes no record.
@@ -94,9 +94,16 @@ pub fn setup_row(row: &mut [Superblock], order: &mut [u16], u: Setup) -> RowAnsw
     ensures number_and_values { HasNumberAndValuesOf result.outcome (row_setup u row.old order.old).outcome }
     ensures passes { PassesIfAccepted result.outcome (state_of result.control row.new) order.new }
 {
-    let n = row.len();
     let t = row_access::load(row);
-    let w = setup_table(n, t, order, u);
-    row_access::store(row, w.table, w.accepted);
-    w.answer
+    let called = setup_table(row.len(), t, order, u);
+    row_access::store(row, called.table, is_accepted(called.answer.outcome));
+    called.answer
+}
+
+// The call was accepted, so that its table is to be stored.
+#[tactic(auto, unfolding(call_rules::specs::Answers::number_of))]
+fn is_accepted(outcome: Outcome) -> bool
+    ensures { result ≡ is_accepted outcome }
+{
+    call_outcomes::number_of(outcome) == 0
 }

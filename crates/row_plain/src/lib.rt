@@ -1,51 +1,21 @@
 // Rows lent from the front of a local array, for callers with plain values: no reference to a record is needed to call these.
 #![tactic(auto)]
 
-ghost use Rattle.std.specs.Prelude.{◌≡◌, ◌≤◌, min, take};
+ghost use Rattle.std.specs.Prelude.{◌≡◌, take};
 ghost use Rattle.call_rules.specs.Answers.{HasNumberAndValuesOf, PassesIfAccepted, MovesAtMost};
 ghost use Rattle.call_rules.specs.Calls.{call_with, most_moves};
 ghost use Rattle.row_rules.specs.Row.{state_of, row_setup, row_call};
-ghost use Rattle.row_rules.specs.Borrowed.{record_count, RecordsAfter, records_after};
+ghost use Rattle.row_rules.specs.Borrowed.{RecordsAfter, records_after};
 
 use call_header::CallHeader;
 use heap_rules::{Setup, Superblock};
 use row_rules::{Control, RECORD_COUNT, RecordsAnswer};
 
-// As many as there are records.
-fn at_most(n: usize) -> usize
-    ensures { (result ≡ min n record_count) × (result ≤ record_count) }
-{
-    if n <= RECORD_COUNT {
-        return n;
-    }
-    RECORD_COUNT
-}
-
-// A take, a free, plain or named, or a drop on a row of the first n records.
-fn borrow_call(
-    n: usize,
-    records: [Superblock; RECORD_COUNT],
-    order: &mut [u16],
-    control: Control,
-    call: CallHeader,
-    addresses: &[u32],
-) -> RecordsAnswer
-    requires { n ≤ record_count }
-    ensures order_after { record { returned = result; order = order.new } ≡ records_after n records
-        (row_call control (take n records) order.old (call_with call addresses.now)) }
-    ensures passes { PassesIfAccepted result.answer.outcome (state_of result.answer.control (take n result.records)) order.new }
-    ensures moves { MovesAtMost (most_moves control.setup.q (call_with call addresses.now)) result.answer.outcome }
-{
-    let mut t = records;
-    let answer = row_calls::call_row(&mut t[..n], order, control, call, addresses);
-    RecordsAnswer { records: t, answer }
-}
-
 // A take, a free, plain or named, or a drop on a row of the first n records, of all 65 where n is above. Only a drop reads the
 // addresses.
 pub fn call_by_row(
     n: usize,
-    records: [Superblock; RECORD_COUNT],
+    mut records: [Superblock; RECORD_COUNT],
     order: &mut [u16],
     control: Control,
     call: CallHeader,
@@ -58,30 +28,15 @@ pub fn call_by_row(
     ensures passes { PassesIfAccepted result.answer.outcome (state_of result.answer.control (take n result.records)) order.new }
     ensures moves { MovesAtMost (most_moves control.setup.q (call_with call addresses.now)) result.answer.outcome }
 {
-    let m = at_most(n);
-    borrow_call(m, records, order, control, call, addresses)
-}
-
-// A setup on a row of the first n records.
-fn borrow_setup(
-    n: usize,
-    records: [Superblock; RECORD_COUNT],
-    order: &mut [u16],
-    u: Setup,
-) -> RecordsAnswer
-    requires { n ≤ record_count }
-    ensures order_after { record { returned = result; order = order.new } ≡ records_after n records (row_setup u (take n records) order.old) }
-    ensures passes { PassesIfAccepted result.answer.outcome (state_of result.answer.control (take n result.records)) order.new }
-{
-    let mut t = records;
-    let answer = row_calls::setup_row(&mut t[..n], order, u);
-    RecordsAnswer { records: t, answer }
+    let lent = n.min(RECORD_COUNT);
+    let answer = row_calls::call_row(&mut records[..lent], order, control, call, addresses);
+    RecordsAnswer { records, answer }
 }
 
 // A setup on a row of the first n records, of all 65 where n is above.
 pub fn setup_by_row(
     n: usize,
-    records: [Superblock; RECORD_COUNT],
+    mut records: [Superblock; RECORD_COUNT],
     order: &mut [u16],
     u: Setup,
 ) -> RecordsAnswer
@@ -89,6 +44,7 @@ pub fn setup_by_row(
     ensures number_and_values { HasNumberAndValuesOf result.answer.outcome (row_setup u (take n records) order.old).outcome }
     ensures passes { PassesIfAccepted result.answer.outcome (state_of result.answer.control (take n result.records)) order.new }
 {
-    let m = at_most(n);
-    borrow_setup(m, records, order, u)
+    let lent = n.min(RECORD_COUNT);
+    let answer = row_calls::setup_row(&mut records[..lent], order, u);
+    RecordsAnswer { records, answer }
 }

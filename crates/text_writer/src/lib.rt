@@ -1,59 +1,86 @@
 // Text and numbers written into a lent buffer, as far as they reach.
 #![tactic(auto)]
 
-ghost use Rattle.std.specs.Prelude.{◌≡◌, [], ◌∷◌, ◌^◌, ◌≤◌, ◌<◌, min};
-ghost use Rattle.text_rules.specs.Text.{decimal, digits, pasted};
+ghost use Rattle.std.specs.Prelude.{◌≡◌, [], ℕ, List};
+ghost use Rattle.text_rules.specs.Text.{decimal, digits};
+ghost use Rattle.text_writer.specs.Written.{written};
 
-// Puts the text at a place of the buffer; the place after it.
-pub fn put_text(out: &mut [u8], at: usize, text: &[u8]) -> usize
-    ensures { record { end = result; buffer = out.new } ≡ pasted out.old at text.now }
-{
-    let mut end = lesser(at, out.len());
-    let mut i = 0;
-    while i < text.len() {
-        end = put_byte(out, end, text[i]);
-        i += 1;
-    }
-    end
+// A lent buffer, and where the next text goes. What does not fit is left out.
+#[derive(Drop)]
+pub struct Text<'a> {
+    pub buffer: &'a mut [u8],
+    pub end: usize,
 }
 
-// Puts the number in decimal; the place after it.
-pub fn put_decimal(out: &mut [u8], at: usize, n: u32) -> usize
-    ensures { record { end = result; buffer = out.new } ≡ pasted out.old at (decimal n) }
-{
-    put_digits(out, at, n, 10)
+impl<'a> Text<'a> {
+    // A buffer whose first text is still to come.
+    pub fn new(buffer: &'a mut [u8]) -> Text<'a>
+        ensures { result ≡ record { buffer = buffer.entry; end = 0 } }
+    {
+        Text { buffer, end: 0 }
+    }
+
+    // As much of the text as there is room for.
+    #[tactic(auto, using(crate::proofs::WriteLaws::written_copied))]
+    pub fn put_text(&mut self, text: &[u8])
+        ensures { self.new ≡ written self.old text.now }
+    {
+        let start = self.end.min(self.buffer.len());
+        let n = text.len().min(self.buffer.len() - start);
+        self.buffer[start..start + n].copy_from_slice(&text[..n]);
+        self.end = start + n;
+    }
+
+    // No text: the place, or the buffer's end where the place lies past it.
+    pub fn put_nothing(&mut self)
+        ensures { self.new ≡ written self.old [] }
+    {
+        self.put_text(b"");
+    }
 }
 
-// The digits of n, of which there are at most `most`: those before the last digit first.
-fn put_digits(out: &mut [u8], at: usize, n: u32, most: usize) -> usize
-    requires { (n < 10 ^ most) × (1 ≤ most) }
-    ensures { record { end = result; buffer = out.new } ≡ pasted out.old at (digits most n) }
-{
-    let last = (48 + n % 10) as u8;
-    if n < 10 {
-        return put_byte(out, at, last);
-    }
-    let next = put_digits(out, at, n / 10, most - 1);
-    put_byte(out, next, last)
+// A number that is written in decimal, with no leading 0.
+pub trait Decimal: Copy {
+    ghost in_decimal: { Self → List ℕ };
+
+    fn put(self, text: &mut Text)
+        ensures { text.new ≡ written text.old (in_decimal self) };
 }
 
-// One byte, where the buffer has that place.
-fn put_byte(out: &mut [u8], at: usize, byte: u8) -> usize
-    ensures { record { end = result; buffer = out.new } ≡ pasted out.old at (byte ∷ []) }
-{
-    let size = out.len();
-    if at < size {
-        out[at] = byte;
-        return at + 1;
+impl Decimal for u8 {
+    ghost in_decimal = { decimal };
+
+    fn put(self, text: &mut Text) {
+        u16::from(self).put(text);
     }
-    size
 }
 
-fn lesser(a: usize, b: usize) -> usize
-    ensures { result ≡ min a b }
-{
-    if a < b {
-        return a;
+impl Decimal for u16 {
+    ghost in_decimal = { decimal };
+
+    fn put(self, text: &mut Text) {
+        u32::from(self).put(text);
     }
-    b
+}
+
+impl Decimal for u32 {
+    ghost in_decimal = { decimal };
+
+    #[tactic(auto, using(crate::proofs::DigitCounts::digits_20_of_u32))]
+    fn put(self, text: &mut Text) {
+        u64::from(self).put(text);
+    }
+}
+
+impl Decimal for u64 {
+    ghost in_decimal = { digits 20 };
+
+    // The digits before the last one come first.
+    #[tactic(auto, using(crate::proofs::DigitCounts::written_one_digit, crate::proofs::DigitCounts::written_last_digit))]
+    fn put(self, text: &mut Text) {
+        if 10 <= self {
+            (self / 10).put(text);
+        }
+        text.put_text(&[b'0' + (self % 10) as u8]);
+    }
 }

@@ -1,10 +1,12 @@
--- `answer_text::bad_input_text` meets its contract. Assumes nothing.
-use mathlib.Core.Path.{refl}
-use Rattle.text_rules.specs.Text.{letters}
-use Rattle.line_fields.proofs.FieldLaws.{word_put}
+-- The text is put from the buffer's start, and is in the buffer once the buffer is let go. Assumes nothing.
+use Rattle.std.proofs.Common.{◌≡◌, rules}
+use Rattle.text_writer.specs.Written.{written}
+use Rattle.text_writer.proofs.WriteLaws.{let_go}
 use Rattle.answer_rules.specs.AnswerLines.{bad_input_text}
 use Rattle.answer_text.proofs.bad_input_text.Goals as goal
 
 pub returns : goal.returns
 unfolding bad_input_text
-returns c = word_put _ _ _ c.put_text.ensures (letters "bad input\n") refl
+returns c =
+    let put : c.put_text.new.self ≡ written c.new-text.result bad_input_text = c.put_text.ensures in
+    search (rules, let_go)

@@ -1,21 +1,17 @@
--- `answer_text::row_answer_text` meets its contract: the lines one after another. Assumes nothing.
-use mathlib.Core.Path.{refl}
-use Rattle.text_rules.specs.Text.{letters}
-use Rattle.text_rules.proofs.PasteLaws.{paste_then_paste}
-use Rattle.line_fields.proofs.FieldLaws.{word_put}
+-- The lines are put one after another from the buffer's start, and are in the buffer once the buffer is let go. Assumes nothing.
+use Rattle.std.proofs.Common.{◌≡◌, take, rules}
+use Rattle.text_writer.specs.Written.{written}
+use Rattle.text_writer.proofs.WriteLaws.{in_a_row, let_go}
+use Rattle.row_rules.specs.Row.{state_of}
 use Rattle.answer_rules.specs.AnswerLines.{answer_text}
 use Rattle.answer_text.proofs.row_answer_text.Goals as goal
 
 pub returns : goal.returns
 unfolding answer_text
 returns c =
-    let p₁ = c.outcome_line-first.ensures in
-    let p₂ = c.setup_line-second.ensures in
-    let p₃ = c.superblock_lines-superblocks.ensures in
-    let p₄ = c.name_lines-held.ensures in
-    let p₅ = c.total_lines-kept.ensures in
-    let p₆ = c.place_lines-changed.ensures in
-    let p₇ = word_put _ _ _ c.put_text.ensures (letters "end\n") refl in
-    paste_then_paste _ _ _ _
-    (paste_then_paste _ _ _ _ (paste_then_paste _ _ _ _ (paste_then_paste _ _ _ _ (paste_then_paste _ _ _ _ (paste_then_paste _ _ _ _ p₁ p₂) p₃) p₄)
-    p₅) p₆) p₇
+    let a = c.args.a in
+    let put : c.put_text.new.self
+    ≡ written c.new-text.result
+    (answer_text a.answer.outcome (state_of a.answer.control (take c.args.n a.records)) c.args.before.now c.args.after.now) =
+    search in_a_row depth 8 in
+    search (rules, let_go)

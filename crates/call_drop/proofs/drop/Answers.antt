@@ -1,31 +1,22 @@
 -- `call_drop::drop` meets its contract. Assumes nothing.
+use mathlib.Core.Path.{◌∙◌}
 use Rattle.heap_laws.proofs.ShapeLaws.{shape_of_state}
-use Rattle.call_drop.proofs.DropUncheckedLaws.{drop_unchecked_clauses, drop_outcomes, addresses_can_be_tested, blocks_can_be_dropped}
+use Rattle.call_outcomes.proofs.CallTestLaws.{refused_by_test, passed_by_test, call_clauses}
+use Rattle.call_drop.proofs.DropUncheckedLaws.{drop_unchecked_by_test, addresses_can_be_tested, blocks_can_be_dropped}
 use Rattle.call_drop.proofs.drop.Goals as goal
 
-pub returns-then-not-is_processor : goal.returns-then-not-is_processor
-returns-then-not-is_processor c =
-    let t = drop_unchecked_clauses _ _ _ _ (search drop_outcomes) in
-    record { order_after = t.0; number_and_values = t.1 }
+pub drop_refusal-requires : goal.drop_refusal-requires
+drop_refusal-requires c = addresses_can_be_tested _ _ c.requires (search shape_of_state)
 
-pub returns-then-addresses-eq0 : goal.returns-then-addresses-eq0
-returns-then-addresses-eq0 c =
-    let t = drop_unchecked_clauses _ _ _ _ (search drop_outcomes) in
-    record { order_after = t.0; number_and_values = t.1 }
-
-pub returns-then-bad-ne0 : goal.returns-then-bad-ne0
-returns-then-bad-ne0 c =
-    let t = drop_unchecked_clauses _ _ _ _ (search drop_outcomes) in
+pub returns-in-Err : goal.returns-in-Err
+returns-in-Err c =
+    let t = call_clauses _ (refused_by_test _ _ _ _ _ _ _ c.in-Err.ensures c.number.ensures c.refuse.ensures.value ∙ drop_unchecked_by_test _ _ _ _) in
     record { order_after = t.0; number_and_values = t.1 }
 
 pub drop_all-requires : goal.drop_all-requires
-drop_all-requires c = blocks_can_be_dropped _ _ c.requires _ _ (search shape_of_state)
-    c.first_address_refusal-bad.ensures c.if-bad-ne0.false
+drop_all-requires c = blocks_can_be_dropped _ _ c.requires _ _ (search shape_of_state) c.in-Ok.ensures
 
-pub returns : goal.returns
-returns c =
-    let t = drop_unchecked_clauses _ _ _ _ (search drop_outcomes) in
+pub returns-in-Ok : goal.returns-in-Ok
+returns-in-Ok c =
+    let t = call_clauses _ (passed_by_test _ _ _ _ _ c.in-Ok.ensures c.drop_all.ensures ∙ drop_unchecked_by_test _ _ _ _) in
     record { order_after = t.0; number_and_values = t.1 }
-
-pub first_address_refusal-bad-requires : goal.first_address_refusal-bad-requires
-first_address_refusal-bad-requires c = addresses_can_be_tested _ _ c.requires (search shape_of_state)

@@ -1,5 +1,5 @@
 use borrow.Author.Rules.{rules}
-use native.Mathlib.Omega.{arith}
+use Rattle.std.proofs.lemmas.Result.{err_from_is_err_and}
 use Rattle.base_laws.proofs.ReplacedElement.{length_of_length_map}
 use Rattle.call_drop_addresses.proofs.FirstAddressRefusalLaws.{none_refused_yet, past_table_refused, first_bad_refused}
 use Rattle.call_drop_addresses.proofs.FirstAddressRefusalLaws.{run_of_address_fits, none_refused_past_run, none_refused_past_block}
@@ -7,30 +7,36 @@ use Rattle.call_drop_addresses.proofs.FirstAddressRefusalLaws.{none_refused_at_e
 use Rattle.call_drop_addresses.proofs.first_address_refusal.Goals as goal
 use Rattle.call_drop_addresses.proofs.first_address_refusal.Goals.{then-b, else-b}
 
-pub loop-i-init : goal.loop-i-init
-loop-i-init c = (omega arith, search (none_refused_yet, length_of_length_map))
+pub loop-address-init : goal.loop-address-init
+loop-address-init c = search (none_refused_yet, length_of_length_map)
 
-pub returns-then-k-ge-TABLE_LENGTH : goal.returns-then-k-ge-TABLE_LENGTH
-returns-then-k-ge-TABLE_LENGTH c = search (past_table_refused, rules)
+pub returns-in_default : goal.returns-in_default
+returns-in_default c = search (past_table_refused, rules)
 
-pub returns-then-bad-ne0 : goal.returns-then-bad-ne0
-returns-then-bad-ne0 c = search first_bad_refused
+pub returns-in_err-refusal_in : goal.returns-in_err-refusal_in
+returns-in_err-refusal_in c =
+    let p = err_from_is_err_and c.from_residual.result c.from_residual.ensures.1 in
+    rw (p.1, p.2)
+    (first_bad_refused _ _ _ _ c.loop-address.invariant c.loop-address-test.true _ c.superblock_index-k.ensures
+    _ c.in-Some.ensures.lookup.3.0 c.in-Some.ensures.lookup.1
+    _ c.in_err-refusal_in.ensures)
 
-pub without_run-t-requires : goal.without_run-t-requires
-without_run-t-requires c =
-    run_of_address_fits _ _ _ _ c.loop-i.invariant.1 c.loop-i-test.true _ c.refusal_in-bad.ensures
-    c.if-bad-ne0.false (omega arith)
+pub slice_bounds-t-end : goal.slice_bounds-t-end
+slice_bounds-t-end c =
+    let h = run_of_address_fits _ _ _ _ c.loop-address.invariant c.loop-address-test.true _ c.superblock_index-k.ensures
+    _ c.in-Some.ensures.lookup.3.0 c.in-Some.ensures.lookup.1 in
+    search rules
 
-pub loop-i-preserved : goal.loop-i-preserved
-loop-i-preserved c = (
-  omega arith,
-  elim c.if-b.branch [
-    | then-b w ↦ none_refused_past_run _ _ _ _ c.loop-i.invariant.1 c.loop-i-test.true _ c.refusal_in-bad.ensures
-        c.if-bad-ne0.false (omega arith) w.if-b.true _ _ w.without_run-t.ensures w.t-is
-    | else-b w ↦ none_refused_past_block _ _ _ _ c.loop-i.invariant.1 c.loop-i-test.true _ c.refusal_in-bad.ensures
-        c.if-bad-ne0.false (omega arith) w.if-b.false _ _ w.without_mark.ensures w.t-is
-  ],
-)
+pub loop-address-preserved : goal.loop-address-preserved
+loop-address-preserved c =
+    elim c.if-b.branch [
+      | then-b w ↦ rw w.t-is (none_refused_past_run _ _ _ _ c.loop-address.invariant c.loop-address-test.true _ c.superblock_index-k.ensures
+          _ c.in-Some.ensures.lookup.3.0 c.in-Some.ensures.lookup.1
+          c.in_ok-refusal_in.ensures w.if-b.true _ w.from.ensures _ (w.fill.ensures.after (λ y e. e)))
+      | else-b w ↦ rw w.t-is (none_refused_past_block _ _ _ _ c.loop-address.invariant c.loop-address-test.true _ c.superblock_index-k.ensures
+          _ c.in-Some.ensures.lookup.3.0 c.in-Some.ensures.lookup.1
+          c.in_ok-refusal_in.ensures w.if-b.false _ w.without_mark.ensures)
+    ]
 
 pub returns : goal.returns
 returns c = search none_refused_at_end

@@ -1,12 +1,7 @@
--- `call_drop_addresses::first_address_refusal` meets its contract. The loop's invariant: the addresses passed meet no refusal. The measure is what is
--- left of them. Assumes nothing.
-use Prim.Native.Nat.{◌-◌, ◌≤◌}
-use lib.ListN.{length}
+-- `call_drop_addresses::first_address_refusal` meets its contract. The loop's invariant: the addresses passed meet no refusal, and t is the table
+-- without their marks and runs. Assumes nothing.
 use Rattle.call_drop_addresses.proofs.FirstAddressRefusalLaws.{NoneRefused}
 use Rattle.call_drop_addresses.proofs.first_address_refusal.Given as goal
 
-abbrev pub invariant-loop-i : goal.invariant-loop-i
-invariant-loop-i l = (l.i ≤ length l.addresses) × NoneRefused l.s l.addresses l.i l.t
-
-abbrev pub decreases-loop-i : goal.decreases-loop-i
-decreases-loop-i l = length l.addresses - l.i
+abbrev pub invariant-loop-address : goal.invariant-loop-address
+invariant-loop-address l = NoneRefused l.s l.addresses l.address-index l.t

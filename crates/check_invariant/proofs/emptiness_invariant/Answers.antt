@@ -1,16 +1,15 @@
-use Prim.Native.Nat.{◌-◌}
-use native.Mathlib.Omega.{arith}
-use Rattle.check_invariant.proofs.EmptinessInvariantLaws.{totals_invariant_false_of_heap, heap_invariants_step, totals_invariant_of_all_heaps}
+-- `check_invariant::emptiness_invariant` meets its contract. Assumes nothing.
+use Rattle.std.proofs.Common.{refl, ◌∙◌, rules}
+use borrow.Author.Tests.{tests}
+use Rattle.std.proofs.lemmas.Iterator.{YieldsList-from_range}
+use Rattle.std.proofs.lemmas.Iterator.Search.{all_from_yields_List}
+use Rattle.check_invariant.specs.TotalsInvariant.{heap_invariant, totals_invariant}
+use Rattle.check_invariant.proofs.AllBelowLaws.{all_below_is_list_all}
 use Rattle.check_invariant.proofs.emptiness_invariant.Goals as goal
 
-pub loop-heap-init : goal.loop-heap-init
-loop-heap-init c = (omega arith, λ i l. absurd (let z : ⊥ = omega arith in z))
-
-pub returns-then-not-heap_invariant : goal.returns-then-not-heap_invariant
-returns-then-not-heap_invariant c = search totals_invariant_false_of_heap
-
-pub loop-heap-preserved : goal.loop-heap-preserved
-loop-heap-preserved c = (omega arith, search heap_invariants_step)
-
 pub returns : goal.returns
-returns c = search totals_invariant_of_all_heaps
+unfolding totals_invariant
+returns c =
+    all_from_yields_List (heap_invariant c.args.setup c.args.t) _ _ _ c.all.ensures.ran (YieldsList-from_range _ _ _ refl refl)
+    (λ x b q k. search (rules, tests))
+    ∙ all_below_is_list_all (heap_invariant c.args.setup c.args.t) _

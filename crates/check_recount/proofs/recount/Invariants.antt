@@ -1,11 +1,6 @@
--- `check_recount::recount` meets its contract. The loop's invariant: the superblocks passed are counted. The measure is what is left of the table.
--- Assumes nothing.
-use Prim.Native.Nat.{◌-◌, ◌≤◌}
+-- `check_recount::recount` meets its contract. The loop's invariant: the superblocks passed are counted. Assumes nothing.
 use Rattle.check_recount.proofs.RecountLaws.{RecountedBelow}
 use Rattle.check_recount.proofs.recount.Given as goal
 
-abbrev pub invariant-loop-k : goal.invariant-loop-k
-invariant-loop-k l = (l.k ≤ 64) × RecountedBelow l.table l.k l.superblocks l.live
-
-abbrev pub decreases-loop-k : goal.decreases-loop-k
-decreases-loop-k l = 64 - l.k
+abbrev pub invariant-loop-b : goal.invariant-loop-b
+invariant-loop-b l = RecountedBelow l.fn.table l.b-index l.superblocks l.live

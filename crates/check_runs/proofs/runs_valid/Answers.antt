@@ -8,52 +8,50 @@ use Rattle.check_runs.proofs.runs_valid.Goals as goal
 use Rattle.check_runs.proofs.runs_valid.Goals.{then-left-gt0+else-b+else-b-gt0, else-left-gt0+else-b-2+else-b-gt0-2}
 use Rattle.check_runs.proofs.runs_valid.Goals.{else-left-gt0+then-b-2+else-b-eq0+else-b-gt-LONGEST_RUN}
 
-pub loop-k-init : goal.loop-k-init
-loop-k-init c = (omega arith, scan_start _)
+pub loop-b-init : goal.loop-b-init
+loop-b-init c = scan_start _
 
 pub returns-then-b : goal.returns-then-b
 returns-then-b c =
     let long : length c.args.table ≡ 64 = search rules in
-    false_of_broken_run _ _ c.loop-k.k long (omega arith) c.loop-k.invariant.1 (omega arith) c.if-b.true
+    false_of_broken_run _ _ c.loop-b.b-index long (omega arith) c.loop-b.invariant (omega arith) c.if-b.true
 
 pub returns-then-b-gt0 : goal.returns-then-b-gt0
 returns-then-b-gt0 c =
     let long : length c.args.table ≡ 64 = search rules in
-    false_of_length_in_run _ _ c.loop-k.k long (omega arith) c.loop-k.invariant.1 (omega arith) (omega arith)
+    false_of_length_in_run _ _ c.loop-b.b-index long (omega arith) c.loop-b.invariant (omega arith) (omega arith)
 
 pub returns-then-b-eq0 : goal.returns-then-b-eq0
 returns-then-b-eq0 c =
     let long : length c.args.table ≡ 64 = search rules in
-    false_of_no_length _ _ c.loop-k.k long (omega arith) c.loop-k.invariant.1 (omega arith) c.if-b-2.true (omega arith)
+    false_of_no_length _ _ c.loop-b.b-index long (omega arith) c.loop-b.invariant (omega arith) c.if-b-2.true (omega arith)
 
 pub returns-then-b-gt-LONGEST_RUN : goal.returns-then-b-gt-LONGEST_RUN
 returns-then-b-gt-LONGEST_RUN c =
     let long : length c.args.table ≡ 64 = search rules in
-    false_of_above_16 _ _ c.loop-k.k long (omega arith) c.loop-k.invariant.1 (omega arith)
+    false_of_above_16 _ _ c.loop-b.b-index long (omega arith) c.loop-b.invariant (omega arith)
     c.if-b-2.true (omega arith)
 
 pub returns-then-b-gt0-2 : goal.returns-then-b-gt0-2
 returns-then-b-gt0-2 c =
     let long : length c.args.table ≡ 64 = search rules in
-    false_of_length_outside _ _ c.loop-k.k long (omega arith) c.loop-k.invariant.1 (omega arith) c.if-b-2.false
+    false_of_length_outside _ _ c.loop-b.b-index long (omega arith) c.loop-b.invariant (omega arith) c.if-b-2.false
     (omega arith)
 
-pub loop-k-preserved : goal.loop-k-preserved
-loop-k-preserved c =
-    let long : length c.args.table ≡ 64 = search rules in (
-      omega arith,
-      elim c.if-left-gt0.branch [
-        | then-left-gt0+else-b+else-b-gt0 w ↦
-            step_in_run _ _ c.loop-k.k long (omega arith) c.loop-k.invariant.1 (omega arith) _ w.if-b.false (omega arith) w.left-is
-        | else-left-gt0+then-b-2+else-b-eq0+else-b-gt-LONGEST_RUN w ↦
-            step_first_of_run _ _ c.loop-k.k long (omega arith) c.loop-k.invariant.1 (omega arith) _ w.if-b-2.true (omega arith)
-            (omega arith) w.left-is
-        | else-left-gt0+else-b-2+else-b-gt0-2 w ↦
-            step_outside _ _ c.loop-k.k long (omega arith) c.loop-k.invariant.1 (omega arith) _ w.if-b-2.false (omega arith) w.left-is
-      ],
-    )
+pub loop-b-preserved : goal.loop-b-preserved
+loop-b-preserved c =
+    let long : length c.args.table ≡ 64 = search rules in
+    elim c.if-left-gt0.branch [
+      | then-left-gt0+else-b+else-b-gt0 w ↦
+          step_in_run _ _ c.loop-b.b-index long (omega arith) c.loop-b.invariant (omega arith) _ w.if-b.false (omega arith) w.left-is
+      | else-left-gt0+then-b-2+else-b-eq0+else-b-gt-LONGEST_RUN w ↦
+          step_first_of_run _ _ c.loop-b.b-index long (omega arith) c.loop-b.invariant (omega arith) _ w.if-b-2.true (omega arith)
+          (omega arith) w.left-is
+      | else-left-gt0+else-b-2+else-b-gt0-2 w ↦
+          step_outside _ _ c.loop-b.b-index long (omega arith) c.loop-b.invariant (omega arith) _ w.if-b-2.false (omega arith) w.left-is
+    ]
 
 pub returns : goal.returns
 returns c =
     let long : length c.args.table ≡ 64 = search rules in
-    scan_end _ _ c.loop-k.k long (omega arith) c.loop-k.invariant.1
+    scan_end _ _ c.loop-b.b-index long (omega arith) c.loop-b.invariant

@@ -1,75 +1,25 @@
--- `check_state::first_refusal` meets its contract: each part of the check in the code's order, by what was answered. Assumes nothing.
-use mathlib.Core.Path.{ap}
-use mathlib.Core.Bool.{not}
-use Rattle.check_state.proofs.FirstRefusalLaws.{first_refusal_is_setup_refusal, first_refusal_13_of_rest, first_refusal_none}
-use Rattle.check_state.proofs.RestValidLaws.{rest_valid_false_of_each, rest_valid_false_of_totals, rest_valid_false_of_emptiness_invariant}
-use Rattle.check_state.proofs.RestValidLaws.{rest_valid_false_of_names, rest_valid_false_of_ranks, rest_valid_false_of_runs, rest_valid_of_parts}
+-- `check_state::first_refusal` meets its contract: a setup's fault is refused as it is, and the rest by what is asked of it. Assumes nothing.
+use Rattle.std.proofs.Common.{rules, arith}
+use Rattle.std.proofs.lemmas.Result.{err_from_is_err_and}
+use Rattle.check_limits.proofs.SetupFaultLaws.{no_setup_refusal_of_ok, fault_of_err, number_of_refusal_of_fault}
+use Rattle.refusal_rules.specs.declared.Refusal.TheVariants.{StateInvalid}
+use Rattle.check_state.proofs.FirstRefusalLaws.{first_refusal_of_fault, no_first_refusal, first_refusal_13_of_rest}
 use Rattle.check_state.proofs.first_refusal.Goals as goal
 
-pub returns-then-first-ne0 : goal.returns-then-first-ne0
-returns-then-first-ne0 c = first_refusal_is_setup_refusal _ _ _ c.setup_refusal-first.ensures c.if-first-ne0.true
+pub returns-in_err-map_err : goal.returns-in_err-map_err
+returns-in_err-map_err c =
+    let e = c.in_err-map_err.ensures.cases in
+    let w = fault_of_err _ _ _ c.setup_refusal.ensures StateInvalid c.in_err-map_err.field-0.0 e (λ x q. cc) (λ fault q. search rules) in
+    let p = err_from_is_err_and c.from_residual.result c.from_residual.ensures.1 in
+    rw (p.1, p.2, w.1, number_of_refusal_of_fault StateInvalid w.0.fault) (first_refusal_of_fault _ _ w.0.fault w.0.number)
 
-pub returns-then-not-each_valid : goal.returns-then-not-each_valid
-returns-then-not-each_valid c =
-    let first = c.setup_refusal-first.ensures in
-    let none = c.if-first-ne0.false in
-    first_refusal_13_of_rest _ _ _ first none (rest_valid_false_of_each _ _ _ first none _ c.each_valid.ensures (ap not c.if-not-each_valid.true))
+pub returns-then-runs_valid : goal.returns-then-runs_valid
+returns-then-runs_valid c =
+    let none = no_setup_refusal_of_ok _ _ _ c.setup_refusal.ensures 13 c.in_ok-map_err.ensures.variant in
+    no_first_refusal c.args.s c.args.order.now none c.if-each_valid.ensures c.if-counts_valid.ensures c.if-names_valid.ensures c.if-ranks_valid.ensures
+    c.if-runs_valid.ensures
 
-pub returns-then-not-same_totals : goal.returns-then-not-same_totals
-returns-then-not-same_totals c =
-    let first = c.setup_refusal-first.ensures in
-    let none = c.if-first-ne0.false in
-    first_refusal_13_of_rest _ _ _ first none (rest_valid_false_of_totals _ _ _ first none
-    _ c.each_valid.ensures (ap not c.if-not-each_valid.false) _ c.recount-counted.ensures
-    _ c.same_totals.ensures (ap not c.if-not-same_totals.true))
-
-pub returns-then-not-emptiness_invariant : goal.returns-then-not-emptiness_invariant
-returns-then-not-emptiness_invariant c =
-    let first = c.setup_refusal-first.ensures in
-    let none = c.if-first-ne0.false in
-    first_refusal_13_of_rest _ _ _ first none (rest_valid_false_of_emptiness_invariant _ _ _ first none
-    _ c.each_valid.ensures (ap not c.if-not-each_valid.false) _ c.recount-counted.ensures
-    _ c.same_totals.ensures (ap not c.if-not-same_totals.false)
-    _ c.emptiness_invariant.ensures (ap not c.if-not-emptiness_invariant.true))
-
-pub returns-then-not-names_valid : goal.returns-then-not-names_valid
-returns-then-not-names_valid c =
-    let first = c.setup_refusal-first.ensures in
-    let none = c.if-first-ne0.false in
-    first_refusal_13_of_rest _ _ _ first none (rest_valid_false_of_names _ _ _ first none
-    _ c.each_valid.ensures (ap not c.if-not-each_valid.false) _ c.recount-counted.ensures
-    _ c.same_totals.ensures (ap not c.if-not-same_totals.false)
-    _ c.emptiness_invariant.ensures (ap not c.if-not-emptiness_invariant.false)
-    _ c.names_valid.ensures (ap not c.if-not-names_valid.true))
-
-pub returns-then-not-ranks_valid : goal.returns-then-not-ranks_valid
-returns-then-not-ranks_valid c =
-    let first = c.setup_refusal-first.ensures in
-    let none = c.if-first-ne0.false in
-    first_refusal_13_of_rest _ _ _ first none (rest_valid_false_of_ranks _ _ _ first none
-    _ c.each_valid.ensures (ap not c.if-not-each_valid.false) _ c.recount-counted.ensures
-    _ c.same_totals.ensures (ap not c.if-not-same_totals.false)
-    _ c.emptiness_invariant.ensures (ap not c.if-not-emptiness_invariant.false)
-    _ c.names_valid.ensures (ap not c.if-not-names_valid.false) _ c.ranks_valid.ensures (ap not c.if-not-ranks_valid.true))
-
-pub returns-then-not-runs_valid : goal.returns-then-not-runs_valid
-returns-then-not-runs_valid c =
-    let first = c.setup_refusal-first.ensures in
-    let none = c.if-first-ne0.false in
-    first_refusal_13_of_rest _ _ _ first none (rest_valid_false_of_runs _ _ _ first none
-    _ c.each_valid.ensures (ap not c.if-not-each_valid.false) _ c.recount-counted.ensures
-    _ c.same_totals.ensures (ap not c.if-not-same_totals.false)
-    _ c.emptiness_invariant.ensures (ap not c.if-not-emptiness_invariant.false)
-    _ c.names_valid.ensures (ap not c.if-not-names_valid.false) _ c.ranks_valid.ensures (ap not c.if-not-ranks_valid.false)
-    _ c.runs_valid.ensures (ap not c.if-not-runs_valid.true))
-
-pub returns : goal.returns
-returns c =
-    let first = c.setup_refusal-first.ensures in
-    let none = c.if-first-ne0.false in
-    first_refusal_none _ _ _ first none (rest_valid_of_parts _ _ _ first none
-    _ c.each_valid.ensures (ap not c.if-not-each_valid.false) _ c.recount-counted.ensures
-    _ c.same_totals.ensures (ap not c.if-not-same_totals.false)
-    _ c.emptiness_invariant.ensures (ap not c.if-not-emptiness_invariant.false)
-    _ c.names_valid.ensures (ap not c.if-not-names_valid.false) _ c.ranks_valid.ensures (ap not c.if-not-ranks_valid.false)
-    _ c.runs_valid.ensures (ap not c.if-not-runs_valid.false))
+pub returns-else-each_valid : goal.returns-else-each_valid
+returns-else-each_valid c =
+    let none = no_setup_refusal_of_ok _ _ _ c.setup_refusal.ensures 13 c.in_ok-map_err.ensures.variant in
+    first_refusal_13_of_rest c.args.s c.args.order.now none (grind arith)

@@ -1,16 +1,16 @@
-use Prim.Native.Nat.{◌-◌}
-use native.Mathlib.Omega.{arith}
-use Rattle.check_superblock.proofs.AloneValidLaws.{each_valid_false_of_one, each_valid_step, each_valid_of_all_64}
+-- `check_superblock::each_valid` meets its contract. Assumes nothing.
+use Rattle.std.proofs.Common.{ℕ, Bool, get_or, refl, ◌∙◌, rules}
+use borrow.Author.Tests.{tests}
+use Rattle.std.proofs.lemmas.Iterator.{YieldsList-from_range}
+use Rattle.std.proofs.lemmas.Iterator.Search.{all_from_yields_List}
+use Rattle.heap_rules.specs.Table.{blank}
+use Rattle.check_superblock.specs.Alone.{alone_valid, each_valid}
+use Rattle.check_superblock.proofs.AllBelowLaws.{all_below_is_list_all}
 use Rattle.check_superblock.proofs.each_valid.Goals as goal
 
-pub loop-k-init : goal.loop-k-init
-loop-k-init c = (omega arith, λ i l. absurd (let z : ⊥ = omega arith in z))
-
-pub returns-then-not-alone_valid : goal.returns-then-not-alone_valid
-returns-then-not-alone_valid c = search each_valid_false_of_one
-
-pub loop-k-preserved : goal.loop-k-preserved
-loop-k-preserved c = (omega arith, search each_valid_step)
-
 pub returns : goal.returns
-returns c = search each_valid_of_all_64
+unfolding each_valid
+returns c =
+    let test : ℕ → Bool = λ k. alone_valid c.args.setup c.args.order.now k (get_or c.args.table k blank) in
+    all_from_yields_List test _ _ _ c.all.ensures.ran (YieldsList-from_range _ _ _ refl refl) (λ x b q k. search (rules, tests))
+    ∙ all_below_is_list_all test _

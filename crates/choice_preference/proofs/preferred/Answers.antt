@@ -1,22 +1,27 @@
--- `choice_preference::preferred` meets its contract: each arm is one preference, or none. Assumes nothing.
-use Rattle.choice_preference.proofs.PreferenceLaws.{preferred_fuller, preferred_more_recent, not_preferred_emptier, preferred_fewer_live}
-use Rattle.choice_preference.proofs.PreferenceLaws.{none_preferred_of_empty, none_preferred_of_unused}
+-- `choice_preference::preferred` meets its contract: the other ways out are proved without an answer. Assumes nothing.
+use mathlib.Core.Path.{◌≡◌}
+use mathlib.Core.Bool.{Bool}
+use Prim.Native.Nat.{ℕ, ◌≤◌}
+use borrow.Author.Tests.{eq-eqb, le-ltb}
+use lib.Dec.{ltb}
+use Rattle.choice_criteria.specs.declared.Criterion.{Criterion}
+use Rattle.choice_criteria.specs.declared.Criterion.TheVariants.{HasFree, Belongs}
+use Rattle.choice_preference.specs.declared.Candidate.{Candidate}
+use Rattle.choice_preference.specs.Preference.{more_recent_rank, preferred_by_numbers}
 use Rattle.choice_preference.proofs.preferred.Goals as goal
 
-pub returns-then-best-live : goal.returns-then-best-live
-returns-then-best-live c = search preferred_fuller
+module _ (w : Criterion) (b best : Candidate) (h c : ℕ) where
+  preferred_more_recent : (t : Bool) → w ≡ HasFree h c → b.live ≤ best.live → b.live ≡ best.live → t ≡ more_recent_rank b.rank best.rank
+      → t ≡ preferred_by_numbers w b best
+  unfolding preferred_by_numbers
+  preferred_more_recent t e l f g = rw (e, le-ltb best.live b.live l, eq-eqb b.live best.live f, g)
 
-pub returns-then-live-best : goal.returns-then-live-best
-returns-then-live-best c = search preferred_more_recent
+  preferred_fewer_live : w ≡ Belongs h c → ltb b.live best.live ≡ preferred_by_numbers w b best
+  unfolding preferred_by_numbers
+  preferred_fewer_live e = rw e
 
-pub returns-else-live-best : goal.returns-else-live-best
-returns-else-live-best c = search not_preferred_emptier
+pub returns-then-b-best : goal.returns-then-b-best
+returns-then-b-best c = preferred_more_recent _ _ _ _ _ _ c.in-HasFree.is c.if-best-b.false c.if-b-best.true c.more_recent.ensures
 
 pub returns-in-Belongs : goal.returns-in-Belongs
-returns-in-Belongs c = search preferred_fewer_live
-
-pub returns-in-Empty : goal.returns-in-Empty
-returns-in-Empty c = search none_preferred_of_empty
-
-pub returns-in-Unused : goal.returns-in-Unused
-returns-in-Unused c = search none_preferred_of_unused
+returns-in-Belongs c = preferred_fewer_live _ _ _ _ _ c.in-Belongs.is

@@ -1,9 +1,11 @@
 -- `choice_superblock::lowest_empty` meets its contract. Assumes nothing.
+use Rattle.base_laws.proofs.ReplacedElement.{length_of_length_map}
 use Rattle.choice_rules.specs.Choice.{lowest_empty}
 use Rattle.choice_criteria.specs.Criteria.{meets_criterion}
 use Rattle.choice_preference.specs.Preference.{preferred_by}
+use Rattle.choice_superblock.proofs.ScanLaws.{chosen_in_table}
 use Rattle.choice_superblock.proofs.lowest_empty.Goals as goal
 
 pub returns : goal.returns
 unfolding lowest_empty meets_criterion preferred_by
-returns c = c.scan.ensures
+returns c = chosen_in_table _ _ _ _ (search length_of_length_map) c.scan.ensures

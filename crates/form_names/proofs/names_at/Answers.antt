@@ -1,20 +1,13 @@
-use mathlib.Core.Path.{refl}
-use Prim.Native.Nat.{◌-◌, ◌<◌, zero-le}
-use native.Mathlib.Omega.{arith}
-use borrow.Author.Rules.{rules}
-use lib.ListN.{length-set}
+-- `form_names::names_at` meets its contract: each call gives the name at its place. Assumes nothing.
+use Rattle.std.proofs.Common.{◌+◌, ◌*◌, rules}
+use Rattle.bytes_rules.specs.Bytes.{two_at}
 use Rattle.bytes_rules.proofs.PastEndLaws.{two_at_position_after}
-use Rattle.base_laws.proofs.ListedLaws.{listed_none, listed_step}
-use Rattle.form_names.proofs.NamesInLaws.{names_in_of_all_names}
+use Rattle.form_rules.specs.Form.{names_in}
+use Rattle.form_rules.proofs.FromFnLaws.{listed_of_from_fn}
 use Rattle.form_names.proofs.names_at.Goals as goal
 
-pub loop-m-init : goal.loop-m-init
-loop-m-init c = (zero-le, refl, listed_none _)
-
-pub loop-m-preserved : goal.loop-m-preserved
-loop-m-preserved c =
-    let h : c.loop-m.m < 1024 = omega arith in
-    (omega arith, search (rules, length-set), search (listed_step, two_at_position_after))
-
 pub returns : goal.returns
-returns c = search names_in_of_all_names
+unfolding names_in
+returns c =
+    listed_of_from_fn _ _ (λ m. two_at c.args.bytes.now (c.args.at + 2 * m)) (λ m name f called. (search (rules, two_at_position_after), search rules)) _ _
+    c.from_fn.ensures.items

@@ -1,10 +1,9 @@
 -- `heap_table::replace` meets its contract. Assumes nothing.
-use Rattle.base_laws.proofs.ReplacedElement.{length_of_length_map}
 use Rattle.heap_table.proofs.ReplacedLaws.{superblocks_left_le_64, live_left_le_16384, replaced_with_totals}
 use Rattle.heap_table.proofs.replace.Goals as goal
 
-pub count_in-recounted-requires : goal.count_in-recounted-requires
-count_in-recounted-requires c = (search superblocks_left_le_64, search live_left_le_16384)
+pub count_in-s-requires : goal.count_in-s-requires
+count_in-s-requires c = (search superblocks_left_le_64, search live_left_le_16384)
 
 pub returns : goal.returns
-returns c = search (length_of_length_map, replaced_with_totals)
+returns c = search replaced_with_totals

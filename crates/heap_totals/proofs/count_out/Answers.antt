@@ -2,8 +2,8 @@
 use Rattle.heap_totals.proofs.OneSuperblockLaws.{counted_out_of_index, counted_out_of_no_index}
 use Rattle.heap_totals.proofs.count_out.Goals as goal
 
-pub returns-then-at-ge-TOTAL_COUNT : goal.returns-then-at-ge-TOTAL_COUNT
-returns-then-at-ge-TOTAL_COUNT c = search counted_out_of_no_index
+pub returns-in-Some : goal.returns-in-Some
+returns-in-Some c = search (counted_out_of_index c.args.b _ c.in-Some.ensures.value)
 
-pub returns : goal.returns
-returns c = search counted_out_of_index
+pub returns-in_default : goal.returns-in_default
+returns-in_default c = counted_out_of_no_index c.args.b c.args.t c.in_default.ensures.value

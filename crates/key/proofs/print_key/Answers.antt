@@ -12,8 +12,8 @@ pub slice_bounds-key-end-2 : goal.slice_bounds-key-end-2
 slice_bounds-key-end-2 c = sym (length-replicate {A = ℕ} 655360 0)
 
 pub slice_bounds-print-end : goal.slice_bounds-print-end
-slice_bounds-print-end c = sym (c.key-printed.auto.out ∙ length-replicate {A = ℕ} 655360 0)
+slice_bounds-print-end c = sym (c.key.auto.out ∙ length-replicate {A = ℕ} 655360 0)
 
 pub print-requires : goal.print-requires
 print-requires c =
-    (key_text_within_buffer _ _ _ _ _ _ _ c.key-printed.ensures c.in-Text.is, key_text_counted _ _ _ _ _ _ _ c.key-printed.ensures c.in-Text.is)
+    (key_text_within_buffer _ _ _ _ _ _ _ c.key.ensures c.in-Some.is, key_text_counted _ _ _ _ _ _ _ c.key.ensures c.in-Some.is)

@@ -1,9 +1,16 @@
 -- `line_heap::heap_line_if` meets its contract: by the number of superblocks that is kept. Assumes nothing.
-use Rattle.line_heap.proofs.HeapLineLaws.{heap_line_if_of_no_superblock_kept, heap_line_if_of_superblocks_kept}
+use native.Mathlib.Omega.{arith}
+use Rattle.line_heap.proofs.HeapLineLaws.{heap_line_if_of_none, heap_line_if_of_some}
 use Rattle.line_heap.proofs.heap_line_if.Goals as goal
 
 pub returns-then-superblocks-eq0 : goal.returns-then-superblocks-eq0
-returns-then-superblocks-eq0 c = search heap_line_if_of_no_superblock_kept
+returns-then-superblocks-eq0 c =
+    let a = c.args in
+    let r = c.requires in
+    rw (heap_line_if_of_none a.heap a.class a.s r.0 r.1 r.2 _ (omega arith) c.if-superblocks-eq0.true) c.put_nothing.ensures
 
-pub returns : goal.returns
-returns c = search heap_line_if_of_superblocks_kept
+pub returns-else-superblocks-eq0 : goal.returns-else-superblocks-eq0
+returns-else-superblocks-eq0 c =
+    let a = c.args in
+    let r = c.requires in
+    rw (heap_line_if_of_some a.heap a.class a.s r.0 r.1 r.2 _ (omega arith) c.if-superblocks-eq0.false) c.heap_line.ensures

@@ -1,15 +1,8 @@
 -- `line_runs::run_line` meets its contract: the fields one after another. Assumes nothing.
-use native.Mathlib.Omega.{arith}
-use mathlib.Core.Path.{refl}
-use Rattle.text_rules.specs.Text.{letters}
-use Rattle.line_fields.proofs.FieldLaws.{field_put, last_field_put, put_then_last_field}
+use Rattle.text_writer.proofs.WriteLaws.{in_a_row}
 use Rattle.line_rules.specs.Lines.{run_line}
 use Rattle.line_runs.proofs.run_line.Goals as goal
 
 pub returns : goal.returns
 unfolding run_line
-returns c =
-    let a = c.args in
-    let p₁ = field_put _ _ _ _ c.put_byte-end.ensures (letters "run ") a.first refl (omega arith) in
-    let p₂ = last_field_put _ _ _ _ _ c.put_last_field.ensures (letters " superblocks ") a.superblocks refl (omega arith) in
-    put_then_last_field _ _ _ _ _ p₁ p₂
+returns c = search in_a_row

@@ -1,19 +1,18 @@
-use mathlib.Core.Path.{refl, ◌∙◌}
-use native.Mathlib.Omega.{arith}
-use Rattle.text_rules.proofs.PasteLaws.{paste_then_paste, paste_nothing_after}
-use Rattle.line_runs.proofs.RunLinesLaws.{run_lines_start, run_lines_step, run_lines_end}
+-- `line_runs::run_lines` meets its contract: one superblock more is a line more where it is the first of a run. Assumes nothing.
+use Rattle.std.proofs.Common.{rules}
+use Rattle.text_writer.proofs.WriteLaws.{written_then}
+use Rattle.line_runs.proofs.RunLinesLaws.{run_lines_of_none, run_lines_after_first, run_lines_after_other}
 use Rattle.line_runs.proofs.run_lines.Goals as goal
+use Rattle.line_runs.proofs.run_lines.Goals.{then-starts_run, else-starts_run}
 
 pub loop-k-init : goal.loop-k-init
-loop-k-init c = (omega arith, run_lines_start _ _ _ (paste_nothing_after _ _ _ c.put_nothing-end.ensures), refl)
+loop-k-init c = rw run_lines_of_none c.put_nothing.ensures
 
 pub loop-k-preserved : goal.loop-k-preserved
 loop-k-preserved c =
-    let k = c.run_line_if-end in
-    let l = c.loop-k in
-    (omega arith, run_lines_step _ _ _ _ l.invariant.1 k.ensures, k.auto.out ∙ l.invariant.2)
-
-pub returns : goal.returns
-returns c =
-    let l = c.loop-k in
-    paste_then_paste _ _ _ _ c.put_nothing-end.ensures (run_lines_end _ _ _ _ (omega arith) (omega arith) l.invariant.1)
+    let first = run_lines_after_first c.args.s c.loop-k.k in
+    let other = run_lines_after_other c.args.s c.loop-k.k in
+    elim c.if-starts_run.branch [
+      | then-starts_run w ↦ rw (w.text-is, first (search rules)) (written_then _ _ _ c.loop-k.invariant w.run_line.ensures)
+      | else-starts_run w ↦ rw (w.text-is, other (search rules)) c.loop-k.invariant
+    ]

@@ -8,11 +8,11 @@ use Rattle.marks_laws.proofs.MarkLaws.{without_mark_past_256}
 use borrow.Author.Rules.{rules}
 use Rattle.marks_bitmap.proofs.clear_live.Goals as goal
 
-pub returns-then-j-ge-MARK_COUNT : goal.returns-then-j-ge-MARK_COUNT
-returns-then-j-ge-MARK_COUNT c =
-    let a = c.args in
-    sym (without_mark_past_256 a.live a.j (search rules) c.if-j-ge-MARK_COUNT.true)
-
-pub returns : goal.returns
+pub returns-then-j-lt-MARK_COUNT : goal.returns-then-j-lt-MARK_COUNT
 unfolding without_mark
-returns c = rw (shl_one (c.args.j % 64) (omega arith))
+returns-then-j-lt-MARK_COUNT c = rw (shl_one (c.args.j % 64) (omega arith))
+
+pub returns-else-j-lt-MARK_COUNT : goal.returns-else-j-lt-MARK_COUNT
+returns-else-j-lt-MARK_COUNT c =
+    let a = c.args in
+    sym (without_mark_past_256 a.live a.j (search rules) c.if-j-lt-MARK_COUNT.false)

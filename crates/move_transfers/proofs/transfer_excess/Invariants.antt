@@ -4,8 +4,8 @@ use Rattle.heap_rules.specs.Counts.{superblocks_of}
 use Rattle.move_transfers.proofs.TransferLoopLaws.{TransferInvariant}
 use Rattle.move_transfers.proofs.transfer_excess.Given as goal
 
-abbrev pub invariant-loop-found : goal.invariant-loop-found
-invariant-loop-found l = TransferInvariant l.heap l.class l.initial.t l.t l.moves
+abbrev pub invariant-loop-state : goal.invariant-loop-state
+invariant-loop-state l = TransferInvariant l.heap l.class l.initial.state l.state l.moves
 
-abbrev pub decreases-loop-found : goal.decreases-loop-found
-decreases-loop-found l = superblocks_of l.heap l.class l.t
+abbrev pub decreases-loop-state : goal.decreases-loop-state
+decreases-loop-state l = superblocks_of l.heap l.class l.state

@@ -1,11 +1,14 @@
 -- `names_table::is_unavailable` meets its contract. Assumes nothing.
-use Prim.Native.Nat.{◌≤◌, ◌<◌}
-use native.Mathlib.Omega.{arith}
-use Rattle.names_table.proofs.NameTableLaws.{unavailable_past_1023, unavailable_is_held}
+use borrow.Author.Tests.{lt-ltb, le-ltb, le-leb}
+use Rattle.names_rules.specs.Names.{is_name}
 use Rattle.names_table.proofs.is_unavailable.Goals as goal
 
 pub returns-then-name-ge-NAMES : goal.returns-then-name-ge-NAMES
-returns-then-name-ge-NAMES c = let h : 1024 ≤ c.args.name = omega arith in search unavailable_past_1023
+unfolding is_name
+returns-then-name-ge-NAMES c =
+    let h = c.if-name-ge-NAMES.true in
+    rw (le-ltb c.args.name 1024 h) (le-leb 1024 c.args.name h)
 
-pub returns : goal.returns
-returns c = let h : c.args.name < 1024 = omega arith in search unavailable_is_held
+pub returns-else-name-ge-NAMES : goal.returns-else-name-ge-NAMES
+unfolding is_name
+returns-else-name-ge-NAMES c = rw (lt-ltb c.args.name 1024 c.if-name-ge-NAMES.false) c.is_held.ensures

@@ -1,12 +1,14 @@
--- `names_table::unbind_block` meets its contract. The loop's invariant: the names passed are let go where they point at the block. The measure
--- is the names left. Assumes nothing.
+-- `names_table::unbind_block` meets its contract. The names passed are let go where they point at the block, and the others are as they were.
+-- Assumes nothing.
 use mathlib.Core.Path.{◌≡◌}
-use Prim.Native.Nat.{◌-◌, ◌≤◌}
-use Rattle.names_table.proofs.NameTableLaws.{released_below}
+use Prim.Native.Nat.{ℕ, ◌<◌, ◌≤◌}
+use lib.Dec.{eqb}
+use lib.ListN.{get_or}
+use Rattle.base_laws.specs.Sums.{pick}
+use Rattle.names_rules.specs.Names.{not_held}
 use Rattle.names_table.proofs.unbind_block.Given as goal
 
-abbrev pub invariant-loop-i : goal.invariant-loop-i
-invariant-loop-i l = (l.i ≤ 1024) × (l.next ≡ released_below l.names l.block l.i)
-
-abbrev pub decreases-loop-i : goal.decreases-loop-i
-decreases-loop-i l = 1024 - l.i
+abbrev pub invariant-loop-held : goal.invariant-loop-held
+invariant-loop-held l =
+    ((k : ℕ) → k < l.held-index → get_or l.held-items k 0 ≡ pick (eqb (get_or l.initial.held-items k 0) l.block) not_held (get_or l.initial.held-items k 0))
+    × ((k : ℕ) → l.held-index ≤ k → get_or l.held-items k 0 ≡ get_or l.initial.held-items k 0)

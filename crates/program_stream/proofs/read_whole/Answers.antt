@@ -7,5 +7,5 @@ pub loop-done-preserved : goal.loop-done-preserved
 loop-done-preserved g c = record {
   in_buffer = search rules;
   same_length = search rules;
-  next = consumed_behind _ _ _ _ _ _ _ c.loop-done.invariant.in_buffer c.in-Bytes.ensures.within_buffer.0 c.loop-done.invariant.next c.in-Bytes.ensures.next.0;
+  next = consumed_behind _ _ _ _ _ _ _ c.loop-done.invariant.in_buffer c.in_ok-got.ensures.bound.0 c.loop-done.invariant.next c.in_ok-got.ensures.bytes.0;
 }

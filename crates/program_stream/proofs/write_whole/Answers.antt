@@ -6,5 +6,5 @@ use Rattle.program_stream.proofs.write_whole.Goals as goal
 pub loop-taken-preserved : goal.loop-taken-preserved
 loop-taken-preserved g c = record {
   in_bytes = search rules;
-  written = appended_behind _ _ _ _ _ _ c.loop-taken.invariant.written c.write_some-put.ensures.bytes;
+  written = appended_behind _ _ _ _ _ _ c.loop-taken.invariant.written c.in_ok-put.ensures.bytes;
 }

@@ -1,31 +1,23 @@
 -- `row_calls::call_table` meets its contract. Assumes nothing.
-use Rattle.std.proofs.Common.{◌≡◌, ap}
-use Rattle.call_rules.specs.Calls.{call_with}
-use Rattle.call_rules.proofs.AnswerLaws.{has_number_and_values_of_equal}
-use Rattle.row_rules.specs.Row.{RowAfter, call_on}
-use Rattle.row_by_value.specs.Tables.{row_after_call}
+use Rattle.std.proofs.Common.{arith}
 use Rattle.row_calls.proofs.RowCallLaws.{refused_call_is_call_on, answered_call_is_call_on, refused_call_passes_if_accepted}
+use Rattle.row_calls.proofs.RowCallLaws.{number_and_values_of_row_after}
 use Rattle.row_calls.proofs.call_table.Goals as goal
 
-pub returns-then-first-ne0-clause-order_after : goal.returns-then-first-ne0-clause-order_after
-returns-then-first-ne0-clause-order_after c = search refused_call_is_call_on
+pub returns-in-Err-clause-order_after : goal.returns-in-Err-clause-order_after
+returns-in-Err-clause-order_after c =
+    refused_call_is_call_on _ _ _ _ _ c.number.ensures _ c.refuse.ensures.value _ _ _ (c.in-Err.ensures.number 13 (omega arith)) c.refusal-refusal.ensures
 
-pub returns-then-first-ne0-clause-number_and_values : goal.returns-then-first-ne0-clause-number_and_values
-returns-then-first-ne0-clause-number_and_values c =
-    let after : row_after_call c.refuse.result c.args.order.now
-    ≡ call_on c.args.n c.args.control c.args.table c.args.order.now (call_with c.args.call c.args.addresses.now)
-    = returns-then-first-ne0-clause-order_after c in
-    has_number_and_values_of_equal _ _ (ap (λ (x : RowAfter). x.outcome) after)
+pub returns-in-Err-clause-number_and_values : goal.returns-in-Err-clause-number_and_values
+returns-in-Err-clause-number_and_values c = number_and_values_of_row_after _ _ _ (returns-in-Err-clause-order_after c)
 
-pub returns-then-first-ne0-clause-passes : goal.returns-then-first-ne0-clause-passes
-returns-then-first-ne0-clause-passes c = search refused_call_passes_if_accepted
+pub returns-in-Err-clause-passes : goal.returns-in-Err-clause-passes
+returns-in-Err-clause-passes c = refused_call_passes_if_accepted _ _ _ _ _ c.number.ensures _ c.refuse.ensures.value
 
-pub returns-clause-order_after : goal.returns-clause-order_after
-returns-clause-order_after c = search answered_call_is_call_on
+pub returns-in-Ok-clause-order_after : goal.returns-in-Ok-clause-order_after
+returns-in-Ok-clause-order_after c =
+    answered_call_is_call_on _ _ _ _ _ _ c.answered.ensures.value _ _ (c.in-Ok.ensures.number 13 (omega arith))
+    (rw c.state_of-s.ensures at c.call_state.ensures.order_after)
 
-pub returns-clause-number_and_values : goal.returns-clause-number_and_values
-returns-clause-number_and_values c =
-    let after : row_after_call c.answered.result c.call_state-a.new.order
-    ≡ call_on c.args.n c.args.control c.args.table c.args.order.now (call_with c.args.call c.args.addresses.now)
-    = returns-clause-order_after c in
-    has_number_and_values_of_equal _ _ (ap (λ (x : RowAfter). x.outcome) after)
+pub returns-in-Ok-clause-number_and_values : goal.returns-in-Ok-clause-number_and_values
+returns-in-Ok-clause-number_and_values c = number_and_values_of_row_after _ _ _ (returns-in-Ok-clause-order_after c)

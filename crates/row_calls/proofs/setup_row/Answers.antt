@@ -7,15 +7,15 @@ use Rattle.row_calls.proofs.setup_row.Goals as goal
 
 pub returns-clause-order_after : goal.returns-clause-order_after
 returns-clause-order_after c =
-    stored_setup_is_row_setup _ _ _ _ _ c.load-t.ensures c.setup_table-w.ensures.accepts c.store.ensures _ _ c.setup_table-w.ensures.order_after
+    stored_setup_is_row_setup _ _ _ _ _ c.load-t.ensures _ c.is_accepted.ensures c.store.ensures _ _ c.setup_table-called.ensures.order_after
 
 pub returns-clause-number_and_values : goal.returns-clause-number_and_values
 returns-clause-number_and_values c =
-    let after : row_after c.setup_table-w.result.answer c.store.new.row c.setup_table-w.new.order ≡ row_setup c.args.u c.args.row.now c.args.order.now
+    let after : row_after c.setup_table-called.result.answer c.store.new.row c.setup_table-called.new.order ≡ row_setup c.args.u c.args.row.now c.args.order.now
     = returns-clause-order_after c in
     has_number_and_values_of_equal _ _ (ap (λ (x : RowAfter). x.outcome) after)
 
 pub returns-clause-passes : goal.returns-clause-passes
 returns-clause-passes c =
-    stored_setup_passes_if_accepted _ _ _ _ _ c.load-t.ensures c.setup_table-w.ensures.accepts c.store.ensures _ _
-    c.setup_table-w.ensures.order_after c.setup_table-w.ensures.passes
+    stored_setup_passes_if_accepted _ _ _ _ _ c.load-t.ensures _ c.is_accepted.ensures c.store.ensures _ _
+    c.setup_table-called.ensures.order_after c.setup_table-called.ensures.passes

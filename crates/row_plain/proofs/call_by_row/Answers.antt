@@ -1,17 +1,13 @@
 -- `row_plain::call_by_row` meets its contract. Assumes nothing.
-use Rattle.std.proofs.Common.{rules, ◌≡◌, ℕ, List, length, take, min, ap, sym, ◌∙◌, subst}
-use Rattle.std.proofs.lemmas.List.{take_min}
+use Rattle.std.proofs.Common.{rules, List}
 use Rattle.heap_rules.specs.declared.Superblock.{Superblock}
-use Rattle.call_rules.specs.Answers.{PassesIfAccepted}
-use Rattle.row_rules.specs.Row.{state_of}
+use Rattle.call_rules.specs.Calls.{call_with}
+use Rattle.row_rules.specs.Row.{row_call}
+use Rattle.row_plain.proofs.LentLaws.{lent_by_rules}
 use Rattle.row_plain.proofs.call_by_row.Goals as goal
 
--- as many of the records as there are, n of them: the records that were lent are the first n
-pub returns-clause-passes : goal.returns-clause-passes
-returns-clause-passes c =
-    let r = c.borrow_call.result in
-    let long : length r.records ≡ 65 = search rules in
-    let lent : take c.at_most-m.result r.records ≡ take c.args.n r.records =
-    ap (λ (k : ℕ). take k r.records) (c.at_most-m.ensures.0 ∙ ap (min c.args.n) (sym long)) ∙ take_min c.args.n r.records in
-    subst (λ (row : List Superblock). PassesIfAccepted r.answer.outcome (state_of r.answer.control row) c.borrow_call.new.order) lent
-    c.borrow_call.ensures.passes
+pub returns-clause-order_after : goal.returns-clause-order_after
+returns-clause-order_after c =
+    lent_by_rules _ _ _ (search rules) c.min-lent.ensures _ _ _
+    (λ (row : List Superblock). row_call c.args.control row c.args.order.now (call_with c.args.call c.args.addresses.now))
+    c.call_row-answer.ensures.order_after

@@ -1,6 +1,0 @@
--- `bytes_reader::four_at` meets its contract: the low half first. Assumes nothing.
-use Rattle.bytes_rules.proofs.PastEndLaws.{four_at_past_end}
-use Rattle.bytes_reader.proofs.four_at.Goals as goal
-
-pub returns-then-bytes-i : goal.returns-then-bytes-i
-returns-then-bytes-i c = search four_at_past_end

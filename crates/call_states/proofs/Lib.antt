@@ -1,2 +1,0 @@
-pub mod ProcessorLaws
-pub mod StateLaws

@@ -1,6 +1,0 @@
--- `row_by_value::state_of` meets its contract: by computation. Assumes nothing.
-use mathlib.Core.Path.{refl}
-use Rattle.row_by_value.proofs.state_of.Goals as goal
-
-pub returns : goal.returns
-returns c = refl
