@@ -10,7 +10,6 @@ use heap_rules::{Setup, State, Superblock, TABLE_LENGTH, TOTAL_COUNT, Totals, UN
 use names_rules::{NAME_COUNT, NOT_HELD};
 
 // The processor is one of the setup's.
-#[tactic(auto, unfolding(call_rules::specs::Answers::is_processor))]
 pub fn is_processor(s: State, processor: u8) -> bool
     ensures { result ≡ is_processor s processor }
 {

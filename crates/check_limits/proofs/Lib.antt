@@ -1,1 +1,3 @@
 pub mod SetupFaultLaws
+pub mod SetupRefusalLaws
+pub mod WithinLimitsLaws

@@ -24,7 +24,6 @@ fn is_bare(b: Superblock, owner: u8) -> bool
 }
 
 // Of owner UNUSED_OWNER and class 0, nothing live.
-#[tactic(auto, unfolding(heap_rules::specs::Table::is_unused))]
 pub fn is_unused(b: Superblock) -> bool
     ensures { result ≡ is_unused b }
 {
@@ -32,7 +31,6 @@ pub fn is_unused(b: Superblock) -> bool
 }
 
 // Part of a long block's run: of owner RUN_OWNER and class 0, nothing live.
-#[tactic(auto, unfolding(check_rules::specs::Check::is_part_of_run, heap_rules::specs::Table::is_of_run))]
 pub fn is_part_of_run(b: Superblock) -> bool
     ensures { result ≡ is_part_of_run b }
 {
@@ -40,7 +38,6 @@ pub fn is_part_of_run(b: Superblock) -> bool
 }
 
 // No heap owns it: it is unused, or part of a run. Its owner is one of the two at most, so that its live blocks are counted once at most.
-#[tactic(auto, unfolding(check_rules::specs::Check::is_unowned))]
 pub fn is_unowned(b: Superblock) -> bool
     ensures { result ≡ is_unowned b }
 {
@@ -48,7 +45,6 @@ pub fn is_unowned(b: Superblock) -> bool
 }
 
 // The first superblock of a long block's run, which carries the run's length.
-#[tactic(auto, unfolding(heap_rules::specs::Table::starts_run, heap_rules::specs::Table::is_of_run))]
 pub fn starts_run(b: Superblock) -> bool
     ensures { result ≡ starts_run b }
 {

@@ -1,8 +1,9 @@
 -- Texts written one after another. Assumes nothing.
-use Rattle.std.proofs.Common.{◌≡◌, ℕ, List, ◌++◌, ◌+◌, ◌-◌, min, length, take, drop, ap, refl, ◌∙◌, append_assoc, arith}
+use Rattle.std.proofs.Common.{◌≡◌, ℕ, List, [], ◌∷◌, ◌++◌, ◌+◌, ◌-◌, ◌<◌, ◌≤◌, min, length, take, drop, slice_index, slice_set}
+use Rattle.std.proofs.Common.{ap, refl, ◌∙◌, append_assoc, arith}
 use Rattle.std.proofs.lemmas.List.{take_min, drop_min, drop-drop}
 use Rattle.text_rules.specs.Text.{Pasted, pasted}
-use Rattle.text_rules.proofs.PasteLaws.{paste_append}
+use Rattle.text_rules.proofs.PasteLaws.{paste_append, paste_byte_inside, paste_byte_past_end}
 use Rattle.text_writer.specs.declared.Text.{Text}
 use Rattle.text_writer.specs.Written.{written}
 
@@ -65,3 +66,27 @@ module _ (text : List ℕ) (start n : ℕ) where
   written_copied t copied s k e =
       let d : start + n - start ≡ n = omega arith in
       rw (d, e) (ap (λ (p : Pasted). record { buffer = record t.buffer { now = p.buffer }; end = p.end }) (copied_pasted t.buffer.now t.end s k))
+
+-- one byte, where there is a place for it, and where there is none
+module _ (t : Text) (byte : ℕ) where
+  pub written_byte : t.end < length t.buffer.now
+      → record { buffer = record t.buffer { now = slice_set t.buffer.now t.end byte }; end = t.end + 1 } ≡ written t (byte ∷ [])
+  unfolding written
+  written_byte h =
+      ap (λ (p : Pasted). record { buffer = record t.buffer { now = p.buffer }; end = p.end })
+      (paste_byte_inside t.buffer.now t.end byte (t.end + 1) h refl)
+
+  pub written_no_byte : length t.buffer.now ≤ t.end → record { buffer = t.buffer; end = length t.buffer.now } ≡ written t (byte ∷ [])
+  unfolding written
+  written_no_byte h =
+      ap (λ (p : Pasted). record { buffer = record t.buffer { now = p.buffer }; end = p.end })
+      (paste_byte_past_end t.buffer.now t.end byte (length t.buffer.now) h refl)
+
+-- a text of one byte is that byte
+only_byte : (text : List ℕ) → length text ≡ 1 → slice_index text 0 ∷ [] ≡ text
+only_byte [] h = absurd (omega arith)
+only_byte (x ∷ []) h = refl
+only_byte (x ∷ y ∷ xs) h = absurd (omega arith)
+
+pub written_only_byte : (t u : Text) (text : List ℕ) → length text ≡ 1 → u ≡ written t (slice_index text 0 ∷ []) → u ≡ written t text
+written_only_byte t u text h e = rw (e, only_byte text h)

@@ -1,7 +1,7 @@
 // Text and numbers written into a lent buffer, as far as they reach.
 #![tactic(auto)]
 
-ghost use Rattle.std.specs.Prelude.{◌≡◌, [], ℕ, List};
+ghost use Rattle.std.specs.Prelude.{◌≡◌, [], ◌∷◌, ℕ, List};
 ghost use Rattle.text_rules.specs.Text.{decimal, digits};
 ghost use Rattle.text_writer.specs.Written.{written};
 
@@ -20,15 +20,30 @@ impl<'a> Text<'a> {
         Text { buffer, end: 0 }
     }
 
-    // As much of the text as there is room for.
-    #[tactic(auto, using(crate::proofs::WriteLaws::written_copied))]
+    // As much of the text as there is room for. A text of one byte is put without a call to copy it.
+    #[tactic(auto, using(crate::proofs::WriteLaws::written_copied, crate::proofs::WriteLaws::written_only_byte))]
     pub fn put_text(&mut self, text: &[u8])
         ensures { self.new ≡ written self.old text.now }
     {
+        if text.len() == 1 {
+            return self.put_byte(text[0]);
+        }
         let start = self.end.min(self.buffer.len());
         let n = text.len().min(self.buffer.len() - start);
         self.buffer[start..start + n].copy_from_slice(&text[..n]);
         self.end = start + n;
+    }
+
+    // One byte, where there is room for it.
+    fn put_byte(&mut self, byte: u8)
+        ensures { self.new ≡ written self.old (byte ∷ []) }
+    {
+        if self.end < self.buffer.len() {
+            self.buffer[self.end] = byte;
+            self.end += 1;
+        } else {
+            self.end = self.buffer.len();
+        }
     }
 
     // No text: the place, or the buffer's end where the place lies past it.
@@ -81,6 +96,6 @@ impl Decimal for u64 {
         if 10 <= self {
             (self / 10).put(text);
         }
-        text.put_text(&[b'0' + (self % 10) as u8]);
+        text.put_byte(b'0' + (self % 10) as u8);
     }
 }
