@@ -9,6 +9,7 @@ use heap_rules::State;
 use names_rules::NUMBERS_EACH;
 
 // The state after a take for the name, by its outcome: only an accepted one binds it.
+#[tactic(auto, unfolding(call_rules::specs::Named::bound_by))]
 pub fn bound_by(outcome: Outcome, name: u16, s: State) -> State
     ensures { result ≡ bound_by outcome name s }
 {

@@ -50,13 +50,16 @@ module _ (s : State) (n k row : ℕ) (before : RowBefore s n k row) where
       go (no f) = longer j (omega arith) (λ i m u. t.available i m (omega arith))
 
   -- superblock k, which is one of those that the scan looks at, below N
-  module _ (end : ℕ) (ends : end ≡ min s.setup.superblocks 64) (inside : k < length (take end s.table)) (t : Bool)
-      (looked : t ≡ is_available (get_or (take end s.table) k blank)) where
+  module _ (end : ℕ) (ends : end ≡ min s.setup.superblocks 64) (seen : ℕ) (inside : k < length (take seen s.table)) (within : k < seen → k < end) (t : Bool)
+      (looked : t ≡ is_available (get_or (take seen s.table) k blank)) where
+    below_seen : k < seen
+    below_seen = omega (arith, inside, length-take seen s.table)
+
     below_end : k < end
-    below_end = omega (arith, inside, length-take end s.table)
+    below_end = within below_seen
 
     e : t ≡ is_available (superblock_at s k)
-    e = looked ∙ ap is_available (get_or-take end s.table k blank below_end)
+    e = looked ∙ ap is_available (get_or-take seen s.table k blank below_seen)
 
     here : t ≡ true → T (is_available (superblock_at s k))
     here y = T_of_true _ (sym e ∙ y)

@@ -8,5 +8,5 @@ use Rattle.answer_text.proofs.bad_input_text.Goals as goal
 pub returns : goal.returns
 unfolding bad_input_text
 returns c =
-    let put : c.put_text.new.self ≡ written c.new-text.result bad_input_text = c.put_text.ensures in
+    let put : c.put_text.new.self ≡ written c.new-text.result bad_input_text = search rules in
     search (rules, let_go)

@@ -19,7 +19,7 @@ returns-in_err-refusal_in c =
     rw (p.1, p.2)
     (first_bad_refused _ _ _ _ c.loop-address.invariant c.loop-address-test.true _ c.superblock_index-k.ensures
     _ c.in-Some.ensures.lookup.3.0 c.in-Some.ensures.lookup.1
-    _ c.in_err-refusal_in.ensures)
+    _ (search (c.in_err-refusal_in.ensures, rules)))
 
 pub slice_bounds-t-end : goal.slice_bounds-t-end
 slice_bounds-t-end c =
@@ -32,10 +32,10 @@ loop-address-preserved c =
     elim c.if-b.branch [
       | then-b w ↦ rw w.t-is (none_refused_past_run _ _ _ _ c.loop-address.invariant c.loop-address-test.true _ c.superblock_index-k.ensures
           _ c.in-Some.ensures.lookup.3.0 c.in-Some.ensures.lookup.1
-          c.in_ok-refusal_in.ensures w.if-b.true _ w.from.ensures _ (w.fill.ensures.after (λ y e. e)))
+          (search (c.in_ok-refusal_in.ensures, rules)) w.if-b.true _ w.from.ensures _ (w.fill.ensures.after (λ y e. e)))
       | else-b w ↦ rw w.t-is (none_refused_past_block _ _ _ _ c.loop-address.invariant c.loop-address-test.true _ c.superblock_index-k.ensures
           _ c.in-Some.ensures.lookup.3.0 c.in-Some.ensures.lookup.1
-          c.in_ok-refusal_in.ensures w.if-b.false _ w.without_mark.ensures)
+          (search (c.in_ok-refusal_in.ensures, rules)) w.if-b.false _ w.without_mark.ensures)
     ]
 
 pub returns : goal.returns

@@ -16,7 +16,7 @@ loop-k-init c = no_row_at_start _ _ (omega arith)
 pub returns-then-row-n : goal.returns-then-row-n
 returns-then-row-n c =
     elim c.if-is_available.branch [
-      | then-is_available u ↦ run_found _ _ _ _ c.loop-k.invariant _ c.min-end.ensures c.loop-k-test.true _ c.is_available.ensures _
+      | then-is_available u ↦ run_found _ _ _ _ c.loop-k.invariant _ c.min-end.ensures _ c.loop-k-test.true (λ l. omega arith) _ c.is_available.ensures _
           u.if-is_available.true u.row-is c.if-row-n.true
       | else-is_available u ↦ absurd (omega arith)
     ]
@@ -24,9 +24,9 @@ returns-then-row-n c =
 pub loop-k-preserved : goal.loop-k-preserved
 loop-k-preserved c =
     elim c.if-is_available.branch [
-      | then-is_available u ↦ row_step_available _ _ _ _ c.loop-k.invariant _ c.min-end.ensures c.loop-k-test.true _ c.is_available.ensures _
-          u.if-is_available.true u.row-is c.if-row-n.false
-      | else-is_available u ↦ row_step_other _ _ _ _ c.loop-k.invariant _ c.min-end.ensures c.loop-k-test.true _ c.is_available.ensures _
+      | then-is_available u ↦ row_step_available _ _ _ _ c.loop-k.invariant _ c.min-end.ensures _ c.loop-k-test.true (λ l. omega arith) _
+          c.is_available.ensures _ u.if-is_available.true u.row-is c.if-row-n.false
+      | else-is_available u ↦ row_step_other _ _ _ _ c.loop-k.invariant _ c.min-end.ensures _ c.loop-k-test.true (λ l. omega arith) _ c.is_available.ensures _
           u.if-is_available.false u.row-is
     ]
 
