@@ -22,4 +22,5 @@ pub each_has_a_mark-requires : goal.each_has_a_mark-requires
 each_has_a_mark-requires c = search (count_end, rules)
 
 pub returns-else-held-eq0 : goal.returns-else-held-eq0
-returns-else-held-eq0 c = names_valid_is_each_has_a_mark c.args.s c.marks_of_table.result _ c.marks_of_table.ensures c.each_has_a_mark.ensures
+returns-else-held-eq0 c =
+    search (names_valid_is_each_has_a_mark c.args.s c.marks_of_table.result _ c.marks_of_table.ensures c.each_has_a_mark.ensures, rules)
